@@ -107,7 +107,7 @@ schema-in : (t : Task) (s : ℕ) → s < length (t .schemas) → In (schemaAt t 
 unfolding schemaAt
 schema-in t s l = in-getD (t .schemas) s (record { params = 0; atoms = [] }) l
 
-some-length : {a : ℕ} {xs : List ℕ} → In a xs → 1 ≤ length xs
+pub some-length : {A : Type 0} {a : A} {xs : List A} → In a xs → 1 ≤ length xs
 some-length (here e) = omega arith
 some-length (there i) = omega arith
 
