@@ -1,8 +1,8 @@
 -- Lists of atoms, as the tests of a schema judge them: no atom twice in one role, roles that ascend, a single part.
 -- Each test is turned into a fact by membership (`Apart` for `distinct`), and the facts are then put together along
 -- `++`, `map` and `filter`.
-use Prim.Native.Nat.{ℕ, suc, _≤_, _<_}
-use mathlib.Core.Path.{_≡_, refl, sym, ap}
+use Prim.Native.Nat.{ℕ, _≤_}
+use mathlib.Core.Path.{_≡_, refl, ap}
 use mathlib.Core.Bool.{Bool, true, false, not}
 use mathlib.Core.List.{List, [], _∷_, _++_, map}
 use mathlib.Core.Logic.{_⊎_, inl, inr}
@@ -10,9 +10,10 @@ use native.Mathlib.Omega.{arith}
 use lib.ListN.{length}
 use lib.Dec.{eqb, leb}
 use borrow.Author.Tests.{leb-true, le-leb, eqb-true, eq-eqb, not-true}
-use Rattle.task.specs.Lists.{any, filter, keepIf, eqList}
+use Rattle.task.specs.Lists.{any, filter, keepIf}
 use Rattle.task.specs.Task.{Atom, sameAtom, distinct, rolesAscend, deletion, partCount}
-use Rattle.task.proofs.Laws.{both-ft, and-left, and-right, and-both, false-if, In, here, there, in-eq, in-empty, in-append, any-in, in-any, filter-in, map-in, eqList-refl, eqList-eq}
+use Rattle.task.proofs.Laws.{both-ft, and-left, and-right, and-both, false-if, In, here, there, in-eq, in-empty}
+use Rattle.task.proofs.Laws.{in-append, any-in, in-any, filter-in, map-in, eqList-refl, eqList-eq}
 use Rattle.arcs.proofs.Laws.{Once, once-nil, once-cons}
 
 -- ---- no atom twice in one role
@@ -40,16 +41,18 @@ same-sameAtom a b e =
 
 pub data Apart : List Atom → Type 0 where
   apart-nil : Apart []
-  apart-cons : {a : Atom} {rest : List Atom} → ((b : Atom) → In b rest → SameAtom a b → ⊥) → Apart rest → Apart (a ∷ rest)
+  apart-cons : {a : Atom} {rest : List Atom} → ((b : Atom) → In b rest → SameAtom a b → ⊥) → Apart rest →
+      Apart (a ∷ rest)
 
 pub distinct-apart : (atoms : List Atom) → distinct atoms ≡ true → Apart atoms
 unfolding distinct
 distinct-apart [] h = apart-nil
 distinct-apart (a ∷ rest) h =
-    let none = not-true (any (λ b. sameAtom a b) rest) (and-left (not (any (λ b. sameAtom a b) rest)) (distinct rest) h) in
+    let again = any (λ b. sameAtom a b) rest in
+    let never = not-true again (and-left (not again) (distinct rest) h) in
     apart-cons
-    (λ b i e. both-ft (in-any (λ b. sameAtom a b) i (same-sameAtom a b e)) none)
-    (distinct-apart rest (and-right (not (any (λ b. sameAtom a b) rest)) (distinct rest) h))
+    (λ b i e. both-ft (in-any (λ b. sameAtom a b) i (same-sameAtom a b e)) never)
+    (distinct-apart rest (and-right (not again) (distinct rest) h))
 
 pub apart-distinct : {atoms : List Atom} → Apart atoms → distinct atoms ≡ true
 unfolding distinct

@@ -3,18 +3,18 @@
 -- parameters 0, 1, .. by their places changes nothing.
 use Prim.Native.Nat.{ℕ, zero, suc, _+_, _≤_, _<_}
 use mathlib.Core.Path.{_≡_, refl, sym, _∙_, ap, ap₂}
-use mathlib.Core.Bool.{Bool, true, false, cond}
+use mathlib.Core.Bool.{true}
 use mathlib.Core.List.{List, [], _∷_, _++_, map, append-nil}
 use native.Mathlib.Omega.{arith}
 use native.Mathlib.Decide.{decLt}
 use lib.ListN.{length, getD}
-use lib.Dec.{eqb, ltb}
+use lib.Dec.{eqb}
 use borrow.Author.Tests.{le-ltb, eq-eqb, ne-eqb}
-use Rattle.task.specs.Lists.{filter, upTo, upFrom, indexOf}
-use Rattle.task.specs.Task.{Atom, Schema, Task, partCount, precondition, addition, deletion}
+use Rattle.task.specs.Lists.{upTo, upFrom, indexOf}
+use Rattle.task.specs.Task.{Atom, Task, precondition, addition, deletion}
 use Rattle.task.specs.Run.{schemaAt, ofRole}
-use Rattle.tokens.specs.Split.{has, paramsOf, firstPosition, parts, procnone, token, own, oldAtoms, required, lone}
-use Rattle.tokens.specs.Split.{laterHere, pars, splitSchema}
+use Rattle.tokens.specs.Split.{has, paramsOf, firstPosition, parts, procnone, token, own, oldAtoms, required}
+use Rattle.tokens.specs.Split.{lone, laterHere, pars, splitSchema}
 use Rattle.task.proofs.Laws.{In, here, there, in-getD, filter-in, upTo-in, length-upTo}
 use Rattle.task.proofs.Tables.{filter-all, filter-none}
 use Rattle.arcs.proofs.Laws.{part-small}
@@ -43,7 +43,8 @@ module _ (t : Task) (s : ℕ) (o : List ℕ) (alone : length o ≡ 1) where
 -- ---- its old atoms and parameters
 keep-all : {A : Type 0} (f : A → A) (xs : List A) → ((x : A) → In x xs → f x ≡ x) → map f xs ≡ xs
 keep-all f [] h = refl
-keep-all {A} f (x ∷ xs) h = ap₂ (λ (y : A) (ys : List A). y ∷ ys) (h x (here refl)) (keep-all f xs (λ y i. h y (there i)))
+keep-all {A} f (x ∷ xs) h =
+    ap₂ (λ (y : A) (ys : List A). y ∷ ys) (h x (here refl)) (keep-all f xs (λ y i. h y (there i)))
 
 index-upFrom : (s n x : ℕ) → s ≤ x → x < s + n → indexOf x (upFrom s n) + s ≡ x
 unfolding indexOf upFrom

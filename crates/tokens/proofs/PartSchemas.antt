@@ -2,31 +2,31 @@
 -- parameters that its atoms name. Its three roles are put together: roles differ between them, all atoms are in
 -- part 0, and the part's own parameters each stand in one of its old atoms. Alone, a part gains procnone only.
 use Prim.Native.Nat.{ℕ, zero, suc, _≤_, _<_}
-use mathlib.Core.Path.{_≡_, refl, sym, _∙_, ap, ap₂}
-use mathlib.Core.Bool.{Bool, true, false, cond}
-use mathlib.Core.List.{List, [], _∷_, _++_, append-nil}
-use mathlib.Core.Logic.{_⊎_, inl, inr}
+use mathlib.Core.Path.{_≡_, refl, sym}
+use mathlib.Core.Bool.{true, false}
+use mathlib.Core.List.{List, [], _++_, append-nil}
+use mathlib.Core.Logic.{inl, inr}
 use native.Mathlib.Omega.{arith}
-use lib.ListN.{length, getD, length-append}
+use lib.ListN.{length, getD}
 use lib.Dec.{eqb, leb}
-use borrow.Author.Tests.{leb-true, le-leb, eq-eqb, le-ltb}
-use Rattle.task.specs.Lists.{any, filter, upTo, upFrom, indexOf, all}
-use Rattle.task.specs.Task.{Atom, Schema, Task, argsFit, rolesAscend, names, partCount, schemaFits}
-use Rattle.task.specs.Task.{precondition, addition, deletion}
+use borrow.Author.Tests.{leb-true, le-leb, eq-eqb}
+use Rattle.task.specs.Lists.{any, upTo, indexOf}
+use Rattle.task.specs.Task.{Atom, Schema, Task, argsFit, rolesAscend, names, partCount, schemaFits, precondition}
+use Rattle.task.specs.Task.{addition, deletion}
 use Rattle.task.specs.Run.{schemaAt}
-use Rattle.tokens.specs.Split.{has, paramsOf, firstPosition, procnone, token, own, oldAtoms, required, handedOn}
-use Rattle.tokens.specs.Split.{lone, firstHere, lastHere, laterHere, pars, splitSchema, splitTask}
-use Rattle.task.proofs.Laws.{In, here, in-empty, in-append, in-right, in-all, in-any, in-eq, in-getD, in-map, upTo-in, length-upTo}
-use Rattle.task.proofs.Tests.{SchemaTests, tests-schema, hasPart}
+use Rattle.tokens.specs.Split.{has, paramsOf, token, own, required, handedOn, lone, firstHere, lastHere}
+use Rattle.tokens.specs.Split.{laterHere, splitSchema, splitTask}
+use Rattle.task.proofs.Laws.{In, in-empty, in-append, in-all, in-any, in-eq, in-getD, in-map, upTo-in, length-upTo}
+use Rattle.task.proofs.Tests.{tests-schema, hasPart}
 use Rattle.task.proofs.States.{Fitting, fitting-argsFit, in-names}
-use Rattle.task.proofs.Tables.{filter-none}
 use Rattle.arcs.proofs.Laws.{filter-le}
 use Rattle.tokens.proofs.Places.{index-getD, has-atom, in-params}
-use Rattle.tokens.proofs.AtomLists.{SameAtom, Apart, apart-distinct, apart-append, roles-append, role-small, one-part}
-use Rattle.tokens.proofs.RoleAtoms.{renumber, an-old, the-token, to-role, part-is, preAtoms, addAtoms, delAtoms}
-use Rattle.tokens.proofs.RoleAtoms.{of-pre, of-add, of-del, of-schema, in-schema, pre-role, add-role, del-role}
+use Rattle.tokens.proofs.AtomLists.{Apart, apart-distinct, apart-append, roles-append, role-small, one-part}
+use Rattle.tokens.proofs.RoleAtoms.{renumber, an-old, the-token, to-role, part-is, preAtoms, addAtoms}
+use Rattle.tokens.proofs.RoleAtoms.{delAtoms, of-pre, of-add, of-del, of-schema, in-schema, pre-role, add-role}
+use Rattle.tokens.proofs.RoleAtoms.{del-role}
 use Rattle.tokens.proofs.Predicates.{some-length}
-use Rattle.tokens.proofs.PartRoles.{PartOf, old, mine, tests, pre-tokens, add-tokens, del-tokens, role-fits, role-apart}
+use Rattle.tokens.proofs.PartRoles.{PartOf, tests, pre-tokens, add-tokens, del-tokens, role-fits, role-apart}
 
 -- a schema has just the parameters that its atoms name
 pub record JustNamed (u : Schema) : Type 0 where
@@ -40,7 +40,8 @@ module _ (t : Task) (s : ℕ) (o : List ℕ) (j : ℕ) (P : PartOf t s o j) wher
   schema-fits : (a : Atom) → In a (new .atoms) → Fitting (new .params) (splitTask t .arities) (a .pred) (a .args)
   unfolding splitSchema
   schema-fits a i = elim (of-schema t s o j a i) [
-    | of-pre h ↦ role-fits t s o j P precondition false (required t s o j) (laterHere t s o j) (pre-tokens t s o j P) a h
+    | of-pre h ↦
+        role-fits t s o j P precondition false (required t s o j) (laterHere t s o j) (pre-tokens t s o j P) a h
     | of-add h ↦
         role-fits t s o j P addition (lone t s o j) (handedOn t s o j) (firstHere t s o j) (add-tokens t s o j P) a h
     | of-del h ↦
@@ -57,7 +58,8 @@ module _ (t : Task) (s : ℕ) (o : List ℕ) (j : ℕ) (P : PartOf t s o j) wher
   schema-apart : Apart (new .atoms)
   unfolding splitSchema
   schema-apart =
-      apart-append (role-apart t s o j P precondition false (required t s o j) (laterHere t s o j) (pre-tokens t s o j P))
+      apart-append
+      (role-apart t s o j P precondition false (required t s o j) (laterHere t s o j) (pre-tokens t s o j P))
       (apart-append
       (role-apart t s o j P addition (lone t s o j) (handedOn t s o j) (firstHere t s o j) (add-tokens t s o j P))
       (role-apart t s o j P deletion (lone t s o j) (required t s o j) (lastHere t s o j) (del-tokens t s o j P))
@@ -78,7 +80,8 @@ module _ (t : Task) (s : ℕ) (o : List ℕ) (j : ℕ) (P : PartOf t s o j) wher
   old-stays : (a : Atom) → In a (schemaAt t s .atoms) → a .part ≡ getD o j 0 → (r : ℕ) → a .role ≡ r → r ≤ 2 →
       In (renumber t s o j r a) (new .atoms)
   old-stays a i p zero q h =
-      in-schema t s o j _ (of-pre (to-role t s o j 0 false (required t s o j) (laterHere t s o j) _ (an-old a i q p refl)))
+      in-schema t s o j _
+      (of-pre (to-role t s o j 0 false (required t s o j) (laterHere t s o j) _ (an-old a i q p refl)))
   old-stays a i p (suc zero) q h =
       in-schema t s o j _
       (of-add (to-role t s o j 1 (lone t s o j) (handedOn t s o j) (firstHere t s o j) _ (an-old a i q p refl)))
@@ -124,7 +127,8 @@ module _ (t : Task) (s : ℕ) (o : List ℕ) (j : ℕ) (P : PartOf t s o j) wher
 
   requires-token : In (token precondition (required t s o j) []) (new .atoms)
   requires-token =
-      in-schema t s o j _ (of-pre (to-role t s o j 0 false (required t s o j) (laterHere t s o j) _ (the-token refl refl)))
+      in-schema t s o j _
+      (of-pre (to-role t s o j 0 false (required t s o j) (laterHere t s o j) _ (the-token refl refl)))
 
   schema-parts : partCount (new .atoms) ≡ 1
   schema-parts = one-part (new .atoms) (some-length requires-token) schema-part

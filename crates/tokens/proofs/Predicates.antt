@@ -3,18 +3,18 @@
 -- the pars because later parts are added up, and a parameter of two parts has its par because m is a maximum.
 use Prim.Native.Nat.{ℕ, zero, suc, _+_, _-_, _≤_, _<_}
 use mathlib.Core.Path.{_≡_, refl, sym, _∙_, ap}
-use mathlib.Core.Bool.{Bool, true}
+use mathlib.Core.Bool.{true}
 use mathlib.Core.List.{List, [], _∷_, _++_, map}
 use native.Mathlib.Omega.{arith}
 use native.Mathlib.Decide.{decLt}
-use lib.ListN.{length, getD, take, replicate, length-append, length-replicate, getD-replicate, List·getD-append}
+use lib.ListN.{length, getD, replicate, length-append, length-replicate, getD-replicate, List·getD-append}
 use lib.Seq.{take-length, getD-append-add}
 use borrow.Author.Tests.{lt-ltb}
 use Rattle.task.specs.Lists.{filter, upFrom, upTo, lastOr}
 use Rattle.task.specs.Task.{Schema, Task}
 use Rattle.task.specs.Run.{schemaAt}
-use Rattle.tokens.specs.Split.{has, parts, laterParts, shared, sharedBound, maximum, parCount, procnone, doToken}
-use Rattle.tokens.specs.Split.{parToken, splitTask}
+use Rattle.tokens.specs.Split.{has, parts, laterParts, shared, sharedBound, maximum, parCount, procnone}
+use Rattle.tokens.specs.Split.{doToken, parToken, splitTask}
 use Rattle.task.proofs.Laws.{In, here, there, in-empty, in-filter, in-getD, in-map, in-upFrom, in-upTo}
 use Rattle.tokens.proofs.Places.{last-most}
 use Rattle.tokens.proofs.Accepted.{later-step, later-mono, tokenAt, token-zero, token-end, token-inside}
@@ -92,8 +92,8 @@ module _ (t : Task) where
       let c = ap laterParts (take-length (t .schemas)) in
       omega arith
 
-  pub token-low : (s : ℕ) (o : List ℕ) (j : ℕ) → s < length (t .schemas) → length o ≡ parts (schemaAt t s) → j ≤ length o →
-      tokenAt t s o j ≤ lastBare
+  pub token-low : (s : ℕ) (o : List ℕ) (j : ℕ) → s < length (t .schemas) → length o ≡ parts (schemaAt t s) →
+      j ≤ length o → tokenAt t s o j ≤ lastBare
   token-low s o j l e h = elim (decLt 0 j) [
     | yes k ↦ elim (decLt j (length o)) [
       | yes m ↦ rw (token-inside t s o j k m) (do-low s j l (omega arith))
@@ -130,7 +130,7 @@ last-suc d (x ∷ xs) = last-suc x xs
 shared-bound : (s : Schema) (x : ℕ) → x < s .params → shared s x ≡ true → x < sharedBound s
 unfolding sharedBound upTo lastOr
 shared-bound s x l h =
-    let i : In x (filter (shared s) (upFrom 0 (s .params))) = in-filter (shared s) (in-upFrom 0 (s .params) x (omega arith) (omega arith)) h in
+    let i = in-filter (shared s) (in-upFrom 0 (s .params) x (omega arith) (omega arith)) h in
     go (filter (shared s) (upFrom 0 (s .params))) i (last-most (shared s) 0 (s .params) 0 (omega arith) .1 x i)
   where
     go : (xs : List ℕ) → In x xs → x ≤ lastOr xs 0 → x < lastOr (map suc xs) 0

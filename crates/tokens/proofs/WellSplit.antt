@@ -3,15 +3,15 @@
 -- higher than every old predicate, keeps initial and goal atoms ascending.
 use Prim.Native.Nat.{ℕ, zero, suc, _<_}
 use mathlib.Core.Path.{_≡_, refl, sym, _∙_, subst}
-use mathlib.Core.Bool.{Bool, true}
+use mathlib.Core.Bool.{true}
 use mathlib.Core.List.{List, [], _∷_, _++_, map}
 use mathlib.Core.Logic.{_⊎_, inl, inr}
 use native.Mathlib.Omega.{arith}
-use lib.ListN.{length, getD, replicate, length-append}
+use lib.ListN.{length, replicate}
 use lib.Dec.{leb}
-use borrow.Author.Tests.{le-leb, leb-true}
-use Rattle.task.specs.Lists.{all, every, concatMap, upTo}
-use Rattle.task.specs.Task.{Fact, Schema, Task, ascending, argsFit, factsFit, schemaFits, schemaAtoms, wellFormed}
+use borrow.Author.Tests.{le-leb}
+use Rattle.task.specs.Lists.{all, concatMap, upTo}
+use Rattle.task.specs.Task.{Fact, Schema, Task, argsFit, factsFit, schemaFits, schemaAtoms, wellFormed}
 use Rattle.task.specs.Run.{schemaAt}
 use Rattle.tokens.specs.Split.{parts, laterParts, parCount, procnone, orders, free, splitSchema, splitTask}
 use Rattle.tokens.specs.Split.{limitTests, withinLimits, splitAs, split}
@@ -19,7 +19,7 @@ use Rattle.task.proofs.Laws.{and-both, bool-ext, every-at, met-none, met-more, 
 use Rattle.task.proofs.Laws.{in-append, all-in, in-all, map-in, in-getD, upTo-in}
 use Rattle.task.proofs.Tests.{TaskTests, task-tests, tests-task, schema-tests}
 use Rattle.task.proofs.States.{asc-snoc, asc-ascending, Fitting, fitting-argsFit, State, factsFit-state, less-pred}
-use Rattle.arcs.proofs.Laws.{OrderOf, orderOf-laws}
+use Rattle.arcs.proofs.Laws.{orderOf-laws}
 use Rattle.tokens.proofs.Accepted.{Ordered, split-is, split-within, split-orders}
 use Rattle.tokens.proofs.Predicates.{predicate-count, old-arity, bare-arity}
 use Rattle.tokens.proofs.PartRoles.{PartOf}
@@ -62,7 +62,8 @@ well-within t h =
     }
 
 -- ---- the split's schemas are those of the parts
-concatMap-in : {A B : Type 0} (f : A → List B) (xs : List A) (y : B) → In y (concatMap f xs) → (x : A) × In x xs × In y (f x)
+concatMap-in : {A B : Type 0} (f : A → List B) (xs : List A) (y : B) → In y (concatMap f xs) →
+    (x : A) × In x xs × In y (f x)
 unfolding concatMap
 concatMap-in f [] y i = absurd (in-empty i)
 concatMap-in f (x ∷ xs) y i = elim (in-append (f x) i) [
@@ -98,7 +99,8 @@ facts-with-free t fs h =
     and-both _ _
     (in-all (λ f. argsFit (splitTask t .arities) (t .objects) (f .pred) (f .args)) (fs ++ (free t ∷ []))
     (λ f i. fitting-argsFit (t .objects) (splitTask t .arities) (f .pred) (f .args) (go f (in-append fs i))))
-    (asc-ascending (fs ++ (free t ∷ [])) (asc-snoc (free t) (st .asc) (λ g i. less-pred g (free t) (st .fit g i .known))))
+    (asc-ascending (fs ++ (free t ∷ []))
+    (asc-snoc (free t) (st .asc) (λ g i. less-pred g (free t) (st .fit g i .known))))
   where
     st : State t fs
     st = factsFit-state t fs h
