@@ -79,11 +79,10 @@ pub record Taken (A : Type 0) : Type 0 where
 abbrev pub Reader : Type 0 → Type 0
 Reader A = List ℕ → Option (Taken A)
 
-unfoldable pub taken : {A : Type 0} → A → List ℕ → Option (Taken A)
+abbrev pub taken : {A : Type 0} → A → List ℕ → Option (Taken A)
 taken a bs = some (record { value = a; rest = bs })
 
 unfoldable pub takenIf : {A : Type 0} → Bool → A → List ℕ → Option (Taken A)
-unfolding taken
 takenIf true a bs = taken a bs
 takenIf false a bs = none
 
@@ -132,7 +131,7 @@ number bs = let ds = leadingDigits bs in takenIf (inForm ds) (valueFrom 0 ds) (d
 
 -- one number or more, "commas between"; each takes a byte at least, so one turn for each byte is enough
 unfoldable pub numbersWithin : ℕ → Reader (List ℕ)
-unfolding number andThen taken
+unfolding number andThen
 numbersWithin zero bs = none
 numbersWithin (suc turns) bs =
     andThen (number bs) (λ n. elim (n .rest) [
@@ -149,20 +148,20 @@ numbers bs = numbersWithin (length bs) bs
 
 -- "Argument and part lists may be empty in form": then the line ends where the list would begin
 unfoldable pub listing : Reader (List ℕ)
-unfolding numbers taken
+unfolding numbers
 listing [] = none
 listing (b ∷ bs) = elim (eqb b newline) [ true ↦ taken [] (b ∷ bs) | false ↦ numbers (b ∷ bs) ]
 
 -- predicate or schema, colon, arguments or objects
 unfoldable pub entry : Reader Entry
-unfolding number after listing andThen taken
+unfolding number after listing andThen
 entry bs =
     andThen (number bs) (λ p. andThen (after (colon ∷ []) (p .rest)) (λ rest. andThen (listing rest)
     (λ xs. taken (record { head = p .value; list = xs .value }) (xs .rest))))
 
 -- a body, and the byte 10 behind it; what was read of the body is made into what the line says
 unfoldable pub ended : {A L : Type 0} → (A → L) → Option (Taken A) → Option (Taken L)
-unfolding after andThen taken
+unfolding after andThen
 ended says body = andThen body (λ a. andThen (after (newline ∷ []) (a .rest)) (λ rest. taken (says (a .value)) rest))
 
 -- a whole line of one key; `body` reads what stands behind its =
