@@ -16,6 +16,10 @@ use Rattle.task.proofs.Laws.{In, here, there, in-getD, getD-in, all-in,
 use Rattle.task.proofs.Tables.{At, at-left, at-right, at-move, wordsAt-at, upFrom-append}
 use Rattle.task.proofs.TablesByWords.{at-join, length-wordsAt, at-wordsAt}
 
+pub and-false : (a : Bool) → a && false ≡ false
+and-false true = refl
+and-false false = refl
+
 -- ---- words from a place on
 pub wordsAt-next : (w : List ℕ) (i n : ℕ) → wordsAt w i (suc n) ≡ getD w i 0 ∷ wordsAt w (i + 1) n
 unfolding wordsAt upFrom

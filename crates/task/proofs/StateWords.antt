@@ -2,99 +2,25 @@
 -- it, and a state is found by trying one record after another.
 use Prim.Native.Nat.{ℕ, zero, suc, _+_, _-_, _*_, _≤_, _<_}
 use mathlib.Core.Path.{_≡_, refl, sym, _∙_, ap, ap₂, subst}
-use mathlib.Core.Bool.{Bool, true, _&&_}
+use mathlib.Core.Bool.{true, false, _&&_}
 use mathlib.Core.List.{List, [], _∷_, _++_}
 use native.Mathlib.Omega.{arith}
+use native.Mathlib.Decide.{decLt}
 use lib.ListN.{length, getD, take, length-append, length-map, List·getD-append}
-use lib.Dec.{eqb, ltb, leb}
-use borrow.Author.Tests.{leb-true, le-leb}
-use Rattle.task.specs.Lists.{all, upTo, eqList, lessList}
-use Rattle.task.specs.Task.{Fact, Task, factLess, ascending, argsFit, factsFit, wellFormed}
+use lib.Dec.{leb}
+use borrow.Author.Count.{below-more}
+use borrow.Author.Tests.{leb-true, le-leb, lt-leb}
+use Rattle.task.specs.Lists.{upTo, eqList, lessList}
+use Rattle.task.specs.Task.{Fact, Task, factLess, ascending, factsFit, wellFormed}
 use Rattle.task.specs.Table.{wordsAt}
 use Rattle.task.specs.Run.{recordWords, stateWords, recordAt, stateIn, roomIn, isState}
-use Rattle.task.proofs.Laws.{and-left, and-right, and-both, In, here, there, in-getD, map-in, all-in, in-all, upTo-in, length-upTo, eqList-refl, eqList-eq}
+use Rattle.task.proofs.Laws.{both-ft, and-left, and-right, and-both, false-if, In, here, in-getD, map-in, all-in, in-all, upTo-in, length-upTo, eqList-refl, eqList-eq}
 use Rattle.task.proofs.Tests.{fits, FactTests, fact-tests, tests-fact, task-tests}
 use Rattle.task.proofs.States.{argsFit-fitting}
-use Rattle.task.proofs.Tables.{At, at-move, tabulate, noFact, sized, length-padded}
+use Rattle.task.proofs.Tables.{At, at-move, tabulate, noFact, sized}
 use Rattle.task.proofs.TablesByWords.{at-wordsAt, getD-mapped}
-use Rattle.task.proofs.Rows.{wordsAt-is, wordsAt-take, length-rows, at-row, join-rows, row-head, row-arguments, row-test}
-use Rattle.task.proofs.RecordOrder.{factLess-words}
-
--- ---- a record's words
-pub length-recordWords : (f : Fact) → length (f .args) ≤ 4 → length (recordWords f) ≡ 5
-unfolding recordWords
-length-recordWords f h = let e = length-padded 4 (f .args) h in omega arith
-
-abbrev pub arityOf : Task → ℕ → ℕ
-arityOf t p = getD (t .arities) p 0
-
--- a predicate has at most 4 arguments, and one that is not there has none
-pub arity-few : (t : Task) → wellFormed t ≡ true → (p : ℕ) → arityOf t p ≤ 4
-arity-few t h p = go (t .arities) p (λ n i. leb-true n 4 (all-in (λ n. leb n 4) (task-tests t h .arities) i))
-  where
-    go : (ns : List ℕ) (p : ℕ) → ((n : ℕ) → In n ns → n ≤ 4) → getD ns p 0 ≤ 4
-    go [] p f = omega arith
-    go (n ∷ ns) zero f = f n (here refl)
-    go (n ∷ ns) (suc p) f = go ns p (λ m i. f m (there i))
-
--- words of a record are read as that fact
-pub record-in : (t : Task) (w : List ℕ) (i : ℕ) (f : Fact) → length (f .args) ≡ arityOf t (f .pred) →
-    At w (5 * i) (recordWords f) → recordAt t w i ≡ f
-unfolding recordAt recordWords
-record-in t w i f n h =
-    let b : ℕ = 5 * i in
-    let p : getD w b 0 ≡ f .pred = row-head w b 4 (f .pred) (f .args) h in
-    let a : wordsAt w (b + 1) (arityOf t (getD w b 0)) ≡ f .args =
-    row-arguments w b 4 (arityOf t (getD w b 0)) (f .pred) (f .args) (n ∙ ap (arityOf t) (sym p)) h in
-    λ j. record { pred = p j; args = a j }
-
--- what is tested of record i: it is a fact of the task, and its words are that fact's
-abbrev pub isRecordAt : Task → List ℕ → ℕ → Bool
-isRecordAt t w i =
-    argsFit (t .arities) (t .objects) (recordAt t w i .pred) (recordAt t w i .args) &&
-    eqList (wordsAt w (5 * i) 5) (recordWords (recordAt t w i))
-
--- the three tests of a row
-pub record-test : (t : Task) (w : List ℕ) (i : ℕ) → arityOf t (getD w (5 * i) 0) ≤ 4 →
-    isRecordAt t w i ≡ ltb (getD w (5 * i) 0) (length (t .arities)) &&
-    (all (λ o. ltb o (t .objects)) (wordsAt w (5 * i + 1) (arityOf t (getD w (5 * i) 0))) &&
-    all (λ a. eqb a 0) (wordsAt w (5 * i + 1 + arityOf t (getD w (5 * i) 0)) (4 - arityOf t (getD w (5 * i) 0))))
-unfolding argsFit recordAt recordWords
-record-test t w i few =
-    let n : ℕ = arityOf t (getD w (5 * i) 0) in
-    row-test w (5 * i) 4 n few (ltb (getD w (5 * i) 0) (length (t .arities)))
-    (all (λ o. ltb o (t .objects)) (wordsAt w (5 * i + 1) n))
-
-pub record RecordHere (t : Task) (w : List ℕ) (i : ℕ) : Type 0 where
-  pub fit : fits (t .objects) (t .arities) (recordAt t w i) ≡ true
-  pub words : wordsAt w (5 * i) 5 ≡ recordWords (recordAt t w i)
-
-pub record-here : (t : Task) (w : List ℕ) (i : ℕ) → isRecordAt t w i ≡ true → RecordHere t w i
-record-here t w i h =
-    let a = fits (t .objects) (t .arities) (recordAt t w i) in
-    let b = eqList (wordsAt w (5 * i) 5) (recordWords (recordAt t w i)) in
-    record {
-      fit = and-left a b h;
-      words =
-          eqList-eq (wordsAt w (5 * i) 5) (recordWords (recordAt t w i)) (and-right a b h);
-    }
-
-pub here-record : (t : Task) (w : List ℕ) (i : ℕ) → RecordHere t w i → isRecordAt t w i ≡ true
-here-record t w i c =
-    and-both _ _ (c .fit)
-    (ap (λ (x : List ℕ). eqList x (recordWords (recordAt t w i))) (c .words) ∙
-    eqList-refl (recordWords (recordAt t w i)))
-
--- records compare as their facts do
-pub rows-ordered : (t : Task) (w : List ℕ) (i j : ℕ) → RecordHere t w i → RecordHere t w j →
-    lessList (wordsAt w (5 * i) 5) (wordsAt w (5 * j) 5) ≡ factLess (recordAt t w i) (recordAt t w j)
-rows-ordered t w i j a b =
-    ap₂ lessList (a .words) (b .words) ∙
-    sym (factLess-words (arityOf t) (recordAt t w i) (recordAt t w j) (count i (a .fit)) (count j (b .fit)))
-  where
-    count : (k : ℕ) → fits (t .objects) (t .arities) (recordAt t w k) ≡ true → length (recordAt t w k .args) ≡
-        arityOf t (recordAt t w k .pred)
-    count k h = argsFit-fitting (t .objects) (t .arities) (recordAt t w k .pred) (recordAt t w k .args) h .count
+use Rattle.task.proofs.Rows.{wordsAt-is, wordsAt-take, length-rows, at-row, join-rows}
+use Rattle.task.proofs.RecordWords.{length-recordWords, record-in, isRecordAt, RecordHere, record-here, here-record, rows-ordered}
 
 -- ---- ascending lists by their neighbours
 pub ascending-at : (s : List Fact) → ascending s ≡ true → (i : ℕ) → suc i < length s →
@@ -179,19 +105,35 @@ here-state t w n c =
     and-both _ _ (le-leb _ _ (c .room)) (and-both _ _ (c .facts)
     (ap (λ (x : List ℕ). eqList x (stateWords (stateIn t w n))) (c .words) ∙ eqList-refl (stateWords (stateIn t w n))))
 
--- and record by record
-pub record StateRows (t : Task) (w : List ℕ) (n : ℕ) : Type 0 where
-  pub room : n ≤ roomIn w
+-- and record by record: the first n are good, and ascend
+pub record GoodRows (t : Task) (w : List ℕ) (n : ℕ) : Type 0 where
   pub row : (i : ℕ) → i < n → isRecordAt t w i ≡ true
   pub order : (i : ℕ) → suc i < n → lessList (wordsAt w (5 * i) 5) (wordsAt w (5 * suc i) 5) ≡ true
+
+pub no-rows : (t : Task) (w : List ℕ) → GoodRows t w 0
+no-rows t w = record { row = λ i l. absurd (omega arith); order = λ i l. absurd (omega arith) }
+
+-- one more, above the one before it
+pub more-rows : (t : Task) (w : List ℕ) (n : ℕ) → GoodRows t w n → isRecordAt t w n ≡ true →
+    (0 < n → lessList (wordsAt w (5 * (n - 1)) 5) (wordsAt w (5 * n) 5) ≡ true) → GoodRows t w (n + 1)
+more-rows t w n c e h = record { row = below-more _ n (c .row) e; order = order }
+  where
+    order : (i : ℕ) → suc i < n + 1 → lessList (wordsAt w (5 * i) 5) (wordsAt w (5 * suc i) 5) ≡ true
+    order i l = elim (decLt (suc i) n) [
+      | yes m ↦ c .order i m
+      | no m ↦
+          let p : 5 * (n - 1) ≡ 5 * i = omega arith in
+          let q : 5 * n ≡ 5 * suc i = omega arith in
+          ap₂ (λ (x y : ℕ). lessList (wordsAt w x 5) (wordsAt w y 5)) (sym p) (sym q) ∙ h (omega arith)
+    ]
 
 module _ (t : Task) (well : wellFormed t ≡ true) (w : List ℕ) (n : ℕ) where
   abbrev s : List Fact
   s = stateIn t w n
 
-  pub rows-state : StateRows t w n → isState t w n ≡ true
-  rows-state c = here-state t w n (record {
-    room = c .room;
+  pub rows-state : n ≤ roomIn w → GoodRows t w n → isState t w n ≡ true
+  rows-state room c = here-state t w n (record {
+    room = room;
     facts = tests-fact (t .objects) (t .arities) s
         (record { fit = in-all (fits (t .objects) (t .arities)) s fit; order = at-ascending s order });
     words = words;
@@ -225,8 +167,8 @@ module _ (t : Task) (well : wellFormed t ≡ true) (w : List ℕ) (n : ℕ) wher
       words = wordsAt-is w 0 (5 * n) (stateWords s) (length-state s few ∙ ap (λ (k : ℕ). 5 * k) (length-stateIn t w n))
           (join-records w s few stands)
 
-  pub state-rows : isState t w n ≡ true → StateRows t w n
-  state-rows h = record { room = c .room; row = λ i l. here-record t w i (here i l); order = order }
+  pub state-rows : isState t w n ≡ true → GoodRows t w n
+  state-rows h = record { row = λ i l. here-record t w i (here i l); order = order }
     where
       c : StateHere t w n
       c = state-here t w n h
@@ -256,6 +198,18 @@ module _ (t : Task) (well : wellFormed t ≡ true) (w : List ℕ) (n : ℕ) wher
           rows-ordered t w i (suc i) (here i m) (here (suc i) l) ∙
           (ap₂ factLess (sym (getD-stateIn t w n i m)) (sym (getD-stateIn t w n (suc i) l)) ∙
           ascending-at s (tests .order) i (omega arith))
+
+  -- what code finds of a state, one test after another
+  pub too-many : roomIn w < n → isState t w n ≡ false
+  unfolding isState
+  too-many h = rw (lt-leb n (roomIn w) h) refl
+
+  pub no-record : (i : ℕ) → i < n → isRecordAt t w i ≡ false → isState t w n ≡ false
+  no-record i l e = false-if (isState t w n) (λ h. both-ft (state-rows h .row i l) e)
+
+  pub not-ascending : (i : ℕ) → suc i < n → lessList (wordsAt w (5 * i) 5) (wordsAt w (5 * suc i) 5) ≡ false →
+      isState t w n ≡ false
+  not-ascending i l e = false-if (isState t w n) (λ h. both-ft (state-rows h .order i l) e)
 
 -- ---- words that are a state are those of the facts read from them
 pub state-words : (t : Task) (w : List ℕ) (n : ℕ) → isState t w n ≡ true →
