@@ -16,7 +16,7 @@ use Rattle.task.proofs.Laws.{and-left, and-right, and-both, In, here, t
 use Rattle.task.proofs.Tests.{fits, task-tests}
 use Rattle.task.proofs.States.{argsFit-fitting}
 use Rattle.task.proofs.Tables.{At, length-padded}
-use Rattle.task.proofs.Rows.{and-false, row-head, row-arguments, row-test}
+use Rattle.task.proofs.WordRows.{and-false, row-head, row-arguments, row-test}
 use Rattle.task.proofs.RecordOrder.{factLess-words}
 
 -- ---- a record's words

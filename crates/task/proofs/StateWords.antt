@@ -19,7 +19,7 @@ use Rattle.task.proofs.Tests.{fits, FactTests, fact-tests, tests-fact, 
 use Rattle.task.proofs.States.{argsFit-fitting}
 use Rattle.task.proofs.Tables.{At, at-move, tabulate, noFact, sized}
 use Rattle.task.proofs.TablesByWords.{at-wordsAt, getD-mapped}
-use Rattle.task.proofs.Rows.{wordsAt-is, wordsAt-take, length-rows, at-row, join-rows}
+use Rattle.task.proofs.WordRows.{wordsAt-is, wordsAt-take, length-rows, at-row, join-rows}
 use Rattle.task.proofs.RecordWords.{length-recordWords, record-in, isRecordAt, RecordHere, record-here, here-record, rows-ordered}
 
 -- ---- ascending lists by their neighbours

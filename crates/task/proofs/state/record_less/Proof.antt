@@ -8,7 +8,7 @@ use lib.ListN.{length, getD, drop}
 use Rattle.task.specs.Lists.{lessList}
 use Rattle.task.specs.Table.{wordsAt}
 use Rattle.task.proofs.TablesByWords.{length-wordsAt}
-use Rattle.task.proofs.Rows.{getD-wordsAt}
+use Rattle.task.proofs.WordRows.{getD-wordsAt}
 use Rattle.task.proofs.RecordOrder.{less-here, more-here, less-rest, less-end}
 use Rattle.task.proofs.state.record_less.Statement.{statement}
 use Rattle.task.proofs.state.record_less.Tie as tie

@@ -8,7 +8,7 @@ use lib.ListN.{getD}
 use lib.Dec.{ltb}
 use borrow.Author.Count.{below-more}
 use borrow.Author.Tests.{not-true, not-false}
-use Rattle.task.proofs.Rows.{all-words, not-all-words}
+use Rattle.task.proofs.WordRows.{all-words, not-all-words}
 use Rattle.task.proofs.words.are_objects.Statement.{statement}
 use Rattle.task.proofs.words.are_objects.Tie as tie
 

@@ -8,7 +8,7 @@ use lib.ListN.{getD}
 use lib.Dec.{eqb}
 use borrow.Author.Count.{below-more}
 use borrow.Author.Tests.{eq-eqb, ne-eqb}
-use Rattle.task.proofs.Rows.{all-words, not-all-words}
+use Rattle.task.proofs.WordRows.{all-words, not-all-words}
 use Rattle.task.proofs.words.are_zero.Statement.{statement}
 use Rattle.task.proofs.words.are_zero.Tie as tie
 
