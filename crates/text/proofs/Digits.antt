@@ -12,9 +12,9 @@ use lib.ListN.{length, getD, drop, length-append, List·getD-append}
 use lib.Seq.{drop-append-seam}
 use lib.Dec.{eqb, ltb, leb}
 use borrow.Author.Tests.{leb-true, eqb-false, not-true, lt-ltb, le-ltb, le-leb, ne-eqb}
-use Rattle.task.proofs.Laws.{no-ft, no-tf, and-left, and-right, and-both}
+use Rattle.task.proofs.Laws.{and-left, and-right, and-both}
 use Rattle.text.specs.Lines.{digitsWithin, digits, Taken, taken, takenIf, isDigit, leadingDigits, valueFrom, noLeadingZero, inForm, number}
-use Rattle.text.proofs.Taken.{no-none, taken-value, taken-rest}
+use Rattle.text.proofs.Taken.{if-true, if-false, no-none, taken-value, taken-rest}
 
 -- ---- digits at the front
 pub data Digits : List ℕ → Type 0 where
@@ -33,21 +33,12 @@ is-digit b h k = and-both _ _ (le-leb 48 b h) (le-leb b 57 k)
 -- the two turns of a loop over digits
 pub leadingDigits-digit : (b : ℕ) (bs : List ℕ) → isDigit b ≡ true → leadingDigits (b ∷ bs) ≡ b ∷ leadingDigits bs
 unfolding leadingDigits
-leadingDigits-digit b bs h = go (isDigit b) h
-  where
-    go : (c : Bool) → c ≡ true →
-        _≡_ {A = List ℕ} (elim c [ true ↦ b ∷ leadingDigits bs | false ↦ [] ]) (b ∷ leadingDigits bs)
-    go true h = refl
-    go false h = absurd (no-ft h)
+leadingDigits-digit b bs h = if-true [] h
 
 pub leadingDigits-stop : {bs : List ℕ} → Stops bs → leadingDigits bs ≡ []
 unfolding leadingDigits
 leadingDigits-stop at-end = refl
-leadingDigits-stop (at-other {b = b} {bs = bs} h) = go (isDigit b) h
-  where
-    go : (c : Bool) → c ≡ false → _≡_ {A = List ℕ} (elim c [ true ↦ b ∷ leadingDigits bs | false ↦ [] ]) []
-    go true h = absurd (no-tf h)
-    go false h = refl
+leadingDigits-stop (at-other {b = b} {bs = bs} h) = if-false (b ∷ leadingDigits bs) h
 
 pub leadingDigits-are : {ds : List ℕ} → Digits ds → {rest : List ℕ} → Stops rest → leadingDigits (ds ++ rest) ≡ ds
 leadingDigits-are no-digit s = leadingDigits-stop s
@@ -88,22 +79,11 @@ number-is {ds} {rest} h s =
 -- ---- the digits of a number
 pub digits-one : (f n : ℕ) → n < 10 → digitsWithin (suc f) n ≡ (48 + n) ∷ []
 unfolding digitsWithin
-digits-one f n h = go (ltb n 10) (lt-ltb n 10 h)
-  where
-    go : (c : Bool) → c ≡ true →
-        _≡_ {A = List ℕ} (elim c [ true ↦ (48 + n) ∷ [] | false ↦ digitsWithin f (n / 10) ++ ((48 + n % 10) ∷ []) ]) ((48 + n) ∷ [])
-    go true e = refl
-    go false e = absurd (no-ft e)
+digits-one f n h = if-true (digitsWithin f (n / 10) ++ ((48 + n % 10) ∷ [])) (lt-ltb n 10 h)
 
 pub digits-more : (f n : ℕ) → 10 ≤ n → digitsWithin (suc f) n ≡ digitsWithin f (n / 10) ++ ((48 + n % 10) ∷ [])
 unfolding digitsWithin
-digits-more f n h = go (ltb n 10) (le-ltb n 10 h)
-  where
-    go : (c : Bool) → c ≡ false →
-        _≡_ {A = List ℕ} (elim c [ true ↦ (48 + n) ∷ [] | false ↦ digitsWithin f (n / 10) ++ ((48 + n % 10) ∷ []) ])
-        (digitsWithin f (n / 10) ++ ((48 + n % 10) ∷ []))
-    go true e = absurd (no-tf e)
-    go false e = refl
+digits-more f n h = if-false ((48 + n) ∷ []) (le-ltb n 10 h)
 
 pub value-append : (n : ℕ) (bs : List ℕ) (b : ℕ) → valueFrom n (bs ++ (b ∷ [])) ≡ 10 * valueFrom n bs + (b - 48)
 unfolding valueFrom

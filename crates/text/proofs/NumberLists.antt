@@ -9,9 +9,9 @@ use native.Mathlib.Omega.{arith}
 use lib.ListN.{length, length-append}
 use lib.Dec.{eqb}
 use borrow.Author.Tests.{eqb-true, ne-eqb}
-use Rattle.task.proofs.Laws.{In, here, there, in-empty, no-tf}
+use Rattle.task.proofs.Laws.{In, here, there, in-empty}
 use Rattle.text.specs.Lines.{newline, comma, colon, digits, commaed, Entry, entryBytes, Taken, taken, andThen, after, isDigit, number, numbersWithin, numbers, listing, entry}
-use Rattle.text.proofs.Taken.{no-none, taken-value, taken-rest, both-took, andThen-same, after-read}
+use Rattle.text.proofs.Taken.{if-false, no-none, taken-value, taken-rest, both-took, andThen-same, after-read}
 use Rattle.text.proofs.Digits.{Digits, no-digit, digit, at-other, digits-of, number-written, number-read}
 
 -- a number and a rest make one list: a comma and more numbers, or the end of the list
@@ -89,12 +89,7 @@ numbers-written n ns h r =
 pub listing-numbers : {ds : List ℕ} → Digits ds → 1 ≤ length ds → (r : List ℕ) → listing (ds ++ r) ≡ numbers (ds ++ r)
 unfolding listing
 listing-numbers no-digit h r = absurd (omega arith)
-listing-numbers (digit {b = b} {bs = bs} l m d) h r = go (eqb b newline) (ne-eqb b 10 (λ e. omega arith))
-  where
-    go : (c : Bool) → c ≡ false →
-        _≡_ {A = Option (Taken (List ℕ))} (elim c [ true ↦ taken [] (b ∷ (bs ++ r)) | false ↦ numbers (b ∷ (bs ++ r)) ]) (numbers (b ∷ (bs ++ r)))
-    go true e = absurd (no-tf e)
-    go false e = refl
+listing-numbers (digit {b = b} {bs = bs} l m d) h r = if-false (taken [] (b ∷ (bs ++ r))) (ne-eqb b 10 (λ e. omega arith))
 
 pub listing-written : (ns : List ℕ) → Small ns → (r : List ℕ) → listing (commaed ns ++ (newline ∷ r)) ≡ taken ns (newline ∷ r)
 unfolding listing commaed

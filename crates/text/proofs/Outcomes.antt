@@ -6,7 +6,7 @@ use mathlib.Core.Bool.{Bool, true}
 use mathlib.Core.List.{List, [], _∷_}
 use native.Mathlib.Omega.{arith}
 use lib.ListN.{length, take}
-use lib.Seq.{take-at}
+use lib.Seq.{take-at, length-take-le}
 use lib.Dec.{leb}
 use borrow.Author.Tests.{leb-true, le-leb}
 use Rattle.task.specs.Lists.{over}
@@ -100,6 +100,15 @@ write-read table text other n h long =
     (read-result bs other t long (read-written t fits) ∙
     ap (λ (ws : List ℕ). record { told = result []; buffer = over ws other }) words)
 
+-- .. so the first 13,406 words of both tables are the same
+pub write-read-words : (table text other : List ℕ) (n : ℕ) → writeOutcome table text .told ≡ result (n ∷ []) →
+    longEnough other ≡ true →
+    take tableWords (readOutcome (take n (writeOutcome table text .buffer)) other .buffer) ≡ take tableWords table
+write-read-words table text other n h long =
+    let size = length-take-le tableWords table (table-long table (result-written table text n h .is-table)) in
+    ap (λ (o : Outcome). take tableWords (o .buffer)) (write-read table text other n h long) ∙
+    take-over (take tableWords table) other tableWords size
+
 -- what was read from a text, written into bytes that it fits in, is that text
 pub read-write : (text table vs other : List ℕ) → readOutcome text table .told ≡ result vs → length text ≤ length other →
     writeOutcome (readOutcome text table .buffer) other ≡ record { told = result (length text ∷ []); buffer = over text other }
@@ -116,3 +125,10 @@ read-write text table vs other h room =
     let fit : leb (length (write (taskOf w))) (length other) ≡ true = rw bytes (le-leb (length text) (length other) room) in
     ap (λ (x : List ℕ). writeOutcome x other) lies ∙
     (write-result w other long is-table fit ∙ ap (λ (bs : List ℕ). writtenOver bs other) bytes)
+
+-- .. so its bytes begin with the text
+pub read-write-bytes : (text table vs other : List ℕ) → readOutcome text table .told ≡ result vs →
+    length text ≤ length other → take (length text) (writeOutcome (readOutcome text table .buffer) other .buffer) ≡ text
+read-write-bytes text table vs other h room =
+    ap (λ (o : Outcome). take (length text) (o .buffer)) (read-write text table vs other h room) ∙
+    take-over text other (length text) refl
