@@ -1,18 +1,18 @@
 -- The readers as a cursor goes: at an offset `at` of a text a reader has `drop at text` before it, and each law says
 -- what it does there by the byte at the offset. A loop over the bytes follows them turn by turn.
 use Prim.Native.Nat.{ℕ, suc, _+_, _≤_, _<_}
-use mathlib.Core.Path.{_≡_, refl, sym, _∙_, ap, subst}
-use mathlib.Core.Bool.{Bool, true, false}
+use mathlib.Core.Path.{_≡_, refl, sym, _∙_, ap}
+use mathlib.Core.Bool.{true, false}
 use mathlib.Core.List.{List, [], _∷_, _++_}
-use mathlib.Core.Option.{Option, none, some}
+use mathlib.Core.Option.{none}
 use lib.ListN.{length, getD, drop, drop-of-length-le}
 use lib.Seq.{drop-cons, drop-drop, drop-append-seam}
-use lib.Dec.{eqb}
 use borrow.Author.Tests.{eq-eqb, ne-eqb}
 use Rattle.task.specs.Task.{Task}
 use Rattle.task.specs.Run.{Step}
-use Rattle.text.specs.Lines.{newline, comma, Taken, taken, takenIf, andThen, after, isDigit, leadingDigits, valueFrom, inForm, number, numbers, listing}
-use Rattle.text.specs.Reading.{Reading, lineAt, readLines}
+use Rattle.text.specs.Lines.{newline, comma, taken, takenIf, andThen, after, isDigit, leadingDigits, valueFrom}
+use Rattle.text.specs.Lines.{inForm, number, numbers, listing}
+use Rattle.text.specs.Reading.{lineAt, readLines}
 use Rattle.text.specs.Text.{writeLine, Draft, started, takeLine, nextLine, readText}
 use Rattle.text.specs.Plan.{writePlanLine, takePlanLine, nextPlanLine, readPlan}
 use Rattle.text.proofs.Taken.{if-true, if-false}
@@ -23,7 +23,8 @@ use Rattle.text.proofs.TaskLines.{May, task-exact}
 use Rattle.text.proofs.PlanText.{PlanMay, plan-exact}
 
 -- a cursor behind xs is further by their length
-pub cursor-behind : (text : List ℕ) (at : ℕ) (xs rest : List ℕ) → drop at text ≡ xs ++ rest → rest ≡ drop (at + length xs) text
+pub cursor-behind : (text : List ℕ) (at : ℕ) (xs rest : List ℕ) → drop at text ≡ xs ++ rest →
+    rest ≡ drop (at + length xs) text
 cursor-behind text at xs rest h =
     sym (drop-append-seam xs rest) ∙ (ap (drop (length xs)) (sym h) ∙ drop-drop (length xs) at text)
 

@@ -1,19 +1,20 @@
 -- Numbers: the digits of a number are read as that number, and digits in form are those of the number that they say.
 -- Digits are written from the last to the first and read from the first to the last; `valueFrom` passes from one to
 -- the other, since it is 10 times what stands in front, and a digit.
-use Prim.Native.Nat.{ℕ, zero, suc, _+_, _-_, _*_, _/_, _%_, _≤_, _<_}
+use Prim.Native.Nat.{ℕ, suc, _+_, _-_, _*_, _/_, _%_, _≤_, _<_}
 use mathlib.Core.Path.{_≡_, refl, sym, _∙_, ap, ap₂}
 use mathlib.Core.Bool.{Bool, true, false, not, _&&_}
 use mathlib.Core.List.{List, [], _∷_, _++_, append-assoc, append-nil}
-use mathlib.Core.Option.{Option, none, some}
+use mathlib.Core.Option.{some}
 use native.Mathlib.Omega.{arith}
 use native.Mathlib.Decide.{decLt}
 use lib.ListN.{length, getD, drop, length-append, List·getD-append}
 use lib.Seq.{drop-append-seam}
-use lib.Dec.{eqb, ltb, leb}
+use lib.Dec.{eqb, leb}
 use borrow.Author.Tests.{leb-true, eqb-false, not-true, lt-ltb, le-ltb, le-leb, ne-eqb}
 use Rattle.task.proofs.Laws.{and-left, and-right, and-both}
-use Rattle.text.specs.Lines.{digitsWithin, digits, Taken, taken, takenIf, isDigit, leadingDigits, valueFrom, noLeadingZero, inForm, number}
+use Rattle.text.specs.Lines.{digitsWithin, digits, Taken, taken, takenIf, isDigit, leadingDigits, valueFrom}
+use Rattle.text.specs.Lines.{noLeadingZero, inForm, number}
 use Rattle.text.proofs.Taken.{if-true, if-false, no-none, taken-value, taken-rest}
 
 -- ---- digits at the front
@@ -70,7 +71,8 @@ split-digits (b ∷ bs) = go (isDigit b) refl (split-digits bs)
         }
     go false h s = record { front = []; back = b ∷ bs; are = no-digit; stops = at-other h; whole = refl }
 
-pub number-is : {ds rest : List ℕ} → Digits ds → Stops rest → number (ds ++ rest) ≡ takenIf (inForm ds) (valueFrom 0 ds) rest
+pub number-is : {ds rest : List ℕ} → Digits ds → Stops rest →
+    number (ds ++ rest) ≡ takenIf (inForm ds) (valueFrom 0 ds) rest
 unfolding number
 number-is {ds} {rest} h s =
     ap (λ (cs : List ℕ). takenIf (inForm cs) (valueFrom 0 cs) (drop (length cs) (ds ++ rest))) (leadingDigits-are h s) ∙
@@ -173,7 +175,8 @@ digits-value f n (digit {b = b} {bs = bs} l m r) h =
     let d : 48 + v % 10 ≡ b = omega arith in
     ap (λ (g : ℕ). digitsWithin g (valueFrom v bs)) turns ∙
     (digits-value (suc f) v r (omega arith) ∙
-    (ap (λ (xs : List ℕ). xs ++ bs) (digits-more f v (omega arith) ∙ ap₂ (λ (a c : ℕ). digitsWithin f a ++ (c ∷ [])) q d) ∙
+    (ap (λ (xs : List ℕ). xs ++ bs) (digits-more f v (omega arith) ∙
+    ap₂ (λ (a c : ℕ). digitsWithin f a ++ (c ∷ [])) q d) ∙
     append-assoc (digitsWithin f n) (b ∷ []) bs))
 
 pub record Formed (ds : List ℕ) : Type 0 where
@@ -230,11 +233,13 @@ number-read bs r h = go c (inForm (c .front)) refl (rw (c .whole, number-is (c .
     c : Split bs
     c = split-digits bs
 
-    go : (c : Split bs) (b : Bool) → inForm (c .front) ≡ b → takenIf b (valueFrom 0 (c .front)) (c .back) ≡ some r → NumberRead bs r
+    go : (c : Split bs) (b : Bool) → inForm (c .front) ≡ b → takenIf b (valueFrom 0 (c .front)) (c .back) ≡ some r →
+        NumberRead bs r
     go c false e h = absurd (no-none h)
     go c true e h =
         let v = taken-value h in
+        let front : c .front ≡ digits (r .value) = sym (digits-formed (c .are) e) ∙ ap digits v in
         record {
-          whole = c .whole ∙ ap₂ (λ (x y : List ℕ). x ++ y) (sym (digits-formed (c .are) e) ∙ ap digits v) (taken-rest h);
+          whole = c .whole ∙ ap₂ (λ (x y : List ℕ). x ++ y) front (taken-rest h);
           small = rw (← v) (value-small (c .are) (formed (c .front) e .at-most));
         }

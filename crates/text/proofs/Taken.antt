@@ -46,7 +46,8 @@ module _ {A B : Type 0} where
   both-took none f b h = absurd (no-none h)
   both-took (some a) f b h = record { first = a; took = refl; then = h }
 
-  pub andThen-same : (o : Option A) (f g : A → Option B) → ((a : A) → o ≡ some a → f a ≡ g a) → andThen o f ≡ andThen o g
+  pub andThen-same : (o : Option A) (f g : A → Option B) → ((a : A) → o ≡ some a → f a ≡ g a) →
+      andThen o f ≡ andThen o g
   unfolding andThen
   andThen-same none f g h = refl
   andThen-same (some a) f g h = h a refl
