@@ -163,11 +163,11 @@ module _ (u t : Task) (n : ℕ) (whole : List Atom) (c : AtomTests t n whole) (f
   atoms-lead xs (a ∷ ys) e =
       let left = map bare ys in
       let g : whole ≡ (xs ++ (bare a ∷ [])) ++ left = append-eq xs (bare a) left e in
-      let ys′ = xs ++ (bare a ∷ []) in
+      let upto = xs ++ (bare a ∷ []) in
       let roles = snoc-roles xs (bare a)
-      (prefix (λ xs. rolesAscend xs ≡ true) (λ xs x h. snoc-roles xs x h .front) ys′ left (rw g at (c .roles))) in
+      (prefix (λ xs. rolesAscend xs ≡ true) (λ xs x h. snoc-roles xs x h .front) upto left (rw g at (c .roles))) in
       let apart = snoc-distinct xs (bare a)
-      (prefix (λ xs. distinct xs ≡ true) (λ xs x h. snoc-distinct xs x h .0) ys′ left (rw g at (c .apart))) .1 in
+      (prefix (λ xs. distinct xs ≡ true) (λ xs x h. snoc-distinct xs x h .0) upto left (rw g at (c .apart))) .1 in
       let fit : argsFit (t .arities) n (a .pred) (a .args) ≡ true =
       all-in (λ a. argsFit (t .arities) n (a .pred) (a .args)) (rw e at (c .fit)) (in-right xs (here refl)) in
       let room : schemaAtoms (t .schemas) + length xs < 1000 =
