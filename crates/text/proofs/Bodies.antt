@@ -45,8 +45,7 @@ module _ {K L : Type 0} (bodyOf : L → List ℕ) (Says : K → L → Type 0) (k
       line-made make e (says a (n .small)) (n .whole ∙ ap (λ (x : List ℕ). x ++ e .body .rest) (same a))
 
   pub entry-line : (make : Entry → L) → ((x : Entry) → SmallEntry x → Says k (make x)) →
-      ((x : Entry) → entryBytes x ≡ bodyOf (make x)) →
-      ended make (entry bs) ≡ some m → BodyRead bodyOf Says k bs m
+      ((x : Entry) → entryBytes x ≡ bodyOf (make x)) → ended make (entry bs) ≡ some m → BodyRead bodyOf Says k bs m
   entry-line make says same h =
       let e = ended-read make (entry bs) m h in
       let a = e .body .value in

@@ -188,8 +188,7 @@ numbersWithin-read (suc f) bs r h =
   where
     comma-next : (n : Taken ℕ) → number bs ≡ some n → (c : ℕ) (cs : List ℕ) → n .rest ≡ c ∷ cs →
         ((cs : List ℕ) (r : Taken (List ℕ)) → numbersWithin f cs ≡ some r → NumbersRead cs r) → (b : Bool) →
-        eqb c comma ≡ b →
-        _≡_ {A = Option (Taken (List ℕ))} (elim b [
+        eqb c comma ≡ b → _≡_ {A = Option (Taken (List ℕ))} (elim b [
           | true ↦ andThen (numbersWithin f cs) (λ ns. taken (n .value ∷ ns .value) (ns .rest))
           | false ↦ taken (n .value ∷ []) (c ∷ cs)
         ]) (some r) → NumbersRead bs r

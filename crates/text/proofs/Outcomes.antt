@@ -91,8 +91,7 @@ result-written table text n h =
 -- ---- the round trips
 -- what was written of a table, read into any table that is long enough, gives the words of that table
 pub write-read : (table text other : List ℕ) (n : ℕ) → writeOutcome table text .told ≡ result (n ∷ []) →
-    longEnough other ≡ true →
-    readOutcome (take n (writeOutcome table text .buffer)) other ≡
+    longEnough other ≡ true → readOutcome (take n (writeOutcome table text .buffer)) other ≡
     record { told = result []; buffer = over (take tableWords table) other }
 write-read table text other n h long =
     let w = result-written table text n h in
@@ -116,8 +115,7 @@ write-read-words table text other n h long =
 
 -- what was read from a text, written into bytes that it fits in, is that text
 pub read-write : (text table vs other : List ℕ) → readOutcome text table .told ≡ result vs →
-    length text ≤ length other →
-    writeOutcome (readOutcome text table .buffer) other ≡
+    length text ≤ length other → writeOutcome (readOutcome text table .buffer) other ≡
     record { told = result (length text ∷ []); buffer = over text other }
 unfolding longEnough
 read-write text table vs other h room =

@@ -96,8 +96,7 @@ plan-leads t c xs (y ∷ ys) few h =
 
 -- reading a written plan gives its steps
 pub plan-read-written : (t : Task) → wellFormed t ≡ true → (xs : List Step) → all (isStep t) xs ≡ true →
-    length xs ≤ 100 →
-    readPlan t (writePlan xs) ≡ read xs
+    length xs ≤ 100 → readPlan t (writePlan xs) ≡ read xs
 unfolding readPlan writePlan
 plan-read-written t w xs h few =
     let lead = plan-leads t (task-tests t w) [] xs few h in
@@ -144,8 +143,7 @@ module _ (t : Task) where
       absurd (let z : _≡_ {A = ℕ} 0 1 = cc in omega arith)
 
   pub plan-found : {xs : List Step} {ls : List PlanLine} {ys : List Step} → PlanLeads t xs ls ys →
-      all (isStep t) xs ≡ true →
-      length xs ≤ 100 → PlanFound t ys (stepLines xs ++ ls)
+      all (isStep t) xs ≡ true → length xs ≤ 100 → PlanFound t ys (stepLines xs ++ ls)
   unfolding planLines
   plan-found {ys = ys} (comes-last {d = xs} {l = l} m h) all-steps few =
       let (e, q) = last-line xs l ys h in

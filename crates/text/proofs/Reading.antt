@@ -91,8 +91,7 @@ module _ {L D R : Type 0} (line : D → Reader L) (takes : D → L → Turn D R)
       Later = (e : D) (cs : List ℕ) (s : R) → readWithin line takes f (suc n) e cs ≡ read s → Read takes May text e cs s
 
       ended : (m : Taken L) → line d bs ≡ some m → (s : R) → takes d (m .value) ≡ finish s → (rest : List ℕ) →
-          m .rest ≡ rest →
-          atEnd s (suc n) rest ≡ read r → Read takes May text d bs r
+          m .rest ≡ rest → atEnd s (suc n) rest ≡ read r → Read takes May text d bs r
       ended m k s e [] q h = record {
         lines = m .value ∷ [];
         lead = comes-last (x .may d bs m k) (e ∙ (let z : s ≡ r = cc in ap finish z));

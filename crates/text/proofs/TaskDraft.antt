@@ -8,11 +8,12 @@ use native.Mathlib.Omega.{arith}
 use lib.ListN.{length}
 use lib.Dec.{leb}
 use Rattle.task.specs.Lists.{all, concatMap}
-use Rattle.task.specs.Task.{Fact, Schema, Task, argsFit, distinct, rolesAscend, schemaAtoms}
+use Rattle.task.specs.Task.{Atom, Fact, Schema, Task, argsFit, distinct, rolesAscend, schemaAtoms}
 use Rattle.task.proofs.Laws.{In, here, there, append-concatMap, map-append}
 use Rattle.task.proofs.Tests.{TaskTests}
 use Rattle.text.specs.Reading.{goOn}
-use Rattle.text.specs.Text.{Key, task, objects, arity, schema, pre, add, del, part, init, goal, end, Line}
+use Rattle.text.specs.Text.{atomLine, atomEntry, Key, task, objects, arity, schema, pre, add, del, part, init}
+use Rattle.text.specs.Text.{goal, end, Line}
 use Rattle.text.specs.Text.{taskLine, objectsLine, schemaLine, endLine, arityLine, initLine, goalLine, factEntry}
 use Rattle.text.specs.Text.{schemaLines, taskLines, Phase, atTask, atObjects, atArity, between, inPre, inAdd}
 use Rattle.text.specs.Text.{inDel, inInit, inGoal, keysAt, rolePhase, Draft, TaskTurn, withSchemas, withInit}
@@ -89,6 +90,14 @@ whole-schema t s h k =
   where
     go : (a b c d w : List Line) → c ≡ [] → d ≡ [] → a ++ ((b ++ (w ++ [])) ++ (c ++ d)) ≡ (a ++ (b ++ (c ++ d))) ++ w
     go a b c d w e f = rw (e, f) (simp (append-assoc, append-nil))
+
+pub opened-atom : (c : Schema) (a : Atom) →
+    opened (record { params = c .params; atoms = c .atoms ++ (a ∷ []) }) ≡
+    opened c ++ (atomLine (a .role) (atomEntry a) ∷ [])
+unfolding opened
+opened-atom c a =
+    ap {B = List Line} (λ (ls : List Line). schemaLine (c .params) ∷ ls)
+    (map-append (λ a. atomLine (a .role) (atomEntry a)) (c .atoms) (a ∷ []))
 
 -- ---- what is known of a draft
 pub record Empty (t : Task) : Type 0 where

@@ -1,9 +1,9 @@
 -- What a line adds to a draft that is known: an initial or a goal atom, an atom of a schema, the parts that close it.
 -- Each refusal that did not come is a test that holds of the longer list, so the grown draft is known again.
 use Prim.Native.Nat.{ℕ, _+_, _≤_}
-use mathlib.Core.Path.{_≡_, refl, sym, _∙_, ap, ap₂}
+use mathlib.Core.Path.{_≡_, sym, _∙_, ap, ap₂}
 use mathlib.Core.Bool.{Bool, true, not}
-use mathlib.Core.List.{List, [], _∷_, _++_, append-assoc}
+use mathlib.Core.List.{List, [], _∷_, _++_, append-assoc, map-map}
 use native.Mathlib.Omega.{arith}
 use lib.ListN.{length, length-append, length-map}
 use lib.Dec.{eqb, ltb, leb}
@@ -21,10 +21,11 @@ use Rattle.text.specs.Text.{schemaLines, Phase, between, inInit, inGoal,
 use Rattle.text.specs.Text.{withSchemas, withInit, withGoal, addAtom, withParts, closeSchema, follows, addFact}
 use Rattle.text.proofs.Reading.{need-went}
 use Rattle.text.proofs.Growing.{all-snoc, more-room, more-facts, lastRole-snoc, roles-snoc, distinct-snoc}
-use Rattle.text.proofs.Parts.{bare, all-map, map-map, roles-bare, distinct-bare, allNamedIn, named-bare}
+use Rattle.text.proofs.Parts.{bare, all-map, roles-bare, distinct-bare, allNamedIn, named-bare}
 use Rattle.text.proofs.Parts.{parts-are, parts-same, below-count}
 use Rattle.text.proofs.TaskWritten.{draft, atomLines, schemaAtoms-part}
-use Rattle.text.proofs.TaskDraft.{wholeOf, opened, soFar, whole-goal, whole-init, whole-schema, Open, Next, next}
+use Rattle.text.proofs.TaskDraft.{wholeOf, opened, soFar, whole-goal, whole-init, whole-schema, opened-atom}
+use Rattle.text.proofs.TaskDraft.{Open, Next, next}
 use Rattle.text.proofs.TaskDraft.{known-role, soFar-role}
 
 -- ---- initial and goal atoms
@@ -95,7 +96,7 @@ module _ (t : Task) (c : TaskTests t) where
 -- ---- atoms of a schema
 pub atom-next : (p : Phase) (t : Task) (c : Schema) (q r : ℕ) → q ≤ r → r ≤ 2 → (x : Entry) (e : Draft) → Open q t c →
     addAtom (draft p t c) r x ≡ goOn e → Next e ((wholeOf t ++ opened c) ++ (atomLine r x ∷ []))
-unfolding addAtom opened atomEntry
+unfolding addAtom atomEntry
 atom-next p t c q r l m x e o h =
     let a : Atom = record { role = r; pred = x .head; part = 0; args = x .list } in
     let s : Schema = record { params = c .params; atoms = c .atoms ++ (a ∷ []) } in
@@ -118,19 +119,11 @@ atom-next p t c q r l m x e o h =
       fit = all-snoc (λ a. argsFit (t .arities) (c .params) (a .pred) (a .args)) (c .atoms) a (o .fit) k₃;
       apart = distinct-snoc (c .atoms) a (o .apart) k₄;
     } in
-    let line : Line = atomLine r x in
     next h₄ (record {
       known = known-role r m t s open′;
-      stands = soFar-role r t s ∙
-          (ap (λ (ls : List Line). wholeOf t ++ (schemaLine (c .params) ∷ ls)) (atomLines-snoc (c .atoms) a) ∙
-          sym (append-assoc (wholeOf t) (schemaLine (c .params) ∷ atomLines (c .atoms)) (line ∷ [])));
+      stands = soFar-role r t s ∙ (ap (λ (ls : List Line). wholeOf t ++ ls) (opened-atom c a) ∙
+          sym (append-assoc (wholeOf t) (opened c) (atomLine r x ∷ [])));
     })
-  where
-    atomLines-snoc : (xs : List Atom) (a : Atom) →
-        atomLines (xs ++ (a ∷ [])) ≡ atomLines xs ++ (atomLine (a .role) (atomEntry a) ∷ [])
-    atomLines-snoc [] a = refl
-    atomLines-snoc (x ∷ xs) a =
-        ap {B = List Line} (λ (ls : List Line). atomLine (x .role) (atomEntry x) ∷ ls) (atomLines-snoc xs a)
 
 -- ---- a schema's parts
 abbrev pub closed : Schema → List ℕ → Schema

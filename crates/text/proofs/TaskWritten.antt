@@ -47,8 +47,7 @@ pub record NextFact (n : ℕ) (ns : List ℕ) (fs : List Fact) (f : Fact) : Type
   pub after : follows fs f ≡ true
 
 pub next-fact : (n : ℕ) (ns : List ℕ) (whole fs : List Fact) (f : Fact) (more : List Fact) →
-    factsFit n ns whole ≡ true →
-    whole ≡ fs ++ (f ∷ more) → NextFact n ns fs f
+    factsFit n ns whole ≡ true → whole ≡ fs ++ (f ∷ more) → NextFact n ns fs f
 next-fact n ns whole fs f more h e =
     let c = fact-tests n ns whole h in
     let upto = prefix (λ xs. ascending xs ≡ true) (λ xs x k. snoc-ascending xs x k .0) (fs ++ (f ∷ [])) more in
@@ -94,8 +93,7 @@ module _ (u : Task) (c : TaskTests u) where
       (leb-true (length (u .arities)) 400 (c .preds)) (n .fit)
 
   pub goals-lead : (p : Phase) (s : Schema) (fs gs : List Fact) → u .goal ≡ fs ++ gs → In goal (keysAt p) →
-      In end (keysAt p) →
-      LeadsTo (draft p (toGoals u fs) s) (fromGoals gs) u
+      In end (keysAt p) → LeadsTo (draft p (toGoals u fs) s) (fromGoals gs) u
   unfolding takeLine factEntry keysAt
   goals-lead p s fs [] e a b =
       let z : fs ≡ u .goal = sym (append-nil fs) ∙ sym e in
