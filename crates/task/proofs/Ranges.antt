@@ -3,15 +3,32 @@
 use Prim.Native.Nat.{ℕ, suc, _+_, _-_, _≤_, _<_}
 use mathlib.Core.Path.{_≡_, refl, sym, _∙_, ap}
 use mathlib.Core.Bool.{Bool, true, false, _&&_, _||_}
-use mathlib.Core.List.{List, [], _∷_, map}
+use mathlib.Core.List.{List, [], _∷_, _++_, map}
 use native.Mathlib.Omega.{arith}
 use native.Mathlib.Numerals.{add-one}
-use Rattle.task.specs.Lists.{all, any, upTo, upFrom}
-use Rattle.task.proofs.Laws.{and-left, and-right, and-both, bool-ext, all-in, in-all, in-upFrom, upFrom-in, in-upTo, upTo-in}
+use lib.ListN.{getD}
+use Rattle.task.specs.Lists.{all, any, every, upTo, upFrom}
+use Rattle.task.proofs.Laws.{and-left, and-right, and-both, both-ft, bool-ext, false-if, every-at, Met, met-none, met-more, all-in, in-all, in-upFrom, upFrom-in, in-upTo, upTo-in}
 
 pub or-false : (b : Bool) → b || false ≡ b
 or-false true = refl
 or-false false = refl
+
+pub and-more : {t rest whole : Bool} → whole ≡ t && rest → t ≡ true → whole ≡ rest
+and-more {rest = rest} h e = h ∙ ap (λ (b : Bool). b && rest) e
+
+pub and-fails : {t whole : Bool} (rest : Bool) → whole ≡ t && rest → t ≡ false → false ≡ whole
+and-fails rest h e = sym (h ∙ ap (λ (b : Bool). b && rest) e)
+
+-- ---- lists of tests, made one after another
+pub some-fails : (bs : List Bool) (k : ℕ) → getD bs k true ≡ false → false ≡ every bs
+some-fails bs k e = sym (false-if (every bs) (λ h. both-ft (every-at bs h k) e))
+
+pub last-decides : {bs : List Bool} (b : Bool) → Met bs → b ≡ every (bs ++ (b ∷ []))
+unfolding every
+last-decides true met-none = refl
+last-decides false met-none = refl
+last-decides {bs = c ∷ bs} b (met-more h m) = last-decides b m ∙ sym (ap (λ (x : Bool). x && every (bs ++ (b ∷ []))) h)
 
 -- ---- one element further
 pub range-step : (i e : ℕ) → i < e → upFrom i (e - i) ≡ i ∷ upFrom (i + 1) (e - (i + 1))

@@ -1,6 +1,6 @@
 -- The tests of words together say that the words are a table: a table passes each, by `table-words` and the tests of its
 -- task; and words that pass them all fit (`WordsFit`) and are those of a well-formed task, so `words-table` applies.
-use Prim.Native.Nat.{ℕ, suc, _+_, _-_, _*_, _≤_, _<_}
+use Prim.Native.Nat.{ℕ, zero, suc, _+_, _-_, _*_, _≤_, _<_}
 use mathlib.Core.Path.{_≡_, refl, sym, _∙_, ap, subst}
 use mathlib.Core.Bool.{Bool, true, false, _&&_}
 use mathlib.Core.List.{List, [], _∷_, map}
@@ -13,7 +13,7 @@ use Rattle.task.specs.Lists.{all, every, upTo, upFrom}
 use Rattle.task.specs.Limits.{tableWords}
 use Rattle.task.specs.Task.{Fact, Schema, argsFit, schemaFits, ascending, factsFit, wellFormed}
 use Rattle.task.specs.Table.{wordsAt, arityIn, atomBase, atomIn, schemaNumberIn, factIn, taskOf, isTable}
-use Rattle.task.specs.WordTests.{countTests, aritiesFit, zerosAt, unusedZero, aritiesIn, argWordsFit, numbersFit, schemaWordsFit, indicesOf, factWordsFit, factsWordsFit, factsIn, atomTotal, wordsUsed, wordTests, Roomy}
+use Rattle.task.specs.WordTests.{countTests, aritiesFit, zerosAt, unusedZero, aritiesIn, argWordsFit, numberFits, numbersFit, schemaWordsFit, indicesOf, factWordsFit, factsWordsFit, factsIn, atomTotal, wordsUsed, Roomy}
 use Rattle.task.proofs.Laws.{and-left, and-right, and-both, bool-ext, false-if, every-at, met-none, met-more, met-every, all-in, in-all, In, filter-in, in-filter, in-upTo, upTo-in, upFrom-in, in-map, map-in}
 use Rattle.task.proofs.Ranges.{all-from, from-all, all-below, below-all, all-map, all-and}
 use Rattle.task.proofs.Tests.{FactTests, TaskTests, schema-tests, fact-tests, tests-fact, task-tests, tests-task}
@@ -29,19 +29,6 @@ pub record Passed (w : List ℕ) : Type 0 where
   pub init : factsWordsFit w 3 (getD w 3 0) (getD w 4 0) ≡ true
   pub goal : factsWordsFit w 4 (getD w 3 0 + getD w 4 0) (getD w 5 0) ≡ true
   pub rest : zerosAt w (wordsUsed w) (tableWords - wordsUsed w) ≡ true
-
-passed : (w : List ℕ) → every (wordTests w) ≡ true → Passed w
-unfolding wordTests
-passed w h =
-    let at = every-at (wordTests w) h in
-    record { counts = at 0; arities = at 1; numbers = at 2; schemas = at 3; init = at 4; goal = at 5; rest = at 6 }
-
-all-passed : (w : List ℕ) → Passed w → every (wordTests w) ≡ true
-unfolding wordTests
-all-passed w c =
-    met-every {bs = wordTests w}
-    (met-more (c .counts) (met-more (c .arities) (met-more (c .numbers) (met-more (c .schemas) (met-more (c .init)
-    (met-more (c .goal) (met-more (c .rest) met-none)))))))
 
 pub record Counted (w : List ℕ) : Type 0 where
   pub some-object : 1 ≤ getD w 0 0
@@ -135,10 +122,12 @@ module _ (w : List ℕ) (h : isTable w ≡ true) where
   arities-met = below-all (λ p. leb (arityIn w p) 4) (getD w 1 0) (λ p l. le-leb (arityIn w p) 4 (fit .arity p l))
 
   numbers-met : numbersFit w ≡ true
-  unfolding numbersFit
-  numbers-met = and-both _ _
-      (below-all (λ i. ltb (schemaNumberIn w i) (getD w 2 0)) (getD w 3 0) (λ i l. lt-ltb _ _ (fit .schema i l)))
-      (below-all (λ i. leb (schemaNumberIn w i) (schemaNumberIn w (suc i))) (getD w 3 0 - 1) (λ i l. le-leb _ _ (fit .order i (omega arith))))
+  unfolding numbersFit numberFits
+  numbers-met = below-all (numberFits w) (getD w 3 0) (λ i l. and-both _ _ (lt-ltb _ _ (fit .schema i l)) (le-leb _ _ (rises i l)))
+    where
+      rises : (i : ℕ) → i < getD w 3 0 → schemaNumberIn w (i - 1) ≤ schemaNumberIn w i
+      rises zero l = omega arith
+      rises (suc i) l = let e : suc i - 1 ≡ i = omega arith in rw e (fit .order i l)
 
   unused-met : (i : ℕ) → i < atomTotal w → unusedZero w i ≡ true
   unused-met i l = unused-zero w i (λ k. fit .unused i k l)
@@ -171,7 +160,7 @@ module _ (w : List ℕ) (h : isTable w ≡ true) where
       let c = fit .inside in
       eq-eqb (getD w k 0) 0 (fit .rest k a (omega arith)))
 
-  table-passes : Passed w
+  pub table-passes : Passed w
   unfolding taskOf
   table-passes = record {
     counts = counts-met;
@@ -196,6 +185,23 @@ args-known w bound i a u =
     let e = length-wordsAt w 6 (getD w 1 0) in
     record { known = omega arith; unused = u }
 
+-- each schema atom's number, and its neighbour's
+module _ (w : List ℕ) (h : numbersFit w ≡ true) where
+  number-fits : (i : ℕ) → i < getD w 3 0 → numberFits w i ≡ true
+  unfolding numbersFit
+  number-fits = all-below (numberFits w) (getD w 3 0) h
+
+  pub number-known : (i : ℕ) → i < getD w 3 0 → schemaNumberIn w i < getD w 2 0
+  unfolding numberFits
+  number-known i l = ltb-true _ _ (and-left (ltb (schemaNumberIn w i) (getD w 2 0)) _ (number-fits i l))
+
+  pub numbers-rise : (i : ℕ) → suc i < getD w 3 0 → schemaNumberIn w i ≤ schemaNumberIn w (suc i)
+  unfolding numberFits
+  numbers-rise i l =
+      let e : suc i - 1 ≡ i = omega arith in
+      subst (λ (k : ℕ). schemaNumberIn w k ≤ schemaNumberIn w (suc i)) e
+      (leb-true _ _ (and-right (ltb (schemaNumberIn w (suc i)) (getD w 2 0)) _ (number-fits (suc i) l)))
+
 module _ (w : List ℕ) (long : tableWords ≤ length w) (c : Passed w) where
   abbrev limits : Counted w
   limits = counted w (c .counts)
@@ -210,21 +216,11 @@ module _ (w : List ℕ) (long : tableWords ≤ length w) (c : Passed w) where
   unfolding schemaWordsFit indicesOf
   schema-ok s l = all-below (λ s. schemaWordsFit w s (indicesOf w s)) (getD w 2 0) (c .schemas) s l
 
-  number-known : (i : ℕ) → i < getD w 3 0 → schemaNumberIn w i < getD w 2 0
-  unfolding numbersFit
-  number-known i l = ltb-true _ _ (all-below (λ i. ltb (schemaNumberIn w i) (getD w 2 0)) (getD w 3 0)
-      (and-left (all (λ i. ltb (schemaNumberIn w i) (getD w 2 0)) (upTo (getD w 3 0))) _ (c .numbers)) i l)
-
-  numbers-rise : (i : ℕ) → suc i < getD w 3 0 → schemaNumberIn w i ≤ schemaNumberIn w (suc i)
-  unfolding numbersFit
-  numbers-rise i l = leb-true _ _ (all-below (λ i. leb (schemaNumberIn w i) (schemaNumberIn w (suc i))) (getD w 3 0 - 1)
-      (and-right (all (λ i. ltb (schemaNumberIn w i) (getD w 2 0)) (upTo (getD w 3 0))) _ (c .numbers)) i (omega arith))
-
   atom-known : (i : ℕ) → i < getD w 3 0 → Known w i
   unfolding indicesOf
   atom-known i l =
       let s = schemaNumberIn w i in
-      let b = schema-ok s (number-known i l) in
+      let b = schema-ok s (number-known w (c .numbers) i l) in
       let k : In i (indicesOf w s) = in-filter (λ i. eqb s (schemaNumberIn w i)) (in-upTo (getD w 3 0) i l) (eq-eqb s s refl) in
       let t = schema-tests (aritiesIn w) (schemaIn w s) (and-left (schemaOk s) _ b) in
       args-known w (schemaIn w s .params) i
@@ -298,8 +294,8 @@ module _ (w : List ℕ) (long : tableWords ≤ length w) (c : Passed w) where
         arity = room .arities;
         known = λ i l. each-known i l .known;
         unused = λ i k l. zero-unused w i (each-known i l .unused) k;
-        schema = number-known;
-        order = numbers-rise;
+        schema = number-known w (c .numbers);
+        order = numbers-rise w (c .numbers);
         init = init-ok .words;
         goal = goal-ok .words;
         rest = λ k a b. eqb-true (getD w k 0) 0
@@ -335,7 +331,15 @@ module _ (w : List ℕ) (long : tableWords ≤ length w) (c : Passed w) where
           let r : getD w p 0 ≤ 4 = rw q at (room .arities (p - 6) (omega arith)) in
           le-leb a 4 (omega arith)
 
-pub table-tests : (w : List ℕ) → tableWords ≤ length w → isTable w ≡ every (wordTests w)
-table-tests w long = bool-ext (isTable w) (every (wordTests w))
-    (λ h. all-passed w (table-passes w h))
-    (λ h. let c = passed w h in words-table w (words-fit w long c) (tests-task (taskOf w) (task-fits w long c)))
+-- ---- both ways
+pub passed-table : (w : List ℕ) → tableWords ≤ length w → Passed w → isTable w ≡ true
+passed-table w long c = words-table w (words-fit w long c) (tests-task (taskOf w) (task-fits w long c))
+
+pub not-passed : (w : List ℕ) → (Passed w → ⊥) → false ≡ isTable w
+not-passed w bad = sym (false-if (isTable w) (λ h. bad (table-passes w h)))
+
+-- where the other tests are passed, the rest decides
+pub rest-decides : (w : List ℕ) → tableWords ≤ length w →
+    (zerosAt w (wordsUsed w) (tableWords - wordsUsed w) ≡ true → Passed w) → zerosAt w (wordsUsed w) (tableWords - wordsUsed w) ≡ isTable w
+rest-decides w long others = bool-ext (zerosAt w (wordsUsed w) (tableWords - wordsUsed w)) (isTable w)
+    (λ h. passed-table w long (others h)) (λ h. table-passes w h .rest)

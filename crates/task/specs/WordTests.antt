@@ -6,9 +6,9 @@ use mathlib.Core.Bool.{Bool, _&&_}
 use mathlib.Core.List.{List, [], _∷_, map}
 use lib.ListN.{length, getD}
 use lib.Dec.{eqb, ltb, leb}
-use Rattle.task.specs.Lists.{all, every, filter, upTo, upFrom}
-use Rattle.task.specs.Limits.{mostObjects, mostPredicates, mostSchemas, mostSchemaAtoms, mostInitial, mostGoal, mostArity, tableWords, headWords, atomSize}
-use Rattle.task.specs.Task.{Atom, Fact, Schema, argsFit, schemaFits, ascending, initial, goalRole}
+use Rattle.task.specs.Lists.{all, filter, upTo, upFrom}
+use Rattle.task.specs.Limits.{mostObjects, mostPredicates, mostSchemas, mostSchemaAtoms, mostInitial, mostGoal, mostArity, mostParts, headWords, atomSize}
+use Rattle.task.specs.Task.{Atom, Fact, Schema, argsFit, partCount, noGap, schemaFits, ascending}
 use Rattle.task.specs.Table.{wordsAt, arityIn, atomBase, atomIn, schemaNumberIn, factIn}
 
 -- "objects N (1 to 1000), predicates P (1 to 400), schemas (0 to 200), schema atoms (at most 1000), initial atoms (at
@@ -49,12 +49,16 @@ unfoldable pub argWordsFit : List ℕ → ℕ → ℕ → Bool
 unfolding argsFit wordsAt atomIn unusedZero
 argWordsFit w bound i = argsFit (aritiesIn w) bound (atomIn w i .pred) (atomIn w i .args) && unusedZero w i
 
--- each schema atom names a schema, and the schemas' atoms follow one another
+-- schema atom i names a schema, and none lower than the atom before it
+unfoldable pub numberFits : List ℕ → ℕ → Bool
+unfolding schemaNumberIn
+numberFits w i =
+    ltb (schemaNumberIn w i) (getD w 2 0) && leb (schemaNumberIn w (i - 1)) (schemaNumberIn w i)
+
+-- "all atoms in file order": the atoms of each schema follow those of the schema before it
 unfoldable pub numbersFit : List ℕ → Bool
-unfolding all upTo schemaNumberIn
-numbersFit w =
-    all (λ i. ltb (schemaNumberIn w i) (getD w 2 0)) (upTo (getD w 3 0)) &&
-    all (λ i. leb (schemaNumberIn w i) (schemaNumberIn w (suc i))) (upTo (getD w 3 0 - 1))
+unfolding all upTo numberFits
+numbersFit w = all (numberFits w) (upTo (getD w 3 0))
 
 -- the n atoms from atom i on
 abbrev pub atomsIn : List ℕ → ℕ → ℕ → List Atom
@@ -62,6 +66,11 @@ atomsIn w i n = map (atomIn w) (upFrom i n)
 
 abbrev pub factsIn : List ℕ → ℕ → ℕ → List Fact
 factsIn w i n = map (factIn w) (upFrom i n)
+
+-- "It has 1 to 16 parts, numbered without a gap"
+unfoldable pub partsFit : List Atom → Bool
+unfolding partCount noGap
+partsFit atoms = leb (partCount atoms) mostParts && noGap atoms
 
 abbrev pub paramsIn : List ℕ → ℕ → ℕ
 paramsIn w s = getD w (headWords + getD w 1 0 + s) 0
@@ -95,23 +104,15 @@ atomTotal w = getD w 3 0 + getD w 4 0 + getD w 5 0
 abbrev pub wordsUsed : List ℕ → ℕ
 wordsUsed w = headWords + getD w 1 0 + getD w 2 0 + atomSize * atomTotal w
 
--- what a table's words are tested for, in the order of the tests
-unfoldable pub wordTests : List ℕ → List Bool
-unfolding every countTests aritiesFit numbersFit all upTo schemaWordsFit indicesOf factsWordsFit zerosAt tableWords
-wordTests w =
-    every (countTests w) ∷
-    aritiesFit w ∷
-    numbersFit w ∷
-    all (λ s. schemaWordsFit w s (indicesOf w s)) (upTo (getD w 2 0)) ∷
-    factsWordsFit w initial (getD w 3 0) (getD w 4 0) ∷
-    factsWordsFit w goalRole (getD w 3 0 + getD w 4 0) (getD w 5 0) ∷
-    zerosAt w (wordsUsed w) (tableWords - wordsUsed w) ∷ []
-
 -- what the tests of the counts and the arities leave known: every word of an atom lies in the table
 pub record Roomy (w : List ℕ) : Type 0 where
   pub inside : wordsUsed w ≤ length w
   pub few : wordsUsed w ≤ 13406
   pub arities : (p : ℕ) → p < getD w 1 0 → arityIn w p ≤ mostArity
+
+-- each atom from one index to another has a known predicate
+abbrev pub KnownIn : List ℕ → ℕ → ℕ → Type 0
+KnownIn w from to = (i : ℕ) → from ≤ i → i < to → atomIn w i .pred < getD w 1 0
 
 -- `end` is where the atoms of schema s, which begin at `start`, end
 pub record RunOf (w : List ℕ) (s start end : ℕ) : Type 0 where
