@@ -1,10 +1,51 @@
 -- What the contracts of this crate's code speak of: sets of bits, stretches of a table's schema atoms, what is found of
 -- each part, and the order that is handed back.
-use Prim.Native.Nat.{ℕ, _/_, _%_, _^_}
-use mathlib.Core.Bool.{Bool}
+use Prim.Native.Nat.{ℕ, _-_, _/_, _%_, _^_, _≤_, _<_}
+use mathlib.Core.Path.{_≡_}
+use mathlib.Core.Bool.{Bool, true, not, _&&_, _||_}
+use mathlib.Core.List.{List, map}
+use lib.ListN.{getD}
 use lib.Dec.{eqb}
+use Rattle.task.specs.Lists.{any, upFrom}
+use Rattle.task.specs.Task.{Atom}
+use Rattle.task.specs.Table.{atomIn, isTable}
+use Rattle.arcs.specs.Order.{givesArc, arc}
 
 -- ---- sets of bits
 -- whether k is in the set
 unfoldable pub member : ℕ → ℕ → Bool
 member set k = eqb (set / 2 ^ k % 2) 1
+
+-- ---- atoms of a table
+-- words of a table, and a schema atom of it: word 3 says how many there are
+pub record IsSchemaAtom (w : List ℕ) (i : ℕ) : Type 0 where
+  pub table : isTable w ≡ true
+  pub known : i < getD w 3 0
+
+-- words of a table, and a stretch of its schema atoms, atoms `from` to `to - 1`, as the atoms of a schema are
+pub record IsStretch (w : List ℕ) (from to : ℕ) : Type 0 where
+  pub table : isTable w ≡ true
+  pub forward : from ≤ to
+  pub known : to ≤ getD w 3 0
+
+-- the atoms of a stretch
+unfoldable pub atomsIn : List ℕ → ℕ → ℕ → List Atom
+unfolding upFrom atomIn
+atomsIn w from to = map (atomIn w) (upFrom from (to - from))
+
+-- whether one of these atoms and one of others give an arc from part p to part q; the arcs of a list are those between
+-- it and itself
+unfoldable pub arcsBetween : List Atom → List Atom → ℕ → ℕ → Bool
+unfolding any givesArc
+arcsBetween these others p q =
+    not (eqb p q) &&
+    any (λ a. eqb (a .part) p && any (λ b. eqb (b .part) q && givesArc a b) others) these
+
+-- ---- what is found of each part
+-- p joins the set of q where a test takes p and q; nothing else changes
+abbrev pub Joins : (ℕ → ℕ → Bool) → List ℕ → List ℕ → Type 0
+Joins test sets after = (p q : ℕ) → member (getD after q 0) p ≡ member (getD sets q 0) p || test p q
+
+-- for each part the set of parts that have an arc to it
+abbrev pub AreArcs : List Atom → List ℕ → Type 0
+AreArcs atoms sets = (p q : ℕ) → member (getD sets q 0) p ≡ arc atoms p q
