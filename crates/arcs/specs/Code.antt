@@ -9,7 +9,7 @@ use lib.Dec.{eqb}
 use Rattle.task.specs.Lists.{any, upFrom}
 use Rattle.task.specs.Task.{Atom}
 use Rattle.task.specs.Table.{atomIn, isTable}
-use Rattle.arcs.specs.Order.{givesArc, arc}
+use Rattle.arcs.specs.Order.{givesArc, arc, preconditions}
 
 -- ---- sets of bits
 -- whether k is in the set
@@ -49,3 +49,7 @@ Joins test sets after = (p q : ℕ) → member (getD after q 0) p ≡ member (ge
 -- for each part the set of parts that have an arc to it
 abbrev pub AreArcs : List Atom → List ℕ → Type 0
 AreArcs atoms sets = (p q : ℕ) → member (getD sets q 0) p ≡ arc atoms p q
+
+-- for each part its number of preconditions
+abbrev pub AreCounts : List Atom → List ℕ → Type 0
+AreCounts atoms counts = (p : ℕ) → getD counts p 0 ≡ preconditions atoms p
