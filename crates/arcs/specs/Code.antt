@@ -4,17 +4,25 @@ use Prim.Native.Nat.{ℕ, _-_, _/_, _%_, _^_, _≤_, _<_}
 use mathlib.Core.Path.{_≡_}
 use mathlib.Core.Bool.{Bool, true, not, _&&_, _||_}
 use mathlib.Core.List.{List, map}
+use mathlib.Core.Option.{Option, none, some}
 use lib.ListN.{getD}
 use lib.Dec.{eqb}
-use Rattle.task.specs.Lists.{any, upFrom}
+use Rattle.task.specs.Lists.{any, filter, upFrom, upTo}
 use Rattle.task.specs.Task.{Atom}
 use Rattle.task.specs.Table.{atomIn, isTable}
+use Rattle.arcs.specs.declared.choice.Choice.{Choice}
+use Rattle.arcs.specs.declared.choice.Choice.the-variants as choice
 use Rattle.arcs.specs.Order.{givesArc, arc, preconditions}
 
 -- ---- sets of bits
 -- whether k is in the set
 unfoldable pub member : ℕ → ℕ → Bool
 member set k = eqb (set / 2 ^ k % 2) 1
+
+-- the numbers below n that are in the set, ascending
+unfoldable pub members : ℕ → ℕ → List ℕ
+unfolding member filter upTo
+members set n = filter (member set) (upTo n)
 
 -- ---- atoms of a table
 -- words of a table, and a schema atom of it: word 3 says how many there are
@@ -53,3 +61,17 @@ AreArcs atoms sets = (p q : ℕ) → member (getD sets q 0) p ≡ arc atoms p q
 -- for each part its number of preconditions
 abbrev pub AreCounts : List Atom → List ℕ → Type 0
 AreCounts atoms counts = (p : ℕ) → getD counts p 0 ≡ preconditions atoms p
+
+-- ---- the choice
+-- the part that is chosen, if one is ready
+unfoldable pub chosen : Choice → Option ℕ
+chosen (choice.Ready p) = some (p .0)
+chosen choice.Circular = none
+
+-- a part that is chosen is below n
+abbrev pub ChosenBelow : ℕ → Choice → Type 0
+ChosenBelow n c = (p : ℕ) → chosen c ≡ some p → p < n
+
+-- all in a set are below n
+abbrev pub SetBelow : ℕ → ℕ → Type 0
+SetBelow n set = (k : ℕ) → member set k ≡ true → k < n
