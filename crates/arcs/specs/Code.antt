@@ -2,14 +2,16 @@
 -- each part, and the order that is handed back.
 use Prim.Native.Nat.{ℕ, _-_, _/_, _%_, _^_, _≤_, _<_}
 use mathlib.Core.Path.{_≡_}
-use mathlib.Core.Bool.{Bool, true, not, _&&_, _||_}
+use mathlib.Core.Bool.{Bool, true, not, cond, _&&_, _||_}
 use mathlib.Core.List.{List, map}
 use mathlib.Core.Option.{Option, none, some}
-use lib.ListN.{getD}
+use lib.ListN.{getD, take}
 use lib.Dec.{eqb}
 use Rattle.task.specs.Lists.{any, filter, upFrom, upTo}
 use Rattle.task.specs.Task.{Atom}
 use Rattle.task.specs.Table.{atomIn, isTable}
+use Rattle.task.specs.declared.Part.{Part}
+use Rattle.arcs.specs.declared.Order.{Order}
 use Rattle.arcs.specs.declared.choice.Choice.{Choice}
 use Rattle.arcs.specs.declared.choice.Choice.the-variants as choice
 use Rattle.arcs.specs.Order.{givesArc, arc, preconditions}
@@ -75,3 +77,8 @@ ChosenBelow n c = (p : ℕ) → chosen c ≡ some p → p < n
 -- all in a set are below n
 abbrev pub SetBelow : ℕ → ℕ → Type 0
 SetBelow n set = (k : ℕ) → member set k ≡ true → k < n
+
+-- ---- the order handed back
+-- its part numbers, or none where no order complies
+unfoldable pub orderTold : Order → Option (List ℕ)
+orderTold o = cond (o .found) (some (map (λ (p : Part). p .0) (take (o .count) (o .parts)))) none
