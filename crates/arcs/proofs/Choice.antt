@@ -1,62 +1,23 @@
--- The choice at each place is the one that document 01 fixes, and it decides the order.
--- `best` goes from the last candidate to the first and keeps what it has unless the earlier one is at least as good.
--- A part unplaced at a place stands at none before it; so the choice is said of the order alone.
+-- The choice at each place of the order taken is the one that document 01 fixes, and it decides the order.
+-- A part unplaced at a place is one that stands at none before it, so the choice is said of the order alone; by
+-- induction over the order as it is taken.
 use Prim.Native.Nat.{ℕ, zero, suc, _≤_, _<_}
-use mathlib.Core.Path.{_≡_, refl, sym, _∙_, ap, subst}
-use mathlib.Core.Bool.{Bool, true, false, cond, not}
-use mathlib.Core.List.{List, [], _∷_}
-use mathlib.Core.Option.{Option, none, some}
+use mathlib.Core.Path.{_≡_, sym, _∙_}
+use mathlib.Core.Bool.{true, false, not}
+use mathlib.Core.List.{List, _∷_}
+use mathlib.Core.Option.{some}
 use native.Mathlib.Omega.{arith}
 use lib.ListN.{length, getD}
 use lib.Seq.{ext-getD}
-use lib.Dec.{eqb, ltb}
-use borrow.Author.Tests.{ltb-true, ltb-false}
+use lib.Dec.{eqb}
 use Rattle.task.specs.Task.{Atom, Schema, partCount}
-use Rattle.arcs.specs.Order.{arc, preconditions, ready, better, best, orderOf}
-use Rattle.task.proofs.Laws.{In, here, there, in-empty, in-filter, filter-in, in-upTo, upTo-in}
-use Rattle.arcs.proofs.Unplaced.{some-inj, no-none, Ascend, below, ascend-upTo, ascend-filter, others, in-others}
+use Rattle.arcs.specs.Order.{arc, preconditions, ready, best, orderOf}
+use Rattle.task.proofs.Laws.{In, in-filter, filter-in, in-upTo, upTo-in}
+use Rattle.arcs.proofs.Unplaced.{Ascend, ascend-upTo, ascend-filter, others, in-others}
 use Rattle.arcs.proofs.Unplaced.{others-in}
 use Rattle.arcs.proofs.Order.{ready-no-arc, no-arc-ready, candidates, Taken, all-placed, place-next}
 use Rattle.arcs.proofs.Order.{order-as-taken}
-use Rattle.arcs.proofs.Circular.{best-none}
-
--- ---- the best of ascending candidates
-pub record Best (atoms : List Atom) (ps : List ℕ) (p : ℕ) : Type 0 where
-  pub one : In p ps
-  pub most : (q : ℕ) → In q ps → preconditions atoms q ≤ preconditions atoms p
-  pub lowest : (q : ℕ) → In q ps → preconditions atoms q ≡ preconditions atoms p → p ≤ q
-
-best-of : (atoms : List Atom) (ps : List ℕ) → Ascend ps → (p : ℕ) → best atoms ps ≡ some p → Best atoms ps p
-unfolding best better
-best-of atoms [] a p h = absurd (no-none h)
-best-of atoms (q ∷ ps) (below l a) p h = go (best atoms ps) refl (best-of atoms ps a) h
-  where
-    first : (m : (x : ℕ) → In x ps → preconditions atoms x ≤ preconditions atoms q) → Best atoms (q ∷ ps) q
-    first m = record {
-      one = here refl;
-      most = λ x. elim [ here e ↦ omega (arith, ap (preconditions atoms) e) | there i ↦ m x i ];
-      lowest = λ x. elim [ here e ↦ λ z. omega arith | there i ↦ λ z. omega (arith, l x i) ];
-    }
-
-    keep : (r : ℕ) → preconditions atoms q < preconditions atoms r → Best atoms ps r → Best atoms (q ∷ ps) r
-    keep r s b = record {
-      one = there (b .one);
-      most = λ x. elim [ here e ↦ omega (arith, ap (preconditions atoms) e) | there i ↦ b .most x i ];
-      lowest = λ x. elim [ here e ↦ λ z. absurd (omega (arith, ap (preconditions atoms) e)) | there i ↦ b .lowest x i ];
-    }
-
-    pick : (r : ℕ) (c : Bool) → ltb (preconditions atoms q) (preconditions atoms r) ≡ c → Best atoms ps r →
-        cond c (some r) (some q) ≡ some p → Best atoms (q ∷ ps) p
-    pick r true s b e = rw (← some-inj e) (keep r (ltb-true (preconditions atoms q) (preconditions atoms r) s) b)
-    pick r false s b e =
-        let z = ltb-false (preconditions atoms q) (preconditions atoms r) s in
-        rw (← some-inj e) (first (λ x i. let y = b .most x i in omega arith))
-
-    go : (c : Option ℕ) → best atoms ps ≡ c → ((r : ℕ) → best atoms ps ≡ some r → Best atoms ps r) →
-        better atoms q c ≡ some p → Best atoms (q ∷ ps) p
-    go none s ih e =
-        rw (← some-inj e) (first (λ x i. absurd (in-empty (subst (λ z. In x z) (best-none atoms ps s) i))))
-    go (some r) s ih e = pick r (ltb (preconditions atoms q) (preconditions atoms r)) refl (ih r s) e
+use Rattle.arcs.proofs.Best.{Best, best-of}
 
 -- ---- the choice, in plain terms
 -- "among unplaced parts that no unplaced part has an arc to"

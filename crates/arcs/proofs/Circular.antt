@@ -3,36 +3,24 @@
 -- gets stuck. And an order that was found complies.
 use Prim.Native.Nat.{ℕ, zero, suc, _≤_, _<_}
 use mathlib.Core.Path.{_≡_, refl, sym, _∙_, ap, subst}
-use mathlib.Core.Bool.{Bool, true, false, cond, not}
+use mathlib.Core.Bool.{Bool, true, false, not}
 use mathlib.Core.List.{List, [], _∷_}
 use mathlib.Core.Logic.{_↔_}
 use mathlib.Core.Option.{Option, none, some}
 use native.Mathlib.Omega.{arith}
 use lib.ListN.{length, getD}
-use lib.Dec.{eqb, ltb}
+use lib.Dec.{eqb}
 use borrow.Author.Tests.{eqb-true, eq-eqb}
 use Rattle.task.specs.Lists.{any, upTo}
 use Rattle.task.specs.Task.{Atom, Schema, partCount}
-use Rattle.arcs.specs.Order.{arc, NoOrderComplies, preconditions, ready, better, best, consTo, place, orderFrom}
+use Rattle.arcs.specs.Order.{arc, NoOrderComplies, ready, best, consTo, place, orderFrom}
 use Rattle.arcs.specs.Order.{orderOf}
 use Rattle.task.proofs.Laws.{both-ft, In, here, there, in-eq, in-empty, any-in, in-any, in-filter, getD-in, upTo-in}
 use Rattle.task.proofs.Laws.{length-upTo}
 use Rattle.arcs.proofs.Arcs.{arc-self}
+use Rattle.arcs.proofs.Best.{best-none}
 use Rattle.arcs.proofs.Unplaced.{no-none, Ascend, ascend-upTo, ascend-filter, others, others-in, others-one-less}
 use Rattle.arcs.proofs.Order.{candidates, no-arc-ready, order-taken}
-
-pub best-none : (atoms : List Atom) (ps : List ℕ) → best atoms ps ≡ none → ps ≡ []
-unfolding best better
-best-none atoms [] h = refl
-best-none atoms (p ∷ ps) h = absurd (go (best atoms ps) h)
-  where
-    pick : (q : ℕ) (b : Bool) → cond b (some q) (some p) ≡ none → ⊥
-    pick q true e = no-none (sym e)
-    pick q false e = no-none (sym e)
-
-    go : (b : Option ℕ) → better atoms p b ≡ none → ⊥
-    go none e = no-none (sym e)
-    go (some q) e = pick q (ltb (preconditions atoms p) (preconditions atoms q)) e
 
 -- `Complies`, of the rest of an order too
 abbrev NoneBack : List Atom → List ℕ → Type 0

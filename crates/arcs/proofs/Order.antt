@@ -3,21 +3,22 @@
 -- every law is an induction over it, and a ready part has no arc from a part placed later.
 use Prim.Native.Nat.{ℕ, zero, suc, _≤_, _<_}
 use mathlib.Core.Path.{_≡_, refl, sym, ap}
-use mathlib.Core.Bool.{Bool, true, false, cond, not}
+use mathlib.Core.Bool.{true, false, not}
 use mathlib.Core.List.{List, [], _∷_}
 use mathlib.Core.Logic.{inl, inr}
 use mathlib.Core.Option.{Option, none, some}
 use native.Mathlib.Omega.{arith}
 use lib.ListN.{length, getD}
-use lib.Dec.{eqb, ltb}
+use lib.Dec.{eqb}
 use borrow.Author.Tests.{eqb-true, not-true, eq-eqb}
 use Rattle.task.specs.Lists.{any, filter, upTo}
 use Rattle.task.specs.Task.{Atom, Schema, partCount}
-use Rattle.arcs.specs.Order.{arc, OrderOfParts, Complies, preconditions, ready, better, best, consTo, place}
+use Rattle.arcs.specs.Order.{arc, OrderOfParts, Complies, ready, best, consTo, place}
 use Rattle.arcs.specs.Order.{orderFrom, orderOf}
 use Rattle.task.proofs.Laws.{both-ft, bool-cases, false-if, In, here, there, in-eq, any-in, in-any, in-filter}
 use Rattle.task.proofs.Laws.{filter-in, in-getD, getD-in, in-upTo, upTo-in, length-upTo}
 use Rattle.arcs.proofs.Arcs.{Ordered, SameGround, same-ground-arc, arc-is}
+use Rattle.arcs.proofs.Best.{best-in}
 use Rattle.arcs.proofs.Unplaced.{some-inj, no-none, others, others-in, others-fewer}
 
 -- ---- ready parts
@@ -36,19 +37,6 @@ no-arc-ready atoms unplaced p h = ap not (false-if (any (λ q. arc atoms q p) un
 
 abbrev pub candidates : List Atom → List ℕ → List ℕ
 candidates atoms unplaced = filter (ready atoms unplaced) unplaced
-
-pub best-in : (atoms : List Atom) (ps : List ℕ) (p : ℕ) → best atoms ps ≡ some p → In p ps
-unfolding best better
-best-in atoms [] p h = absurd (no-none h)
-best-in atoms (q ∷ ps) p h = go (best atoms ps) (best-in atoms ps p) h
-  where
-    pick : (r : ℕ) (b : Bool) → (some r ≡ some p → In p ps) → cond b (some r) (some q) ≡ some p → In p (q ∷ ps)
-    pick r true k e = there (k e)
-    pick r false k e = here (sym (some-inj e))
-
-    go : (b : Option ℕ) → (b ≡ some p → In p ps) → better atoms q b ≡ some p → In p (q ∷ ps)
-    go none k e = here (sym (some-inj e))
-    go (some r) k e = pick r (ltb (preconditions atoms q) (preconditions atoms r)) k e
 
 -- ---- the order as it is taken: the best of the ready parts, then an order of the others
 pub data Taken (atoms : List Atom) : ℕ → List ℕ → List ℕ → Type 0 where

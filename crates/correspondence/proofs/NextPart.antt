@@ -20,9 +20,10 @@ use Rattle.task.proofs.Laws.{map-append, upTo-suc}
 use Rattle.task.proofs.States.{applies-in, IsStep}
 use Rattle.tokens.proofs.Places.{in-params, params-in, At, at-first, index-small, index-getD}
 use Rattle.tokens.proofs.Ground.{single, a-par}
+use Rattle.tokens.proofs.Decoration.{par-high, par-inj}
 use Rattle.blocks.proofs.Numbers.{split-schema}
 use Rattle.correspondence.proofs.Given.{Given}
-use Rattle.correspondence.proofs.Standing.{Token, AlikeBefore, par-high, par-inj, stands-alike}
+use Rattle.correspondence.proofs.Standing.{Token, AlikeBefore, stands-alike}
 use Rattle.correspondence.proofs.PartAtoms.{IsPart, asks-token}
 use Rattle.correspondence.proofs.OnePart.{stands-next}
 use Rattle.correspondence.proofs.OneBlock.{objectOf, StandsIn}

@@ -20,9 +20,10 @@ use Rattle.task.proofs.States.{in-next, next-add, next-keep, asc-next, applies-
 use Rattle.arcs.proofs.Arcs.{tested-then-added, tested-then-deleted, deleted-then-added}
 use Rattle.tokens.proofs.Places.{has-small, in-params, params-in, At, at-last, first-at, last-at, some-at}
 use Rattle.tokens.proofs.Ground.{factOf, bare, old-of, the-bare, a-par}
+use Rattle.tokens.proofs.Decoration.{par-inj}
 use Rattle.tokens.proofs.Accepted.{tokenAt, required-is, handedOn-is, token-zero, token-end}
 use Rattle.correspondence.proofs.Given.{Given}
-use Rattle.correspondence.proofs.Standing.{OldFact, Token, Stands, par-inj}
+use Rattle.correspondence.proofs.Standing.{OldFact, Token, Stands}
 use Rattle.correspondence.proofs.PartAtoms.{OldHere, Required, Added, Deleted, IsPart, asked, asks-old, adds-old}
 use Rattle.correspondence.proofs.PartAtoms.{adds-token, deletes-old, deletes-token, old-here-low, required-high}
 use Rattle.correspondence.proofs.PartAtoms.{added-low, deleted-low, added-token, deleted-token, clash}

@@ -16,6 +16,7 @@ use Rattle.task.proofs.Laws.{In, here, in-left, in-right, in-append, map-same}
 use Rattle.task.proofs.States.{fact-path, Asc, asc-snoc, State, less-pred}
 use Rattle.tokens.proofs.Places.{has-small, params-in, first-at, some-at}
 use Rattle.tokens.proofs.Ground.{bare, single, OldOf, old-of, TokenOf, the-bare, a-par}
+use Rattle.tokens.proofs.Decoration.{par-high}
 use Rattle.tokens.proofs.Accepted.{tokenAt, token-zero}
 use Rattle.correspondence.specs.SharedRuns.{withFree}
 use Rattle.correspondence.proofs.Given.{Given, atom-owns}
@@ -56,15 +57,6 @@ old-low t t′ G s l v r p f (old-of a i q w e) =
     let z = ap (λ f. f .pred) e in
     let k = G .well .schema s l .fit a i .known in
     omega arith
-
-pub par-high : (t : Task) (x : ℕ) → procnone t ≤ parToken t x
-unfolding parToken
-par-high t x = omega arith
-
--- each parameter has a par of its own
-pub par-inj : (t : Task) (x y : ℕ) → parToken t x ≡ parToken t y → x ≡ y
-unfolding parToken
-par-inj t x y e = omega arith
 
 pub token-of-high : (t : Task) (v : ℕ → ℕ) (k : ℕ) (ps : List ℕ) (test : ℕ → Bool) (f : Fact) → procnone t ≤ k →
     TokenOf k ps test (parToken t) v f → procnone t ≤ f .pred
