@@ -13,8 +13,8 @@ use lib.Dec.{eqb}
 use Rattle.task.specs.Task.{Atom, Schema, partCount}
 use Rattle.arcs.specs.Order.{arc, preconditions, ready, best, orderOf}
 use Rattle.task.proofs.Laws.{In, in-filter, filter-in, in-upTo, upTo-in}
-use Rattle.arcs.proofs.Unplaced.{Ascend, ascend-upTo, ascend-filter, others, in-others}
-use Rattle.arcs.proofs.Unplaced.{others-in}
+use Rattle.arcs.proofs.PartLists.{Ascend, ascend-upTo, ascend-filter, others, in-others}
+use Rattle.arcs.proofs.PartLists.{others-in}
 use Rattle.arcs.proofs.Order.{ready-no-arc, no-arc-ready, candidates, Taken, all-placed, place-next}
 use Rattle.arcs.proofs.Order.{order-as-taken}
 use Rattle.arcs.proofs.Best.{Best, best-of}

@@ -19,7 +19,8 @@ use Rattle.task.proofs.Laws.{both-ft, In, here, there, in-eq, in-empty, any-in,
 use Rattle.task.proofs.Laws.{length-upTo}
 use Rattle.arcs.proofs.Arcs.{arc-self}
 use Rattle.arcs.proofs.Best.{best-none}
-use Rattle.arcs.proofs.Unplaced.{no-none, Ascend, ascend-upTo, ascend-filter, others, others-in, others-one-less}
+use Rattle.arcs.proofs.PartLists.{no-none, Ascend, ascend-upTo, ascend-filter, others, others-in}
+use Rattle.arcs.proofs.PartLists.{others-one-less}
 use Rattle.arcs.proofs.Order.{candidates, no-arc-ready, order-taken}
 
 -- `Complies`, of the rest of an order too

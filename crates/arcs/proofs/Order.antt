@@ -16,10 +16,10 @@ use Rattle.task.specs.Task.{Atom, Schema, partCount}
 use Rattle.arcs.specs.Order.{arc, OrderOfParts, Complies, ready, best, consTo, place}
 use Rattle.arcs.specs.Order.{orderFrom, orderOf}
 use Rattle.task.proofs.Laws.{both-ft, bool-cases, false-if, In, here, there, in-eq, any-in, in-any, in-filter}
-use Rattle.task.proofs.Laws.{filter-in, in-getD, getD-in, in-upTo, upTo-in, length-upTo}
+use Rattle.task.proofs.Laws.{filter-in, in-getD, getD-in, in-upTo, length-upTo}
 use Rattle.arcs.proofs.Arcs.{Ordered, SameGround, same-ground-arc, arc-is}
 use Rattle.arcs.proofs.Best.{best-in}
-use Rattle.arcs.proofs.Unplaced.{some-inj, no-none, others, others-in, others-fewer}
+use Rattle.arcs.proofs.PartLists.{some-inj, no-none, others, others-in, others-fewer}
 
 -- ---- ready parts
 pub ready-no-arc : (atoms : List Atom) (unplaced : List ℕ) (p : ℕ) → ready atoms unplaced p ≡ true →
@@ -80,11 +80,11 @@ order-as-taken s o h =
     (omega (arith, length-upTo (partCount (s .atoms)))) h
 
 module _ {atoms : List Atom} where
-  pub taken-size : {n : ℕ} {unplaced o : List ℕ} → Taken atoms n unplaced o → length o ≡ n
+  taken-size : {n : ℕ} {unplaced o : List ℕ} → Taken atoms n unplaced o → length o ≡ n
   taken-size all-placed = refl
   taken-size (place-next b k) = ap suc (taken-size k)
 
-  pub taken-in : {n : ℕ} {unplaced o : List ℕ} → Taken atoms n unplaced o → (q : ℕ) → In q o → In q unplaced
+  taken-in : {n : ℕ} {unplaced o : List ℕ} → Taken atoms n unplaced o → (q : ℕ) → In q o → In q unplaced
   taken-in all-placed q i = i
   taken-in (place-next {p = p} {unplaced = us} b k) q (here e) = in-eq e (best-ready atoms us p b .0)
   taken-in (place-next {p = p} {unplaced = us} b k) q (there i) = others-in p us q (taken-in k q i) .0
@@ -96,7 +96,7 @@ module _ {atoms : List Atom} where
     | inr e ↦ there (taken-all k q (in-filter (λ q. not (eqb p q)) i (ap not e)))
   ]
 
-  pub taken-later : {n : ℕ} {p : ℕ} {unplaced o : List ℕ} → Taken atoms n (others p unplaced) o → (k : ℕ) →
+  taken-later : {n : ℕ} {p : ℕ} {unplaced o : List ℕ} → Taken atoms n (others p unplaced) o → (k : ℕ) →
       k < length o → In (getD o k 0) unplaced × (p ≡ getD o k 0 → ⊥)
   taken-later {p = p} {unplaced = us} {o = o} h k l =
       others-in p us (getD o k 0) (taken-in h (getD o k 0) (in-getD o k 0 l))
@@ -117,30 +117,40 @@ module _ {atoms : List Atom} where
   taken-once (place-next b k) (suc i) (suc j) l m e = taken-once k i j (omega arith) (omega arith) e
 
 -- ---- the order taken
--- each part stands in it, and no arc goes backwards
-pub order-taken : (s : Schema) (o : List ℕ) → orderOf s ≡ some o → OrderOfParts s o × Complies s o
-order-taken s o h = (
-  record {
-    size = taken-size k;
-    placed = λ p l.
-        in-any (eqb p) (taken-all k p (in-upTo (partCount (s .atoms)) p l)) (eq-eqb p p refl);
-  },
-  taken-complies k,
-)
-  where
-    k : Taken (s .atoms) (partCount (s .atoms)) (upTo (partCount (s .atoms))) o
-    k = order-as-taken s o h
-
 -- no part stands in it twice
 abbrev pub EachOnce : List ℕ → Type 0
 EachOnce o = (i j : ℕ) → i < j → j < length o → getD o j 0 ≡ getD o i 0 → ⊥
 
-pub order-once : (s : Schema) (o : List ℕ) → orderOf s ≡ some o → EachOnce o
-order-once s o h = taken-once (order-as-taken s o h)
+-- an order of the unplaced parts, of which there are n: no arc goes backwards, and each of them stands in it once
+pub record OrderOf (atoms : List Atom) (n : ℕ) (unplaced o : List ℕ) : Type 0 where
+  pub complies : (i j : ℕ) → i < j → j < length o → arc atoms (getD o j 0) (getD o i 0) ≡ false
+  pub once : EachOnce o
+  pub size : length o ≡ n
+  pub from : (p : ℕ) → In p o → In p unplaced
+  pub all-placed : (p : ℕ) → In p unplaced → In p o
 
--- only parts stand in it
-pub order-parts : (s : Schema) (o : List ℕ) → orderOf s ≡ some o → (p : ℕ) → In p o → p < partCount (s .atoms)
-order-parts s o h p i = upTo-in (partCount (s .atoms)) p (taken-in (order-as-taken s o h) p i)
+pub orderOf-laws : (s : Schema) (o : List ℕ) → orderOf s ≡ some o →
+    OrderOf (s .atoms) (partCount (s .atoms)) (upTo (partCount (s .atoms))) o
+orderOf-laws s o h =
+    let k = order-as-taken s o h in
+    record {
+      complies = taken-complies k;
+      once = taken-once k;
+      size = taken-size k;
+      from = taken-in k;
+      all-placed = taken-all k;
+    }
+
+-- "The order taken" is an order of the parts, and "complies"
+pub order-taken : (s : Schema) (o : List ℕ) → orderOf s ≡ some o → OrderOfParts s o × Complies s o
+order-taken s o h =
+    let k = orderOf-laws s o h in
+    let placed : (p : ℕ) → p < partCount (s .atoms) → any (eqb p) o ≡ true = λ p l.
+    in-any (eqb p) (k .all-placed p (in-upTo (partCount (s .atoms)) p l)) (eq-eqb p p refl) in
+    (record { size = k .size; placed = placed }, k .complies)
+
+pub order-once : (s : Schema) (o : List ℕ) → orderOf s ≡ some o → EachOnce o
+order-once s o h = orderOf-laws s o h .once
 
 -- ---- what orders tell of atoms
 pub part-small : {atoms : List Atom} {a : Atom} → In a atoms → a .part < partCount atoms

@@ -20,7 +20,7 @@ use Rattle.task.proofs.Laws.{map-append, upTo-suc}
 use Rattle.task.proofs.States.{applies-in, IsStep}
 use Rattle.tokens.proofs.Places.{in-params, params-in, At, at-first, index-small, index-getD}
 use Rattle.tokens.proofs.Ground.{single, a-par}
-use Rattle.tokens.proofs.Decoration.{par-high, par-inj}
+use Rattle.tokens.proofs.Predicates.{par-high, par-fixes}
 use Rattle.blocks.proofs.Numbers.{split-schema}
 use Rattle.correspondence.proofs.Given.{Given}
 use Rattle.correspondence.proofs.Standing.{Token, AlikeBefore, stands-alike}
@@ -96,7 +96,7 @@ module _ (t t′ : Task) (G : Given t t′) (s₀ : List Fact) (x : Step) (hx : 
       go : Token t s₀ (x .schema) (objectOf x) j f → givenBy t x j y p ≡ objectOf x p
       go (inl e) = absurd (let z : _≡_ {A = ℕ} 1 0 = ap (λ f. length (f .args)) e in omega arith)
       go (inr (q, a, b, e)) =
-          let z = par-inj t p q (ap (λ f. f .pred) e) in
+          let z = par-fixes t p q (ap (λ f. f .pred) e) in
           ap (λ f. getD (f .args) 0 0) e ∙ ap (objectOf x) (sym z)
 
   alike-before : AlikeBefore t t′ G s₀ (x .schema) (hx .known) j (objectOf x) (objectOf (merged t x j y))

@@ -20,7 +20,7 @@ use Rattle.task.proofs.States.{in-next, next-add, next-keep, asc-next, applies-
 use Rattle.arcs.proofs.Arcs.{tested-then-added, tested-then-deleted, deleted-then-added}
 use Rattle.tokens.proofs.Places.{has-small, in-params, params-in, At, at-last, first-at, last-at, some-at}
 use Rattle.tokens.proofs.Ground.{factOf, bare, old-of, the-bare, a-par}
-use Rattle.tokens.proofs.Decoration.{par-inj}
+use Rattle.tokens.proofs.Predicates.{par-fixes}
 use Rattle.tokens.proofs.Accepted.{tokenAt, required-is, handedOn-is, token-zero, token-end}
 use Rattle.correspondence.proofs.Given.{Given}
 use Rattle.correspondence.proofs.Standing.{OldFact, Token, Stands}
@@ -183,7 +183,7 @@ module _ (t t′ : Task) (G : Given t t′) (s₀ : List Fact) (s : ℕ) (l : s 
   unfolding lastHere
   open-not-deleted f x b e n (the-bare d) = let z = ap (λ f. length (f .args)) d in omega arith
   open-not-deleted f x b e n (a-par w i q d) =
-      let z = par-inj t w x (sym (ap (λ f. f .pred) d) ∙ e) in
+      let z = par-fixes t w x (sym (ap (λ f. f .pred) d) ∙ e) in
       let u = eqb-true (lastPosition sch ord w) j (and-left (eqb (lastPosition sch ord w) j) _ q) in
       let o = ap (lastPosition sch ord) z in
       omega arith

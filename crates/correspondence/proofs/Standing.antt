@@ -16,7 +16,7 @@ use Rattle.task.proofs.Laws.{In, here, in-left, in-right, in-append, map-same}
 use Rattle.task.proofs.States.{fact-path, Asc, asc-snoc, State, less-pred}
 use Rattle.tokens.proofs.Places.{has-small, params-in, first-at, some-at}
 use Rattle.tokens.proofs.Ground.{bare, single, OldOf, old-of, TokenOf, the-bare, a-par}
-use Rattle.tokens.proofs.Decoration.{par-high}
+use Rattle.tokens.proofs.Predicates.{par-high}
 use Rattle.tokens.proofs.Accepted.{tokenAt, token-zero}
 use Rattle.correspondence.specs.SharedRuns.{withFree}
 use Rattle.correspondence.proofs.Given.{Given, atom-owns}

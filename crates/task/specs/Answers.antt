@@ -3,6 +3,7 @@ use Prim.Native.Nat.{ℕ}
 use mathlib.Core.Bool.{Bool, true, false}
 use mathlib.Core.List.{List, [], _∷_}
 use mathlib.Core.Option.{Option, none, some}
+use lib.ListN.{getD}
 use Rattle.task.specs.declared.Place.{Place}
 use Rattle.task.specs.declared.Place.the-variants as place
 
@@ -18,6 +19,22 @@ placeNumber (place.Step n) = n
 pub data Told : Type 0 where
   result : List ℕ → Told
   refused : ℕ → Place → List ℕ → Told
+
+-- what is told as numbers, for a caller that takes numbers alone: the refusal's number, 0 for a result
+unfoldable pub toldNumber : Told → ℕ
+toldNumber (result values) = 0
+toldNumber (refused n at values) = n
+
+-- the place's number, 0 for a result
+unfoldable pub toldPlace : Told → ℕ
+unfolding placeNumber
+toldPlace (result values) = 0
+toldPlace (refused n at values) = placeNumber at
+
+-- value i, 0 where there is none
+unfoldable pub toldValue : ℕ → Told → ℕ
+toldValue i (result values) = getD values i 0
+toldValue i (refused n at values) = getD values i 0
 
 -- what an entry point does: what it answers, and the words of the buffer that it may write, afterwards
 pub record Outcome : Type 0 where

@@ -1,0 +1,77 @@
+-- `task::steps::bad_step` meets its contract. The invariant of its loop: the steps before i are good. So one that is
+-- not is the first bad one, and with none left there is none. The measure is the number of steps begun, less i.
+use Prim.Native.Nat.{ℕ, _-_, _≤_, _<_}
+use mathlib.Core.Path.{_≡_, sym, _∙_}
+use mathlib.Core.Bool.{true}
+use native.Mathlib.Omega.{arith}
+use borrow.Author.Count.{below-more}
+use borrow.Author.Tests.{not-true, not-false}
+use Rattle.task.specs.Table.{taskOf}
+use Rattle.task.specs.Run.{isStepAt, badStepFound}
+use Rattle.task.proofs.BadSteps.{bad-step-at, no-bad-step}
+use Rattle.task.proofs.steps.bad_step.Statement.{statement}
+use Rattle.task.proofs.steps.bad_step.Tie as tie
+
+abbrev Inv-loop : tie.InvT-loop
+Inv-loop table steps begun i₀ i = (i ≤ begun) × ((k : ℕ) → k < i → isStepAt (taskOf table) steps k ≡ true)
+
+abbrev μ-loop : tie.MeasureT-loop
+μ-loop table steps begun i₀ i = begun - i
+
+add-begun : tie.Need-add-begun Inv-loop μ-loop
+add-begun c = omega arith
+
+sub-begun : tie.Need-sub-begun Inv-loop μ-loop
+sub-begun c = omega arith
+
+loop-holds : tie.Need-loop-holds Inv-loop μ-loop
+loop-holds c = (omega arith, λ k l. absurd (omega arith))
+
+is-step-requires : tie.Need-is-step-requires Inv-loop μ-loop
+is-step-requires c κs = (c .before .before .before .before .pre, omega arith)
+
+returns : tie.Need-returns Inv-loop μ-loop
+unfolding badStepFound
+returns c =
+    let start = c .before .before .before .before .before .before in
+    let at-loop = c .before .before .before in
+    let h = c .before .before .loop-test .taken in
+    sym (bad-step-at (taskOf (start .args .table .now)) (start .args .steps .now) (at-loop .loop .i) (omega arith)
+    (at-loop .loop .inv .1) (sym (c .before .is-step .ensures) ∙ not-true _ (c .if1 .taken)))
+
+add-i : tie.Need-add-i Inv-loop μ-loop
+add-i c = omega arith
+
+loop-less : tie.Need-loop-less Inv-loop μ-loop
+loop-less c = omega arith
+
+loop-again : tie.Need-loop-again Inv-loop μ-loop
+loop-again c =
+    let at-loop = c .before .before .before in (
+      omega arith,
+      below-more _ _ (at-loop .loop .inv .1)
+          (sym (c .before .is-step .ensures) ∙ not-false _ (c .if1 .left)),
+    )
+
+returns-2 : tie.Need-returns-2 Inv-loop μ-loop
+unfolding badStepFound
+returns-2 c =
+    let start = c .before .before .before .before in
+    sym (no-bad-step (taskOf (start .args .table .now)) (start .args .steps .now)
+    (λ k l. c .before .loop .inv .1 k (omega arith)))
+
+pub bad-step-spec : {M : Type 1} → statement M
+bad-step-spec =
+    tie.close
+    (tie.spec
+    Inv-loop
+    μ-loop
+    add-begun
+    sub-begun
+    loop-holds
+    is-step-requires
+    returns
+    add-i
+    loop-less
+    loop-again
+    returns-2)
