@@ -30,6 +30,11 @@ use Rattle.blocks.proofs.Binding.{bind-right}
 abbrev pub Covered : Task → ℕ → Type 0
 Covered t s = (p : ℕ) → p < schemaAt t s .params → (i : ℕ) × (i < length (orders t s)) × In p (paramsAt t s i)
 
+-- a part has parameters of its schema only
+pub param-small : (t : Task) (s j p : ℕ) → In p (paramsAt t s j) → p < schemaAt t s .params
+unfolding paramsAt
+param-small t s j p i = in-params (schemaAt t s) p (getD (orders t s) j 0) i .0
+
 -- ---- the stages of a block
 module _ (t : Task) (x : Step) where
   abbrev pub value : ℕ → ℕ
@@ -40,10 +45,6 @@ module _ (t : Task) (x : Step) where
     pub size : length b ≡ schemaAt t (x .schema) .params
     pub known : (p i : ℕ) → i < j → In p (paramsAt t (x .schema) i) → getD b p none ≡ some (value p)
     pub right : (p : ℕ) → Right value b p
-
-  pub params-small : (j p : ℕ) → In p (paramsAt t (x .schema) j) → p < schemaAt t (x .schema) .params
-  unfolding paramsAt
-  params-small j p i = in-params (schemaAt t (x .schema)) p (getD (orders t (x .schema)) j 0) i .0
 
   pub bound-none : BoundTo 0 (replicate (schemaAt t (x .schema) .params) none)
   bound-none = record {
@@ -56,7 +57,7 @@ module _ (t : Task) (x : Step) where
   abbrev bound-by : ℕ → Bound → Bound
   bound-by j b = bind b (paramsAt t (x .schema) j) (partStep t x j .objects)
 
-  pub bound-next : (j : ℕ) (b : Bound) → BoundTo j b → BoundTo (suc j) (bound-by j b)
+  bound-next : (j : ℕ) (b : Bound) → BoundTo j b → BoundTo (suc j) (bound-by j b)
   unfolding partStep
   bound-next j b h = record {
     size = bind-length value b (paramsAt t (x .schema) j) ∙ h .size;
@@ -73,16 +74,16 @@ module _ (t : Task) (x : Step) where
       eq i l q = omega arith
 
       small : (q : ℕ) → In q (paramsAt t (x .schema) j) → q < length b
-      small q i = rw (h .size) (params-small j q i)
+      small q i = rw (h .size) (param-small t (x .schema) j q i)
 
-  pub fits-here : (j : ℕ) (b : Bound) → BoundTo j b → fitsAt t (inside (x .schema) j b) (partStep t x j) ≡ true
+  fits-here : (j : ℕ) (b : Bound) → BoundTo j b → fitsAt t (inside (x .schema) j b) (partStep t x j) ≡ true
   unfolding fitsAt partStep
   fits-here j b h =
       and-both _ _ (eq-eqb (firstOf t (x .schema) + j) (firstOf t (x .schema) + j) refl)
       (fits-right value b (paramsAt t (x .schema) j) (λ p i. h .right p))
 
   module _ (covered : Covered t (x .schema)) (objects : length (x .objects) ≡ schemaAt t (x .schema) .params) where
-    pub complete : (j : ℕ) (b : Bound) → j ≡ length (orders t (x .schema)) → BoundTo j b →
+    complete : (j : ℕ) (b : Bound) → j ≡ length (orders t (x .schema)) → BoundTo j b →
         completed (inside (x .schema) j b) ≡ x
     unfolding completed orZero
     complete j b e h = λ i. record { schema = x .schema; objects = same i }

@@ -20,9 +20,10 @@ use Rattle.tokens.specs.Split.{has, orders, paramsOf}
 use Rattle.task.proofs.Laws.{and-left, and-right, In, here, there, in-getD, getD-in, map-in, getD-map, map-same}
 use Rattle.task.proofs.Laws.{map-append, upTo-suc, upTo-in}
 use Rattle.task.proofs.States.{IsStep}
-use Rattle.tokens.proofs.Places.{in-params, index-small, index-getD}
+use Rattle.tokens.proofs.Places.{index-small, index-getD}
 use Rattle.blocks.specs.Blocks.{firstOf, paramsAt, partStep, Bound, agrees, fits, bind, orZero, beginner, Stage}
 use Rattle.blocks.specs.Blocks.{outside, inside, begun, stageFor, fitsAt, completed}
+use Rattle.blocks.proofs.FoldBlock.{param-small}
 use Rattle.blocks.proofs.Binding.{nothing-bound, bind-length, bind-new, fits-length, fits-agrees, bind-other}
 use Rattle.blocks.proofs.Binding.{in-or-not}
 
@@ -54,10 +55,6 @@ module _ (t : Task) where
       object none p d = some-object
       object (some o) p d = small p o d
 
-  param-small : (s j p : ℕ) → In p (paramsAt t s j) → p < schemaAt t s .params
-  unfolding paramsAt
-  param-small s j p i = in-params (schemaAt t s) p (getD (orders t s) j 0) i .0
-
   object-of : (s j : ℕ) (b : Bound) (p : ℕ) → p < length b →
       getD (completed (inside s j b) .objects) p 0 ≡ orZero (getD b p none)
   unfolding completed
@@ -80,7 +77,7 @@ module _ (t : Task) where
     unfolding fitsAt
     fits-objects = and-right (eqb (y .schema) (firstOf t s + j)) _ f
 
-    pub fits-schema : y .schema ≡ firstOf t s + j
+    fits-schema : y .schema ≡ firstOf t s + j
     unfolding fitsAt
     fits-schema = eqb-true (y .schema) (firstOf t s + j) (and-left (eqb (y .schema) (firstOf t s + j)) _ f)
 
@@ -98,7 +95,7 @@ module _ (t : Task) where
     after-is = ap (bind b ps) objects-are
 
     ps-small : (q : ℕ) → In q ps → q < length b
-    ps-small q i = rw size (param-small s j q i)
+    ps-small q i = rw size (param-small t s j q i)
 
     after-new : (p : ℕ) → In p ps → getD after p none ≡ some (given-by p)
     after-new p i = ap (λ z. getD z p none) after-is ∙ bind-new given-by b ps p ps-small i
@@ -151,7 +148,7 @@ module _ (t : Task) where
             map (λ p. getD (next-step .objects) p 0) (paramsAt t s i)
         same = map-same (λ p. getD (map orZero b) p 0) (λ p. getD (next-step .objects) p 0) (paramsAt t s i) (λ p m.
             let (o, e) = h .found p i l m in
-            let q : p < length b = rw (h .size) (param-small s i p m) in
+            let q : p < length b = rw (h .size) (param-small t s i p m) in
             object-of s j b p q ∙ ap orZero (e ∙ sym (after-old s j b (h .size) y f p o e)) ∙
             sym (object-of s (suc j) (after s j b (h .size) y f) p (rw (after-size s j b (h .size) y f) q)))
 
