@@ -55,148 +55,143 @@ module _ (t : Task) where
       object none p d = some-object
       object (some o) p d = small p o d
 
-  object-of : (s j : ℕ) (b : Bound) (p : ℕ) → p < length b →
-      getD (completed (inside s j b) .objects) p 0 ≡ orZero (getD b p none)
-  unfolding completed
-  object-of s j b p h = getD-map orZero b p none 0 h
+-- ---- a step that fits
+-- what is bound once y is found at position j
+abbrev pub boundBy : Task → ℕ → ℕ → Bound → Step → Bound
+boundBy t s j b y = bind b (paramsAt t s j) (y .objects)
 
-  -- ---- a step that fits
-  module _ (s j : ℕ) (b : Bound) (size : length b ≡ schemaAt t s .params) (y : Step)
-      (f : fitsAt t (inside s j b) y ≡ true) where
-    abbrev ps : List ℕ
-    ps = paramsAt t s j
+-- the candidate after y
+abbrev pub candidate : Task → ℕ → ℕ → Bound → Step → Step
+candidate t s j b y = completed (inside s (suc j) (boundBy t s j b y))
 
-    -- the object that y gives a parameter of this part
-    abbrev given-by : ℕ → ℕ
-    given-by p = getD (y .objects) (indexOf p ps) 0
+module _ {t : Task} {s j : ℕ} {b : Bound} {pre : List Step} (h : Inside t s j b pre) (y : Step)
+    (f : fitsAt t (inside s j b) y ≡ true) where
+  abbrev ps : List ℕ
+  ps = paramsAt t s j
 
-    abbrev pub after : Bound
-    after = bind b ps (y .objects)
+  -- the object that y gives a parameter of this part
+  abbrev given-by : ℕ → ℕ
+  given-by p = getD (y .objects) (indexOf p ps) 0
 
-    fits-objects : fits b ps (y .objects) ≡ true
-    unfolding fitsAt
-    fits-objects = and-right (eqb (y .schema) (firstOf t s + j)) _ f
+  abbrev after : Bound
+  after = boundBy t s j b y
 
-    fits-schema : y .schema ≡ firstOf t s + j
-    unfolding fitsAt
-    fits-schema = eqb-true (y .schema) (firstOf t s + j) (and-left (eqb (y .schema) (firstOf t s + j)) _ f)
+  fits-objects : fits b ps (y .objects) ≡ true
+  unfolding fitsAt
+  fits-objects = and-right (eqb (y .schema) (firstOf t s + j)) _ f
 
-    objects-are : y .objects ≡ map given-by ps
-    unfolding paramsAt paramsOf upTo
-    objects-are =
+  fits-schema : y .schema ≡ firstOf t s + j
+  unfolding fitsAt
+  fits-schema = eqb-true (y .schema) (firstOf t s + j) (and-left (eqb (y .schema) (firstOf t s + j)) _ f)
+
+  objects-are : y .objects ≡ map given-by ps
+  unfolding paramsAt paramsOf upTo
+  objects-are =
+      let n = fits-length b ps (y .objects) fits-objects in
+      ext-getD 0 (y .objects) (map given-by ps) (sym n ∙ sym (length-map ps given-by))
+      (λ i l.
+      let m : i < length ps = omega arith in
+      sym (getD-map given-by ps i 0 0 m ∙ ap (λ k. getD (y .objects) k 0)
+      (index-getD (λ x. has (schemaAt t s) x (getD (orders t s) j 0)) 0 (schemaAt t s .params) i m)))
+
+  -- ---- what is bound after it
+  after-is : after ≡ bind b ps (map given-by ps)
+  after-is = ap (bind b ps) objects-are
+
+  ps-small : (q : ℕ) → In q ps → q < length b
+  ps-small q i = rw (h .size) (param-small t s j q i)
+
+  after-new : (p : ℕ) → In p ps → getD after p none ≡ some (given-by p)
+  after-new p i = ap (λ z. getD z p none) after-is ∙ bind-new given-by b ps p ps-small i
+
+  after-other : (p : ℕ) → (In p ps → ⊥) → getD after p none ≡ getD b p none
+  after-other p n = ap (λ z. getD z p none) after-is ∙ bind-other given-by b ps p n
+
+  after-size : length after ≡ length b
+  after-size = ap length after-is ∙ bind-length given-by b ps
+
+  after-old : (p o : ℕ) → getD b p none ≡ some o → getD after p none ≡ some o
+  unfolding agrees
+  after-old p o e = elim (in-or-not p ps) [
+    | inl i ↦
+        let a = fits-agrees given-by b ps (ap (fits b ps) (sym objects-are) ∙ fits-objects) p i in
+        let q = eqb-true o (given-by p) (sym (ap (λ z. agrees z (given-by p)) e) ∙ a) in
+        after-new p i ∙ ap {B = Option ℕ} (λ z. some z) (sym q)
+    | inr n ↦ after-other p n ∙ e
+  ]
+
+  -- ---- the first parts of the candidate
+  part-before : (i : ℕ) → i < j → partStep t (completed (inside s j b)) i ≡ partStep t (candidate t s j b y) i
+  unfolding partStep completed
+  part-before i l = λ k. record { schema = firstOf t s + i; objects = same k }
+    where
+      same : map (λ p. getD (map orZero b) p 0) (paramsAt t s i) ≡
+          map (λ p. getD (map orZero after) p 0) (paramsAt t s i)
+      same = map-same (λ p. getD (map orZero b) p 0) (λ p. getD (map orZero after) p 0) (paramsAt t s i) (λ p m.
+          let (o, e) = h .found p i l m in
+          let q : p < length b = rw (h .size) (param-small t s i p m) in
+          getD-map orZero b p none 0 q ∙ ap orZero (e ∙ sym (after-old p o e)) ∙
+          sym (getD-map orZero after p none 0 (rw after-size q)))
+
+  part-here : y ≡ partStep t (candidate t s j b y) j
+  unfolding partStep completed orZero
+  part-here = λ k. record { schema = fits-schema k; objects = same k }
+    where
+      same : y .objects ≡ map (λ p. getD (map orZero after) p 0) ps
+      same = objects-are ∙ map-same given-by (λ p. getD (map orZero after) p 0) ps (λ p m.
+          sym (getD-map orZero after p none 0 (rw after-size (ps-small p m)) ∙ ap orZero (after-new p m)))
+
+  -- the steps so far and y are the first parts of the candidate's block
+  pub parts-so-far : pre ++ (y ∷ []) ≡ map (partStep t (candidate t s j b y)) (upTo (suc j))
+  parts-so-far =
+      ap₂ (λ (a : List Step) (c : Step). a ++ (c ∷ []))
+      (h .so-far ∙ map-same (partStep t (completed (inside s j b))) (partStep t (candidate t s j b y)) (upTo j)
+      (λ i k. part-before i (upTo-in j i k))) part-here ∙
+      sym (ap (map (partStep t (candidate t s j b y))) (upTo-suc j) ∙
+      map-append (partStep t (candidate t s j b y)) (upTo j) (j ∷ []))
+
+  -- ---- the candidate is a step of the task, where y has objects of the task
+  module _ (objects : (o : ℕ) → In o (y .objects) → o < t .objects) where
+    given-small : (p : ℕ) → In p ps → given-by p < t .objects
+    given-small p i =
         let n = fits-length b ps (y .objects) fits-objects in
-        ext-getD 0 (y .objects) (map given-by ps) (sym n ∙ sym (length-map ps given-by))
-        (λ i l.
-        let m : i < length ps = omega arith in
-        sym (getD-map given-by ps i 0 0 m ∙ ap (λ k. getD (y .objects) k 0)
-        (index-getD (λ x. has (schemaAt t s) x (getD (orders t s) j 0)) 0 (schemaAt t s .params) i m)))
+        objects (given-by p) (in-getD (y .objects) (indexOf p ps) 0 (omega (arith, index-small i)))
 
-    after-is : after ≡ bind b ps (map given-by ps)
-    after-is = ap (bind b ps) objects-are
-
-    ps-small : (q : ℕ) → In q ps → q < length b
-    ps-small q i = rw size (param-small t s j q i)
-
-    after-new : (p : ℕ) → In p ps → getD after p none ≡ some (given-by p)
-    after-new p i = ap (λ z. getD z p none) after-is ∙ bind-new given-by b ps p ps-small i
-
-    after-other : (p : ℕ) → (In p ps → ⊥) → getD after p none ≡ getD b p none
-    after-other p n = ap (λ z. getD z p none) after-is ∙ bind-other given-by b ps p n
-
-    after-size : length after ≡ length b
-    after-size = ap length after-is ∙ bind-length given-by b ps
-
-    after-old : (p o : ℕ) → getD b p none ≡ some o → getD after p none ≡ some o
-    unfolding agrees
-    after-old p o e = elim (in-or-not p ps) [
-      | inl i ↦
-          let a = fits-agrees given-by b ps (ap (fits b ps) (sym objects-are) ∙ fits-objects) p i in
-          let q = eqb-true o (given-by p) (sym (ap (λ z. agrees z (given-by p)) e) ∙ a) in
-          after-new p i ∙ ap {B = Option ℕ} (λ z. some z) (sym q)
-      | inr n ↦ after-other p n ∙ e
-    ]
-
-    given-small : ((o : ℕ) → In o (y .objects) → o < t .objects) → (p : ℕ) → In p ps → given-by p < t .objects
-    given-small small p i =
-        let n = fits-length b ps (y .objects) fits-objects in
-        small (given-by p) (in-getD (y .objects) (indexOf p ps) 0 (omega (arith, index-small i)))
-
-    after-small : ((o : ℕ) → In o (y .objects) → o < t .objects) →
-        ((p o : ℕ) → getD b p none ≡ some o → o < t .objects) →
-        (p o : ℕ) → getD after p none ≡ some o → o < t .objects
-    after-small small before p o e = elim (in-or-not p ps) [
+    after-small : (p o : ℕ) → getD after p none ≡ some o → o < t .objects
+    after-small p o e = elim (in-or-not p ps) [
       | inl i ↦
           let z : given-by p ≡ o = same (sym (after-new p i) ∙ e) in
-          subst (λ o. o < t .objects) z (given-small small p i)
-      | inr n ↦ before p o (sym (after-other p n) ∙ e)
+          subst (λ o. o < t .objects) z (given-small p i)
+      | inr n ↦ h .small p o (sym (after-other p n) ∙ e)
     ]
       where
         same : {a c : ℕ} → some a ≡ some c → a ≡ c
         same q = cc
 
-  module _ (s j : ℕ) (b : Bound) (pre : List Step) (h : Inside s j b pre) (y : Step)
-      (objects : (o : ℕ) → In o (y .objects) → o < t .objects) (f : fitsAt t (inside s j b) y ≡ true) where
-    -- the candidate after y
-    abbrev pub next-step : Step
-    next-step = completed (inside s (suc j) (after s j b (h .size) y f))
+    pub candidate-step : 0 < t .objects → IsStep t (candidate t s j b y)
+    candidate-step some-object =
+        completed-step t s (suc j) after some-object (h .known) (after-size ∙ h .size) after-small
 
-    part-before : (i : ℕ) → i < j → partStep t (completed (inside s j b)) i ≡ partStep t next-step i
-    unfolding partStep completed
-    part-before i l = λ k. record { schema = firstOf t s + i; objects = same k }
-      where
-        same : map (λ p. getD (map orZero b) p 0) (paramsAt t s i) ≡
-            map (λ p. getD (next-step .objects) p 0) (paramsAt t s i)
-        same = map-same (λ p. getD (map orZero b) p 0) (λ p. getD (next-step .objects) p 0) (paramsAt t s i) (λ p m.
-            let (o, e) = h .found p i l m in
-            let q : p < length b = rw (h .size) (param-small t s i p m) in
-            object-of s j b p q ∙ ap orZero (e ∙ sym (after-old s j b (h .size) y f p o e)) ∙
-            sym (object-of s (suc j) (after s j b (h .size) y f) p (rw (after-size s j b (h .size) y f) q)))
-
-    part-here : y ≡ partStep t next-step j
-    unfolding partStep completed orZero
-    part-here = λ k. record { schema = fits-schema s j b (h .size) y f k; objects = same k }
-      where
-        same : y .objects ≡ map (λ p. getD (next-step .objects) p 0) (paramsAt t s j)
-        same = objects-are s j b (h .size) y f ∙
-            map-same (given-by s j b (h .size) y f) (λ p. getD (next-step .objects) p 0) (paramsAt t s j) (λ p m.
-            sym (object-of s (suc j) (after s j b (h .size) y f) p
-            (rw (after-size s j b (h .size) y f) (ps-small s j b (h .size) y f p m)) ∙
-            ap orZero (after-new s j b (h .size) y f p m)))
-
-    -- the steps so far and y are the first parts of the candidate's block
-    pub parts-so-far : pre ++ (y ∷ []) ≡ map (partStep t next-step) (upTo (suc j))
-    parts-so-far =
-        ap₂ (λ (a : List Step) (c : Step). a ++ (c ∷ []))
-        (h .so-far ∙ map-same (partStep t (completed (inside s j b))) (partStep t next-step) (upTo j)
-        (λ i k. part-before i (upTo-in j i k))) part-here ∙
-        sym (ap (map (partStep t next-step)) (upTo-suc j) ∙ map-append (partStep t next-step) (upTo j) (j ∷ []))
-
-    pub next-is-step : 0 < t .objects → IsStep t next-step
-    next-is-step some-object =
-        completed-step s (suc j) (after s j b (h .size) y f) some-object (h .known)
-        (after-size s j b (h .size) y f ∙ h .size) (after-small s j b (h .size) y f objects (h .small))
-
-    pub inside-next : suc j < length (orders t s) → Inside s (suc j) (after s j b (h .size) y f) (pre ++ (y ∷ []))
+    pub inside-next : suc j < length (orders t s) → Inside t s (suc j) after (pre ++ (y ∷ []))
     inside-next l = record {
       known = h .known;
       open-at = l;
-      size = after-size s j b (h .size) y f ∙ h .size;
-      small = after-small s j b (h .size) y f objects (h .small);
+      size = after-size ∙ h .size;
+      small = after-small;
       found = λ p i l m. elim (decLt i j) [
-        | yes q ↦ let (o, e) = h .found p i q m in (o, after-old s j b (h .size) y f p o e)
+        | yes q ↦ let (o, e) = h .found p i q m in (o, after-old p o e)
         | no q ↦
-            let z : i ≡ j = omega arith in (
-              given-by s j b (h .size) y f p,
-              after-new s j b (h .size) y f p (subst (λ i. In p (paramsAt t s i)) z m),
-            )
+            let z : i ≡ j = omega arith in
+            (given-by p, after-new p (subst (λ i. In p (paramsAt t s i)) z m))
       ];
       so-far = parts-so-far;
     }
 
-  -- ---- the stages that folding reaches
+-- ---- the stages that folding reaches
+module _ (t : Task) where
   abbrev pub Reached : Stage → List Step → Type 0
   Reached outside pre = pre ≡ []
-  Reached (inside s j b) pre = Inside s j b pre
+  Reached (inside s j b) pre = Inside t s j b pre
 
   module _ (filled : (s : ℕ) → s < length (t .schemas) → 0 < length (orders t s)) where
     beginner-in : (k : ℕ) (ss : List ℕ) (s : ℕ) → beginner t k ss ≡ some s → In s ss

@@ -23,13 +23,13 @@ use Rattle.correspondence.proofs.FoldUnfolded.{folds-back, fold-unfinis
 use Rattle.correspondence.proofs.FoldReads.{misfit-inj, folded-inj, folded-no-misfit, Turn, off, on, finish}
 use Rattle.correspondence.proofs.FoldReads.{turn, Shown, whole, broken, shown}
 
-module _ (t t′ : Task) (G : Given t t′) where
+module _ {t t′ : Task} (G : Given t t′) where
   -- ---- a step that is refused is refused whatever follows it
   later-misfit : (ys : List Step) (g : Stage) (pre : List Step) → Reached t g pre → StepsOf t′ ys → (n i : ℕ) →
       foldFrom t g n ys ≡ misfit i → n ≤ i
-  later-misfit ys g pre r h n i e = go (shown t t′ G ys g pre r h n)
+  later-misfit ys g pre r h n i e = go (shown G ys g pre r h n)
     where
-      go : Shown t t′ G pre ys n (foldFrom t g n ys) → n ≤ i
+      go : Shown t pre ys n (foldFrom t g n ys) → n ≤ i
       go (whole xs q k z) = absurd (folded-no-misfit q e)
       go (broken k q l xs rest a) = let z = misfit-inj (sym q ∙ e) in omega arith
 
@@ -44,10 +44,10 @@ module _ (t t′ : Task) (G : Given t t′) where
   unfolding prepend
   refused-again ys g pre r h n i e zero l m more = absurd (omega (arith, later-misfit ys g pre r h n i e))
   refused-again [] g pre r h n i e (suc k) l m more = absurd (omega arith)
-  refused-again (y ∷ ys) g pre r h n i e (suc k) l m more = go (turn t t′ G g pre r y (head-step t′ y ys h))
+  refused-again (y ∷ ys) g pre r h n i e (suc k) l m more = go (turn G g pre r y (head-step t′ y ys h))
       (λ g pre r e. refused-again ys g pre r (tail-steps t′ y ys h) (suc n) i e k (omega arith) (omega arith) more)
     where
-      go : Turn t t′ G g pre y → ((g : Stage) (pre : List Step) → Reached t g pre → foldFrom t g (suc n) ys ≡ misfit i →
+      go : Turn t g pre y → ((g : Stage) (pre : List Step) → Reached t g pre → foldFrom t g (suc n) ys ≡ misfit i →
           foldFrom t g (suc n) (take k ys ++ more) ≡ misfit i) →
           foldFrom t g n (y ∷ (take k ys ++ more)) ≡ misfit i
       go (off q) ih = q n (take k ys ++ more) ∙ sym (q n ys) ∙ e
@@ -88,9 +88,9 @@ module _ (t t′ : Task) (G : Given t t′) where
   module _ (ys : List Step) (h : StepsOf t′ ys) where
     folds-forth : (xs : List Step) → foldSteps t ys ≡ folded xs → StepsOf t xs × (ys ≡ unfoldSteps t xs)
     unfolding foldSteps
-    folds-forth xs e = go (shown t t′ G ys outside [] refl h 0)
+    folds-forth xs e = go (shown G ys outside [] refl h 0)
       where
-        go : Shown t t′ G [] ys 0 (foldSteps t ys) → StepsOf t xs × (ys ≡ unfoldSteps t xs)
+        go : Shown t [] ys 0 (foldSteps t ys) → StepsOf t xs × (ys ≡ unfoldSteps t xs)
         go (whole zs q k z) =
             let same = folded-inj (sym q ∙ e) in
             (subst (λ xs. StepsOf t xs) same k, z ∙ ap (unfoldSteps t) same)
@@ -98,23 +98,23 @@ module _ (t t′ : Task) (G : Given t t′) where
 
     unfolding-folds : (xs : List Step) → StepsOf t xs → ys ≡ unfoldSteps t xs → foldSteps t ys ≡ folded xs
     unfolding foldSteps
-    unfolding-folds xs k e = ap (foldSteps t) e ∙ folds-back t t′ G xs 0 k
+    unfolding-folds xs k e = ap (foldSteps t) e ∙ folds-back G xs 0 k
 
     unfinished-misfit : (i : ℕ) → foldSteps t ys ≡ misfit i → (xs rest : List Step) → TakenApart t ys xs rest →
         ProperBeginning t rest → i ≡ length ys
     unfolding foldSteps
     unfinished-misfit i e xs rest a b = misfit-inj (sym e ∙ ap (foldSteps t) (a .blocks) ∙
-        fold-unfinished t t′ G xs rest 0 (a .steps) b ∙ ap misfit (omega (arith, ap length (a .blocks))))
+        fold-unfinished G xs rest 0 (a .steps) b ∙ ap misfit (omega (arith, ap length (a .blocks))))
 
     misfits-forth : (i : ℕ) → foldSteps t ys ≡ misfit i → MisfitAt t ys i
     unfolding foldSteps
-    misfits-forth i e = go (shown t t′ G ys outside [] refl h 0)
+    misfits-forth i e = go (shown G ys outside [] refl h 0)
       where
         no-unfolding : (xs : List Step) → StepsOf t xs → ys ≡ unfoldSteps t xs → ⊥
         no-unfolding xs k q = folded-no-misfit (unfolding-folds xs k q) e
 
         longest : (k : ℕ) → i < k → k ≤ length ys → Begins t (take k ys) → ⊥
-        longest k l m (xs, more, hx, q) = folded-no-misfit (folds-back t t′ G xs 0 hx)
+        longest k l m (xs, more, hx, q) = folded-no-misfit (folds-back G xs 0 hx)
             (ap (foldFrom t outside 0) q ∙ refused-again ys outside [] refl h 0 i e k (omega arith) m more)
 
         left-over : (xs rest : List Step) → TakenApart t ys xs rest → ProperBeginning t rest
@@ -124,7 +124,7 @@ module _ (t t′ : Task) (G : Given t t′) where
           | inr b ↦ b
         ]
 
-        go : Shown t t′ G [] ys 0 (foldSteps t ys) → MisfitAt t ys i
+        go : Shown t [] ys 0 (foldSteps t ys) → MisfitAt t ys i
         go (whole zs q k z) = absurd (folded-no-misfit q e)
         go (broken k q l zs rest a) = at (let n = misfit-inj (sym e ∙ q) in omega arith)
           where

@@ -17,7 +17,7 @@ use Rattle.correspondence.specs.SharedRuns.{StepsOf, ProperBeginning}
 use Rattle.correspondence.proofs.Given.{Given, head-step, tail-steps, filled, covered}
 use Rattle.correspondence.proofs.OneWay.{proper-parts, unfold-first}
 
-module _ (t t′ : Task) (G : Given t t′) where
+module _ {t t′ : Task} (G : Given t t′) where
   fold-block : (x : Step) → IsStep t x → (i : ℕ) (ys : List Step) →
       foldFrom t outside i (block t x ++ ys) ≡ prepend x (foldFrom t outside (i + length (orders t (x .schema))) ys)
   unfolding block upTo
@@ -25,11 +25,11 @@ module _ (t t′ : Task) (G : Given t t′) where
     where
       go : (n : ℕ) → n ≡ length (orders t (x .schema)) →
           foldFrom t outside i (block t x ++ ys) ≡ prepend x (foldFrom t outside (i + n) ys)
-      go zero e = absurd (omega (arith, filled t t′ G (x .schema) (hx .known)))
+      go zero e = absurd (omega (arith, filled G (hx .known)))
       go (suc k) e =
           ap (λ n. foldFrom t outside i (map (partStep t x) (upFrom 0 n) ++ ys)) (sym e) ∙
-          fold-rest t x (covered t t′ G (x .schema) (hx .known)) (hx .count) k 0 outside _ i ys (omega arith)
-          (stage-first t (filled t t′ G) x (hx .known)) (bound-none t x)
+          fold-rest t x (covered G (hx .known)) (hx .count) k 0 outside _ i ys (omega arith)
+          (stage-first t (λ s l. filled G l) x (hx .known)) (bound-none t x)
 
   pub folds-back : (xs : List Step) (i : ℕ) → StepsOf t xs → foldFrom t outside i (unfoldSteps t xs) ≡ folded xs
   unfolding unfoldSteps concatMap prepend foldFrom foldEnd
@@ -43,8 +43,8 @@ module _ (t t′ : Task) (G : Given t t′) where
   unfolding upTo
   fold-begun x hx zero i h l = absurd (omega arith)
   fold-begun x hx (suc k) i h l =
-      fold-part t x (covered t t′ G (x .schema) (hx .known)) (hx .count) k 0 outside _ i
-      (omega (arith, length-block t x)) (stage-first t (filled t t′ G) x (hx .known)) (bound-none t x)
+      fold-part t x (covered G (hx .known)) (hx .count) k 0 outside _ i
+      (omega (arith, length-block t x)) (stage-first t (λ s l. filled G l) x (hx .known)) (bound-none t x)
 
   pub fold-unfinished : (xs r : List Step) (i : ℕ) → StepsOf t xs → ProperBeginning t r →
       foldFrom t outside i (unfoldSteps t xs ++ r) ≡ misfit (i + length (unfoldSteps t xs ++ r))

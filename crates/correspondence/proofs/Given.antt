@@ -43,7 +43,7 @@ unfolding all
 more-steps t x xs hx h = and-both _ _ (is-isStep t x hx) h
 
 -- ---- the parts of a schema
-module _ (t t′ : Task) (G : Given t t′) (s : ℕ) (l : s < length (t .schemas)) where
+module _ {t t′ : Task} (G : Given t t′) {s : ℕ} (l : s < length (t .schemas)) where
   order-of-parts : OrderOfParts (schemaAt t s) (orders t s)
   order-of-parts = order-taken (schemaAt t s) (orders t s) (G .order s l) .0
 

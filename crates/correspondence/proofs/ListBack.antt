@@ -29,13 +29,32 @@ use Rattle.correspondence.proofs.OneList.{ran-inj, ran-not-stopped}
 use Rattle.correspondence.proofs.OneWay.{one-more-block}
 use Rattle.correspondence.proofs.NextPart.{merged, own-part, merged-step, merged-stands, merged-parts}
 
-module _ (t t′ : Task) (G : Given t t′) where
+-- ---- between two steps of the split: the steps `pre` of an open block are done
+data Amid (t : Task) (S : List Fact) (pre : List Step) : Type 0 where
+  between : (s₀ : List Fact) → State t s₀ → S ≡ withFree t s₀ → pre ≡ [] → Amid t S pre
+  within : (s₀ : List Fact) → State t s₀ → (x : Step) → IsStep t x → (j : ℕ) → 0 < j →
+      j < length (orders t (x .schema)) → StandsIn t s₀ x j S → pre ≡ map (partStep t x) (upTo j) → Amid t S pre
+
+-- after one more step: still amid a block, or the block is whole
+data Moved (t : Task) (S : List Fact) (pre : List Step) : Type 0 where
+  on : Amid t S pre → Moved t S pre
+  whole : (x : Step) → IsStep t x → pre ≡ block t x → Amid t S [] → Moved t S pre
+
+-- a list taken apart, and whether procnone stands in what it leaves
+pub record CameApart (t : Task) (ys : List Step) (E : List Fact) : Type 0 where
+  pub list : List Step
+  pub rest : List Step
+  pub apart : TakenApart t ys list rest
+  pub free-alone : In (bare (procnone t)) E → rest ≡ []
+  pub alone-free : rest ≡ [] → In (bare (procnone t)) E
+
+module _ {t t′ : Task} (G : Given t t′) where
   -- ---- which part a step that runs is
   -- it asks for the bare token of its position
   bare-token-stands : (s j : ℕ) → s < length (t .schemas) → j < length (orders t s) → (y : Step) →
       y .schema ≡ firstOf t s + j → (S : List Fact) → applies t′ S y ≡ true → In (bare (tokenAt t s (orders t s) j)) S
   bare-token-stands s j l h y at S ok = applies-in t′ S y ok (bare (tokenAt t s (orders t s) j))
-      (asks-token t t′ G s l _ j y (own-part t t′ G s j l h y at) (bare (tokenAt t s (orders t s) j))
+      (asks-token (own-part G s j l h y at) (bare (tokenAt t s (orders t s) j))
       (the-bare (ap bare (sym (required-is t s (orders t s) j h)))))
 
   starts : (s j : ℕ) → s < length (t .schemas) → j < length (orders t s) → (y : Step) → y .schema ≡ firstOf t s + j →
@@ -62,8 +81,8 @@ module _ (t t′ : Task) (G : Given t t′) where
     where
       same-do : 0 < i → doToken t s i ≡ doToken t (x .schema) j → y .schema ≡ firstOf t (x .schema) + j
       same-do q d =
-          let hi : i < parts (schemaAt t s) = omega (arith, part-count t t′ G s l) in
-          let hk : j < parts (schemaAt t (x .schema)) = omega (arith, part-count t t′ G (x .schema) (hx .known)) in
+          let hi : i < parts (schemaAt t s) = omega (arith, part-count G l) in
+          let hk : j < parts (schemaAt t (x .schema)) = omega (arith, part-count G (hx .known)) in
           let a = do-schema t s (x .schema) i j l (hx .known) hi hk q pj d in
           let b = do-position t s (x .schema) i j l (hx .known) hi hk q pj d in
           at ∙ ap₂ (λ s i. firstOf t s + i) a b
@@ -82,17 +101,6 @@ module _ (t t′ : Task) (G : Given t t′) where
       go (inl e) = same (ap (λ f. f .pred) e ∙ token-inside t (x .schema) (orders t (x .schema)) j pj hj)
       go (inr (p, a, b, e)) = absurd (let z : _≡_ {A = ℕ} 0 1 = ap (λ f. length (f .args)) e in omega arith)
 
-  -- ---- between two steps of the split: the steps `pre` of an open block are done
-  data Amid (S : List Fact) (pre : List Step) : Type 0 where
-    between : (s₀ : List Fact) → State t s₀ → S ≡ withFree t s₀ → pre ≡ [] → Amid S pre
-    within : (s₀ : List Fact) → State t s₀ → (x : Step) → IsStep t x → (j : ℕ) → 0 < j →
-        j < length (orders t (x .schema)) → StandsIn t s₀ x j S → pre ≡ map (partStep t x) (upTo j) → Amid S pre
-
-  -- after one more step: still amid a block, or the block is whole
-  data Moved (S : List Fact) (pre : List Step) : Type 0 where
-    on : Amid S pre → Moved S pre
-    whole : (x : Step) → IsStep t x → pre ≡ block t x → Amid S [] → Moved S pre
-
   -- any step of a schema, to begin a block with
   blank : ℕ → Step
   blank s = record { schema = s; objects = map (λ p. 0) (upTo (schemaAt t s .params)) }
@@ -110,7 +118,7 @@ module _ (t t′ : Task) (G : Given t t′) where
   move-part : (s₀ : List Fact) (st : State t s₀) (x : Step) (hx : IsStep t x) (j : ℕ)
       (hj : j < length (orders t (x .schema))) (S : List Fact) → StandsIn t s₀ x j S →
       (y : Step) → IsStep t′ y → y .schema ≡ firstOf t (x .schema) + j → applies t′ S y ≡ true →
-      (pre : List Step) → pre ≡ map (partStep t x) (upTo j) → Moved (next t′ S y) (pre ++ (y ∷ []))
+      (pre : List Step) → pre ≡ map (partStep t x) (upTo j) → Moved t (next t′ S y) (pre ++ (y ∷ []))
   unfolding block
   move-part s₀ st x hx j hj S sd y hy at ok pre e = elim (decLt (suc j) (length (orders t (x .schema)))) [
     | yes q ↦ on (within s₀ st x′ step (suc j) (omega arith) q stand list)
@@ -121,46 +129,39 @@ module _ (t t′ : Task) (G : Given t t′) where
       x′ = merged t x j y
 
       step : IsStep t x′
-      step = merged-step t t′ G s₀ x hx j hj S sd y hy at ok
+      step = merged-step G s₀ hx j hj S sd hy at ok
 
       stand : StandsIn t s₀ x′ (suc j) (next t′ S y)
-      stand = merged-stands t t′ G s₀ x hx j hj S sd y hy at ok
+      stand = merged-stands G s₀ hx j hj S sd hy at ok
 
       list : pre ++ (y ∷ []) ≡ map (partStep t x′) (upTo (suc j))
-      list = merged-parts t t′ G s₀ x hx j hj S sd y hy at ok pre e
+      list = merged-parts G s₀ hx j hj S sd hy at ok pre e
 
-      finished : suc j ≡ length (orders t (x .schema)) → Moved (next t′ S y) (pre ++ (y ∷ []))
+      finished : suc j ≡ length (orders t (x .schema)) → Moved t (next t′ S y) (pre ++ (y ∷ []))
       finished z =
           whole x′ step (list ∙ ap (λ n. map (partStep t x′) (upTo n)) z)
           (between (next t s₀ x′) (next-state t s₀ x′ (G .well) st step)
-          (stands-end t t′ G s₀ st x′ step (next t′ S y) (subst (λ n. StandsIn t s₀ x′ n (next t′ S y)) z stand)) refl)
+          (stands-end G st step (next t′ S y) (subst (λ n. StandsIn t s₀ x′ n (next t′ S y)) z stand)) refl)
 
-  move : (S : List Fact) (pre : List Step) → Amid S pre → (y : Step) → IsStep t′ y → applies t′ S y ≡ true →
-      Moved (next t′ S y) (pre ++ (y ∷ []))
+  move : (S : List Fact) (pre : List Step) → Amid t S pre → (y : Step) → IsStep t′ y → applies t′ S y ≡ true →
+      Moved t (next t′ S y) (pre ++ (y ∷ []))
   unfolding blank upTo
   move S pre m y hy ok =
       let known = subst (λ u. y .schema < length (u .schemas)) (G .is) (hy .known) in
       let (s, i, l, h, at) = find-schema t (y .schema) known in
       go m s i l h at
     where
-      go : Amid S pre → (s i : ℕ) → s < length (t .schemas) → i < length (orders t s) → y .schema ≡ firstOf t s + i →
-          Moved (next t′ S y) (pre ++ (y ∷ []))
+      go : Amid t S pre → (s i : ℕ) → s < length (t .schemas) → i < length (orders t s) → y .schema ≡ firstOf t s + i →
+          Moved t (next t′ S y) (pre ++ (y ∷ []))
       go (between s₀ st e q) s i l h at =
           let z = starts s i l h y at s₀ st (subst (λ S. applies t′ S y ≡ true) e ok) in
-          move-part s₀ st (blank s) (blank-step s l) 0 (filled t t′ G s l) S
+          move-part s₀ st (blank s) (blank-step s l) 0 (filled G l) S
           (subst (λ S. StandsIn t s₀ (blank s) 0 S) (sym e) (stands-start t s₀ st s (objectOf (blank s))))
           y hy (at ∙ ap (λ i. firstOf t s + i) z) ok pre q
       go (within s₀ st x hx j pj hj sd q) s i l h at =
           move-part s₀ st x hx j hj S sd y hy (goes-on s₀ x hx j pj hj S sd s i l h y at ok) ok pre q
 
-  -- ---- a list taken apart, and what it leaves
-  pub record CameApart (ys : List Step) (E : List Fact) : Type 0 where
-    pub list : List Step
-    pub rest : List Step
-    pub apart : TakenApart t ys list rest
-    pub free-alone : In (bare (procnone t)) E → rest ≡ []
-    pub alone-free : rest ≡ [] → In (bare (procnone t)) E
-
+  -- ---- a list taken apart
   -- inside a block procnone doesn't stand
   no-free-within : (s₀ : List Fact) (x : Step) (j : ℕ) → 0 < j → j < length (orders t (x .schema)) →
       Token t s₀ (x .schema) (objectOf x) j (bare (procnone t)) → ⊥
@@ -170,7 +171,7 @@ module _ (t t′ : Task) (G : Given t t′) where
   no-free-within s₀ x j pj hj (inr (p, a, b, e)) =
       let z : _≡_ {A = ℕ} 0 1 = ap (λ f. length (f .args)) e in omega arith
 
-  apart-at-end : (S : List Fact) (pre : List Step) → Amid S pre → CameApart (pre ++ []) S
+  apart-at-end : (S : List Fact) (pre : List Step) → Amid t S pre → CameApart t (pre ++ []) S
   unfolding all unfoldSteps concatMap withFree free
   apart-at-end S pre (between s₀ st e q) = record {
     list = [];
@@ -200,8 +201,8 @@ module _ (t t′ : Task) (G : Given t t′) where
         absurd (omega arith);
   }
 
-  apart-more : (x : Step) → IsStep t x → (ys : List Step) (E : List Fact) → CameApart ys E →
-      CameApart (block t x ++ ys) E
+  apart-more : (x : Step) → IsStep t x → (ys : List Step) (E : List Fact) → CameApart t ys E →
+      CameApart t (block t x ++ ys) E
   apart-more x h ys E a = record {
     list = x ∷ a .list;
     rest = a .rest;
@@ -210,27 +211,27 @@ module _ (t t′ : Task) (G : Given t t′) where
     alone-free = a .alone-free;
   }
 
-  comes-apart : (ys : List Step) (S : List Fact) (pre : List Step) → Amid S pre → StepsOf t′ ys → (i : ℕ)
-      (E : List Fact) → runFrom t′ i ys S ≡ ran E → CameApart (pre ++ ys) E
+  comes-apart : (ys : List Step) (S : List Fact) (pre : List Step) → Amid t S pre → StepsOf t′ ys → (i : ℕ)
+      (E : List Fact) → runFrom t′ i ys S ≡ ran E → CameApart t (pre ++ ys) E
   unfolding runFrom
-  comes-apart [] S pre m h i E r = subst (λ E. CameApart (pre ++ []) E) (ran-inj r) (apart-at-end S pre m)
+  comes-apart [] S pre m h i E r = subst (λ E. CameApart t (pre ++ []) E) (ran-inj r) (apart-at-end S pre m)
   comes-apart (y ∷ ys) S pre m h i E r = go (applies t′ S y) refl
       (λ p q k. comes-apart ys (next t′ S y) p q (tail-steps t′ y ys h) (suc i) E k)
     where
-      after : ((p : List Step) → Amid (next t′ S y) p → CameApart (p ++ ys) E) →
-          Moved (next t′ S y) (pre ++ (y ∷ [])) → CameApart (pre ++ (y ∷ ys)) E
-      after ih (on m) = subst (λ z. CameApart z E) (append-assoc pre (y ∷ []) ys) (ih (pre ++ (y ∷ [])) m)
+      after : ((p : List Step) → Amid t (next t′ S y) p → CameApart t (p ++ ys) E) →
+          Moved t (next t′ S y) (pre ++ (y ∷ [])) → CameApart t (pre ++ (y ∷ ys)) E
+      after ih (on m) = subst (λ z. CameApart t z E) (append-assoc pre (y ∷ []) ys) (ih (pre ++ (y ∷ [])) m)
       after ih (whole x hx e m) =
-          subst (λ z. CameApart z E) (ap (λ z. z ++ ys) (sym e) ∙ append-assoc pre (y ∷ []) ys)
+          subst (λ z. CameApart t z E) (ap (λ z. z ++ ys) (sym e) ∙ append-assoc pre (y ∷ []) ys)
           (apart-more x hx ys E (ih [] m))
 
-      go : (b : Bool) → applies t′ S y ≡ b → ((p : List Step) → Amid (next t′ S y) p →
-          runFrom t′ (suc i) ys (next t′ S y) ≡ ran E → CameApart (p ++ ys) E) → CameApart (pre ++ (y ∷ ys)) E
+      go : (b : Bool) → applies t′ S y ≡ b → ((p : List Step) → Amid t (next t′ S y) p →
+          runFrom t′ (suc i) ys (next t′ S y) ≡ ran E → CameApart t (p ++ ys) E) → CameApart t (pre ++ (y ∷ ys)) E
       go true a ih =
           after (λ p q. ih p q (sym (run-on t′ S y i ys a) ∙ r)) (move S pre m y (head-step t′ y ys h) a)
       go false a ih = absurd (ran-not-stopped r (run-stop t′ S y i ys a))
 
   -- from a state of the task, with procnone
   pub apart-from : (s : List Fact) → State t s → (ys : List Step) → StepsOf t′ ys → (E : List Fact) →
-      runFrom t′ 0 ys (withFree t s) ≡ ran E → CameApart ys E
+      runFrom t′ 0 ys (withFree t s) ≡ ran E → CameApart t ys E
   apart-from s st ys h E r = comes-apart ys (withFree t s) [] (between s st refl refl) h 0 E r

@@ -44,18 +44,20 @@ module _ (t : Task) (x : Step) (j : ℕ) where
     merged = record { schema = x .schema; objects = map choose (upTo (schemaAt t (x .schema) .params)) }
 
 -- a step of the split with the number of a part is that part, with its own objects
-pub own-part : (t t′ : Task) → Given t t′ → (s j : ℕ) → s < length (t .schemas) → j < length (orders t s) →
+pub own-part : {t t′ : Task} → Given t t′ → (s j : ℕ) → s < length (t .schemas) → j < length (orders t s) →
     (y : Step) → y .schema ≡ firstOf t s + j →
     IsPart t t′ s (λ p. getD (y .objects) (indexOf p (own t s (orders t s) j)) 0) j y
-own-part t t′ G s j l h y at = record {
+own-part {t} {t′} G s j l h y at = record {
+  given = G;
+  known = l;
   here = h;
   schema = ap₂ schemaAt (G .is) at ∙ split-schema t s j l h;
   objects = λ x i. refl;
 }
 
-module _ (t t′ : Task) (G : Given t t′) (s₀ : List Fact) (x : Step) (hx : IsStep t x) (j : ℕ)
+module _ {t t′ : Task} (G : Given t t′) (s₀ : List Fact) {x : Step} (hx : IsStep t x) (j : ℕ)
     (hj : j < length (orders t (x .schema))) (S : List Fact) (sd : StandsIn t s₀ x j S)
-    (y : Step) (hy : IsStep t′ y) (at : y .schema ≡ firstOf t (x .schema) + j) (ok : applies t′ S y ≡ true) where
+    {y : Step} (hy : IsStep t′ y) (at : y .schema ≡ firstOf t (x .schema) + j) (ok : applies t′ S y ≡ true) where
   abbrev sx : Schema
   sx = schemaAt t (x .schema)
 
@@ -63,7 +65,7 @@ module _ (t t′ : Task) (G : Given t t′) (s₀ : List Fact) (x : Step) (hx : 
   ox = orders t (x .schema)
 
   this : IsPart t t′ (x .schema) (givenBy t x j y) j y
-  this = own-part t t′ G (x .schema) j (hx .known) hj y at
+  this = own-part G (x .schema) j (hx .known) hj y at
 
   mine-has : (p : ℕ) → In p (mine t x j) → (p < sx .params) × (has sx p (getD ox j 0) ≡ true)
   unfolding own
@@ -87,7 +89,7 @@ module _ (t t′ : Task) (G : Given t t′) (s₀ : List Fact) (x : Step) (hx : 
   par-forces : (p : ℕ) → In p (mine t x j) → firstPosition sx ox p < j → givenBy t x j y p ≡ objectOf x p
   unfolding laterHere
   par-forces p i h = go (sd .is-token f (par-high t p) (applies-in t′ S y ok f
-      (asks-token t t′ G (x .schema) (hx .known) (givenBy t x j y) j y this f
+      (asks-token this f
       (a-par p i (lt-ltb (firstPosition sx ox p) j h) refl))))
     where
       f : Fact
@@ -99,7 +101,7 @@ module _ (t t′ : Task) (G : Given t t′) (s₀ : List Fact) (x : Step) (hx : 
           let z = par-fixes t p q (ap (λ f. f .pred) e) in
           ap (λ f. getD (f .args) 0 0) e ∙ ap (objectOf x) (sym z)
 
-  alike-before : AlikeBefore t t′ G s₀ (x .schema) (hx .known) j (objectOf x) (objectOf (merged t x j y))
+  alike-before : AlikeBefore t (x .schema) j (objectOf x) (objectOf (merged t x j y))
   unfolding own
   alike-before i h p k =
       let (a, b) = in-params sx p (getD ox i 0) k in
@@ -139,11 +141,19 @@ module _ (t t′ : Task) (G : Given t t′) (s₀ : List Fact) (x : Step) (hx : 
   }
 
   -- ---- what stands after y stands for the merged step
+  merged-part : IsPart t t′ (x .schema) (objectOf (merged t x j y)) j y
+  merged-part = record {
+    given = G;
+    known = hx .known;
+    here = hj;
+    schema = this .schema;
+    objects = λ p i. sym (merged-mine p i);
+  }
+
   pub merged-stands : StandsIn t s₀ (merged t x j y) (suc j) (next t′ S y)
   merged-stands =
-      stands-next t t′ G s₀ (x .schema) (hx .known) (objectOf (merged t x j y)) j S
-      (stands-alike t t′ G s₀ (x .schema) (hx .known) j (objectOf x) (objectOf (merged t x j y)) alike-before S sd) y
-      (record { here = hj; schema = this .schema; objects = λ p i. sym (merged-mine p i) })
+      stands-next merged-part
+      (stands-alike G s₀ (hx .known) j (objectOf x) (objectOf (merged t x j y)) alike-before S sd)
 
   -- ---- its first parts are those of x, then y
   merged-before : (i : ℕ) → i < j → partStep t (merged t x j y) i ≡ partStep t x i

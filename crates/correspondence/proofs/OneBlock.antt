@@ -39,7 +39,7 @@ StandsIn t s₀ x j S = Stands t s₀ (x .schema) (objectOf x) j S
 abbrev pub StepNeeds : Task → List Fact → Step → ℕ → Type 0
 StepNeeds t s₀ x j = Needs t s₀ (x .schema) (objectOf x) j
 
-module _ (t t′ : Task) (G : Given t t′) (s₀ : List Fact) (st : State t s₀) (x : Step) (hx : IsStep t x) where
+module _ {t t′ : Task} (G : Given t t′) {s₀ : List Fact} (st : State t s₀) {x : Step} (hx : IsStep t x) where
   abbrev size : ℕ
   size = length (orders t (x .schema))
 
@@ -48,7 +48,7 @@ module _ (t t′ : Task) (G : Given t t′) (s₀ : List Fact) (st : State t s�
   unfolding ground
   done-by-step r f i =
       let (a, k, q, e) = in-role t r x f i in
-      let (p, m, z) = place-of t t′ G (x .schema) (hx .known) a k in
+      let (p, m, z) = place-of G (hx .known) a k in
       (p, m, old-of a k q (sym z) e)
 
   done-in-step : (r : ℕ) (f : Fact) → Done t s₀ (x .schema) (objectOf x) r size f → In f (groundRole t r x)
@@ -105,6 +105,8 @@ module _ (t t′ : Task) (G : Given t t′) (s₀ : List Fact) (st : State t s�
   part-of-step : (j : ℕ) → j < size → IsPart t t′ (x .schema) (objectOf x) j (partStep t x j)
   unfolding partStep
   part-of-step j h = record {
+    given = G;
+    known = hx .known;
     here = h;
     schema = ap (λ u. schemaAt u (firstOf t (x .schema) + j)) (G .is) ∙ split-schema t (x .schema) j (hx .known) h;
     objects = part-objects t x j;
@@ -127,13 +129,11 @@ module _ (t t′ : Task) (G : Given t t′) (s₀ : List Fact) (st : State t s�
       passed S (subst (λ n. StandsIn t s₀ x n S) z sd) (λ i ys. ap (λ n. runFrom t′ n ys S) (omega arith))
       (λ q a b. absurd (omega arith))
   through (suc k) j S e sd = elim (bool-cases (applies t′ S y)) [
-    | inl h ↦ go h (through k (suc j) (next t′ S y) (omega arith)
-        (stands-next t t′ G s₀ (x .schema) (hx .known) (objectOf x) j S sd y P))
+    | inl h ↦ go h (through k (suc j) (next t′ S y) (omega arith) (stands-next P sd))
     | inr h ↦ halted 0 S (omega arith)
         (λ i ys. run-stop t′ S y i (map (partStep t x) (upFrom (suc j) k) ++ ys) h ∙
         ap (λ n. stopped n S) (omega arith))
-        (false-if (applies t s₀ x) (λ q. both-ft
-        (needs-run t t′ G s₀ (x .schema) (hx .known) (objectOf x) j S sd y P (applies-needs q j)) h))
+        (false-if (applies t s₀ x) (λ q. both-ft (needs-run P sd (applies-needs q j)) h))
   ]
     where
       y : Step
@@ -148,8 +148,7 @@ module _ (t t′ : Task) (G : Given t t′) (s₀ : List Fact) (st : State t s�
         | yes c ↦ n q c b
         | no c ↦
             let z : j ≡ q = omega arith in
-            subst (λ q. StepNeeds t s₀ x q) z
-            (runs-needs t t′ G s₀ (x .schema) (hx .known) (objectOf x) j S sd y P h)
+            subst (λ q. StepNeeds t s₀ x q) z (runs-needs P sd h)
       ]
 
       go : applies t′ S y ≡ true → Through k (suc j) (next t′ S y) → Through (suc k) j S

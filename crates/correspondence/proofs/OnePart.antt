@@ -22,7 +22,6 @@ use Rattle.tokens.proofs.Places.{has-small, in-params, params-in, At, at-last, 
 use Rattle.tokens.proofs.Ground.{factOf, bare, old-of, the-bare, a-par}
 use Rattle.tokens.proofs.Predicates.{par-fixes}
 use Rattle.tokens.proofs.Accepted.{tokenAt, required-is, handedOn-is, token-zero, token-end}
-use Rattle.correspondence.proofs.Given.{Given}
 use Rattle.correspondence.proofs.Standing.{OldFact, Token, Stands}
 use Rattle.correspondence.proofs.PartAtoms.{OldHere, Required, Added, Deleted, IsPart, asked, asks-old, adds-old}
 use Rattle.correspondence.proofs.PartAtoms.{adds-token, deletes-old, deletes-token, old-here-low, required-high}
@@ -35,8 +34,8 @@ Needs t s₀ s v j =
     (a : Atom) → In a (schemaAt t s .atoms) → a .role ≡ precondition → a .part ≡ getD (orders t s) j 0 →
     In (factOf v a) s₀
 
-module _ (t t′ : Task) (G : Given t t′) (s₀ : List Fact) (s : ℕ) (l : s < length (t .schemas)) (v : ℕ → ℕ) (j : ℕ)
-    (S : List Fact) (sd : Stands t s₀ s v j S) (y : Step) (P : IsPart t t′ s v j y) where
+module _ {t t′ : Task} {s₀ : List Fact} {s : ℕ} {v : ℕ → ℕ} {j : ℕ} {S : List Fact} {y : Step}
+    (P : IsPart t t′ s v j y) (sd : Stands t s₀ s v j S) where
   abbrev sch : Schema
   sch = schemaAt t s
 
@@ -46,9 +45,9 @@ module _ (t t′ : Task) (G : Given t t′) (s₀ : List Fact) (s : ℕ) (l : s 
   -- ---- when it runs
   -- a precondition meets no add of its predicate in an earlier part, so it tests the state before the block
   pub runs-needs : applies t′ S y ≡ true → Needs t s₀ s v j
-  runs-needs h a i r p = elim (sd .is-old f (old-here-low t t′ G s l v j y P precondition f this)
-      (applies-in t′ S y h f (asks-old t t′ G s l v j y P f this))) [
-        | inl d ↦ absurd (clash t t′ G s l v j y P (d .0) precondition addition f (d .1) this (d .2) tested-then-added)
+  runs-needs h a i r p = elim (sd .is-old f (old-here-low P precondition f this)
+      (applies-in t′ S y h f (asks-old P f this))) [
+        | inl d ↦ absurd (clash P (d .0) precondition addition f (d .1) this (d .2) tested-then-added)
         | inr d ↦ d .0
       ]
     where
@@ -70,30 +69,30 @@ module _ (t t′ : Task) (G : Given t t′) (s₀ : List Fact) (s : ℕ) (l : s 
 
   -- and no delete of it
   pub needs-run : Needs t s₀ s v j → applies t′ S y ≡ true
-  needs-run h = in-applies t′ S y (λ f i. go f (asked t t′ G s l v j y P f i))
+  needs-run h = in-applies t′ S y (λ f i. go f (asked P f i))
     where
       old : (f : Fact) → OldHere t s v j precondition f → In f s₀ → In f S
-      old f k i = sd .old-is f (old-here-low t t′ G s l v j y P precondition f k) (inr (
+      old f k i = sd .old-is f (old-here-low P precondition f k) (inr (
         i,
         λ d.
-            clash t t′ G s l v j y P (d .0) precondition deletion f (d .1) k (d .2) tested-then-deleted,
+            clash P (d .0) precondition deletion f (d .1) k (d .2) tested-then-deleted,
       ))
 
       go : (f : Fact) → OldHere t s v j precondition f ⊎ Required t s v j f → In f S
       go f (inl (old-of a i r p e)) = old f (old-of a i r p e) (in-eq e (h a i r p))
-      go f (inr k) = sd .token-is f (required-high t t′ G s l v j y P f k) (required-stands f k)
+      go f (inr k) = sd .token-is f (required-high P f k) (required-stands f k)
 
   -- ---- what it leaves: old facts
   next-is-old : (f : Fact) → f .pred < procnone t → In f (next t′ S y) → OldFact t s₀ s v (suc j) f
   next-is-old f h i = elim (in-next t′ S y f i) [
-    | inl a ↦ inl (done-here t s₀ s v j addition f (added-low t t′ G s l v j y P f h a))
+    | inl a ↦ inl (done-here t s₀ s v j addition f (added-low P f h a))
     | inr a ↦ elim (sd .is-old f h (a .0)) [
       | inl d ↦ inl (done-later t s₀ s v j addition f d)
       | inr d ↦ inr (
         d .0,
         λ z. elim (done-before t s₀ s v j deletion f z) [
           | inl q ↦ d .1 q
-          | inr q ↦ a .1 (deletes-old t t′ G s l v j y P f q)
+          | inr q ↦ a .1 (deletes-old P f q)
         ],
       )
     ]
@@ -103,13 +102,13 @@ module _ (t t′ : Task) (G : Given t t′) (s₀ : List Fact) (s : ℕ) (l : s 
   old-is-next : (f : Fact) → f .pred < procnone t → OldFact t s₀ s v (suc j) f → In f (next t′ S y)
   old-is-next f h (inl d) = elim (done-before t s₀ s v j addition f d) [
     | inl k ↦ next-keep t′ S y f (sd .old-is f h (inl k)) (λ q.
-        clash t t′ G s l v j y P (k .0) deletion addition f (k .1) (deleted-low t t′ G s l v j y P f h q) (k .2)
+        clash P (k .0) deletion addition f (k .1) (deleted-low P f h q) (k .2)
         deleted-then-added)
-    | inr k ↦ next-add t′ S y f (adds-old t t′ G s l v j y P f k)
+    | inr k ↦ next-add t′ S y f (adds-old P f k)
   ]
   old-is-next f h (inr d) =
       next-keep t′ S y f (sd .old-is f h (inr (d .0, λ q. d .1 (done-later t s₀ s v j deletion f q))))
-      (λ q. d .1 (done-here t s₀ s v j deletion f (deleted-low t t′ G s l v j y P f h q)))
+      (λ q. d .1 (done-here t s₀ s v j deletion f (deleted-low P f h q)))
 
   -- ---- what it leaves: tokens
   -- a lone part neither adds nor deletes its token, which is procnone before and after
@@ -128,7 +127,7 @@ module _ (t t′ : Task) (G : Given t t′) (s₀ : List Fact) (s : ℕ) (l : s 
   own-in : (x : ℕ) → At sch ord x j → In x (own t s ord j)
   unfolding own
   own-in x a =
-      let small = has-small sch (t .arities) (G .well .schema s l) x (getD ord j 0) (a .found) in
+      let small = has-small sch (t .arities) (P .given .well .schema s (P .known)) x (getD ord j 0) (a .found) in
       params-in sch x (getD ord j 0) small (a .found)
 
   -- a parameter in several parts is first found here, or last
@@ -160,20 +159,20 @@ module _ (t t′ : Task) (G : Given t t′) (s₀ : List Fact) (s : ℕ) (l : s 
     | inl q ↦ inl (e ∙ ap bare (sym (lone-token q)))
     | inr q ↦
         let named = e ∙ ap bare (sym (required-is t s ord j (P .here))) in
-        absurd (n (deletes-token t t′ G s l v j y P f q (the-bare named)))
+        absurd (n (deletes-token P f q (the-bare named)))
   ]
   kept-stands f n (inr (x, a, b, e)) = elim (decLt j (lastPosition sch ord x)) [
     | yes q ↦ inr (x, omega arith, q, e)
     | no q ↦
         let z : lastPosition sch ord x ≡ j = omega arith in
         let (p, m) = closed x a z in
-        absurd (n (deletes-token t t′ G s l v j y P f (not-lone m) (a-par x (own-in x p)
+        absurd (n (deletes-token P f (not-lone m) (a-par x (own-in x p)
         (and-both _ _ (eq-eqb (lastPosition sch ord x) j z) (lt-ltb (firstPosition sch ord x) j a)) e)))
   ]
 
   next-is-token : (f : Fact) → procnone t ≤ f .pred → In f (next t′ S y) → Token t s₀ s v (suc j) f
   next-is-token f h i = elim (in-next t′ S y f i) [
-    | inl a ↦ added-stands f (added-token t t′ G s l v j y P f h a)
+    | inl a ↦ added-stands f (added-token P f h a)
     | inr a ↦ kept-stands f (a .1) (sd .is-token f h (a .0))
   ]
 
@@ -193,18 +192,18 @@ module _ (t t′ : Task) (G : Given t t′) (s₀ : List Fact) (s : ℕ) (l : s 
   token-is-next f h (inl e) = elim (bool-cases (lone t s ord j)) [
     | inl q ↦
         next-keep t′ S y f (sd .token-is f h (inl (e ∙ ap bare (lone-token q))))
-        (λ d. both-ft q (deleted-token t t′ G s l v j y P f h d .0))
+        (λ d. both-ft q (deleted-token P f h d .0))
     | inr q ↦
-        next-add t′ S y f (adds-token t t′ G s l v j y P f q (the-bare (e ∙ ap bare (sym (handedOn-is t s ord j)))))
+        next-add t′ S y f (adds-token P f q (the-bare (e ∙ ap bare (sym (handedOn-is t s ord j)))))
   ]
   token-is-next f h (inr (x, a, b, e)) = elim (decLt (firstPosition sch ord x) j) [
     | yes q ↦ next-keep t′ S y f (sd .token-is f h (inr (x, q, less b, e))) (λ d.
         open-not-deleted f x b (ap (λ f. f .pred) e) (ap (λ f. length (f .args)) e)
-        (deleted-token t t′ G s l v j y P f h d .1))
+        (deleted-token P f h d .1))
     | no q ↦
         let z : firstPosition sch ord x ≡ j = omega arith in
         let (p, m) = opened x z b in
-        next-add t′ S y f (adds-token t t′ G s l v j y P f (not-lone m) (a-par x (own-in x p)
+        next-add t′ S y f (adds-token P f (not-lone m) (a-par x (own-in x p)
         (and-both _ _ (eq-eqb (firstPosition sch ord x) j z) (lt-ltb j (lastPosition sch ord x) b)) e))
   ]
     where

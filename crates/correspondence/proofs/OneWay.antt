@@ -46,7 +46,7 @@ one-more-block t x h {ys} {xs} {rest} a = record {
   remainder = a .remainder;
 }
 
-module _ (t t′ : Task) (G : Given t t′) where
+module _ {t t′ : Task} (G : Given t t′) where
   -- ---- blocks told apart
   first-of-block : (x : Step) (n : ℕ) (more : List Step) → 0 < n →
       firstSchema (map (partStep t x) (upTo n) ++ more) ≡ firstOf t (x .schema) + 0
@@ -59,7 +59,7 @@ module _ (t t′ : Task) (G : Given t t′) where
       map (partStep t x) (upTo n) ++ u ≡ map (partStep t z) (upTo m) ++ w → x .schema ≡ z .schema
   same-schema x z hx hz n m u w hn hm e =
       first-inj t (x .schema) 0 (z .schema) 0
-      (filled t t′ G (x .schema) (hx .known)) (filled t t′ G (z .schema) (hz .known))
+      (filled G (hx .known)) (filled G (hz .known))
       (sym (first-of-block x n u hn) ∙ ap firstSchema e ∙ first-of-block z m w hm) .0
 
   block-fixes-step : (x z : Step) → IsStep t x → IsStep t z → x .schema ≡ z .schema → block t x ≡ block t z → x ≡ z
@@ -87,14 +87,14 @@ module _ (t t′ : Task) (G : Given t t′) where
 
       same : x .objects ≡ z .objects
       same = ext-getD 0 (x .objects) (z .objects) (hx .count ∙ ap (λ s. schemaAt t s .params) e ∙ sym (hz .count))
-          (λ p l. let (i, m, k) = covered t t′ G (x .schema) (hx .known) p (rw (← hx .count) l) in object-same p i m k)
+          (λ p l. let (i, m, k) = covered G (hx .known) p (rw (← hx .count) l) in object-same p i m k)
 
   same-block : (x z : Step) → IsStep t x → IsStep t z → (v w : List Step) → block t x ++ v ≡ block t z ++ w →
       (x ≡ z) × (v ≡ w)
   unfolding block
   same-block x z hx hz v w e =
       let same = same-schema x z hx hz (length (orders t (x .schema))) (length (orders t (z .schema))) v w
-      (filled t t′ G (x .schema) (hx .known)) (filled t t′ G (z .schema) (hz .known)) e in
+      (filled G (hx .known)) (filled G (hz .known)) e in
       let (a, b) = append-same-length (block t x) (block t z) v w
       (length-block t x ∙ ap (λ s. length (orders t s)) same ∙ sym (length-block t z)) e in
       (block-fixes-step x z hx hz same a, b)
@@ -105,11 +105,11 @@ module _ (t t′ : Task) (G : Given t t′) where
   unfolding block
   no-whole-block x more r hx (inl e) q =
       let z = ap length (sym e ∙ q) ∙ length-append (block t x) more in
-      omega (arith, filled t t′ G (x .schema) (hx .known), length-block t x)
+      omega (arith, filled G (hx .known), length-block t x)
   no-whole-block x more r hx (inr b) q =
       let (a, n) = proper-parts t r b in
       let same = same-schema (b .step) x (isStep-is t (b .step) (b .is-step)) hx
-      (b .count) (length (orders t (x .schema))) [] more (b .at-least-one) (filled t t′ G (x .schema) (hx .known))
+      (b .count) (length (orders t (x .schema))) [] more (b .at-least-one) (filled G (hx .known))
       (append-nil (map (partStep t (b .step)) (upTo (b .count))) ∙ sym a ∙ q) in
       let c = ap length q ∙ length-append (block t x) more in
       let d = ap (λ s. length (orders t s)) same in

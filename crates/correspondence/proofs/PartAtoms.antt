@@ -10,7 +10,7 @@ use native.Mathlib.Omega.{arith}
 use native.Mathlib.Decide.{decLt}
 use lib.ListN.{length, getD}
 use Rattle.task.specs.Lists.{indexOf}
-use Rattle.task.specs.Task.{Fact, Task, precondition, addition, deletion}
+use Rattle.task.specs.Task.{Atom, Fact, Task, precondition, addition, deletion}
 use Rattle.task.specs.Run.{Step, schemaAt, groundRole}
 use Rattle.tokens.specs.Split.{procnone, parToken, own, required, handedOn, lone, firstHere, lastHere, laterHere}
 use Rattle.tokens.specs.Split.{splitSchema, orders}
@@ -42,59 +42,63 @@ module _ (t : Task) (s : ℕ) (v : ℕ → ℕ) (j : ℕ) where
 
 -- y is a step of the split for the part at position j, and gives its parameters the objects that v says
 pub record IsPart (t t′ : Task) (s : ℕ) (v : ℕ → ℕ) (j : ℕ) (y : Step) : Type 0 where
+  pub given : Given t t′
+  pub known : s < length (t .schemas)
   pub here : j < length (orders t s)
   pub schema : schemaAt t′ (y .schema) ≡ splitSchema t s (orders t s) j
   pub objects : (x : ℕ) → In x (own t s (orders t s) j) →
       getD (y .objects) (indexOf x (own t s (orders t s) j)) 0 ≡ v x
 
-module _ (t t′ : Task) (G : Given t t′) (s : ℕ) (l : s < length (t .schemas)) (v : ℕ → ℕ) (j : ℕ) (y : Step)
-    (P : IsPart t t′ s v j y) where
+module _ {t t′ : Task} {s : ℕ} {v : ℕ → ℕ} {j : ℕ} {y : Step} (P : IsPart t t′ s v j y) where
+  args-here : (a : Atom) → In a (schemaAt t s .atoms) → (p : ℕ) → In p (a .args) → p < schemaAt t s .params
+  args-here = args-small (P .given) (P .known)
+
   -- ---- what the step asks, adds and deletes
   pub asked : (f : Fact) → In f (groundRole t′ precondition y) → OldHere t s v j precondition f ⊎ Required t s v j f
   asked f i = elim
-      (pre-made t s (orders t s) j (y .objects) v (args-small t t′ G s l) (P .objects) t′ y refl (P .schema) f i)
+      (pre-made t s (orders t s) j (y .objects) v args-here (P .objects) t′ y refl (P .schema) f i)
       [ inl h ↦ inl h | inr h ↦ inr (h .1) ]
 
   pub added : (f : Fact) → In f (groundRole t′ addition y) →
       OldHere t s v j addition f ⊎ ((lone t s (orders t s) j ≡ false) × Added t s v j f)
   added f i =
-      add-made t s (orders t s) j (y .objects) v (args-small t t′ G s l) (P .objects) t′ y refl (P .schema) f i
+      add-made t s (orders t s) j (y .objects) v args-here (P .objects) t′ y refl (P .schema) f i
 
   deleted : (f : Fact) → In f (groundRole t′ deletion y) →
       OldHere t s v j deletion f ⊎ ((lone t s (orders t s) j ≡ false) × Deleted t s v j f)
   deleted f i =
-      del-made t s (orders t s) j (y .objects) v (args-small t t′ G s l) (P .objects) t′ y refl (P .schema) f i
+      del-made t s (orders t s) j (y .objects) v args-here (P .objects) t′ y refl (P .schema) f i
 
   pub asks-old : (f : Fact) → OldHere t s v j precondition f → In f (groundRole t′ precondition y)
   asks-old f h =
-      made-pre t s (orders t s) j (y .objects) v (args-small t t′ G s l) (P .objects) t′ y refl (P .schema) f (inl h)
+      made-pre t s (orders t s) j (y .objects) v args-here (P .objects) t′ y refl (P .schema) f (inl h)
 
   pub asks-token : (f : Fact) → Required t s v j f → In f (groundRole t′ precondition y)
   asks-token f h =
-      made-pre t s (orders t s) j (y .objects) v (args-small t t′ G s l) (P .objects) t′ y refl (P .schema) f
+      made-pre t s (orders t s) j (y .objects) v args-here (P .objects) t′ y refl (P .schema) f
       (inr (refl, h))
 
   pub adds-old : (f : Fact) → OldHere t s v j addition f → In f (groundRole t′ addition y)
   adds-old f h =
-      made-add t s (orders t s) j (y .objects) v (args-small t t′ G s l) (P .objects) t′ y refl (P .schema) f (inl h)
+      made-add t s (orders t s) j (y .objects) v args-here (P .objects) t′ y refl (P .schema) f (inl h)
 
   pub adds-token : (f : Fact) → lone t s (orders t s) j ≡ false → Added t s v j f → In f (groundRole t′ addition y)
   adds-token f n h =
-      made-add t s (orders t s) j (y .objects) v (args-small t t′ G s l) (P .objects) t′ y refl (P .schema) f
+      made-add t s (orders t s) j (y .objects) v args-here (P .objects) t′ y refl (P .schema) f
       (inr (n, h))
 
   pub deletes-old : (f : Fact) → OldHere t s v j deletion f → In f (groundRole t′ deletion y)
   deletes-old f h =
-      made-del t s (orders t s) j (y .objects) v (args-small t t′ G s l) (P .objects) t′ y refl (P .schema) f (inl h)
+      made-del t s (orders t s) j (y .objects) v args-here (P .objects) t′ y refl (P .schema) f (inl h)
 
   pub deletes-token : (f : Fact) → lone t s (orders t s) j ≡ false → Deleted t s v j f → In f (groundRole t′ deletion y)
   deletes-token f n h =
-      made-del t s (orders t s) j (y .objects) v (args-small t t′ G s l) (P .objects) t′ y refl (P .schema) f
+      made-del t s (orders t s) j (y .objects) v args-here (P .objects) t′ y refl (P .schema) f
       (inr (n, h))
 
   -- ---- apart: what is made of old atoms is low, tokens are high
   pub old-here-low : (r : ℕ) (f : Fact) → OldHere t s v j r f → f .pred < procnone t
-  old-here-low r f h = old-low t t′ G s l v r (getD (orders t s) j 0) f h
+  old-here-low r f h = old-low (P .given) (P .known) h
 
   required-number-high : procnone t ≤ required t s (orders t s) j
   required-number-high =
@@ -134,8 +138,8 @@ module _ (t t′ : Task) (G : Given t t′) (s : ℕ) (l : s < length (t .schema
   -- ---- no clash with an earlier part
   pub clash : (i r q : ℕ) (f : Fact) → i < j → OldHere t s v j r f → OldHere t s v i q f → Ordered r q → ⊥
   clash i r q f h (old-of a ia ra pa ea) (old-of b ib rb pb eb) o =
-      no-clash (schemaAt t s) (orders t s) (complies t t′ G s l) (each-once t t′ G s l) i j h (P .here) v a b
-      ia ib pa pb (record {
+      no-clash (schemaAt t s) (orders t s) (complies (P .given) (P .known)) (each-once (P .given) (P .known))
+      i j h (P .here) v a b ia ib pa pb (record {
         pred = sym (ap (λ f. f .pred) ea) ∙ ap (λ f. f .pred) eb;
         args = sym (ap (λ f. f .args) ea) ∙ ap (λ f. f .args) eb;
       })

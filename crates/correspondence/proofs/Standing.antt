@@ -50,10 +50,10 @@ pub state-low : (t : Task) (s₀ : List Fact) → State t s₀ → (f : Fact) �
 unfolding procnone
 state-low t s₀ st f i = st .fit f i .known
 
-pub old-low : (t t′ : Task) → Given t t′ → (s : ℕ) → s < length (t .schemas) → (v : ℕ → ℕ) (r p : ℕ) (f : Fact) →
+pub old-low : {t t′ : Task} → Given t t′ → {s : ℕ} → s < length (t .schemas) → {v : ℕ → ℕ} {r p : ℕ} {f : Fact} →
     OldOf (schemaAt t s) v r p f → f .pred < procnone t
 unfolding procnone
-old-low t t′ G s l v r p f (old-of a i q w e) =
+old-low G {s} l (old-of a i q w e) =
     let z = ap (λ f. f .pred) e in
     let k = G .well .schema s l .fit a i .known in
     omega arith
@@ -95,18 +95,18 @@ stands-start t s₀ st s v = record {
     token f h (inr (here e)) = inl (e ∙ ap bare (sym (token-zero t s (orders t s))))
 
 -- ---- what stands depends only on the objects of parameters found before j
-module _ (t t′ : Task) (G : Given t t′) (s₀ : List Fact) (s : ℕ) (l : s < length (t .schemas)) (j : ℕ) where
-  -- v and w give the parameters of the parts before j the same objects
-  abbrev pub AlikeBefore : (ℕ → ℕ) → (ℕ → ℕ) → Type 0
-  AlikeBefore v w = (i : ℕ) → i < j → (p : ℕ) → In p (own t s (orders t s) i) → v p ≡ w p
+-- v and w give the parameters of the parts before j the same objects
+abbrev pub AlikeBefore : Task → ℕ → ℕ → (ℕ → ℕ) → (ℕ → ℕ) → Type 0
+AlikeBefore t s j v w = (i : ℕ) → i < j → (p : ℕ) → In p (own t s (orders t s) i) → v p ≡ w p
 
-  module _ (v w : ℕ → ℕ) (alike : AlikeBefore v w) where
+module _ {t t′ : Task} (G : Given t t′) (s₀ : List Fact) {s : ℕ} (l : s < length (t .schemas)) (j : ℕ) where
+  module _ (v w : ℕ → ℕ) (alike : AlikeBefore t s j v w) where
     done-alike : (r : ℕ) (f : Fact) → Done t s₀ s v r j f → Done t s₀ s w r j f
     done-alike r f (i, h, old-of a k q p e) = (
       i,
       h,
       old-of a k q p (e ∙ fact-path refl
-          (map-same v w (a .args) (λ x m. alike i h x (atom-owns t t′ G s l i a k p x m)))),
+          (map-same v w (a .args) (λ x m. alike i h x (atom-owns G l i a k p x m)))),
     )
 
     token-alike : (f : Fact) → Token t s₀ s v j f → Token t s₀ s w j f
@@ -125,7 +125,7 @@ module _ (t t′ : Task) (G : Given t t′) (s₀ : List Fact) (s : ℕ) (l : s 
               (alike first a x (params-in (schemaAt t s) x (getD (orders t s) first 0) small has-it)),
         )
 
-  pub stands-alike : (v w : ℕ → ℕ) → AlikeBefore v w → (S : List Fact) → Stands t s₀ s v j S → Stands t s₀ s w j S
+  pub stands-alike : (v w : ℕ → ℕ) → AlikeBefore t s j v w → (S : List Fact) → Stands t s₀ s v j S → Stands t s₀ s w j S
   stands-alike v w alike S h = record {
     asc = h .asc;
     is-old = λ f k i. forth f (h .is-old f k i);
@@ -134,7 +134,7 @@ module _ (t t′ : Task) (G : Given t t′) (s₀ : List Fact) (s : ℕ) (l : s 
     token-is = λ f k d. h .token-is f k (token-alike w v flipped f d);
   }
     where
-      flipped : AlikeBefore w v
+      flipped : AlikeBefore t s j w v
       flipped i q p k = sym (alike i q p k)
 
       forth : (f : Fact) → OldFact t s₀ s v j f → OldFact t s₀ s w j f

@@ -25,7 +25,7 @@ use Rattle.correspondence.specs.SharedRuns.{StepsOf, StateOf, withFree, 
 use Rattle.correspondence.proofs.Given.{Given, head-step, tail-steps, part-count}
 use Rattle.correspondence.proofs.Standing.{asc-free}
 
-module _ (t t′ : Task) (G : Given t t′) where
+module _ {t t′ : Task} (G : Given t t′) where
   part-is-step : (x : Step) → IsStep t x → (j : ℕ) → j < length (orders t (x .schema)) → IsStep t′ (partStep t x j)
   unfolding partStep paramsAt splitSchema own splitTask
   part-is-step x h j l = record {
@@ -67,7 +67,7 @@ module _ (t t′ : Task) (G : Given t t′) where
   unfolding unfoldSteps partSum
   unfolded-length xs h = length-concatMap (block t) xs ∙
       ap sum (map-same (λ x. length (block t x)) (λ x. parts (schemaAt t (x .schema))) xs
-      (λ x i. length-block t x ∙ part-count t t′ G (x .schema) (isStep-is t x (all-in (isStep t) h i) .known)))
+      (λ x i. length-block t x ∙ part-count G (isStep-is t x (all-in (isStep t) h i) .known)))
 
   -- ---- the state that the second run starts from
   pub free-state : (s : List Fact) → StateOf t s → StateOf t′ (withFree t s)
