@@ -8,7 +8,7 @@ use mathlib.Core.Option.{Option, none, some}
 use native.Mathlib.Omega.{arith}
 use Rattle.task.specs.declared.Place.{Place}
 use Rattle.task.specs.declared.Place.the-variants as place
-use Rattle.task.specs.Answers.{result, refused, Outcome, Check, refuseUnless, refuseStep, inOrder}
+use Rattle.task.specs.Answers.{result, refused, Outcome, Check, passes, refuses, refuseUnless, refuseStep, inOrder}
 
 -- a refusal that leaves all as found
 abbrev pub asFound : ℕ → Place → List ℕ → Outcome
@@ -33,6 +33,17 @@ pub step-refuses : {o : Option ℕ} (n : ℕ) (more : List Check) (found : List 
     inOrder (refuseStep n o ∷ more) found done ≡ asFound n (place.Step i) found
 unfolding inOrder refuseStep
 step-refuses n more found done h = ap (λ (o : Option ℕ). inOrder (refuseStep n o ∷ more) found done) h
+
+-- a check that is known whole
+pub passes-on : {c : Check} (more : List Check) (found : List ℕ) (done : Outcome) → c ≡ passes →
+    inOrder (c ∷ more) found done ≡ inOrder more found done
+unfolding inOrder
+passes-on more found done h = ap (λ (c : Check). inOrder (c ∷ more) found done) h
+
+pub refuses-at : {c : Check} (more : List Check) (found : List ℕ) (done : Outcome) {n : ℕ} {at : Place} → c ≡ refuses n at →
+    inOrder (c ∷ more) found done ≡ asFound n at found
+unfolding inOrder
+refuses-at more found done h = ap (λ (c : Check). inOrder (c ∷ more) found done) h
 
 pub check-passed : (b : Bool) (n : ℕ) (more : List Check) (found : List ℕ) (done : Outcome) (vs : List ℕ) →
     inOrder (refuseUnless b n ∷ more) found done .told ≡ result vs → (b ≡ true) × (inOrder more found done .told ≡ result vs)
