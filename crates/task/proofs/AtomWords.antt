@@ -6,13 +6,13 @@ use mathlib.Core.List.{List, [], _∷_}
 use native.Mathlib.Omega.{arith}
 use lib.ListN.{length, getD}
 use lib.Dec.{eqb, ltb, leb}
-use borrow.Author.Tests.{eqb-true, lt-ltb, le-ltb, le-leb, lt-leb, eq-eqb, ne-eqb}
+use borrow.Author.Tests.{ltb-true, eqb-true, lt-ltb, le-ltb, le-leb, lt-leb, eq-eqb, ne-eqb}
 use Rattle.task.specs.Lists.{all, upFrom, eqList, lessList}
 use Rattle.task.specs.Task.{argsFit, sameAtom, factLess, ascending}
 use Rattle.task.specs.Table.{wordsAt, arityIn, atomBase, atomIn, schemaNumberIn, factIn}
 use Rattle.task.specs.WordTests.{aritiesIn, unusedZero, argWordsFit, zerosAt, numberFits, factWordsFit, factsWordsFit, factsIn}
 use Rattle.task.proofs.Laws.{and-left, and-right, and-both, both-ft, false-if}
-use Rattle.task.proofs.Ranges.{or-false}
+use Rattle.task.proofs.Ranges.{or-false, all-map, all-from}
 use Rattle.task.proofs.TablesByWords.{length-wordsAt, at-wordsAt}
 use Rattle.task.proofs.WordTables.{args-known}
 
@@ -43,6 +43,14 @@ module _ (w : List ℕ) (bound i : ℕ) where
       let begin : atomBase w i + 4 + arityIn w p ≡ to = omega arith in
       let unused : 4 - arityIn w p ≡ from + 4 - to = omega arith in
       ap₂ (λ (x y : Bool). x && y) (ap₂ (λ (x y : ℕ). all (λ a. ltb a bound) (wordsAt w x y)) (sym f) many) (ap₂ (zerosAt w) begin unused)
+
+  pub args-below : argWordsFit w bound i ≡ true → (from to : ℕ) → from ≡ atomBase w i + 4 → to ≡ from + arityIn w (atomIn w i .pred) →
+      (k : ℕ) → from ≤ k → k < to → getD w k 0 < bound
+  unfolding wordsAt
+  args-below h from to f t k l m =
+      ltb-true (getD w k 0) bound (all-from (λ k. ltb (getD w k 0) bound) from (to - from)
+      (sym (all-map (λ a. ltb a bound) (λ k. getD w k 0) (upFrom from (to - from))) ∙
+      and-left (all (λ a. ltb a bound) (wordsAt w from (to - from))) _ (sym (args-words from to f t (args-fit-known h)) ∙ h)) k l (omega arith))
 
 -- ---- two atoms
 module _ (w : List ℕ) (i j : ℕ) where

@@ -4,6 +4,7 @@ use Prim.Native.Nat.{ℕ, zero, suc, _+_, _-_, _≤_, _<_}
 use mathlib.Core.Path.{_≡_, refl, sym, _∙_, ap, ap₂, subst}
 use mathlib.Core.Bool.{Bool, true, false, _&&_}
 use mathlib.Core.List.{List, [], _∷_, _++_, map, append-nil}
+use native.Mathlib.Nat.{le-max-left, le-max-right}
 use native.Mathlib.Omega.{arith}
 use native.Mathlib.Decide.{decLt}
 use lib.ListN.{length, getD, length-map}
@@ -13,7 +14,7 @@ use Rattle.task.specs.Lists.{all, any, every, filter, upTo, upFrom}
 use Rattle.task.specs.Task.{Atom, Schema, argsFit, distinct, rolesAscend, names, partCount, noGap, schemaFits}
 use Rattle.task.specs.Table.{wordsAt, atomIn, schemaNumberIn}
 use Rattle.task.specs.WordTests.{unusedZero, aritiesIn, argWordsFit, numbersFit, partsFit, paramsIn, atomsIn, schemaWordsFit, indicesOf, RunOf}
-use Rattle.task.proofs.Laws.{and-left, and-right, and-both, bool-ext, every-at, met-none, met-more, met-every, upFrom-in, length-upFrom}
+use Rattle.task.proofs.Laws.{and-left, and-right, and-both, bool-ext, every-at, met-none, met-more, met-every, In, here, there, in-map, in-upFrom, upFrom-in, length-upFrom}
 use Rattle.task.proofs.Ranges.{all-map, all-and}
 use Rattle.task.proofs.Tests.{hasPart, SchemaTests, schema-tests, tests-schema}
 use Rattle.task.proofs.Tables.{upFrom-append, filter-append, filter-all, filter-none}
@@ -24,11 +25,25 @@ pub parts-many : (atoms : List Atom) (n : ℕ) → n ≡ partCount atoms → 16 
 unfolding partsFit
 parts-many atoms n e l = sym (ap (λ (b : Bool). b && noGap atoms) (lt-leb (partCount atoms) 16 (omega arith)))
 
-pub parts-few : (atoms : List Atom) (n : ℕ) → n ≡ partCount atoms → n ≤ 16 → partsFit atoms ≡ all (hasPart atoms) (upFrom 0 (n - 0))
-unfolding partsFit noGap upTo
+pub parts-few : (atoms : List Atom) (n : ℕ) → n ≡ partCount atoms → n ≤ 16 → partsFit atoms ≡ all (hasPart atoms) (upTo n)
+unfolding partsFit noGap
 parts-few atoms n e l =
-    let z : partCount atoms ≡ n - 0 = omega arith in
-    ap (λ (b : Bool). b && noGap atoms) (le-leb (partCount atoms) 16 (omega arith)) ∙ ap (λ (m : ℕ). all (hasPart atoms) (upFrom 0 m)) z
+    ap (λ (b : Bool). b && noGap atoms) (le-leb (partCount atoms) 16 (omega arith)) ∙ ap (λ (m : ℕ). all (hasPart atoms) (upTo m)) (sym e)
+
+-- every part is below the count
+in-parts : {a : Atom} {atoms : List Atom} → In a atoms → a .part < partCount atoms
+unfolding partCount
+in-parts (here {y = b} {ys = bs} e) =
+    let l = le-max-left (suc (b .part)) (partCount bs) in
+    let p = ap (λ (a : Atom). a .part) e in
+    omega arith
+in-parts (there {y = b} {ys = bs} k) =
+    let l = le-max-right (suc (b .part)) (partCount bs) in
+    let p = in-parts k in
+    omega arith
+
+pub part-below : (w : List ℕ) (i first end : ℕ) → first ≤ i → i < end → atomIn w i .part < partCount (atomsIn w first (end - first))
+part-below w i first end l m = in-parts (in-map (atomIn w) (in-upFrom first (end - first) i l (omega arith)))
 
 -- ---- a schema
 module _ (w : List ℕ) (s first n : ℕ) where

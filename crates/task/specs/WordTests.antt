@@ -1,6 +1,6 @@
 -- Being a table, tested word by word: the tests of 'Task table' that inner functions make, one for each of them.
 -- proofs/WordTables.antt shows that together they say `isTable`.
-use Prim.Native.Nat.{ℕ, suc, _+_, _-_, _*_, _≤_, _<_}
+use Prim.Native.Nat.{ℕ, suc, _+_, _-_, _*_, _/_, _%_, _^_, _≤_, _<_}
 use mathlib.Core.Path.{_≡_}
 use mathlib.Core.Bool.{Bool, _&&_}
 use mathlib.Core.List.{List, [], _∷_, map}
@@ -28,6 +28,10 @@ countTests w =
 unfoldable pub aritiesFit : List ℕ → Bool
 unfolding all upTo arityIn
 aritiesFit w = all (λ p. leb (arityIn w p) mostArity) (upTo (getD w 1 0))
+
+-- bit x of a set of numbers kept in one word
+unfoldable pub bit : ℕ → ℕ → Bool
+bit mask x = eqb (mask / 2 ^ x % 2) 1
 
 -- n words from i on are 0
 unfoldable pub zerosAt : List ℕ → ℕ → ℕ → Bool
@@ -113,6 +117,10 @@ pub record Roomy (w : List ℕ) : Type 0 where
 -- each atom from one index to another has a known predicate
 abbrev pub KnownIn : List ℕ → ℕ → ℕ → Type 0
 KnownIn w from to = (i : ℕ) → from ≤ i → i < to → atomIn w i .pred < getD w 1 0
+
+-- the roles of the atoms from one index to another never fall
+abbrev pub RolesRise : List ℕ → ℕ → ℕ → Type 0
+RolesRise w from to = (i j : ℕ) → from ≤ i → i ≤ j → j < to → atomIn w i .role ≤ atomIn w j .role
 
 -- `end` is where the atoms of schema s, which begin at `start`, end
 pub record RunOf (w : List ℕ) (s start end : ℕ) : Type 0 where

@@ -1,15 +1,15 @@
 // Whether words are a table of document 01, 'Task table': each function makes one test of specs/WordTests.antt.
 ghost use mathlib.Core.Path.{_≡_};
-ghost use mathlib.Core.Bool.{true};
-ghost use Prim.Native.Nat.{_+_, _-_, _<_, _≤_};
+ghost use mathlib.Core.Bool.{true, _||_};
+ghost use Prim.Native.Nat.{ℕ, _+_, _-_, _<_, _≤_};
 ghost use lib.ListN.{length, getD};
 ghost use lib.Dec.{eqb, ltb};
 ghost use Rattle.task.specs.Lists.{all, any, every, upTo, upFrom, eqList, lessList};
 ghost use Rattle.task.specs.Task.{sameAtom, distinct, rolesAscend, names, partCount, factLess, ascending};
 ghost use Rattle.task.specs.Limits.{tableWords};
 ghost use Rattle.task.specs.Table.{wordsAt, arityIn, atomBase, schemaNumberIn, atomIn, factIn, isTable};
-ghost use Rattle.task.specs.WordTests.{countTests, aritiesFit, zerosAt, argWordsFit, factWordsFit, factsWordsFit};
-ghost use Rattle.task.specs.WordTests.{numbersFit, schemaWordsFit, indicesOf, partsFit, atomsIn, factsIn, atomTotal, Roomy, KnownIn, RunOf};
+ghost use Rattle.task.specs.WordTests.{countTests, aritiesFit, bit, zerosAt, argWordsFit, factWordsFit, factsWordsFit};
+ghost use Rattle.task.specs.WordTests.{numbersFit, schemaWordsFit, indicesOf, partsFit, atomsIn, factsIn, atomTotal, Roomy, KnownIn, RolesRise, RunOf};
 
 // The word at an index, as a number.
 fn word(table: &[u16], i: usize) -> usize
@@ -246,15 +246,19 @@ fn fact_less(table: &[u16], i: usize, j: usize) -> bool
     )
 }
 
-// Whether atom i stands again among the atoms behind it, up to an end.
+// Whether atom i stands again among the atoms behind it, up to an end; those of its role come first.
 fn stands_again(table: &[u16], i: usize, end: usize) -> bool
     requires { ⌜ Roomy (now table) ⌝ }
     requires { ⌜ (i < end) × (end ≤ atomTotal (now table)) ⌝ }
     requires { ⌜ atomIn (now table) i .pred < getD (now table) 1 0 ⌝ }
+    requires { ⌜ RolesRise (now table) i end ⌝ }
     ensures { λ r. ⌜ r ≡ any (λ j. sameAtom (atomIn (now (table .entry)) i) (atomIn (now (table .entry)) j)) (upFrom (i + 1) (end - (i + 1))) ⌝ }
 {
     let mut j = i + 1;
     while j < end {
+        if role(table, j) != role(table, i) {
+            return false;
+        }
         if same_atom(table, i, j) {
             return true;
         }
@@ -268,6 +272,7 @@ fn atoms_differ(table: &[u16], first: usize, end: usize) -> bool
     requires { ⌜ Roomy (now table) ⌝ }
     requires { ⌜ end ≤ atomTotal (now table) ⌝ }
     requires { ⌜ KnownIn (now table) first end ⌝ }
+    requires { ⌜ RolesRise (now table) first end ⌝ }
     ensures { λ r. ⌜ r ≡ distinct (atomsIn (now (table .entry)) first (end - first)) ⌝ }
 {
     let mut i = first;
@@ -415,64 +420,77 @@ fn atoms_fit(table: &[u16], bound: usize, first: usize, end: usize) -> bool
     true
 }
 
-// Whether a number is among the words from an index to another.
-fn among(table: &[u16], x: usize, from: usize, to: usize) -> bool
-    requires { ⌜ to ≤ length (now table) ⌝ }
-    ensures { λ r. ⌜ r ≡ any (λ y. eqb x y) (wordsAt (now (table .entry)) from (to - from)) ⌝ }
+// A set of numbers below 64 with x in it too.
+fn joined(mask: u64, x: usize) -> u64
+    requires { ⌜ x < 64 ⌝ }
+    ensures { λ r. ⌜ ((y : ℕ) → bit r y ≡ bit mask y || eqb y x) ⌝ }
 {
-    let mut i = from;
-    while i < to {
-        if x == word(table, i) {
-            return true;
-        }
-        i += 1;
-    }
-    false
+    mask | (1u64 << (x as u64))
 }
 
-// Whether parameter x stands in atom i.
-fn atom_names(table: &[u16], x: usize, i: usize) -> bool
-    requires { ⌜ Roomy (now table) ⌝ }
-    requires { ⌜ i < atomTotal (now table) ⌝ }
-    requires { ⌜ atomIn (now table) i .pred < getD (now table) 1 0 ⌝ }
-    ensures { λ r. ⌜ r ≡ names x (atomIn (now (table .entry)) i) ⌝ }
+// Whether x is in a set of numbers below 64.
+fn has(mask: u64, x: usize) -> bool
+    requires { ⌜ x < 64 ⌝ }
+    ensures { λ r. ⌜ r ≡ bit mask x ⌝ }
 {
-    let from = arguments(table, i);
-    among(table, x, from, from + arity(table, predicate(table, i)))
+    (mask >> (x as u64)) & 1 == 1
 }
 
-// Whether parameter x stands in an atom from one index to another.
-fn is_named(table: &[u16], x: usize, first: usize, end: usize) -> bool
-    requires { ⌜ Roomy (now table) ⌝ }
-    requires { ⌜ end ≤ atomTotal (now table) ⌝ }
-    requires { ⌜ KnownIn (now table) first end ⌝ }
-    ensures { λ r. ⌜ r ≡ any (names x) (atomsIn (now (table .entry)) first (end - first)) ⌝ }
-{
-    let mut i = first;
-    while i < end {
-        if atom_names(table, x, i) {
-            return true;
-        }
-        i += 1;
-    }
-    false
-}
-
-// "every parameter stands in some atom", of the atoms from one index to another.
-fn all_named(table: &[u16], params: usize, first: usize, end: usize) -> bool
-    requires { ⌜ Roomy (now table) ⌝ }
-    requires { ⌜ end ≤ atomTotal (now table) ⌝ }
-    requires { ⌜ KnownIn (now table) first end ⌝ }
-    ensures { λ r. ⌜ r ≡ all (λ x. any (names x) (atomsIn (now (table .entry)) first (end - first))) (upTo params) ⌝ }
+// Whether a set has all numbers below n.
+fn has_all(mask: u64, n: usize) -> bool
+    requires { ⌜ n ≤ 64 ⌝ }
+    ensures { λ r. ⌜ r ≡ all (bit mask) (upTo n) ⌝ }
 {
     let mut x = 0;
-    while x < params {
-        if !is_named(table, x, first, end) {
+    while x < n {
+        if !has(mask, x) {
             return false;
         }
         x += 1;
     }
     true
+}
+
+// A set with the words from an index to another in it too.
+fn joined_words(table: &[u16], mask: u64, from: usize, to: usize) -> u64
+    requires { ⌜ to ≤ length (now table) ⌝ }
+    requires { ⌜ ((k : ℕ) → from ≤ k → k < to → getD (now table) k 0 < 64) ⌝ }
+    ensures { λ r. ⌜ ((x : ℕ) → bit r x ≡ bit mask x || any (λ y. eqb x y) (wordsAt (now (table .entry)) from (to - from))) ⌝ }
+{
+    let mut set = mask;
+    let mut i = from;
+    while i < to {
+        set = joined(set, word(table, i));
+        i += 1;
+    }
+    set
+}
+
+// The parameters that stand in the atoms from one index to another, whose arguments are below a bound.
+fn parameters(table: &[u16], bound: usize, first: usize, end: usize) -> u64
+    requires { ⌜ Roomy (now table) ⌝ }
+    requires { ⌜ (bound ≤ 64) × (end ≤ atomTotal (now table)) ⌝ }
+    requires { ⌜ all (argWordsFit (now table) bound) (upFrom first (end - first)) ≡ true ⌝ }
+    ensures { λ r. ⌜ ((x : ℕ) → bit r x ≡ any (names x) (atomsIn (now (table .entry)) first (end - first))) ⌝ }
+{
+    let mut set = 0;
+    let mut i = first;
+    while i < end {
+        let from = arguments(table, i);
+        set = joined_words(table, set, from, from + arity(table, predicate(table, i)));
+        i += 1;
+    }
+    set
+}
+
+// "every parameter stands in some atom", of the atoms from one index to another.
+fn all_named(table: &[u16], params: usize, first: usize, end: usize) -> bool
+    requires { ⌜ Roomy (now table) ⌝ }
+    requires { ⌜ (params ≤ 64) × (end ≤ atomTotal (now table)) ⌝ }
+    requires { ⌜ all (argWordsFit (now table) params) (upFrom first (end - first)) ≡ true ⌝ }
+    ensures { λ r. ⌜ r ≡ all (λ x. any (names x) (atomsIn (now (table .entry)) first (end - first))) (upTo params) ⌝ }
+{
+    has_all(parameters(table, params, first, end), params)
 }
 
 // One more than the highest part number of the atoms from one index to another.
@@ -493,20 +511,20 @@ fn part_count(table: &[u16], first: usize, end: usize) -> usize
     count
 }
 
-// Whether an atom from one index to another is in part p.
-fn has_part(table: &[u16], p: usize, first: usize, end: usize) -> bool
+// The parts of the atoms from one index to another.
+fn parts(table: &[u16], first: usize, end: usize) -> u64
     requires { ⌜ Roomy (now table) ⌝ }
     requires { ⌜ end ≤ atomTotal (now table) ⌝ }
-    ensures { λ r. ⌜ r ≡ any (λ a. eqb p (a .part)) (atomsIn (now (table .entry)) first (end - first)) ⌝ }
+    requires { ⌜ partCount (atomsIn (now table) first (end - first)) ≤ 64 ⌝ }
+    ensures { λ r. ⌜ ((p : ℕ) → bit r p ≡ any (λ a. eqb p (a .part)) (atomsIn (now (table .entry)) first (end - first))) ⌝ }
 {
+    let mut set = 0;
     let mut i = first;
     while i < end {
-        if p == part(table, i) {
-            return true;
-        }
+        set = joined(set, part(table, i));
         i += 1;
     }
-    false
+    set
 }
 
 // "1 to 16 parts, numbered without a gap", of the atoms from one index to another.
@@ -515,18 +533,11 @@ fn parts_fit(table: &[u16], first: usize, end: usize) -> bool
     requires { ⌜ (first ≤ end) × (end ≤ atomTotal (now table)) ⌝ }
     ensures { λ r. ⌜ r ≡ partsFit (atomsIn (now (table .entry)) first (end - first)) ⌝ }
 {
-    let parts = part_count(table, first, end);
-    if 16 < parts {
+    let count = part_count(table, first, end);
+    if 16 < count {
         return false;
     }
-    let mut p = 0;
-    while p < parts {
-        if !has_part(table, p, first, end) {
-            return false;
-        }
-        p += 1;
-    }
-    true
+    has_all(parts(table, first, end), count)
 }
 
 // Whether the atoms from one index to another, with the parameter count of schema s, are a schema.

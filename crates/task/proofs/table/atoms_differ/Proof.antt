@@ -24,8 +24,16 @@ loop-holds c = (omega arith, refl)
 stands-again-requires : tie.Need-stands-again-requires Inv-loop μ-loop
 stands-again-requires c κs =
     let at = c .before in
-    let start = at .before .before in
-    (start .pre .0, ((omega arith, omega arith), start .pre .1 .1 (at .loop .i) (omega arith) (c .loop-test .taken)))
+    let start = at .before .before in (
+      start .pre .0,
+      (
+        (omega arith, omega arith),
+        (
+          start .pre .1 .1 .0 (at .loop .i) (omega arith) (c .loop-test .taken),
+          λ j k l m n. start .pre .1 .1 .1 j k (omega arith) m n,
+        ),
+      ),
+    )
 
 -- src/table.rt:265:13
 returns : tie.Need-returns Inv-loop μ-loop

@@ -11,6 +11,7 @@ use Rattle.task.specs.WordTests.{argWordsFit, paramsIn, atomsIn, schemaW
 use Rattle.task.proofs.Laws.{met-none, met-more}
 use Rattle.task.proofs.Ranges.{some-fails, last-decides, all-from}
 use Rattle.task.proofs.AtomWords.{args-fit-known}
+use Rattle.task.proofs.AtomRuns.{roles-rise}
 use Rattle.task.proofs.SchemaWords.{orderTests, schema-words}
 use borrow.Author.Needs.{needs}
 use Rattle.task.proofs.table.schema_fits.Statement.{statement}
@@ -110,7 +111,19 @@ returns-5 c = fails (c .before .before .before .before .before .before .before .
 
 -- src/table.rt:544:9
 atoms-differ-requires : tie.Need-atoms-differ-requires
-atoms-differ-requires c κs = let start = c .before .before .before .before .before .before .before .before .before .before in (start .pre .0, (omega arith, known c))
+atoms-differ-requires c κs =
+    let start = c .before .before .before .before .before .before .before .before .before .before in
+    let k = c .before .before .before in (
+      start .pre .0,
+      (
+        omega arith,
+        (
+          known c,
+          roles-rise (start .args .table .now) (start .args .first) (start .args .end)
+              (sym (k .roles-ascend .ensures) ∙ not-false _ (c .before .before .if4 .left)),
+        ),
+      ),
+    )
 
 -- src/table.rt:545:9
 returns-6 : tie.Need-returns-6
@@ -118,7 +131,10 @@ returns-6 c = fails (c .before .before .before .before .before .before .before .
 
 -- src/table.rt:547:9
 all-named-requires : tie.Need-all-named-requires
-all-named-requires c κs = let start = c .before .before .before .before .before .before .before .before .before .before .before .before in (start .pre .0, (omega arith, known (c .before .before)))
+all-named-requires c κs =
+    let start = c .before .before .before .before .before .before .before .before .before .before .before .before in
+    let k = c .before .before in
+    (start .pre .0, ((omega arith, omega arith), sym (k .before .atoms-fit .ensures) ∙ not-false _ (k .if5 .left)))
 
 -- src/table.rt:548:9
 returns-7 : tie.Need-returns-7
