@@ -1,7 +1,7 @@
 -- A set of numbers kept in one word: its empty set, one number more, and a number asked for, bit by bit.
-use Prim.Native.Nat.{ℕ, zero, suc, _+_, _-_, _*_, _/_, _%_, _^_, _≤_, _<_}
-use mathlib.Core.Path.{_≡_, refl, sym, _∙_, ap, ap₂}
-use mathlib.Core.Bool.{Bool, true, false, _||_}
+use Prim.Native.Nat.{ℕ, zero, suc, _+_, _-_, _*_, _/_, _%_, _^_, _<_}
+use mathlib.Core.Path.{_≡_, refl, sym, _∙_, ap}
+use mathlib.Core.Bool.{Bool, false, _||_}
 use native.Mathlib.Nat.{mod-lt, zero-div, div-eq-of-lt, div-self, mul-mod-left, one-mul, pow-suc}
 use native.Mathlib.Decide.{decLt}
 use native.Mathlib.Omega.{arith}
@@ -36,13 +36,16 @@ bit-one y x = elim (decLt x y) [
   | yes l ↦
       let e : y ≡ suc (y - suc x) + x = omega arith in
       ap (λ (n : ℕ). eqb (n % 2) 1)
-      (ap (λ (n : ℕ). 2 ^ n / 2 ^ x) e ∙ (ap (λ (n : ℕ). n / 2 ^ x) (pow-add 2 (suc (y - suc x)) x) ∙ shl-shr (2 ^ suc (y - suc x)) x)) ∙
-      (ap (λ (n : ℕ). eqb n 1) (ap (λ (n : ℕ). n % 2) (pow-suc 2 (y - suc x)) ∙ mul-mod-left (2 ^ (y - suc x)) 2) ∙ sym (ne-eqb x y (λ q. omega arith)))
+      (ap (λ (n : ℕ). 2 ^ n / 2 ^ x) e ∙
+      (ap (λ (n : ℕ). n / 2 ^ x) (pow-add 2 (suc (y - suc x)) x) ∙ shl-shr (2 ^ suc (y - suc x)) x)) ∙
+      (ap (λ (n : ℕ). eqb n 1) (ap (λ (n : ℕ). n % 2) (pow-suc 2 (y - suc x)) ∙ mul-mod-left (2 ^ (y - suc x)) 2) ∙
+      sym (ne-eqb x y (λ q. omega arith)))
   | no l ↦ elim (decLt y x) [
     | yes m ↦ ap (λ (n : ℕ). eqb (n % 2) 1) (div-eq-of-lt (pow-lt m)) ∙ sym (ne-eqb x y (λ q. omega arith))
     | no m ↦
         let q : x ≡ y = omega arith in
-        ap (λ (n : ℕ). eqb (2 ^ y / 2 ^ n % 2) 1) q ∙ (ap (λ (n : ℕ). eqb (n % 2) 1) (div-self (pow-pos y)) ∙ sym (eq-eqb x y q))
+        ap (λ (n : ℕ). eqb (2 ^ y / 2 ^ n % 2) 1) q ∙
+        (ap (λ (n : ℕ). eqb (n % 2) 1) (div-self (pow-pos y)) ∙ sym (eq-eqb x y q))
   ]
 ]
 

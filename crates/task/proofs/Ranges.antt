@@ -1,5 +1,5 @@
--- Tests over a range of indices, as a loop makes them: the whole test is what is left of it at the loop's index, so that a
--- turn goes one element further, a failed element ends it, and an empty rest is met.
+-- Tests over a range of indices, as a loop makes them: the whole test is what is left of it at the loop's index, so
+-- that a turn goes one element further, a failed element ends it, and an empty rest is met.
 use Prim.Native.Nat.{ℕ, suc, _+_, _-_, _≤_, _<_}
 use mathlib.Core.Path.{_≡_, refl, sym, _∙_, ap, ap₂}
 use mathlib.Core.Bool.{Bool, true, false, _&&_, _||_}
@@ -8,7 +8,8 @@ use native.Mathlib.Omega.{arith}
 use native.Mathlib.Numerals.{add-one}
 use lib.ListN.{getD}
 use Rattle.task.specs.Lists.{all, any, every, upTo, upFrom}
-use Rattle.task.proofs.Laws.{and-left, and-right, and-both, both-ft, bool-ext, false-if, every-at, Met, met-none, met-more, all-in, in-all, any-in, in-upFrom, upFrom-in, in-upTo, upTo-in}
+use Rattle.task.proofs.Laws.{and-left, and-right, and-both, both-ft, bool-ext, false-if, every-at, Met, met-none}
+use Rattle.task.proofs.Laws.{met-more, all-in, in-all, any-in, in-upFrom, upFrom-in, in-upTo, upTo-in}
 
 pub or-false : (b : Bool) → b || false ≡ b
 or-false true = refl
@@ -85,9 +86,11 @@ module _ (p : ℕ → Bool) (i e : ℕ) where
       both-ft y (h k a (omega arith)))
 
   -- what is found so far joins what is left
-  pub any-joins : {whole m′ : Bool} (m : Bool) → whole ≡ m || anyLeft i → i < e → m′ ≡ m || p i → whole ≡ m′ || anyLeft (i + 1)
+  pub any-joins : {whole m′ : Bool} (m : Bool) → whole ≡ m || anyLeft i → i < e → m′ ≡ m || p i → whole ≡ m′ ||
+      anyLeft (i + 1)
   any-joins m h l t =
-      h ∙ (ap (λ (b : Bool). m || b) (any-step l) ∙ (sym (or-assoc m (p i) (anyLeft (i + 1))) ∙ ap (λ (b : Bool). b || anyLeft (i + 1)) (sym t)))
+      h ∙ (ap (λ (b : Bool). m || b) (any-step l) ∙
+      (sym (or-assoc m (p i) (anyLeft (i + 1))) ∙ ap (λ (b : Bool). b || anyLeft (i + 1)) (sym t)))
 
   pub any-joined : {whole : Bool} (m : Bool) → whole ≡ m || anyLeft i → e ≤ i → m ≡ whole
   unfolding any
@@ -128,4 +131,6 @@ module _ {A : Type 0} where
   all-and p q xs = bool-ext (all (λ x. p x && q x) xs) (all p xs && all q xs)
       (λ h. and-both _ _ (in-all p xs (λ x i. and-left (p x) (q x) (all-in (λ x. p x && q x) h i)))
       (in-all q xs (λ x i. and-right (p x) (q x) (all-in (λ x. p x && q x) h i))))
-      (λ h. in-all (λ x. p x && q x) xs (λ x i. and-both _ _ (all-in p (and-left (all p xs) (all q xs) h) i) (all-in q (and-right (all p xs) (all q xs) h) i)))
+      (λ h. in-all (λ x. p x && q x) xs
+      (λ x i. and-both _ _ (all-in p (and-left (all p xs) (all q xs) h) i)
+      (all-in q (and-right (all p xs) (all q xs) h) i)))
