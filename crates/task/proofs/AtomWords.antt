@@ -108,16 +108,40 @@ module _ (w : List ℕ) (i j : ℕ) where
 
 -- ---- ground atoms
 module _ (w : List ℕ) (r i : ℕ) where
-  pub fact-words : factWordsFit w r i ≡
-      eqb (schemaNumberIn w i) 0 && (eqb (atomIn w i .role) r &&
-      (eqb (atomIn w i .part) 0 && argWordsFit w (getD w 0 0) i))
+  abbrev numbered : Bool
+  numbered = eqb (schemaNumberIn w i) 0
+
+  abbrev roled : Bool
+  roled = eqb (atomIn w i .role) r
+
+  abbrev parted : Bool
+  parted = eqb (atomIn w i .part) 0
+
+  pub fact-number : (schemaNumberIn w i ≡ 0 → ⊥) → false ≡ factWordsFit w r i
   unfolding factWordsFit
-  fact-words = refl
+  fact-number bad = sym (false-if (factWordsFit w r i) (λ h. bad (eqb-true _ _ (and-left numbered _ h))))
+
+  pub fact-role : (atomIn w i .role ≡ r → ⊥) → false ≡ factWordsFit w r i
+  unfolding factWordsFit
+  fact-role bad = sym (false-if (factWordsFit w r i) (λ h. bad (eqb-true _ _ (and-left roled _ (and-right numbered _ h)))))
+
+  pub fact-part : (atomIn w i .part ≡ 0 → ⊥) → false ≡ factWordsFit w r i
+  unfolding factWordsFit
+  fact-part bad =
+      sym (false-if (factWordsFit w r i) (λ h. bad (eqb-true _ _ (and-left parted _ (and-right roled _ (and-right numbered _ h))))))
+
+  pub fact-args : schemaNumberIn w i ≡ 0 → atomIn w i .role ≡ r → atomIn w i .part ≡ 0 →
+      argWordsFit w (getD w 0 0) i ≡ factWordsFit w r i
+  unfolding factWordsFit
+  fact-args n m p =
+      let fit = argWordsFit w (getD w 0 0) i in
+      sym (ap₂ (λ (x y : Bool). x && (y && (parted && fit))) (eq-eqb _ _ n) (eq-eqb _ _ m) ∙
+      ap (λ (x : Bool). x && fit) (eq-eqb _ _ p))
 
   pub fact-known : factWordsFit w r i ≡ true → atomIn w i .pred < getD w 1 0
-  fact-known h = args-fit-known w (getD w 0 0) i
-      (and-right (eqb (atomIn w i .part) 0) _
-      (and-right (eqb (atomIn w i .role) r) _ (and-right (eqb (schemaNumberIn w i) 0) _ (sym fact-words ∙ h))))
+  unfolding factWordsFit
+  fact-known h =
+      args-fit-known w (getD w 0 0) i (and-right parted _ (and-right roled _ (and-right numbered _ h)))
 
 pub facts-words : (w : List ℕ) (r i n : ℕ) → factsWordsFit w r i n ≡ all (factWordsFit w r) (upFrom i n) &&
     ascending (factsIn w i n)

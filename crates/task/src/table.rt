@@ -1,6 +1,7 @@
 // Whether words are a table of document 01, 'Task table': each function makes one test of specs/WordTests.antt.
 mod atoms;
 mod facts;
+mod limits;
 mod schemas;
 mod sets;
 mod words;
@@ -26,14 +27,22 @@ fn counts_fit(table: &[u16]) -> bool
 {
     let objects = word(table, 0);
     let predicates = word(table, 1);
-    if objects < 1 || 1000 < objects || predicates < 1 || 400 < predicates {
+    if objects < 1
+        || limits::MOST_OBJECTS < objects
+        || predicates < 1
+        || limits::MOST_PREDICATES < predicates
+    {
         return false;
     }
     let schemas = word(table, 2);
     let atoms = word(table, 3);
     let initial = word(table, 4);
     let goal = word(table, 5);
-    if 200 < schemas || 1000 < atoms || 500 < initial || 100 < goal {
+    if limits::MOST_SCHEMAS < schemas
+        || limits::MOST_SCHEMA_ATOMS < atoms
+        || limits::MOST_INITIAL < initial
+        || limits::MOST_GOAL < goal
+    {
         return false;
     }
     true
@@ -47,7 +56,7 @@ fn arities_fit(table: &[u16]) -> bool
     let predicates = word(table, 1);
     let mut p = 0;
     while p < predicates {
-        if 4 < word(table, 6 + p) {
+        if limits::MOST_ARITY < word(table, limits::HEAD_WORDS + p) {
             return false;
         }
         p += 1;
@@ -97,12 +106,12 @@ pub fn is_table(table: &[u16]) -> bool
     }
     let atoms = word(table, 3);
     let facts = atoms + word(table, 4);
-    if !facts_fit(table, 3, atoms, facts) {
+    if !facts_fit(table, limits::INITIAL, atoms, facts) {
         return false;
     }
     let end = facts + word(table, 5);
-    if !facts_fit(table, 4, facts, end) {
+    if !facts_fit(table, limits::GOAL, facts, end) {
         return false;
     }
-    zeros(table, atom_base(table, end), 13406)
+    zeros(table, atom_base(table, end), limits::TABLE_WORDS)
 }

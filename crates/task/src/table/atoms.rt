@@ -1,4 +1,5 @@
 // An atom of a table: its words, whether its arguments fit, and two atoms compared.
+use super::limits;
 use super::words::all_below;
 use super::words::less_words;
 use super::words::same_words;
@@ -17,7 +18,7 @@ pub(crate) fn atom_base(table: &[u16], i: usize) -> usize
     requires { ⌜ i ≤ 65536 ⌝ }
     ensures { λ r. ⌜ r ≡ atomBase (now (table .entry)) i ⌝ }
 {
-    6 + word(table, 1) + word(table, 2) + 8 * i
+    limits::HEAD_WORDS + word(table, 1) + word(table, 2) + limits::ATOM_SIZE * i
 }
 
 // The schema number of atom i.
@@ -74,7 +75,7 @@ pub(crate) fn arity(table: &[u16], p: usize) -> usize
     ensures { λ r. ⌜ r ≡ arityIn (now (table .entry)) p ⌝ }
     ensures { λ r. ⌜ r ≤ 4 ⌝ }
 {
-    word(table, 6 + p)
+    word(table, limits::HEAD_WORDS + p)
 }
 
 // Whether atom i has a known predicate, arguments below a bound, and unused words 0.
@@ -92,7 +93,7 @@ pub(crate) fn atom_fits(table: &[u16], i: usize, bound: usize) -> bool
     if !all_below(table, from, to, bound) {
         return false;
     }
-    zeros(table, to, from + 4)
+    zeros(table, to, from + limits::MOST_ARITY)
 }
 
 // Whether two atoms have one role, one predicate and the same arguments; the first's predicate is known.

@@ -7,6 +7,7 @@ use super::atoms::predicate;
 use super::atoms::role;
 use super::atoms::same_atom;
 use super::atoms::schema_number;
+use super::limits;
 use super::sets::has_all;
 use super::sets::joined;
 use super::sets::joined_words;
@@ -35,7 +36,7 @@ fn roles_ascend(table: &[u16], first: usize, end: usize) -> bool
         }
         i += 1;
     }
-    role(table, i) <= 2
+    role(table, i) <= limits::DELETION
 }
 
 // Whether each atom from one index to another has a known predicate, arguments below a bound, and unused words 0.
@@ -162,7 +163,7 @@ fn parts_fit(table: &[u16], first: usize, end: usize) -> bool
     ensures { λ r. ⌜ r ≡ partsFit (atomsIn (now (table .entry)) first (end - first)) ⌝ }
 {
     let count = part_count(table, first, end);
-    if 16 < count {
+    if limits::MOST_PARTS < count {
         return false;
     }
     has_all(parts(table, first, end), count)
@@ -175,14 +176,14 @@ fn schema_fits(table: &[u16], s: usize, first: usize, end: usize) -> bool
     requires { ⌜ (first ≤ end) × (end ≤ getD (now table) 3 0) ⌝ }
     ensures { λ r. ⌜ r ≡ schemaWordsFit (now (table .entry)) s (upFrom first (end - first)) ⌝ }
 {
-    let params = word(table, 6 + word(table, 1) + s);
-    if 12 < params {
+    let params = word(table, limits::HEAD_WORDS + word(table, 1) + s);
+    if limits::MOST_PARAMETERS < params {
         return false;
     }
     if end - first < 1 {
         return false;
     }
-    if 64 < end - first {
+    if limits::MOST_ATOMS < end - first {
         return false;
     }
     if !roles_ascend(table, first, end) {

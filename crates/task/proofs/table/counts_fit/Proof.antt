@@ -8,6 +8,9 @@ use borrow.Author.Needs.{needs}
 use Rattle.task.proofs.table.counts_fit.Statement.{statement}
 use Rattle.task.proofs.table.counts_fit.Tie as tie
 
+abbrev start : tie.After-word6 → tie.Start
+start c = c .before .before .before .before .before .before .before .before .before .before .before
+
 word-requires : tie.Need-word-requires
 word-requires c κs = search needs
 
@@ -35,17 +38,13 @@ word-requires-6 c κs = search needs
 
 returns-2 : tie.Need-returns-2
 returns-2 c =
-    let w = c .before .before .before .before .before .before .before .before .before .before .before .before .args .table .now in
+    let w = start (c .before) .args .table .now in
     ⊎-elim (λ a. not-counted w (λ k. omega arith)) (⊎-elim (λ a. not-counted w (λ k. omega (arith, ltb-true)))
     (⊎-elim (λ a. not-counted w (λ k. omega (arith, ltb-true))) (λ a. not-counted w (λ k. omega (arith, ltb-true)))))
     (c .if5 .came)
 
-abbrev start : tie.Else8 → tie.Start
-start c =
-    c .before .before .before .before .before .before .before .before .before .before .before .before .before .before .before
-
 returns-3 : tie.Need-returns-3
-returns-3 c = all-counted (start c .args .table .now) (record {
+returns-3 c = all-counted (start (c .before .before .before .before) .args .table .now) (record {
   some-object = omega (arith, ltb-false);
   objects = omega (arith, ltb-false);
   some-pred = omega (arith, ltb-false);

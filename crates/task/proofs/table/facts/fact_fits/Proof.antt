@@ -1,10 +1,8 @@
 -- `task::table::facts::fact_fits` meets its contract.
 -- The four tests in turn: each that fails fails the whole, and the last decides.
 use mathlib.Core.Path.{sym, _∙_, ap}
-use borrow.Author.Tests.{eq-eqb, ne-eqb}
 use Rattle.task.specs.WordTests.{argWordsFit}
-use Rattle.task.proofs.Ranges.{and-more, and-fails}
-use Rattle.task.proofs.AtomWords.{fact-words}
+use Rattle.task.proofs.AtomWords.{fact-number, fact-role, fact-part, fact-args}
 use borrow.Author.Needs.{needs}
 use Rattle.task.proofs.table.facts.fact_fits.Statement.{statement}
 use Rattle.task.proofs.table.facts.fact_fits.Tie as tie
@@ -15,8 +13,7 @@ schema-number-requires c κs = search needs
 returns : tie.Need-returns
 returns c =
     let given = c .before .before .before .args in
-    let words = fact-words (given .table .now) (given .wanted) (given .i) in
-    and-fails _ words (ne-eqb _ _ (λ e. c .if1 .taken (c .before .schema-number .ensures ∙ e)))
+    fact-number (given .table .now) (given .wanted) (given .i) (λ e. c .if1 .taken (c .before .schema-number .ensures ∙ e))
 
 role-requires : tie.Need-role-requires
 role-requires c κs = search needs
@@ -24,10 +21,7 @@ role-requires c κs = search needs
 returns-2 : tie.Need-returns-2
 returns-2 c =
     let given = c .before .before .before .before .before .args in
-    let words = fact-words (given .table .now) (given .wanted) (given .i) in
-    and-fails _ (and-more words (eq-eqb _ _
-    (sym (c .before .before .before .schema-number .ensures) ∙ c .before .before .if1 .left)))
-    (ne-eqb _ _ (λ e. c .if2 .taken (c .before .role .ensures ∙ e)))
+    fact-role (given .table .now) (given .wanted) (given .i) (λ e. c .if2 .taken (c .before .role .ensures ∙ e))
 
 part-requires : tie.Need-part-requires
 part-requires c κs = search needs
@@ -35,12 +29,7 @@ part-requires c κs = search needs
 returns-3 : tie.Need-returns-3
 returns-3 c =
     let given = c .before .before .before .before .before .before .before .args in
-    let words = fact-words (given .table .now) (given .wanted) (given .i) in
-    and-fails _ (and-more (and-more words
-    (eq-eqb _ _ (sym (c .before .before .before .before .before .schema-number .ensures) ∙
-    c .before .before .before .before .if1 .left)))
-    (eq-eqb _ _ (sym (c .before .before .before .role .ensures) ∙ c .before .before .if2 .left)))
-    (ne-eqb _ _ (λ e. c .if3 .taken (c .before .part .ensures .0 ∙ e)))
+    fact-part (given .table .now) (given .wanted) (given .i) (λ e. c .if3 .taken (c .before .part .ensures .0 ∙ e))
 
 word-requires : tie.Need-word-requires
 word-requires c κs = search needs
@@ -50,15 +39,13 @@ atom-fits-requires c κs = search needs
 
 returns-4 : tie.Need-returns-4
 returns-4 c =
-    let given = c .before .before .before .before .before .before .before .before .before .args in
-    let words = fact-words (given .table .now) (given .wanted) (given .i) in
+    let part = c .before .before in
+    let role = part .before .before in
+    let number = role .before .before in
+    let given = number .before .before .before .args in
     c .atom-fits .ensures ∙ (ap (λ n. argWordsFit (given .table .now) n (given .i)) (c .before .word .ensures .0) ∙
-    sym (and-more (and-more (and-more words
-    (eq-eqb _ _ (sym (c .before .before .before .before .before .before .before .schema-number .ensures) ∙
-    c .before .before .before .before .before .before .if1 .left)))
-    (eq-eqb _ _ (sym (c .before .before .before .before .before .role .ensures) ∙
-    c .before .before .before .before .if2 .left)))
-    (eq-eqb _ _ (sym (c .before .before .before .part .ensures .0) ∙ c .before .before .if3 .left))))
+    fact-args (given .table .now) (given .wanted) (given .i) (sym (number .before .schema-number .ensures) ∙ number .if1 .left)
+    (sym (role .before .role .ensures) ∙ role .if2 .left) (sym (part .before .part .ensures .0) ∙ part .if3 .left))
 
 pub fact-fits-spec : {M : Type 1} → statement M
 fact-fits-spec =
