@@ -123,12 +123,14 @@ module _ (w : List ℕ) (r i : ℕ) where
 
   pub fact-role : (atomIn w i .role ≡ r → ⊥) → false ≡ factWordsFit w r i
   unfolding factWordsFit
-  fact-role bad = sym (false-if (factWordsFit w r i) (λ h. bad (eqb-true _ _ (and-left roled _ (and-right numbered _ h)))))
+  fact-role bad =
+      sym (false-if (factWordsFit w r i) (λ h. bad (eqb-true _ _ (and-left roled _ (and-right numbered _ h)))))
 
   pub fact-part : (atomIn w i .part ≡ 0 → ⊥) → false ≡ factWordsFit w r i
   unfolding factWordsFit
   fact-part bad =
-      sym (false-if (factWordsFit w r i) (λ h. bad (eqb-true _ _ (and-left parted _ (and-right roled _ (and-right numbered _ h))))))
+      sym (false-if (factWordsFit w r i)
+      (λ h. bad (eqb-true _ _ (and-left parted _ (and-right roled _ (and-right numbered _ h))))))
 
   pub fact-args : schemaNumberIn w i ≡ 0 → atomIn w i .role ≡ r → atomIn w i .part ≡ 0 →
       argWordsFit w (getD w 0 0) i ≡ factWordsFit w r i

@@ -1,5 +1,5 @@
 -- The tests of words together say that the words are a table: a table passes each, by `table-words` and the tests of
--- its task; and words that pass them all fit (`WordsFit`) and are those of a well-formed task, so `words-table` applies.
+-- its task; words that pass them all fit (`WordsFit`) and are those of a well-formed task, so `words-table` applies.
 use Prim.Native.Nat.{ℕ, zero, suc, _+_, _-_, _≤_, _<_}
 use mathlib.Core.Path.{_≡_, refl, sym, _∙_, subst}
 use mathlib.Core.Bool.{Bool, true, false, _&&_}

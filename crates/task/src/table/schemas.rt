@@ -20,8 +20,8 @@ ghost use lib.Dec.{eqb};
 ghost use Rattle.task.specs.Lists.{all, any, upTo, upFrom};
 ghost use Rattle.task.specs.Task.{distinct, rolesAscend, names, partCount};
 ghost use Rattle.task.specs.Table.{atomIn};
-ghost use Rattle.task.specs.WordTests.{bit, argWordsFit, numbersFit, schemaWordsFit, schemasFit, partsFit, standsAgain};
-ghost use Rattle.task.specs.WordTests.{atomsIn, atomTotal, Roomy, KnownIn, RolesRise, RunOf};
+ghost use Rattle.task.specs.WordTests.{bit, argWordsFit, numbersFit, schemaWordsFit, schemasFit, partsFit};
+ghost use Rattle.task.specs.WordTests.{standsAgain, atomsIn, atomTotal, Roomy, KnownIn, RolesRise, RunOf};
 
 // "preconditions first, then adds, then deletes", of the atoms from one index to another.
 fn roles_ascend(table: &[u16], first: usize, end: usize) -> bool

@@ -1,6 +1,6 @@
 -- `task::table::is_table` meets its contract.
--- The tests of WordTables.antt in turn: each that fails refutes a table, and where the others are passed, the words behind
--- the last atom decide.
+-- The tests of WordTables.antt in turn: each that fails refutes a table, and where the others are passed, the words
+-- behind the last atom decide.
 use Prim.Native.Nat.{ℕ, _+_, _-_}
 use mathlib.Core.Path.{_≡_, sym, _∙_, ap, ap₂}
 use mathlib.Core.Bool.{Bool, true}
@@ -12,7 +12,8 @@ use borrow.Author.Tests.{not-true, not-false}
 use Rattle.task.specs.Lists.{every}
 use Rattle.task.specs.Limits.{tableWords}
 use Rattle.task.specs.Table.{atomBase}
-use Rattle.task.specs.WordTests.{countTests, aritiesFit, zerosAt, numbersFit, factsWordsFit, wordsUsed, Roomy}
+use Rattle.task.specs.WordTests.{countTests, aritiesFit, zerosAt, numbersFit, factsWordsFit, atomTotal, wordsUsed}
+use Rattle.task.specs.WordTests.{Roomy}
 use Rattle.task.proofs.Laws.{both-ft}
 use Rattle.task.proofs.Counts.{counted, roomy}
 use Rattle.task.proofs.WordTables.{not-passed, rest-decides}
@@ -69,7 +70,8 @@ Goal w = factsWordsFit w 4 (getD w 3 0 + getD w 4 0) (getD w 5 0)
 initial-is : (c : tie.After-facts-fit) → c .facts-fit .result ≡ Initial (words (start₅ c))
 initial-is c =
     let from = c .before .before .word .result in
-    let n : from + c .before .word2 .result - from ≡ getD (words (start₅ c)) 4 0 = omega (arith, c .before .word2 .ensures .0) in
+    let n : from + c .before .word2 .result - from ≡ getD (words (start₅ c)) 4 0 = omega
+    (arith, c .before .word2 .ensures .0) in
     c .facts-fit .ensures ∙ ap₂ (factsWordsFit (words (start₅ c)) 3) (c .before .before .word .ensures .0) n
 
 goal-is : (c : tie.After-facts-fit2) → c .facts-fit2 .result ≡ Goal (words (start₆ c))
@@ -82,10 +84,12 @@ goal-is c =
     c .facts-fit2 .ensures ∙ ap₂ (factsWordsFit w 4) e n
 
 -- where the atoms end
+abbrev facts-end : tie.After-word2 → ℕ
+facts-end c = c .before .word .result + c .word2 .result
+
 end-is : (c : tie.Else6) →
-    c .before .before .before .before .before .before .word .result + c .before .before .before .before .before .word2 .result +
-    c .before .before .word3 .result ≡
-    getD (words (start₆ (c .before))) 3 0 + getD (words (start₆ (c .before))) 4 0 + getD (words (start₆ (c .before))) 5 0
+    facts-end (c .before .before .before .before .before) + c .before .before .word3 .result ≡
+    atomTotal (words (start₆ (c .before)))
 end-is c =
     let k = c .before .before .before .before .before in
     omega (arith, c .before .before .word3 .ensures .0, k .word2 .ensures .0, k .before .word .ensures .0)
@@ -179,7 +183,8 @@ returns-7 c =
     let schemas = initial .before .before .before .before in
     let numbers = schemas .before .before in
     let start = start₆ (behind .before) in
-    let used : c .before .atom-base .result ≡ wordsUsed (words start) = omega (arith, c .before .atom-base .ensures, end-is behind) in
+    let used : c .before .atom-base .result ≡ wordsUsed (words start) = omega
+    (arith, c .before .atom-base .ensures, end-is behind) in
     c .zeros .ensures ∙ (ap (λ (n : ℕ). zerosAt (words start) n (tableWords - n)) used ∙
     rest-decides (words start) (start .pre) (λ h. record {
       counts = counts-pass (numbers .before .before .before .before);

@@ -13,7 +13,8 @@ schema-number-requires c κs = search needs
 returns : tie.Need-returns
 returns c =
     let given = c .before .before .before .args in
-    fact-number (given .table .now) (given .wanted) (given .i) (λ e. c .if1 .taken (c .before .schema-number .ensures ∙ e))
+    fact-number (given .table .now) (given .wanted) (given .i)
+    (λ e. c .if1 .taken (c .before .schema-number .ensures ∙ e))
 
 role-requires : tie.Need-role-requires
 role-requires c κs = search needs
@@ -44,7 +45,8 @@ returns-4 c =
     let number = role .before .before in
     let given = number .before .before .before .args in
     c .atom-fits .ensures ∙ (ap (λ n. argWordsFit (given .table .now) n (given .i)) (c .before .word .ensures .0) ∙
-    fact-args (given .table .now) (given .wanted) (given .i) (sym (number .before .schema-number .ensures) ∙ number .if1 .left)
+    fact-args (given .table .now) (given .wanted) (given .i)
+    (sym (number .before .schema-number .ensures) ∙ number .if1 .left)
     (sym (role .before .role .ensures) ∙ role .if2 .left) (sym (part .before .part .ensures .0) ∙ part .if3 .left))
 
 pub fact-fits-spec : {M : Type 1} → statement M

@@ -28,23 +28,28 @@ Inv-loop table bound first end set₀ i₀ set i =
 abbrev μ-loop : tie.MeasureT-loop
 μ-loop table bound first end set₀ i₀ set i = end - i
 
+abbrev start : tie.In-loop Inv-loop μ-loop → tie.Start Inv-loop μ-loop
+start c = c .before .before .before
+
+abbrev words : tie.In-loop Inv-loop μ-loop → List ℕ
+words c = start c .args .table .now
+
+abbrev i : tie.In-loop Inv-loop μ-loop → ℕ
+i c = c .before .loop .i
+
 -- the arguments of the atom at hand fit
-fit : (c : tie.In-loop Inv-loop μ-loop) → argWordsFit (c .before .before .before .args .table .now)
-    (c .before .before .before .args .bound) (c .before .loop .i) ≡ true
+fit : (c : tie.In-loop Inv-loop μ-loop) → argWordsFit (words c) (start c .args .bound) (i c) ≡ true
 fit c =
-    let start = c .before .before .before in
-    let given = start .args in
-    all-from (argWordsFit (given .table .now) (given .bound)) (given .first) (given .end - given .first)
-    (start .pre .1 .1) (c .before .loop .i) (c .before .loop .inv .0) (omega arith)
+    let given = start c .args in
+    all-from (argWordsFit (words c) (given .bound)) (given .first) (given .end - given .first) (start c .pre .1 .1)
+    (i c)
+    (c .before .loop .inv .0) (omega arith)
 
 -- how many arguments it has
 many : (c : tie.After-arity Inv-loop μ-loop) →
-    c .arity .result ≡ arityIn (c .before .before .before .before .before .before .args .table .now)
-    (atomIn (c .before .before .before .before .before .before .args .table .now)
-    (c .before .before .before .before .loop .i) .pred)
-many c =
-    c .arity .ensures .0 ∙ ap (arityIn (c .before .before .before .before .before .before .args .table .now))
-    (c .before .predicate .ensures)
+    c .arity .result ≡ arityIn (words (c .before .before .before))
+    (atomIn (words (c .before .before .before)) (i (c .before .before .before)) .pred)
+many c = c .arity .ensures .0 ∙ ap (arityIn (words (c .before .before .before))) (c .before .predicate .ensures)
 
 loop-holds : tie.Need-loop-holds Inv-loop μ-loop
 loop-holds c =
@@ -63,16 +68,9 @@ predicate-requires c κs = let start = c .before .before .before .before in (sta
 
 arity-requires : tie.Need-arity-requires Inv-loop μ-loop
 arity-requires c κs =
-    let start = c .before .before .before .before .before in
-    let k = c .before .before in (
-      start .pre .0,
-      omega (
-        arith,
-        c .predicate .ensures,
-        args-fit-known (start .args .table .now) (start .args .bound)
-            (k .before .loop .i) (fit k),
-      ),
-    )
+    let k = c .before .before in
+    let known = args-fit-known (words k) (start k .args .bound) (i k) (fit k) in
+    (start k .pre .0, omega (arith, c .predicate .ensures, known))
 
 add-joined-words : tie.Need-add-joined-words Inv-loop μ-loop
 add-joined-words c = omega (arith, c .arity .ensures .1, c .before .before .arguments .ensures .1)
@@ -80,16 +78,10 @@ add-joined-words c = omega (arith, c .arity .ensures .1, c .before .before .argu
 joined-words-requires : tie.Need-joined-words-requires Inv-loop μ-loop
 joined-words-requires c κs =
     let k = c .before .before .before in
-    let start = k .before .before .before in
-    let given = start .args in
-    let from = c .before .before .arguments .result in (
-      omega (arith, c .arity .ensures .1, c .before .before .arguments .ensures .1),
-      λ j l m.
-          let b = args-below (given .table .now) (given .bound) (k .before .loop .i) (fit k) from
-          (from + c .arity .result)
-          (c .before .before .arguments .ensures .0) (ap (λ (n : ℕ). from + n) (many c)) j l m in
-          omega arith,
-    )
+    let from = c .before .before .arguments .result in
+    let below = args-below (words k) (start k .args .bound) (i k) (fit k) from (from + c .arity .result) in
+    let small = below (c .before .before .arguments .ensures .0) (ap (λ (n : ℕ). from + n) (many c)) in
+    (omega (arith, c .arity .ensures .1, c .before .before .arguments .ensures .1), λ j l m. omega (arith, small j l m))
 
 add-i : tie.Need-add-i Inv-loop μ-loop
 add-i c = omega arith

@@ -50,19 +50,22 @@ tests c = orderTests (words c) (c .args .s) (c .args .first) (many c)
 whole : (c : tie.Start) → schemaWordsFit (words c) (c .args .s) (indices c) ≡ every (tests c)
 whole c = schema-words (words c) (c .args .s) (c .args .first) (many c)
 
-fails : (c : tie.Start) (k : ℕ) → getD (tests c) k true ≡ false → false ≡ schemaWordsFit (words c) (c .args .s) (indices c)
+fails : (c : tie.Start) (k : ℕ) → getD (tests c) k true ≡ false → false ≡
+    schemaWordsFit (words c) (c .args .s) (indices c)
 fails c k e = some-fails (tests c) k e ∙ sym (whole c)
 
 params : (c : tie.After-word2) → c .word2 .result ≡ paramsIn (words (start₁ c)) (start₁ c .args .s)
 params c =
-    c .word2 .ensures .0 ∙ ap (λ (n : ℕ). getD (words (start₁ c)) (6 + n + start₁ c .args .s) 0) (c .before .word .ensures .0)
+    c .word2 .ensures .0 ∙ ap (λ (n : ℕ). getD (words (start₁ c)) (6 + n + start₁ c .args .s) 0)
+    (c .before .word .ensures .0)
 
 -- the tests by the parameter count that was read are those by the schema's
 args-are : (c : tie.After-atoms-fit) → c .atoms-fit .result ≡ getD (tests (start₃ c)) 4 true
 args-are c =
     let start = start₃ c in
     c .atoms-fit .ensures ∙
-    ap (λ (n : ℕ). all (argWordsFit (words start) n) (indices start)) (params (c .before .before .before .before .before .before))
+    ap (λ (n : ℕ). all (argWordsFit (words start) n) (indices start))
+    (params (c .before .before .before .before .before .before))
 
 named-are : (c : tie.After-all-named) → c .all-named .result ≡ getD (tests (start₅ c)) 6 true
 named-are c =
@@ -73,7 +76,8 @@ named-are c =
     (params (args .before .before .before .before .before .before))
 
 -- each atom has a known predicate
-known : (c : tie.Else5) → KnownIn (words (start₃ (c .before))) (start₃ (c .before) .args .first) (start₃ (c .before) .args .end)
+known : (c : tie.Else5) → KnownIn (words (start₃ (c .before))) (start₃ (c .before) .args .first)
+    (start₃ (c .before) .args .end)
 known c i l m =
     let start = start₃ (c .before) in
     let n = c .before .before .before .before .before .before .before .word2 .result in

@@ -25,6 +25,22 @@ Inv-loop table schemas first₀ s₀ first s =
 abbrev μ-loop : tie.MeasureT-loop
 μ-loop table schemas first₀ s₀ first s = schemas - s
 
+abbrev start : tie.At-loop Inv-loop μ-loop → tie.Start Inv-loop μ-loop
+start c = c .before .before .before
+
+abbrev words : tie.At-loop Inv-loop μ-loop → List ℕ
+words c = start c .args .table .now
+
+-- the atoms found are those that name schema s
+fit : (c : tie.After-schema-fits Inv-loop μ-loop) →
+    fitsAt (words (c .before .before .before)) (c .before .before .before .loop .s) ≡ c .schema-fits .result
+fit c =
+    let k = c .before in
+    let at = k .before .before in
+    let is = cut-indices (words at) (start at .pre .1) (at .loop .first) (at .loop .s) (k .run-end .result) in
+    ap (schemaWordsFit (words at) (at .loop .s)) (is (at .loop .inv .0) (k .run-end .ensures)) ∙
+    sym (c .schema-fits .ensures)
+
 word-requires : tie.Need-word-requires Inv-loop μ-loop
 word-requires c κs = let r = c .before .pre .0 in omega arith
 
@@ -48,16 +64,10 @@ schema-fits-requires c κs =
 
 returns : tie.Need-returns Inv-loop μ-loop
 returns c =
-    let k = c .before .before in
-    let at = k .before .before in
-    let start = at .before .before .before in
-    let w = start .args .table .now in
-    let cut = at .loop .inv .0 in
-    let fit = ap (schemaWordsFit w (at .loop .s))
-    (cut-indices w (start .pre .1) (at .loop .first) (at .loop .s) (k .run-end .result) cut (k .run-end .ensures)) ∙
-    sym (c .before .schema-fits .ensures) in
-    all-fails (fitsAt w) (at .loop .s) (at .before .word .result) (at .loop .inv .1) (k .before .loop-test .taken)
-    (fit ∙ not-true _ (c .if1 .taken))
+    let turn = c .before .before .before in
+    let at = turn .before in
+    all-fails (fitsAt (words at)) (at .loop .s) (at .before .word .result) (at .loop .inv .1) (turn .loop-test .taken)
+    (fit (c .before) ∙ not-true _ (c .if1 .taken))
 
 add-s : tie.Need-add-s Inv-loop μ-loop
 add-s c = omega arith
@@ -68,23 +78,19 @@ loop-less c = omega arith
 loop-again : tie.Need-loop-again Inv-loop μ-loop
 loop-again c =
     let k = c .before .before in
-    let at = k .before .before in
-    let start = at .before .before .before in
-    let w = start .args .table .now in
-    let cut = at .loop .inv .0 in
-    let fit = ap (schemaWordsFit w (at .loop .s))
-    (cut-indices w (start .pre .1) (at .loop .first) (at .loop .s) (k .run-end .result) cut (k .run-end .ensures)) ∙
-    sym (c .before .schema-fits .ensures) in (
-      cut-next w (start .pre .1) (at .loop .first) (at .loop .s) (k .run-end .result) cut (k .run-end .ensures),
-      all-more (fitsAt w) (at .loop .s) (at .before .word .result) (at .loop .inv .1) (k .before .loop-test .taken)
-          (fit ∙ not-false _ (c .if1 .left)),
+    let turn = k .before in
+    let at = turn .before in
+    let next = cut-next (words at) (start at .pre .1) (at .loop .first) (at .loop .s) (k .run-end .result) in
+    let more = all-more (fitsAt (words at)) (at .loop .s) (at .before .word .result) (at .loop .inv .1) in (
+      next (at .loop .inv .0) (k .run-end .ensures),
+      more (turn .loop-test .taken)
+          (fit (c .before) ∙ not-false _ (c .if1 .left)),
     )
 
 returns-2 : tie.Need-returns-2 Inv-loop μ-loop
 returns-2 c =
     let at = c .before in
-    let w = at .before .before .before .args .table .now in
-    all-ends (fitsAt w) (at .loop .s) (at .before .word .result) (at .loop .inv .1) (c .loop-test .left)
+    all-ends (fitsAt (words at)) (at .loop .s) (at .before .word .result) (at .loop .inv .1) (c .loop-test .left)
 
 pub schemas-fit-spec : {M : Type 1} → statement M
 schemas-fit-spec =
