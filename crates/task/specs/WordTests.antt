@@ -113,7 +113,7 @@ unfoldable pub factsWordsFit : List ℕ → ℕ → ℕ → ℕ → Bool
 unfolding all upFrom factWordsFit ascending factIn
 factsWordsFit w r i n = all (factWordsFit w r) (upFrom i n) && ascending (factsIn w i n)
 
--- the number of words before "Zeros fill the rest"
+-- the number of atoms, and of the words before "Zeros fill the rest"
 abbrev pub atomTotal : List ℕ → ℕ
 atomTotal w = getD w 3 0 + getD w 4 0 + getD w 5 0
 
