@@ -26,17 +26,26 @@ use Rattle.task.proofs.Changes.{remove-nothing, remove-more, insert-mis
 use Rattle.task.proofs.GroundWords.{ground-args-fit, span-atom}
 
 -- ---- spans
+module _ (g : ℕ → Fact) where
+  pub row-more : (k to : ℕ) → k < to → map g (upFrom k (to - k)) ≡ g k ∷ map g (upFrom (k + 1) (to - (k + 1)))
+  unfolding upFrom
+  row-more k to l =
+      let e : to - k ≡ suc (to - (k + 1)) = omega arith in
+      ap (λ (n : ℕ). map g (upFrom k n)) e ∙
+      ap {B = List Fact} (λ (a : ℕ). g k ∷ map g (upFrom a (to - (k + 1)))) (sym (add-one k))
+
+  pub row-end : (k to : ℕ) → to ≤ k → map g (upFrom k (to - k)) ≡ []
+  unfolding upFrom
+  row-end k to l = let e : to - k ≡ 0 = omega arith in ap (λ (n : ℕ). map g (upFrom k n)) e
+
 module _ (w steps : List ℕ) (i : ℕ) where
   pub span-more : (k to : ℕ) → k < to → groundSpan w steps i k (to - k) ≡ groundAt w steps i k ∷ groundSpan w steps i (k + 1) (to - (k + 1))
-  unfolding groundSpan upFrom
-  span-more k to l =
-      let e : to - k ≡ suc (to - (k + 1)) = omega arith in
-      ap (λ (n : ℕ). map (groundAt w steps i) (upFrom k n)) e ∙
-      ap {B = List Fact} (λ (a : ℕ). groundAt w steps i k ∷ map (groundAt w steps i) (upFrom a (to - (k + 1)))) (sym (add-one k))
+  unfolding groundSpan
+  span-more k to l = row-more (groundAt w steps i) k to l
 
   pub span-end : (k to : ℕ) → to ≤ k → groundSpan w steps i k (to - k) ≡ []
-  unfolding groundSpan upFrom
-  span-end k to l = let e : to - k ≡ 0 = omega arith in ap (λ (n : ℕ). map (groundAt w steps i) (upFrom k n)) e
+  unfolding groundSpan
+  span-end k to l = row-end (groundAt w steps i) k to l
 
 -- ---- states
 pub state-long : (w state : List ℕ) (n : ℕ) → isTable w ≡ true → isState (taskOf w) state n ≡ true → 5 * n ≤ length state
@@ -82,32 +91,32 @@ known-room {t} {w} {n} {f} {number} d fs l h =
     omega arith
 
 -- ---- whether all hold
-module _ (w steps : List ℕ) (i : ℕ) (h : Fact → Bool) where
+module _ (g : ℕ → Fact) (h : Fact → Bool) where
   pub record AllSo (from to k : ℕ) : Type 0 where
     pub from-first : from ≤ k
     pub to-last : k ≤ to
-    pub same : all h (groundSpan w steps i k (to - k)) ≡ all h (groundSpan w steps i from (to - from))
+    pub same : all h (map g (upFrom k (to - k))) ≡ all h (map g (upFrom from (to - from)))
 
   pub all-start : (from to : ℕ) → from ≤ to → AllSo from to from
   all-start from to l = record { from-first = omega arith; to-last = l; same = refl }
 
-  pub all-turn : (from to k : ℕ) → k < to → AllSo from to k → h (groundAt w steps i k) ≡ true → AllSo from to (k + 1)
+  pub all-turn : (from to k : ℕ) → k < to → AllSo from to k → h (g k) ≡ true → AllSo from to (k + 1)
   all-turn from to k l c e = record {
     from-first = let z = c .from-first in omega arith;
     to-last = omega arith;
-    same = sym (all-more h (groundAt w steps i k) (groundSpan w steps i (k + 1) (to - (k + 1))) e) ∙
-        (ap (all h) (sym (span-more w steps i k to l)) ∙ c .same);
+    same = sym (all-more h (g k) (map g (upFrom (k + 1) (to - (k + 1)))) e) ∙
+        (ap (all h) (sym (row-more g k to l)) ∙ c .same);
   }
 
-  pub all-left : (from to k : ℕ) → k < to → AllSo from to k → h (groundAt w steps i k) ≡ false →
-      false ≡ all h (groundSpan w steps i from (to - from))
+  pub all-left : (from to k : ℕ) → k < to → AllSo from to k → h (g k) ≡ false →
+      false ≡ all h (map g (upFrom from (to - from)))
   all-left from to k l c e =
-      sym (all-stops h (groundAt w steps i k) (groundSpan w steps i (k + 1) (to - (k + 1))) e) ∙
-      (ap (all h) (sym (span-more w steps i k to l)) ∙ c .same)
+      sym (all-stops h (g k) (map g (upFrom (k + 1) (to - (k + 1)))) e) ∙
+      (ap (all h) (sym (row-more g k to l)) ∙ c .same)
 
-  pub all-ended : (from to k : ℕ) → to ≤ k → AllSo from to k → true ≡ all h (groundSpan w steps i from (to - from))
+  pub all-ended : (from to k : ℕ) → to ≤ k → AllSo from to k → true ≡ all h (map g (upFrom from (to - from)))
   unfolding all
-  all-ended from to k l c = ap (all h) (sym (span-end w steps i k to l)) ∙ c .same
+  all-ended from to k l c = ap (all h) (sym (row-end g k to l)) ∙ c .same
 
 -- ---- a state that changes
 -- `change` does one list of facts after another's first, as removing and inserting do

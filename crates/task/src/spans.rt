@@ -18,7 +18,7 @@ ghost use Rattle.task.specs.Records.{recordNumber, Keeps};
 ghost use Rattle.task.specs.Spans.{groundAt, groundSpan, objectIn, argumentIn, AtomOf, SpanOf};
 
 // The word at which atom k of a table begins.
-fn atom_at(table: &[u16], k: usize) -> usize
+pub(crate) fn atom_at(table: &[u16], k: usize) -> usize
     requires { ⌜ isTable (now table) ≡ true ⌝ }
     requires { ⌜ k < getD (now table) 3 0 + getD (now table) 4 0 + getD (now table) 5 0 ⌝ }
     ensures { λ r. ⌜ (r ≡ atomBase (now (table .entry)) k) × (r + 8 ≤ length (now (table .entry))) ⌝ }
