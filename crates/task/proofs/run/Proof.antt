@@ -25,7 +25,8 @@ table : (c : tie.Else2) → isTable (c .before .before .before .before .before .
 table c = sym (c .before .is-table .ensures) ∙ not-false (c .before .is-table .result) (c .if2 .left)
 
 good : (c : tie.After-enum-told) →
-    badStep (taskOf (start (c .before .before) .args .table .now)) (start (c .before .before) .args .steps .now) ≡ none
+    badStep (taskOf (start (c .before .before) .args .table .now)) (start (c .before .before) .args .steps .now) ≡
+    none
 unfolding badStepFound
 good c = sym (c .before .before .bad-step .ensures) ∙ ap badStepFound (c .enum-told .given .1)
 
@@ -38,7 +39,8 @@ returns : tie.Need-returns
 unfolding runAnswerTold
 returns c =
     let a = c .before .before .before .before .args in
-    both (run-short (a .table .now) (a .steps .now) (a .state .now) (a .records) (too-short (a .table .now) (c .if1 .taken)))
+    let short = too-short (a .table .now) (c .if1 .taken) in
+    both (run-short (a .table .now) (a .steps .now) (a .state .now) (a .records) short)
 
 is-table-requires : tie.Need-is-table-requires
 is-table-requires c κs = has-table-words (c .before .before .before .before .args .table .now) (c .if1 .left)
@@ -62,7 +64,8 @@ returns-3 c =
     let b = c .before .before .before in
     let a = start b .args in
     let e = sym (b .bad-step .ensures) ∙ ap badStepFound (c .before .bad .given .1) in
-    both (run-bad-step (a .table .now) (a .steps .now) (a .state .now) (a .records) (long (b .before .before .before)) (table (b .before)) e)
+    let l = long (b .before .before .before) in
+    both (run-bad-step (a .table .now) (a .steps .now) (a .state .now) (a .records) l (table (b .before)) e)
 
 enum-told : tie.Need-enum-told
 enum-told c = search needs
@@ -79,8 +82,9 @@ returns-4 c =
     let b = c .before .before .before .before .before in
     let a = start b .args in
     let s = sym (c .before .is-state .ensures) ∙ not-true (c .before .is-state .result) (c .if3 .taken) in
-    both (run-no-state (a .table .now) (a .steps .now) (a .state .now) (a .records) (long (b .before .before .before)) (table (b .before))
-    (good (c .before .before .before)) s)
+    let l = long (b .before .before .before) in
+    let g = good (c .before .before .before) in
+    both (run-no-state (a .table .now) (a .steps .now) (a .state .now) (a .records) l (table (b .before)) g s)
 
 state : (c : tie.Else3) →
     let a = start (c .before .before .before .before .before) .args in
@@ -101,9 +105,10 @@ returns-5 c =
     let e = r .before .before in
     let b = e .before .before .before .before .before in
     let a = start b .args in
-    let d = run-done (a .table .now) (a .steps .now) (a .state .now) (a .records) (long (b .before .before .before)) (table (b .before))
-    (good (e .before .before .before)) (state e) in
-    (r .run-steps .ensures .0 ∙ ap (λ (o : Outcome). o .told) (sym d), r .run-steps .ensures .1 ∙ ap (λ (o : Outcome). o .buffer) (sym d))
+    let l = long (b .before .before .before) in
+    let g = good (e .before .before .before) in
+    let d = run-done (a .table .now) (a .steps .now) (a .state .now) (a .records) l (table (b .before)) g (state e) in
+    (r .run-steps .ensures .0 ∙ both d .0, r .run-steps .ensures .1 ∙ both d .1)
 
 pub run-spec : {M : Type 1} → statement M
 run-spec =
