@@ -1,0 +1,268 @@
+// The writer of the text form: sizes are counted first, since refusal 11 leaves "all as found"; then each byte is
+// stored once. A function `x_size` gives the number of bytes that `put_x` puts.
+ghost use mathlib.Core.Path.{_≡_};
+ghost use mathlib.Core.List.{[], _∷_, _++_};
+ghost use Prim.Native.Nat.{ℕ, _+_, _*_, _^_, _≤_, _<_};
+ghost use lib.ListN.{length};
+ghost use Rattle.text.specs.Lines.{comma, newline, digits, commaed};
+ghost use Rattle.text.specs.Code.{Puts, spaced, AtomInside, keyBytes, atomText, atomsText, schemaText, SchemaRun};
+
+// The six counts stand first; an atom takes 8 words.
+const HEAD_WORDS: usize = 6;
+
+const ATOM_SIZE: usize = 8;
+
+// A word as an index.
+fn wide(word: u16) -> usize
+    ensures { λ r. ⌜ r ≡ word ⌝ }
+{
+    word as usize
+}
+
+// "Numbers have 1 to 5 digits".
+fn number_size(n: u16) -> usize
+    ensures { λ r. ⌜ r ≡ length (digits n) ⌝ }
+{
+    if n < 10 {
+        return 1;
+    }
+    if n < 100 {
+        return 2;
+    }
+    if n < 1000 {
+        return 3;
+    }
+    if n < 10000 {
+        return 4;
+    }
+    5
+}
+
+// The byte of a digit.
+fn digit(n: u16) -> u8
+    requires { ⌜ n < 10 ⌝ }
+    ensures { λ r. ⌜ r ≡ 48 + n ⌝ }
+{
+    (48 + n) as u8
+}
+
+// "Numbers are in base ten": digits are found from the last to the first.
+fn put_number(text: &mut [u8], at: usize, n: u16) -> usize
+    requires { ⌜ at + length (digits n) ≤ length (now text) ⌝ }
+    ensures { λ r. ⌜ Puts (now (text .entry)) at (digits n) (now (text .exit)) r ⌝ }
+{
+    let end = at + number_size(n);
+    let mut rest = n;
+    let mut place = end - 1;
+    while 10 <= rest {
+        text[place] = digit(rest % 10);
+        rest = rest / 10;
+        place -= 1;
+    }
+    text[place] = digit(rest);
+    end
+}
+
+fn put_byte(text: &mut [u8], at: usize, byte: u8) -> usize
+    requires { ⌜ at < length (now text) ⌝ }
+    ensures { λ r. ⌜ Puts (now (text .entry)) at (byte ∷ []) (now (text .exit)) r ⌝ }
+{
+    text[at] = byte;
+    at + 1
+}
+
+// A key and its =, or a whole line that never changes.
+fn put_bytes(text: &mut [u8], at: usize, bytes: &[u8]) -> usize
+    requires { ⌜ at + length (now bytes) ≤ length (now text) ⌝ }
+    ensures { λ r. ⌜ Puts (now (text .entry)) at (now (bytes .entry)) (now (text .exit)) r ⌝ }
+{
+    for k in 0..bytes.len() {
+        text[at + k] = bytes[k];
+    }
+    at + bytes.len()
+}
+
+// The n words from `from` on, each `step` words behind the one before.
+fn list_size(table: &[u16], from: usize, step: usize, n: usize) -> usize
+    requires { ⌜ ((k : ℕ) → k < n → from + step * k < length (now table)) ⌝ }
+    requires { ⌜ length (commaed (spaced (now table) from step n)) < 2 ^ 64 ⌝ }
+    ensures { λ r. ⌜ r ≡ length (commaed (spaced (now (table .entry)) from step n)) ⌝ }
+{
+    if n == 0 {
+        return 0;
+    }
+    let mut size = number_size(table[from]);
+    for k in 1..n {
+        size = size + 1 + number_size(table[from + step * k]);
+    }
+    size
+}
+
+// "commas between": a number behind another.
+fn put_further(text: &mut [u8], at: usize, n: u16) -> usize
+    requires { ⌜ at + length (comma ∷ digits n) ≤ length (now text) ⌝ }
+    ensures { λ r. ⌜ Puts (now (text .entry)) at (comma ∷ digits n) (now (text .exit)) r ⌝ }
+{
+    let next = put_byte(text, at, b',');
+    put_number(text, next, n)
+}
+
+fn put_list(text: &mut [u8], at: usize, table: &[u16], from: usize, step: usize, n: usize) -> usize
+    requires { ⌜ ((k : ℕ) → k < n → from + step * k < length (now table)) ⌝ }
+    requires { ⌜ at + length (commaed (spaced (now table) from step n)) ≤ length (now text) ⌝ }
+    ensures { λ r. ⌜ Puts (now (text .entry)) at (commaed (spaced (now (table .entry)) from step n)) (now (text .exit)) r ⌝ }
+{
+    if n == 0 {
+        return at;
+    }
+    let mut next = put_number(text, at, table[from]);
+    for k in 1..n {
+        next = put_further(text, next, table[from + step * k]);
+    }
+    next
+}
+
+// A line whose body is a number, and one whose body is a list.
+fn put_number_line(text: &mut [u8], at: usize, key: &[u8], n: u16) -> usize
+    requires { ⌜ at + length (now key ++ (digits n ++ (newline ∷ []))) ≤ length (now text) ⌝ }
+    ensures { λ r. ⌜ Puts (now (text .entry)) at (now (key .entry) ++ (digits n ++ (newline ∷ []))) (now (text .exit)) r ⌝ }
+{
+    let at_body = put_bytes(text, at, key);
+    let at_end = put_number(text, at_body, n);
+    put_byte(text, at_end, b'\n')
+}
+
+fn put_list_line(
+    text: &mut [u8],
+    at: usize,
+    key: &[u8],
+    table: &[u16],
+    from: usize,
+    step: usize,
+    n: usize,
+) -> usize
+    requires { ⌜ ((k : ℕ) → k < n → from + step * k < length (now table)) ⌝ }
+    requires { ⌜ at + length (now key ++ (commaed (spaced (now table) from step n) ++ (newline ∷ []))) ≤ length (now text) ⌝ }
+    ensures { λ r. ⌜ Puts (now (text .entry)) at
+        (now (key .entry) ++ (commaed (spaced (now (table .entry)) from step n) ++ (newline ∷ []))) (now (text .exit)) r ⌝ }
+{
+    let at_body = put_bytes(text, at, key);
+    let at_end = put_list(text, at_body, table, from, step, n);
+    put_byte(text, at_end, b'\n')
+}
+
+// "role (0 precondition, 1 add, 2 delete, 3 initial, 4 goal)": the key of an atom's line, and its =.
+fn key_size(role: u16) -> usize
+    ensures { λ r. ⌜ r ≡ length (keyBytes role) ⌝ }
+{
+    if role < 3 { 4 } else { 5 }
+}
+
+fn put_key(text: &mut [u8], at: usize, role: u16) -> usize
+    requires { ⌜ at + length (keyBytes role) ≤ length (now text) ⌝ }
+    ensures { λ r. ⌜ Puts (now (text .entry)) at (keyBytes role) (now (text .exit)) r ⌝ }
+{
+    match role {
+        0 => put_bytes(text, at, b"pre="),
+        1 => put_bytes(text, at, b"add="),
+        2 => put_bytes(text, at, b"del="),
+        3 => put_bytes(text, at, b"init="),
+        _ => put_bytes(text, at, b"goal="),
+    }
+}
+
+// "An atom is predicate, colon, arguments": the line of the atom whose words begin at `base`.
+fn atom_size(table: &[u16], base: usize) -> usize
+    requires { ⌜ AtomInside (now table) base ⌝ }
+    ensures { λ r. ⌜ r ≡ length (atomText (now (table .entry)) base) ⌝ }
+{
+    let predicate = table[base + 2];
+    let arity = wide(table[HEAD_WORDS + wide(predicate)]);
+    key_size(table[base + 1])
+        + number_size(predicate)
+        + 1
+        + list_size(table, base + 4, 1, arity)
+        + 1
+}
+
+fn put_atom(text: &mut [u8], at: usize, table: &[u16], base: usize) -> usize
+    requires { ⌜ AtomInside (now table) base ⌝ }
+    requires { ⌜ at + length (atomText (now table) base) ≤ length (now text) ⌝ }
+    ensures { λ r. ⌜ Puts (now (text .entry)) at (atomText (now (table .entry)) base) (now (text .exit)) r ⌝ }
+{
+    let predicate = table[base + 2];
+    let arity = wide(table[HEAD_WORDS + wide(predicate)]);
+    let at_predicate = put_key(text, at, table[base + 1]);
+    let at_colon = put_number(text, at_predicate, predicate);
+    let at_arguments = put_byte(text, at_colon, b':');
+    let at_end = put_list(text, at_arguments, table, base + 4, 1, arity);
+    put_byte(text, at_end, b'\n')
+}
+
+// The lines of n atoms, whose words begin at `base`.
+fn atoms_size(table: &[u16], base: usize, n: usize) -> usize
+    requires { ⌜ ((k : ℕ) → k < n → AtomInside (now table) (base + 8 * k)) ⌝ }
+    requires { ⌜ length (atomsText (now table) base n) < 2 ^ 64 ⌝ }
+    ensures { λ r. ⌜ r ≡ length (atomsText (now (table .entry)) base n) ⌝ }
+{
+    let mut size = 0;
+    for k in 0..n {
+        size = size + atom_size(table, base + ATOM_SIZE * k);
+    }
+    size
+}
+
+fn put_atoms(text: &mut [u8], at: usize, table: &[u16], base: usize, n: usize) -> usize
+    requires { ⌜ ((k : ℕ) → k < n → AtomInside (now table) (base + 8 * k)) ⌝ }
+    requires { ⌜ at + length (atomsText (now table) base n) ≤ length (now text) ⌝ }
+    ensures { λ r. ⌜ Puts (now (text .entry)) at (atomsText (now (table .entry)) base n) (now (text .exit)) r ⌝ }
+{
+    let mut next = at;
+    for k in 0..n {
+        next = put_atom(text, next, table, base + ATOM_SIZE * k);
+    }
+    next
+}
+
+// How many of the `left` atoms, whose words begin at `base`, stand before one of another schema.
+fn atoms_of(table: &[u16], base: usize, left: usize, schema: usize) -> usize
+    requires { ⌜ ((k : ℕ) → k < left → base + 8 * k < length (now table)) ⌝ }
+    ensures { λ r. ⌜ SchemaRun (now (table .entry)) base left schema r ⌝ }
+{
+    for n in 0..left {
+        if wide(table[base + ATOM_SIZE * n]) != schema {
+            return n;
+        }
+    }
+    left
+}
+
+// "`schema` (parameter count), `pre`, `add`, `del` lines, `part` (a part for each atom)".
+fn schema_size(table: &[u16], params: u16, base: usize, n: usize) -> usize
+    requires { ⌜ ((k : ℕ) → k < n → AtomInside (now table) (base + 8 * k)) ⌝ }
+    requires { ⌜ base ≤ length (now table) ⌝ }
+    requires { ⌜ length (schemaText (now table) params base n) < 2 ^ 64 ⌝ }
+    ensures { λ r. ⌜ r ≡ length (schemaText (now (table .entry)) params base n) ⌝ }
+{
+    let atoms = atoms_size(table, base, n);
+    let parts = list_size(table, base + 3, ATOM_SIZE, n);
+    b"schema=".len() + number_size(params) + 1 + atoms + b"part=".len() + parts + 1
+}
+
+fn put_schema(
+    text: &mut [u8],
+    at: usize,
+    table: &[u16],
+    params: u16,
+    base: usize,
+    n: usize,
+) -> usize
+    requires { ⌜ ((k : ℕ) → k < n → AtomInside (now table) (base + 8 * k)) ⌝ }
+    requires { ⌜ base ≤ length (now table) ⌝ }
+    requires { ⌜ at + length (schemaText (now table) params base n) ≤ length (now text) ⌝ }
+    ensures { λ r. ⌜ Puts (now (text .entry)) at (schemaText (now (table .entry)) params base n) (now (text .exit)) r ⌝ }
+{
+    let at_atoms = put_number_line(text, at, b"schema=", params);
+    let at_parts = put_atoms(text, at_atoms, table, base, n);
+    put_list_line(text, at_parts, b"part=", table, base + 3, ATOM_SIZE, n)
+}
