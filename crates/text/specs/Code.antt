@@ -3,7 +3,7 @@ use Prim.Native.Nat.{ℕ, zero, suc, _+_, _*_, _≤_, _<_}
 use mathlib.Core.Path.{_≡_}
 use mathlib.Core.List.{List, [], _∷_, _++_, map}
 use lib.ListN.{length, getD}
-use Rattle.task.specs.Lists.{upTo, upFrom, concatMap, put}
+use Rattle.task.specs.Lists.{upTo, concatMap, put}
 use Rattle.task.specs.Limits.{headWords, atomSize, mostArity}
 use Rattle.task.specs.Table.{wordsAt, arityIn, taskOf}
 use Rattle.text.specs.Lines.{bytes, equals, Entry, digits, commaed, entryBytes, line}
@@ -60,6 +60,13 @@ unfolding line digits commaed atomsText spaced
 schemaText w params b n =
     line "schema" (digits params) ++ (atomsText w b n ++ line "part" (commaed (spaced w (b + 3) atomSize n)))
 
+-- "`task=1`, `objects`, `arity` (list)"
+unfoldable pub headText : List ℕ → List ℕ
+unfolding line digits commaed spaced
+headText w =
+    line "task" (digits 1) ++
+    (line "objects" (digits (getD w 0 0)) ++ line "arity" (commaed (spaced w headWords 1 (getD w 1 0))))
+
 -- the lines of all schemas of a table
 unfoldable pub schemasText : List ℕ → List ℕ
 unfolding concatMap writeLine schemaLines taskOf
@@ -70,3 +77,7 @@ pub record SchemaRun (w : List ℕ) (b left schema n : ℕ) : Type 0 where
   pub within : n ≤ left
   pub same : (k : ℕ) → k < n → getD w (b + atomSize * k) 0 ≡ schema
   pub stops : n < left → getD w (b + atomSize * n) 0 ≡ schema → ⊥
+
+-- no text of a table is longer: shut, since a list function would count a numeral down
+unfoldable pub longestText : ℕ
+longestText = 68834

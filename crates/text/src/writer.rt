@@ -1,16 +1,26 @@
 // The writer of the text form: sizes are counted first, since refusal 11 leaves "all as found"; then each byte is
 // stored once. A function `x_size` gives the number of bytes that `put_x` puts.
+use crate::WriteAnswer;
+use task::Place;
 ghost use mathlib.Core.Path.{_≡_};
+ghost use mathlib.Core.Bool.{true};
 ghost use mathlib.Core.List.{[], _∷_, _++_};
 ghost use Prim.Native.Nat.{ℕ, _+_, _*_, _^_, _≤_, _<_};
-ghost use lib.ListN.{length};
+ghost use lib.ListN.{length, getD};
+ghost use lib.Dec.{leb};
+ghost use Rattle.task.specs.Table.{taskOf, isTable};
 ghost use Rattle.text.specs.Lines.{comma, newline, digits, commaed};
-ghost use Rattle.text.specs.Code.{Puts, spaced, AtomInside, keyBytes, atomText, atomsText, schemaText, SchemaRun};
+ghost use Rattle.text.specs.Text.{write};
+ghost use Rattle.text.specs.Outcomes.{writeOutcome, writeAnswerTold};
+ghost use Rattle.text.specs.Code.{Puts, spaced, AtomInside, keyBytes, atomText, atomsText, schemaText, headText, schemasText, SchemaRun};
 
 // The six counts stand first; an atom takes 8 words.
 const HEAD_WORDS: usize = 6;
 
 const ATOM_SIZE: usize = 8;
+
+// No text of a table is longer.
+const LONGEST_TEXT: usize = 68834;
 
 // A word as an index.
 fn wide(word: u16) -> usize
@@ -265,4 +275,145 @@ fn put_schema(
     let at_atoms = put_number_line(text, at, b"schema=", params);
     let at_parts = put_atoms(text, at_atoms, table, base, n);
     put_list_line(text, at_parts, b"part=", table, base + 3, ATOM_SIZE, n)
+}
+
+// One of a table's six counts.
+fn count(table: &[u16], i: usize) -> usize
+    requires { ⌜ isTable (now table) ≡ true ⌝ }
+    requires { ⌜ i < 6 ⌝ }
+    ensures { λ r. ⌜ r ≡ getD (now (table .entry)) i 0 ⌝ }
+{
+    wide(table[i])
+}
+
+// The lines of all schemas, whose atoms stand one schema behind another: `schemas` schemas with `atoms` atoms, and their
+// parameter counts from `counts` on.
+fn schemas_size(table: &[u16], schemas: usize, counts: usize, atoms: usize) -> usize
+    requires { ⌜ isTable (now table) ≡ true ⌝ }
+    requires { ⌜ schemas ≡ getD (now table) 2 0 ⌝ }
+    requires { ⌜ counts ≡ 6 + getD (now table) 1 0 ⌝ }
+    requires { ⌜ atoms ≡ getD (now table) 3 0 ⌝ }
+    requires { ⌜ length (schemasText (now table)) < 2 ^ 64 ⌝ }
+    ensures { λ r. ⌜ r ≡ length (schemasText (now (table .entry))) ⌝ }
+{
+    let mut base = counts + schemas;
+    let mut left = atoms;
+    let mut size = 0;
+    for s in 0..schemas {
+        let n = atoms_of(table, base, left, s);
+        size = size + schema_size(table, table[counts + s], base, n);
+        base = base + ATOM_SIZE * n;
+        left = left - n;
+    }
+    size
+}
+
+fn put_schemas(
+    text: &mut [u8],
+    at: usize,
+    table: &[u16],
+    schemas: usize,
+    counts: usize,
+    atoms: usize,
+) -> usize
+    requires { ⌜ isTable (now table) ≡ true ⌝ }
+    requires { ⌜ schemas ≡ getD (now table) 2 0 ⌝ }
+    requires { ⌜ counts ≡ 6 + getD (now table) 1 0 ⌝ }
+    requires { ⌜ atoms ≡ getD (now table) 3 0 ⌝ }
+    requires { ⌜ at + length (schemasText (now table)) ≤ length (now text) ⌝ }
+    ensures { λ r. ⌜ Puts (now (text .entry)) at (schemasText (now (table .entry))) (now (text .exit)) r ⌝ }
+{
+    let mut base = counts + schemas;
+    let mut left = atoms;
+    let mut next = at;
+    for s in 0..schemas {
+        let n = atoms_of(table, base, left, s);
+        next = put_schema(text, next, table, table[counts + s], base, n);
+        base = base + ATOM_SIZE * n;
+        left = left - n;
+    }
+    next
+}
+
+// "Fixed order: `task=1`, `objects`, `arity` (list), for each schema .., then `init`, `goal`, `end=1`".
+fn head_size(table: &[u16]) -> usize
+    requires { ⌜ isTable (now table) ≡ true ⌝ }
+    ensures { λ r. ⌜ r ≡ length (headText (now (table .entry))) ⌝ }
+{
+    let arities = list_size(table, HEAD_WORDS, 1, count(table, 1));
+    b"task=1\n".len()
+        + b"objects=".len()
+        + number_size(table[0])
+        + 1
+        + b"arity=".len()
+        + arities
+        + 1
+}
+
+fn put_head(text: &mut [u8], table: &[u16]) -> usize
+    requires { ⌜ isTable (now table) ≡ true ⌝ }
+    requires { ⌜ length (headText (now table)) ≤ length (now text) ⌝ }
+    ensures { λ r. ⌜ Puts (now (text .entry)) 0 (headText (now (table .entry))) (now (text .exit)) r ⌝ }
+{
+    let predicates = count(table, 1);
+    let at_objects = put_bytes(text, 0, b"task=1\n");
+    let at_arity = put_number_line(text, at_objects, b"objects=", table[0]);
+    put_list_line(text, at_arity, b"arity=", table, HEAD_WORDS, 1, predicates)
+}
+
+// Initial and goal atoms follow the schemas' own, and their roles say which they are.
+fn text_size(table: &[u16]) -> usize
+    requires { ⌜ isTable (now table) ≡ true ⌝ }
+    ensures { λ r. ⌜ r ≡ length (write (taskOf (now (table .entry)))) ⌝ }
+{
+    let counts = HEAD_WORDS + count(table, 1);
+    let schemas = count(table, 2);
+    let atoms = count(table, 3);
+    let facts = count(table, 4) + count(table, 5);
+    let facts_size = atoms_size(table, counts + schemas + ATOM_SIZE * atoms, facts);
+    head_size(table) + schemas_size(table, schemas, counts, atoms) + facts_size + b"end=1\n".len()
+}
+
+fn put_text(text: &mut [u8], table: &[u16]) -> usize
+    requires { ⌜ isTable (now table) ≡ true ⌝ }
+    requires { ⌜ length (write (taskOf (now table))) ≤ length (now text) ⌝ }
+    ensures { λ r. ⌜ Puts (now (text .entry)) 0 (write (taskOf (now (table .entry)))) (now (text .exit)) r ⌝ }
+{
+    let counts = HEAD_WORDS + count(table, 1);
+    let schemas = count(table, 2);
+    let atoms = count(table, 3);
+    let facts = count(table, 4) + count(table, 5);
+    let at_schemas = put_head(text, table);
+    let at_facts = put_schemas(text, at_schemas, table, schemas, counts, atoms);
+    let at_end = put_atoms(
+        text,
+        at_facts,
+        table,
+        counts + schemas + ATOM_SIZE * atoms,
+        facts,
+    );
+    put_bytes(text, at_end, b"end=1\n")
+}
+
+// Whether the text of a table's task is no longer than the lent bytes. No count is needed for bytes that hold any text.
+fn has_room(table: &[u16], bytes: usize) -> bool
+    requires { ⌜ isTable (now table) ≡ true ⌝ }
+    ensures { λ r. ⌜ r ≡ leb (length (write (taskOf (now (table .entry))))) bytes ⌝ }
+{
+    if LONGEST_TEXT <= bytes {
+        return true;
+    }
+    text_size(table) <= bytes
+}
+
+// Writes the text of a table's task, or refuses with 11: "the text is longer than the lent bytes".
+pub fn write_task(table: &[u16], text: &mut [u8]) -> WriteAnswer
+    requires { ⌜ isTable (now table) ≡ true ⌝ }
+    ensures { λ r. ⌜ writeAnswerTold r ≡ writeOutcome (now (table .entry)) (now (text .entry)) .told ⌝ }
+    ensures { λ _. ⌜ now (text .exit) ≡ writeOutcome (now (table .entry)) (now (text .entry)) .buffer ⌝ }
+{
+    if !has_room(table, text.len()) {
+        return WriteAnswer::Refused(11, Place::Nowhere);
+    }
+    WriteAnswer::Written(put_text(text, table) as u64)
 }

@@ -1,8 +1,8 @@
 -- `text::writer::atom_size` meets its contract: the sizes of key, predicate, colon, arguments and byte 10 add up. Each is
 -- small, so no sum wraps.
 use native.Mathlib.Omega.{arith}
-use Prim.Native.Nat.{ℕ, _+_, _*_, _≤_, _<_}
-use mathlib.Core.Path.{_≡_, sym, _∙_, ap}
+use Prim.Native.Nat.{ℕ, _+_, _≤_}
+use mathlib.Core.Path.{_≡_, _∙_, ap}
 use lib.ListN.{length, getD}
 use Rattle.task.specs.Table.{arityIn}
 use Rattle.text.specs.Lines.{commaed}

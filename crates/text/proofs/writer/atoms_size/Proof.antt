@@ -1,7 +1,7 @@
 -- `text::writer::atoms_size` meets its contract. The invariant of its loop: the size so far and that of the lines from
 -- atom k on make the size of all. The measure is n less k.
 use native.Mathlib.Omega.{arith}
-use Prim.Native.Nat.{ℕ, _+_, _-_, _*_, _≤_, _<_}
+use Prim.Native.Nat.{_+_, _-_, _*_, _≤_}
 use mathlib.Core.Path.{_≡_, ap}
 use lib.ListN.{length}
 use Rattle.text.specs.Code.{AtomInside, atomsText}

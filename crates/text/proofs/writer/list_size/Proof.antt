@@ -3,9 +3,8 @@
 use native.Mathlib.Omega.{arith}
 use Prim.Native.Nat.{ℕ, _+_, _-_, _*_, _≤_, _<_}
 use mathlib.Core.Path.{_≡_, sym, _∙_, ap}
-use mathlib.Core.List.{List, _∷_}
-use lib.ListN.{length, getD, length-append}
-use Rattle.text.specs.Lines.{digits, commaed}
+use lib.ListN.{length}
+use Rattle.text.specs.Lines.{commaed}
 use Rattle.text.specs.Code.{spaced}
 use Rattle.text.proofs.Onwards.{onwards, onwards-longer, onwards-short, listed, commaed-none, commaed-long}
 use Rattle.text.proofs.writer.list_size.Statement.{statement}

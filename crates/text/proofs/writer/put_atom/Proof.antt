@@ -1,14 +1,14 @@
 -- `text::writer::put_atom` meets its contract: key, predicate, colon, arguments and byte 10 are put one behind another. A
 -- lemma for each says what is still to come behind it.
 use native.Mathlib.Omega.{arith}
-use Prim.Native.Nat.{ℕ, _+_, _*_, _≤_, _<_}
+use Prim.Native.Nat.{ℕ, _+_, _≤_}
 use mathlib.Core.Path.{_≡_, sym, _∙_, ap, subst}
 use mathlib.Core.List.{List, [], _∷_, _++_}
 use lib.ListN.{length, getD}
 use Rattle.task.specs.Table.{arityIn}
 use Rattle.text.specs.Lines.{colon, newline, digits, commaed}
-use Rattle.text.specs.Code.{spaced, keyBytes, atomText}
-use Rattle.text.proofs.Puts.{puts-same, Going, first-room, going-start, going-left, going-room, going-on, going-last, byte-room}
+use Rattle.text.specs.Code.{spaced, keyBytes}
+use Rattle.text.proofs.Puts.{puts-same, Going, first-room, going-start, going-room, going-on, going-last, byte-room}
 use Rattle.text.proofs.AtomLines.{argsAt, atomText-is, args-inside}
 use borrow.Author.Needs.{needs}
 use Rattle.text.proofs.writer.put_atom.Statement.{statement}

@@ -1,12 +1,11 @@
 -- `text::writer::put_atoms` meets its contract. The invariant of its loop: what is still to come is the lines from atom k
 -- on. The measure is n less k.
 use native.Mathlib.Omega.{arith}
-use Prim.Native.Nat.{ℕ, _+_, _-_, _*_, _≤_, _<_}
-use mathlib.Core.Path.{_≡_, sym, ap, subst}
-use mathlib.Core.List.{List, [], _++_}
-use lib.ListN.{length}
-use Rattle.text.specs.Code.{AtomInside, atomText, atomsText}
-use Rattle.text.proofs.Puts.{puts-same, Going, going-start, going-long, going-left, going-room, going-on, going-end}
+use Prim.Native.Nat.{_+_, _-_, _*_, _≤_}
+use mathlib.Core.Path.{sym}
+use mathlib.Core.List.{_++_}
+use Rattle.text.specs.Code.{AtomInside, atomsText}
+use Rattle.text.proofs.Puts.{Going, going-start, going-long, going-left, going-room, going-on, going-end}
 use Rattle.text.proofs.Onwards.{onwards, onwards-next, onwards-none}
 use Rattle.text.proofs.AtomLines.{atomLine, atoms-onwards}
 use Rattle.text.proofs.writer.put_atoms.Statement.{statement}

@@ -3,10 +3,9 @@
 use native.Mathlib.Omega.{arith}
 use Prim.Native.Nat.{ℕ, suc, _+_, _-_, _≤_}
 use mathlib.Core.Path.{_≡_, refl, ap, subst}
-use mathlib.Core.List.{List, [], _∷_}
-use lib.ListN.{length, getD, drop, set}
+use mathlib.Core.List.{_∷_}
+use lib.ListN.{length, getD, drop}
 use lib.Seq.{drop-cons, drop-length}
-use Rattle.text.specs.Code.{Puts}
 use Rattle.text.proofs.Puts.{Going, going-start, going-long, going-left, going-end, byte-room, going-byte}
 use Rattle.text.proofs.writer.put_bytes.Statement.{statement}
 use Rattle.text.proofs.writer.put_bytes.Tie as tie

@@ -1,7 +1,6 @@
 -- `text::writer::put_list_line` meets its contract: key, list and byte 10 are put one behind another.
 use mathlib.Core.List.{List, [], _∷_, _++_}
 use Prim.Native.Nat.{ℕ}
-use lib.ListN.{length}
 use Rattle.text.specs.Lines.{newline, commaed}
 use Rattle.text.specs.Code.{spaced}
 use Rattle.text.proofs.Puts.{first-room, going-start, going-room, going-on, going-last, byte-room}

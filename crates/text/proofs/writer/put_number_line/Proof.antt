@@ -1,6 +1,5 @@
 -- `text::writer::put_number_line` meets its contract: key, digits and byte 10 are put one behind another.
 use mathlib.Core.List.{[], _∷_, _++_}
-use lib.ListN.{length}
 use Rattle.text.specs.Lines.{newline, digits}
 use Rattle.text.proofs.Puts.{first-room, going-start, going-room, going-on, going-last, byte-room}
 use borrow.Author.Needs.{needs}

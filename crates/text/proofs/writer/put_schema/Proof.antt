@@ -1,9 +1,8 @@
 -- `text::writer::put_schema` meets its contract: the schema line, the lines of the atoms and the part line are put one
 -- behind another. A lemma for each says what is still to come behind it.
 use native.Mathlib.Omega.{arith}
-use Prim.Native.Nat.{ℕ, _+_, _*_, _≤_, _<_}
+use Prim.Native.Nat.{ℕ, _+_}
 use mathlib.Core.List.{List, _++_}
-use lib.ListN.{length}
 use Rattle.text.specs.Lines.{bytes, digits, line}
 use Rattle.text.specs.Code.{atomsText, schemaText}
 use Rattle.text.proofs.Puts.{Going, going-start, going-left, going-room, going-on, last-room, going-last}

@@ -1,6 +1,6 @@
 -- `text::writer::schema_size` meets its contract: the sizes of its lines add up, and none of the sums passes the whole.
 use native.Mathlib.Omega.{arith}
-use Prim.Native.Nat.{ℕ, _+_, _*_, _≤_, _<_}
+use Prim.Native.Nat.{_+_}
 use mathlib.Core.Path.{_≡_}
 use lib.ListN.{length}
 use Rattle.text.specs.Lines.{digits}
