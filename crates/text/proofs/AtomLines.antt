@@ -84,14 +84,16 @@ spaced-most w from step n =
     omega arith
 
 -- ---- the line
-pub line-is : (key : List ℕ) (body : List ℕ) → (key ++ (equals ∷ [])) ++ (body ++ (newline ∷ [])) ≡ key ++ (equals ∷ (body ++ (newline ∷ [])))
+pub line-is : (key : List ℕ) (body : List ℕ) →
+    (key ++ (equals ∷ [])) ++ (body ++ (newline ∷ [])) ≡ key ++ (equals ∷ (body ++ (newline ∷ [])))
 line-is key body = append-assoc key (equals ∷ []) (body ++ (newline ∷ []))
 
 module _ (w : List ℕ) (b : ℕ) where
   abbrev pub argsAt : List ℕ
   argsAt = commaed (spaced w (b + 4) 1 (arityIn w (getD w (b + 2) 0)))
 
-  pub atomText-is : atomText w b ≡ keyBytes (getD w (b + 1) 0) ++ (digits (getD w (b + 2) 0) ++ (colon ∷ (argsAt ++ (newline ∷ []))))
+  pub atomText-is : atomText w b ≡ keyBytes (getD w (b + 1) 0) ++ (digits (getD w (b + 2) 0) ++
+      (colon ∷ (argsAt ++ (newline ∷ []))))
   unfolding atomText keyBytes line entryBytes entryAt
   atomText-is =
       let key = bytes (keyName (atomKey (getD w (b + 1) 0))) in

@@ -82,7 +82,8 @@ within-long zero n = omega arith
 within-long (suc f) n = go (ltb n 10) (within-long f (n / 10))
   where
     go : (c : Bool) → length (digitsWithin f (n / 10)) ≤ f →
-        length {A = ℕ} (elim c [ true ↦ (48 + n) ∷ [] | false ↦ digitsWithin f (n / 10) ++ ((48 + n % 10) ∷ []) ]) ≤ suc f
+        length {A = ℕ} (elim c [ true ↦ (48 + n) ∷ [] | false ↦ digitsWithin f (n / 10) ++ ((48 + n % 10) ∷ []) ]) ≤
+        suc f
     go true h = omega arith
     go false h = omega (arith, length-append (digitsWithin f (n / 10)) ((48 + n % 10) ∷ []))
 

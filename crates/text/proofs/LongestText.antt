@@ -23,7 +23,8 @@ use Rattle.text.proofs.TableAtoms.{frame}
 use Rattle.text.proofs.TableText.{schemaPiece, initPiece, goalPiece, write-is}
 
 -- ---- lines
-length-line : (key : List ℕ) (body : List ℕ) → length (key ++ (61 ∷ (body ++ (newline ∷ [])))) ≡ length key + (length body + 2)
+length-line : (key : List ℕ) (body : List ℕ) →
+    length (key ++ (61 ∷ (body ++ (newline ∷ [])))) ≡ length key + (length body + 2)
 length-line key body =
     let e = length-append key (61 ∷ (body ++ (newline ∷ []))) in
     let f = length-append body (newline ∷ []) in
@@ -89,7 +90,8 @@ schema-most s h =
     let parts : List ℕ = map (λ a. a .part) (s .atoms) in
     let last : List Line = partLine parts ∷ [] in
     let head = schemaLine-most (s .params) in
-    let whole = length-append (writeLine (schemaLine (s .params))) (concatMap writeLine (map said (s .atoms) ++ last)) in
+    let whole = length-append (writeLine (schemaLine (s .params)))
+    (concatMap writeLine (map said (s .atoms) ++ last)) in
     let behind = ap length (append-concatMap writeLine (map said (s .atoms)) last) in
     let both = length-append (concatMap writeLine (map said (s .atoms))) (concatMap writeLine last) in
     let end = length-append (writeLine (partLine parts)) [] in

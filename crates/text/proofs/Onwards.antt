@@ -2,7 +2,7 @@
 -- a number, then the others from 1 on, each behind its comma.
 use Prim.Native.Nat.{ℕ, zero, suc, _+_, _-_, _*_, _≤_, _<_}
 use mathlib.Core.Path.{_≡_, refl, sym, _∙_, ap}
-use mathlib.Core.List.{List, [], _∷_, _++_, map}
+use mathlib.Core.List.{List, [], _∷_, _++_, map, append-nil}
 use native.Mathlib.Omega.{arith}
 use lib.ListN.{length, getD, length-append}
 use Rattle.task.specs.Lists.{upTo, upFrom, concatMap}
@@ -43,13 +43,10 @@ abbrev pub listed : List ℕ → ℕ → ℕ → ℕ → List ℕ
 listed w from step k = comma ∷ digits (getD w (from + step * k) 0)
 
 commaed-onwards : (word : ℕ → ℕ) (k m : ℕ) →
-    commaed (map word (upFrom k (suc m))) ≡ digits (word k) ++ concatMap (λ j. comma ∷ digits (word j)) (upFrom (suc k) m)
+    commaed (map word (upFrom k (suc m))) ≡
+    digits (word k) ++ concatMap (λ j. comma ∷ digits (word j)) (upFrom (suc k) m)
 unfolding commaed upFrom concatMap
-commaed-onwards word k zero = sym (append-none (digits (word k)))
-  where
-    append-none : (xs : List ℕ) → xs ++ [] ≡ xs
-    append-none [] = refl
-    append-none (x ∷ xs) = ap {B = List ℕ} (λ (ys : List ℕ). x ∷ ys) (append-none xs)
+commaed-onwards word k zero = sym (append-nil (digits (word k)))
 commaed-onwards word k (suc m) =
     ap (λ (ds : List ℕ). digits (word k) ++ (comma ∷ ds)) (commaed-onwards word (suc k) m)
 
@@ -70,6 +67,8 @@ commaed-first w from step (suc m) h =
     ap (λ (i : ℕ). digits (getD w from 0) ++ concatMap (listed w from step) (upFrom 1 i)) q)
 
 pub commaed-long : (w : List ℕ) (from step n : ℕ) → 0 < n →
-    length (commaed (spaced w from step n)) ≡ length (digits (getD w from 0)) + length (onwards (listed w from step) 1 n)
+    length (commaed (spaced w from step n)) ≡
+    length (digits (getD w from 0)) + length (onwards (listed w from step) 1 n)
 commaed-long w from step n h =
-    ap length (commaed-first w from step n h) ∙ length-append (digits (getD w from 0)) (onwards (listed w from step) 1 n)
+    ap length (commaed-first w from step n h) ∙
+    length-append (digits (getD w from 0)) (onwards (listed w from step) 1 n)

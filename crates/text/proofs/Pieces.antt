@@ -1,4 +1,5 @@
--- Texts put together from pieces: the pieces of mapped lists, of lists of lists, and of numbers that count from elsewhere.
+-- Texts put together from pieces: the pieces of mapped lists, of lists of lists, and of numbers that count from
+-- elsewhere.
 use Prim.Native.Nat.{ℕ, zero, suc, _+_, _*_, _≤_}
 use mathlib.Core.Path.{_≡_, refl, _∙_, ap, ap₂}
 use mathlib.Core.List.{List, [], _∷_, _++_, map}

@@ -19,11 +19,13 @@ pub record Behind (w : List ℕ) (at n rest place : ℕ) (v : List ℕ) : Type 0
   pub stored : v ≡ put w (place + 1) tail
   pub small : rest < 100000
 
-pub behind-start : (w : List ℕ) (at n place : ℕ) → n < 100000 → place + 1 ≡ at + length (digits n) → Behind w at n n place w
+pub behind-start : (w : List ℕ) (at n place : ℕ) → n < 100000 → place + 1 ≡ at + length (digits n) →
+    Behind w at n n place w
 behind-start w at n place h e = record { tail = []; parts = append-nil (digits n); here = e; stored = refl; small = h }
 
 -- a digit before those that stand
-stored-before : (w v : List ℕ) (place x : ℕ) (xs : List ℕ) → v ≡ put w (place + 1) xs → set v place x ≡ put w place (x ∷ xs)
+stored-before : (w v : List ℕ) (place x : ℕ) (xs : List ℕ) → v ≡ put w (place + 1) xs →
+    set v place x ≡ put w place (x ∷ xs)
 stored-before w v place x xs e =
     let q : place + 1 ≡ suc place = omega arith in
     ap (λ (u : List ℕ). set u place x) e ∙
@@ -64,7 +66,8 @@ module _ {w v : List ℕ} {at n rest place : ℕ} (b : Behind w at n rest place 
         small = let s = b .small in omega arith;
       }
 
-  pub behind-end : rest < 10 → (end : ℕ) → end ≡ at + length (digits n) → Puts w at (digits n) (set v place (48 + rest)) end
+  pub behind-end : rest < 10 → (end : ℕ) → end ≡ at + length (digits n) →
+      Puts w at (digits n) (set v place (48 + rest)) end
   behind-end h end e =
       let x = 48 + rest in
       let q : place ≡ at = let i = b .here in let l = one-digit-long rest h in omega arith in

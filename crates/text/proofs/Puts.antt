@@ -24,7 +24,8 @@ pub puts-same : {w v : List ℕ} {at next : ℕ} {xs ys : List ℕ} → xs ≡ y
 puts-same {w} {v} {at} {next} e p = subst (λ (bs : List ℕ). Puts w at bs v next) e p
 
 -- a byte that is stored before others were
-pub put-before : (w : List ℕ) (i x from : ℕ) (xs : List ℕ) → i < from → set (put w from xs) i x ≡ put (set w i x) from xs
+pub put-before : (w : List ℕ) (i x from : ℕ) (xs : List ℕ) → i < from →
+    set (put w from xs) i x ≡ put (set w i x) from xs
 put-before w i x from [] h = refl
 put-before w i x from (y ∷ xs) h =
     put-before (set w from y) i x (suc from) xs (omega arith) ∙

@@ -1,5 +1,5 @@
--- The lines of a schema by the words of the table: how long they are, and that they are the lines of the schema that the
--- table's task has there.
+-- The lines of a schema by the words of the table: of what they are made, how long they are, and that the parts that
+-- they list lie in the table.
 use Prim.Native.Nat.{ℕ, _+_, _*_, _<_}
 use mathlib.Core.Path.{_≡_, refl, ap}
 use mathlib.Core.List.{List, [], _∷_, _++_}
@@ -21,7 +21,8 @@ module _ (w : List ℕ) (params b n : ℕ) where
   abbrev pub partsAt : List ℕ
   partsAt = commaed (spaced w (b + 3) 8 n)
 
-  pub schemaText-is : schemaText w params b n ≡ line "schema" (digits params) ++ (atomsText w b n ++ line "part" partsAt)
+  pub schemaText-is : schemaText w params b n ≡ line "schema" (digits params) ++ (atomsText w b n ++
+      line "part" partsAt)
   unfolding schemaText
   schemaText-is = refl
 

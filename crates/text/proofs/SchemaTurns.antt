@@ -1,5 +1,5 @@
--- The schemas of a table, one turn of a loop each: where a turn stands, that all it reads lies in the table, that what it
--- writes is the lines of its schema, and where the next one stands.
+-- The schemas of a table, one turn of a loop each: where a turn stands, that all it reads lies in the table, that
+-- what it writes is the lines of its schema, and where the next one stands.
 use Prim.Native.Nat.{ℕ, suc, _+_, _-_, _*_, _≤_, _<_}
 use mathlib.Core.Path.{_≡_, sym, _∙_, ap, ap₂, subst}
 use mathlib.Core.Bool.{true}

@@ -46,7 +46,8 @@ module _ (w : List ℕ) (table : isTable w ≡ true) where
   abbrev total : ℕ
   total = getD w 3 0 + getD w 4 0 + getD w 5 0
 
-  sized-inside : (i : ℕ) → i < total → (p : ℕ) (args : List ℕ) → p ≡ getD w (atomBase w i + 2) 0 → Sized (t .arities) p args →
+  sized-inside : (i : ℕ) → i < total → (p : ℕ) (args : List ℕ) → p ≡ getD w (atomBase w i + 2) 0 →
+      Sized (t .arities) p args →
       AtomInside w (atomBase w i)
   unfolding atomBase
   sized-inside i h p args e s =
@@ -87,14 +88,16 @@ module _ (w : List ℕ) (table : isTable w ≡ true) where
           let z : getD w 3 0 + k ≡ i = omega arith in
           let n = init-word w frame in
           let f = getD (t .init) k noFact in
-          let e = sym (ap (λ (j : ℕ). factIn w j .pred) (sym z) ∙ ap (λ g. g .pred) (init-at w frame k (omega arith))) in
+          let e = sym (ap (λ (j : ℕ). factIn w j .pred) (sym z) ∙
+          ap (λ g. g .pred) (init-at w frame k (omega arith))) in
           sized-inside i h (f .pred) (f .args) e (frame .sizes .init f (in-getD (t .init) k noFact (omega arith)))
       | no m ↦
           let k : ℕ = i - (getD w 3 0 + getD w 4 0) in
           let z : getD w 3 0 + getD w 4 0 + k ≡ i = omega arith in
           let n = goal-word w frame in
           let f = getD (t .goal) k noFact in
-          let e = sym (ap (λ (j : ℕ). factIn w j .pred) (sym z) ∙ ap (λ g. g .pred) (goal-at w frame k (omega arith))) in
+          let e = sym (ap (λ (j : ℕ). factIn w j .pred) (sym z) ∙
+          ap (λ g. g .pred) (goal-at w frame k (omega arith))) in
           sized-inside i h (f .pred) (f .args) e (frame .sizes .goal f (in-getD (t .goal) k noFact (omega arith)))
     ]
   ]
@@ -151,7 +154,8 @@ module _ (w : List ℕ) (table : isTable w ≡ true) where
           let a = start-suc w frame s l in
           let within = r .within in
           let next = atom-lies w frame (startOf t s + j) (omega arith) .before-next in
-          let stop : startOf t s + j < startOf t (suc s) = subst (λ (x : ℕ). startOf t s + j < startOf t (suc x)) named next in
+          let stop : startOf t s + j < startOf t (suc s) =
+          subst (λ (x : ℕ). startOf t s + j < startOf t (suc x)) named next in
           omega arith)
       | no k ↦ omega arith
     ]

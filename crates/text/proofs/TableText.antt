@@ -1,5 +1,5 @@
--- The text of a table's task by the words of the table: the head, the lines of each schema where its atoms begin, and the
--- lines of the initial and the goal atoms, which follow one another.
+-- The text of a table's task by the words of the table: the head, the lines of each schema where its atoms begin, and
+-- the lines of the initial and the goal atoms, which follow one another.
 use Prim.Native.Nat.{ℕ, zero, suc, _+_, _-_, _*_, _≤_, _<_}
 use mathlib.Core.Path.{_≡_, refl, sym, _∙_, ap, ap₂, subst}
 use mathlib.Core.Bool.{true}
@@ -35,7 +35,8 @@ goalPiece f = writeLine (goalLine (factEntry f))
 
 pub write-is : (t : Task) → write t ≡
     writeLine (taskLine 1) ++ (writeLine (objectsLine (t .objects)) ++ (writeLine (arityLine (t .arities)) ++
-    (concatMap schemaPiece (t .schemas) ++ (concatMap initPiece (t .init) ++ (concatMap goalPiece (t .goal) ++ writeLine (endLine 1))))))
+    (concatMap schemaPiece (t .schemas) ++
+    (concatMap initPiece (t .init) ++ (concatMap goalPiece (t .goal) ++ writeLine (endLine 1))))))
 unfolding write taskLines concatMap
 write-is t =
     let ss = concatMap schemaLines (t .schemas) in
@@ -44,15 +45,19 @@ write-is t =
     let end : List Line = endLine 1 ∷ [] in
     let goals : concatMap writeLine (gs ++ end) ≡ concatMap goalPiece (t .goal) ++ writeLine (endLine 1) =
     append-concatMap writeLine gs end ∙
-    ap₂ (λ (x y : List ℕ). x ++ y) (pieces-map writeLine (λ f. goalLine (factEntry f)) (t .goal)) (append-nil (writeLine (endLine 1))) in
-    let inits : concatMap writeLine (is ++ (gs ++ end)) ≡ concatMap initPiece (t .init) ++ (concatMap goalPiece (t .goal) ++ writeLine (endLine 1)) =
+    ap₂ (λ (x y : List ℕ). x ++ y) (pieces-map writeLine (λ f. goalLine (factEntry f)) (t .goal))
+    (append-nil (writeLine (endLine 1))) in
+    let inits : concatMap writeLine (is ++ (gs ++ end)) ≡
+    concatMap initPiece (t .init) ++ (concatMap goalPiece (t .goal) ++ writeLine (endLine 1)) =
     append-concatMap writeLine is (gs ++ end) ∙
     ap₂ (λ (x y : List ℕ). x ++ y) (pieces-map writeLine (λ f. initLine (factEntry f)) (t .init)) goals in
     let schemas : concatMap writeLine (ss ++ (is ++ (gs ++ end))) ≡
-    concatMap schemaPiece (t .schemas) ++ (concatMap initPiece (t .init) ++ (concatMap goalPiece (t .goal) ++ writeLine (endLine 1))) =
+    concatMap schemaPiece (t .schemas) ++ (concatMap initPiece (t .init) ++
+    (concatMap goalPiece (t .goal) ++ writeLine (endLine 1))) =
     append-concatMap writeLine ss (is ++ (gs ++ end)) ∙
     ap₂ (λ (x y : List ℕ). x ++ y) (pieces-pieces writeLine schemaLines (t .schemas)) inits in
-    ap (λ (x : List ℕ). writeLine (taskLine 1) ++ (writeLine (objectsLine (t .objects)) ++ (writeLine (arityLine (t .arities)) ++ x))) schemas
+    ap (λ (x : List ℕ). writeLine (taskLine 1) ++
+    (writeLine (objectsLine (t .objects)) ++ (writeLine (arityLine (t .arities)) ++ x))) schemas
 
 -- ---- lines of atoms
 -- a role of a schema's atom has one key, whether its line is said by the atom or by the table
@@ -90,7 +95,8 @@ module _ (w : List ℕ) where
       map-map (j ∷ js) = ap {B = List ℕ} (λ (xs : List ℕ). atomIn w j .part ∷ xs) (map-map js)
 
   -- atom i of a schema says its line as the table does
-  schema-line : (i : ℕ) → atomIn w i .role ≤ 2 → writeLine (atomLine (atomIn w i .role) (atomEntry (atomIn w i))) ≡ lineIn i
+  schema-line : (i : ℕ) → atomIn w i .role ≤ 2 →
+      writeLine (atomLine (atomIn w i .role) (atomEntry (atomIn w i))) ≡ lineIn i
   unfolding writeLine keyOf atomText entryAt atomIn atomEntry
   schema-line i h =
       ap (λ (k : Key). line (keyName k) (entryBytes (atomEntry (atomIn w i)))) (role-key (atomIn w i .role) h)
@@ -117,7 +123,8 @@ schemaLinesIn w s = schemaPiece (schemaIn w s)
 
 pub schemas-onwards : (w : List ℕ) → onwards (schemaLinesIn w) 0 (getD w 2 0) ≡ schemasText w
 unfolding schemasText taskOf
-schemas-onwards w = onwards-all (schemaLinesIn w) (getD w 2 0) ∙ sym (pieces-map schemaPiece (schemaIn w) (upTo (getD w 2 0)))
+schemas-onwards w =
+    onwards-all (schemaLinesIn w) (getD w 2 0) ∙ sym (pieces-map schemaPiece (schemaIn w) (upTo (getD w 2 0)))
 
 schema-said : (n : ℕ) → writeLine (schemaLine n) ≡ line "schema" (digits n)
 unfolding writeLine
@@ -153,7 +160,8 @@ lines-of w params i n roles =
 -- the lines of schema s: its atoms begin where those of the schemas before it end
 pub schema-lines : (w : List ℕ) → isTable w ≡ true → (s : ℕ) → s < getD w 2 0 →
     schemaLinesIn w s ≡
-    schemaText w (getD w (6 + getD w 1 0 + s) 0) (atomBase w (startOf (taskOf w) s)) (length (schemaAt (taskOf w) s .atoms))
+    schemaText w (getD w (6 + getD w 1 0 + s) 0) (atomBase w (startOf (taskOf w) s))
+    (length (schemaAt (taskOf w) s .atoms))
 unfolding schemaAt
 schema-lines w table s l =
     let t = taskOf w in
@@ -187,14 +195,16 @@ facts-lines w table =
     pieces-same (λ j. goalPiece (factIn w j)) (lineIn w) (upFrom (i + n) m) (λ j k.
     let (a, b) = upFrom-in (i + n) m j k in
     let e : i + n + (j - (i + n)) ≡ j = omega arith in
-    goal-line w j (subst (λ (x : ℕ). getD w (atomBase w x + 1) 0 ≡ 4) e (goal-role w table (j - (i + n)) (omega arith)))) in
+    goal-line w j (subst (λ (x : ℕ). getD w (atomBase w x + 1) 0 ≡ 4) e
+    (goal-role w table (j - (i + n)) (omega arith)))) in
     ap₂ (λ (x y : List ℕ). x ++ y) inits goals ∙
     (sym (append-concatMap (lineIn w) (upFrom i n) (upFrom (i + n) m)) ∙
     (ap (concatMap (lineIn w)) (sym (upFrom-append i n m)) ∙ atomsText-from w i (n + m)))
 
 -- ---- the whole text of a table
 head-is : (w bs : List ℕ) →
-    writeLine (taskLine 1) ++ (writeLine (objectsLine (getD w 0 0)) ++ (writeLine (arityLine (wordsAt w 6 (getD w 1 0))) ++ bs)) ≡
+    writeLine (taskLine 1) ++ (writeLine (objectsLine (getD w 0 0)) ++
+    (writeLine (arityLine (wordsAt w 6 (getD w 1 0))) ++ bs)) ≡
     headText w ++ bs
 unfolding headText writeLine
 head-is w bs =
@@ -202,7 +212,8 @@ head-is w bs =
     let objects = line "objects" (digits (getD w 0 0)) in
     let arities = line "arity" (commaed (spaced w 6 1 (getD w 1 0))) in
     ap (λ (ns : List ℕ). task ++ (objects ++ (line "arity" (commaed ns) ++ bs))) (sym (spaced-words w 6 (getD w 1 0))) ∙
-    (ap (λ (x : List ℕ). task ++ x) (sym (append-assoc objects arities bs)) ∙ sym (append-assoc task (objects ++ arities) bs))
+    (ap (λ (x : List ℕ). task ++ x) (sym (append-assoc objects arities bs)) ∙
+    sym (append-assoc task (objects ++ arities) bs))
 
 pub write-table : (w : List ℕ) → isTable w ≡ true → write (taskOf w) ≡
     headText w ++ (schemasText w ++
@@ -215,5 +226,6 @@ write-table w table =
     sym (append-assoc (concatMap initPiece (t .init)) (concatMap goalPiece (t .goal)) (writeLine (endLine 1))) ∙
     ap (λ (x : List ℕ). x ++ writeLine (endLine 1)) (facts-lines w table) in
     write-is t ∙
-    (head-is w (schemasText w ++ (concatMap initPiece (t .init) ++ (concatMap goalPiece (t .goal) ++ writeLine (endLine 1)))) ∙
+    (head-is w (schemasText w ++ (concatMap initPiece (t .init) ++
+    (concatMap goalPiece (t .goal) ++ writeLine (endLine 1)))) ∙
     ap (λ (x : List ℕ). headText w ++ (schemasText w ++ x)) rest)

@@ -1,5 +1,5 @@
--- The whole text of a table, as code writes it: its parts with their lengths, that what they read lies in the table, and
--- what `write` does with a table for which there is room, or none.
+-- The whole text of a table, as code writes it: its parts with their lengths, that what they read lies in the table,
+-- and what `write` does with a table for which there is room, or none.
 use Prim.Native.Nat.{ℕ, _+_, _*_, _≤_, _<_}
 use mathlib.Core.Path.{_≡_, refl, sym, _∙_, ap, subst}
 use mathlib.Core.Bool.{true, false}
@@ -61,7 +61,8 @@ module _ (w : List ℕ) (table : isTable w ≡ true) (b : ℕ) (n : ℕ) (e : b 
   unfolding atomBase
   write-by-words =
       write-table w table ∙
-      (ap (λ (x : List ℕ). headText w ++ (schemasText w ++ (atomsText w (atomBase w (getD w 3 0)) (getD w 4 0 + getD w 5 0) ++ x))) end-is ∙
+      (ap (λ (x : List ℕ). headText w ++
+      (schemasText w ++ (atomsText w (atomBase w (getD w 3 0)) (getD w 4 0 + getD w 5 0) ++ x))) end-is ∙
       (ap (λ (i : ℕ). headText w ++ (schemasText w ++ (atomsText w i (getD w 4 0 + getD w 5 0) ++ endBytes))) (sym e) ∙
       ap (λ (k : ℕ). headText w ++ (schemasText w ++ (atomsText w b k ++ endBytes))) (sym m)))
 

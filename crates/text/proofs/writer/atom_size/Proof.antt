@@ -1,5 +1,5 @@
--- `text::writer::atom_size` meets its contract: the sizes of key, predicate, colon, arguments and byte 10 add up. Each is
--- small, so no sum wraps.
+-- `text::writer::atom_size` meets its contract: the sizes of key, predicate, colon, arguments and byte 10 add up.
+-- Each is small, so no sum wraps.
 use native.Mathlib.Omega.{arith}
 use Prim.Native.Nat.{ℕ, _+_, _≤_}
 use mathlib.Core.Path.{_≡_, _∙_, ap}
@@ -95,8 +95,11 @@ list-size-requires : tie.Need-list-size-requires
 list-size-requires c κs =
     let at-arity = c .before .before .before in
     let l = args-most at-arity in
-    let e = arity-read at-arity in
-    (λ k h. args-inside (start at-arity .args .table .now) (start at-arity .args .base) (start at-arity .pre) k (omega arith), omega arith)
+    let e = arity-read at-arity in (
+      λ k h. args-inside (start at-arity .args .table .now) (start at-arity .args .base) (start at-arity .pre) k
+          (omega arith),
+      omega arith,
+    )
 
 add-result-3 : tie.Need-add-result-3
 add-result-3 c =

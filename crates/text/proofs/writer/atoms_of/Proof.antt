@@ -1,5 +1,5 @@
--- `text::writer::atoms_of` meets its contract. The invariant of its loop: the first n atoms are the schema's. The measure
--- is the number of atoms left, less n.
+-- `text::writer::atoms_of` meets its contract. The invariant of its loop: the first n atoms are the schema's. The
+-- measure is the number of atoms left, less n.
 use native.Mathlib.Omega.{arith}
 use Prim.Native.Nat.{ℕ, _+_, _-_, _*_, _≤_, _<_}
 use mathlib.Core.Path.{_≡_, sym, _∙_}
@@ -52,7 +52,11 @@ loop-less : tie.Need-loop-less Inv-loop μ-loop
 loop-less c = omega arith
 
 loop-again : tie.Need-loop-again Inv-loop μ-loop
-loop-again c = (omega arith, below-more _ _ (c .before .before .before .before .loop .inv .1) (sym (c .before .wide .ensures) ∙ c .if1 .left))
+loop-again c = (
+  omega arith,
+  below-more _ _ (c .before .before .before .before .loop .inv .1)
+      (sym (c .before .wide .ensures) ∙ c .if1 .left),
+)
 
 returns-2 : tie.Need-returns-2 Inv-loop μ-loop
 returns-2 c =

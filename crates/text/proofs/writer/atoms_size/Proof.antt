@@ -11,7 +11,8 @@ use Rattle.text.proofs.writer.atoms_size.Statement.{statement}
 use Rattle.text.proofs.writer.atoms_size.Tie as tie
 
 abbrev Inv-loop : tie.InvT-loop
-Inv-loop table base n size₀ k₀ size k = (k ≤ n) × (size + length (onwards (atomLine table base) k n) ≡ length (atomsText table base n))
+Inv-loop table base n size₀ k₀ size k =
+    (k ≤ n) × (size + length (onwards (atomLine table base) k n) ≡ length (atomsText table base n))
 
 abbrev μ-loop : tie.MeasureT-loop
 μ-loop table base n size₀ k₀ size k = n - k
@@ -23,7 +24,8 @@ loop-holds c =
     (omega arith, omega arith)
 
 atom-inside : (c : tie.In-loop Inv-loop μ-loop) →
-    AtomInside (c .before .before .before .args .table .now) (c .before .before .before .args .base + 8 * c .before .loop .k)
+    AtomInside (c .before .before .before .args .table .now)
+    (c .before .before .before .args .base + 8 * c .before .loop .k)
 atom-inside c = c .before .before .before .pre .0 (c .before .loop .k) (c .loop-test .taken)
 
 longer : (c : tie.In-loop Inv-loop μ-loop) →

@@ -2,6 +2,7 @@
 use native.Mathlib.Omega.{arith}
 use Prim.Native.Nat.{ℕ, _+_, _≤_}
 use mathlib.Core.Path.{_≡_, _∙_, ap}
+use mathlib.Core.List.{List}
 use lib.ListN.{length}
 use Rattle.text.specs.Lines.{commaed}
 use Rattle.text.specs.Code.{spaced, headText}
@@ -29,22 +30,30 @@ add-result c = search needs
 
 shared-slice-read-number-size : tie.Need-shared-slice-read-number-size
 shared-slice-read-number-size c =
-    let l = head-inside (c .before .before .before .before .before .before .args .table .now) (c .before .before .before .before .before .before .pre) in
+    let start = c .before .before .before .before .before .before in
+    let l = head-inside (start .args .table .now) (start .pre) in
     omega arith
 
 number-size-requires : tie.Need-number-size-requires
 number-size-requires c κs = search needs
 
 -- the sizes found make the whole, which is small
+abbrev listed : tie.After-number-size → tie.After-list-size
+listed c = c .before .before .before .before
+
+abbrev words : tie.After-list-size → List ℕ
+words c = c .before .before .before .args .table .now
+
 sizes : (c : tie.After-number-size) →
-    (length (headText (c .before .before .before .before .before .before .before .args .table .now)) ≡ 23 + c .number-size .result + c .before .before .before .before .list-size .result) ×
-    (length (headText (c .before .before .before .before .before .before .before .args .table .now)) ≤ 68834)
+    (length (headText (words (listed c))) ≡ 23 + c .number-size .result + listed c .list-size .result) ×
+    (length (headText (words (listed c))) ≤ 68834)
 sizes c =
-    let w = c .before .before .before .before .before .before .before .args .table .now in
+    let w = words (listed c) in
     let l = length-headText w in
     let n = c .number-size .ensures in
-    let a = c .before .before .before .before .list-size .ensures ∙ ap (λ (n : ℕ). length (commaed (spaced w 6 1 n))) (c .before .before .before .before .before .count .ensures) in
-    (omega arith, head-most w (c .before .before .before .before .before .before .before .pre))
+    let predicates = listed c .before .count .ensures in
+    let a = listed c .list-size .ensures ∙ ap (λ (n : ℕ). length (commaed (spaced w 6 1 n))) predicates in
+    (omega arith, head-most w (listed c .before .before .before .pre))
 
 add-result-2 : tie.Need-add-result-2
 add-result-2 c = let l = sizes c in omega arith

@@ -1,4 +1,5 @@
--- `text::writer::key_size` meets its contract: the keys of a schema's atoms have three letters, those of the others four.
+-- `text::writer::key_size` meets its contract: the keys of a schema's atoms have three letters, those of the others
+-- four.
 use mathlib.Core.Path.{sym}
 use Rattle.text.proofs.AtomLines.{key-short, key-long}
 use Rattle.text.proofs.writer.key_size.Statement.{statement}

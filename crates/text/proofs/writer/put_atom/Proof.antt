@@ -1,5 +1,5 @@
--- `text::writer::put_atom` meets its contract: key, predicate, colon, arguments and byte 10 are put one behind another. A
--- lemma for each says what is still to come behind it.
+-- `text::writer::put_atom` meets its contract: key, predicate, colon, arguments and byte 10 are put one behind
+-- another. A lemma for each says what is still to come behind it.
 use native.Mathlib.Omega.{arith}
 use Prim.Native.Nat.{ℕ, _+_, _≤_}
 use mathlib.Core.Path.{_≡_, sym, _∙_, ap, subst}
@@ -30,7 +30,8 @@ Left c left text next =
     (key c ++ (predicate c ++ (colon ∷ (arguments c ++ (newline ∷ []))))) left text next
 
 room : (c : tie.Start) →
-    c .args .at + length (key c ++ (predicate c ++ (colon ∷ (arguments c ++ (newline ∷ []))))) ≤ length (c .args .text .now)
+    c .args .at + length (key c ++ (predicate c ++ (colon ∷ (arguments c ++ (newline ∷ []))))) ≤
+    length (c .args .text .now)
 room c =
     subst (λ (bs : List ℕ). c .args .at + length bs ≤ length (c .args .text .now))
     (atomText-is (c .args .table .now) (c .args .base)) (c .pre .1)
@@ -81,7 +82,8 @@ behind-arguments c =
     let w = start at-arity .args .table .now in
     let b = start at-arity .args .base in
     going-on (behind-colon (begun c))
-    (puts-same (ap (λ (n : ℕ). commaed (spaced w (b + 4) 1 n)) (arity-read at-arity)) (c .before .before .put-list .ensures))
+    (puts-same (ap (λ (n : ℕ). commaed (spaced w (b + 4) 1 n)) (arity-read at-arity))
+    (c .before .before .put-list .ensures))
 
 add-predicate : tie.Need-add-predicate
 add-predicate c = search needs
@@ -119,7 +121,8 @@ shared-slice-read-put-key c = search needs
 put-key-requires : tie.Need-put-key-requires
 put-key-requires c κs =
     let start = c .before .before .before .before .before .before .before .before in
-    first-room (start .args .at) (key start) (predicate start ++ (colon ∷ (arguments start ++ (newline ∷ [])))) (room start)
+    first-room (start .args .at) (key start) (predicate start ++ (colon ∷ (arguments start ++ (newline ∷ []))))
+    (room start)
 
 put-number-requires : tie.Need-put-number-requires
 put-number-requires c κs =
@@ -127,7 +130,8 @@ put-number-requires c κs =
     going-room (predicate start) (colon ∷ (arguments start ++ (newline ∷ []))) (behind-key (c .before))
 
 put-byte-requires : tie.Need-put-byte-requires
-put-byte-requires c κs = byte-room colon (arguments (start (arity (keyed (c .before)))) ++ (newline ∷ [])) (behind-predicate (c .before))
+put-byte-requires c κs =
+    byte-room colon (arguments (start (arity (keyed (c .before)))) ++ (newline ∷ [])) (behind-predicate (c .before))
 
 add-put-list : tie.Need-add-put-list
 add-put-list c = search needs

@@ -1,5 +1,5 @@
--- `text::writer::put_atoms` meets its contract. The invariant of its loop: what is still to come is the lines from atom k
--- on. The measure is n less k.
+-- `text::writer::put_atoms` meets its contract. The invariant of its loop: what is still to come is the lines from
+-- atom k on. The measure is n less k.
 use native.Mathlib.Omega.{arith}
 use Prim.Native.Nat.{_+_, _-_, _*_, _≤_}
 use mathlib.Core.Path.{sym}
@@ -12,15 +12,19 @@ use Rattle.text.proofs.writer.put_atoms.Statement.{statement}
 use Rattle.text.proofs.writer.put_atoms.Tie as tie
 
 abbrev Inv-loop : tie.InvT-loop
-Inv-loop text₀ at table base n next₀ k₀ text next k = (k ≤ n) × Going text₀ next₀ (atomsText table base n) (onwards (atomLine table base) k n) text next
+Inv-loop text₀ at table base n next₀ k₀ text next k =
+    (k ≤ n) × Going text₀ next₀ (atomsText table base n) (onwards (atomLine table base) k n) text next
 
 abbrev μ-loop : tie.MeasureT-loop
 μ-loop text₀ at table base n next₀ k₀ text next k = n - k
 
 loop-holds : tie.Need-loop-holds Inv-loop μ-loop
 loop-holds c =
-    let args = c .before .before .args in
-    (omega arith, going-left (sym (atoms-onwards (args .table .now) (args .base) (args .n))) (going-start (c .before .before .pre .1)))
+    let args = c .before .before .args in (
+      omega arith,
+      going-left (sym (atoms-onwards (args .table .now) (args .base) (args .n)))
+          (going-start (c .before .before .pre .1)),
+    )
 
 -- the function's entry, from the loop's head
 abbrev start : tie.At-loop Inv-loop μ-loop → tie.Start Inv-loop μ-loop
@@ -40,7 +44,8 @@ to-come : (c : tie.In-loop Inv-loop μ-loop) →
     (lines k ++ onwards lines (k + 1) (args .n)) (c .before .loop .text) (c .before .loop .next)
 to-come c =
     let args = start (c .before) .args in
-    going-left (onwards-next (atomLine (args .table .now) (args .base)) (c .before .loop .k) (args .n) (c .loop-test .taken))
+    going-left (onwards-next (atomLine (args .table .now) (args .base)) (c .before .loop .k) (args .n)
+    (c .loop-test .taken))
     (c .before .loop .inv .1)
 
 mul-put-atom : tie.Need-mul-put-atom Inv-loop μ-loop
@@ -65,7 +70,8 @@ loop-less : tie.Need-loop-less Inv-loop μ-loop
 loop-less c = omega arith
 
 loop-again : tie.Need-loop-again Inv-loop μ-loop
-loop-again c = (omega arith, going-on (to-come (c .before .before .before .before)) (c .before .before .put-atom .ensures))
+loop-again c =
+    (omega arith, going-on (to-come (c .before .before .before .before)) (c .before .before .put-atom .ensures))
 
 same-length : tie.Need-same-length Inv-loop μ-loop
 same-length c = going-long (c .before .loop .inv .1)

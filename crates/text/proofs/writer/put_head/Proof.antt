@@ -1,5 +1,5 @@
--- `text::writer::put_head` meets its contract: its three lines are put one behind another. A lemma for each says what is
--- still to come behind it.
+-- `text::writer::put_head` meets its contract: its three lines are put one behind another. A lemma for each says what
+-- is still to come behind it.
 use native.Mathlib.Omega.{arith}
 use Prim.Native.Nat.{ℕ, _+_}
 use mathlib.Core.Path.{_≡_, ap}
@@ -42,12 +42,18 @@ behind-objects : (c : tie.After-slice-known3) →
     Left (start (opened c)) (arities (start (opened c)))
     (c .before .before .put-number-line .last .0) (c .before .before .put-number-line .result)
 unfolding line bytes
-behind-objects c = going-on {ys = objects (start (opened c))} (behind-task (opened c)) (c .before .before .put-number-line .ensures)
+behind-objects c =
+    going-on {ys = objects (start (opened c))} (behind-task (opened c)) (c .before .before .put-number-line .ensures)
 
 -- the predicates were counted first
+abbrev counted : tie.After-slice-known2 → tie.After-count
+counted c = c .before .before .before .before .before
+
 predicates-read : (c : tie.After-slice-known3) →
-    commaed (spaced (start (opened c) .args .table .now) 6 1 (c .before .before .before .before .before .before .before .before .before .before .before .count .result)) ≡ arityBytes (start (opened c) .args .table .now)
-predicates-read c = ap (λ (n : ℕ). commaed (spaced (start (opened c) .args .table .now) 6 1 n)) (c .before .before .before .before .before .before .before .before .before .before .before .count .ensures)
+    let w = start (opened c) .args .table .now in
+    commaed (spaced w 6 1 (counted (opened c) .count .result)) ≡ arityBytes w
+predicates-read c =
+    ap (λ (n : ℕ). commaed (spaced (start (opened c) .args .table .now) 6 1 n)) (counted (opened c) .count .ensures)
 
 count-requires : tie.Need-count-requires
 count-requires c κs = search needs
@@ -66,7 +72,8 @@ slice-aggregate-put-number-line c = search needs
 
 shared-slice-read-put-number-line : tie.Need-shared-slice-read-put-number-line
 shared-slice-read-put-number-line c =
-    let l = head-inside (c .before .before .before .before .before .before .before .before .before .before .before .args .table .now) (c .before .before .before .before .before .before .before .before .before .before .before .pre .0) in
+    let put = c .before .before .before in
+    let l = head-inside (start put .args .table .now) (start put .pre .0) in
     omega arith
 
 put-number-line-requires : tie.Need-put-number-line-requires
@@ -83,7 +90,7 @@ unfolding line bytes
 put-list-line-requires c κs =
     let put = c .before .before in
     let start = start (opened put) in
-    let e = c .before .before .before .before .before .before .before .before .before .before .before .before .before .count .ensures in
+    let e = counted (opened put) .count .ensures in
     let r = last-room (behind-objects put) in
     let l = ap (λ (bs : List ℕ). length (bs ++ (newline ∷ []))) (predicates-read put) in
     (λ k h. arities-inside (start .args .table .now) (start .pre .0) k (omega arith), omega arith)
@@ -96,7 +103,8 @@ unfolding line bytes
 returns c =
     let put = c .before .before .before .before .before in
     going-last (behind-objects put)
-    (puts-same (ap (λ (bs : List ℕ). 97 ∷ 114 ∷ 105 ∷ 116 ∷ 121 ∷ 61 ∷ (bs ++ (newline ∷ []))) (predicates-read put)) (c .before .before .put-list-line .ensures))
+    (puts-same (ap (λ (bs : List ℕ). 97 ∷ 114 ∷ 105 ∷ 116 ∷ 121 ∷ 61 ∷ (bs ++ (newline ∷ []))) (predicates-read put))
+    (c .before .before .put-list-line .ensures))
 
 pub put-head-spec : {M : Type 1} → statement M
 put-head-spec =

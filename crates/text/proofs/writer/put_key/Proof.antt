@@ -1,5 +1,6 @@
 -- `text::writer::put_key` meets its contract: an arm for each role, whose bytes are the role's key.
 use native.Mathlib.Omega.{arith}
+use Prim.Native.Nat.{ℕ}
 use mathlib.Core.Path.{_≡_, sym, ap}
 use lib.ListN.{length}
 use Rattle.text.specs.Code.{keyBytes}
@@ -11,7 +12,13 @@ use Rattle.text.proofs.writer.put_key.Tie as tie
 
 -- the arm of every other role
 goal-key : (c : tie.At-match-rest) → keyBytes (c .before .before .args .role) ≡ keyBytes 4
-goal-key c = key-other (c .before .before .args .role) (omega (arith, c .match .rest .1, c .match .rest .0 .1, c .match .rest .0 .0 .1, c .match .rest .0 .0 .0 .1))
+goal-key c =
+    let role = c .before .before .args .role in
+    let not-three = c .match .rest .1 in
+    let not-two = c .match .rest .0 .1 in
+    let not-one = c .match .rest .0 .0 .1 in
+    let not-zero = c .match .rest .0 .0 .0 .1 in
+    key-other role (omega arith)
 
 slice-aggregate-put-bytes : tie.Need-slice-aggregate-put-bytes
 slice-aggregate-put-bytes c = search needs
@@ -19,8 +26,7 @@ slice-aggregate-put-bytes c = search needs
 put-bytes-requires : tie.Need-put-bytes-requires
 unfolding keyBytes
 put-bytes-requires c κs =
-    let e : keyBytes (c .before .before .before .before .args .role) ≡ keyBytes 0 = ap keyBytes (c .before .before .match .keys1) in
-    let l = ap length e in
+    let l = ap (λ (r : ℕ). length (keyBytes r)) (c .before .before .match .keys1) in
     let p = c .before .before .before .before .pre in
     omega arith
 
@@ -30,8 +36,7 @@ slice-aggregate-put-bytes-2 c = search needs
 put-bytes-requires-2 : tie.Need-put-bytes-requires-2
 unfolding keyBytes
 put-bytes-requires-2 c κs =
-    let e : keyBytes (c .before .before .before .before .args .role) ≡ keyBytes 1 = ap keyBytes (c .before .before .match .keys2) in
-    let l = ap length e in
+    let l = ap (λ (r : ℕ). length (keyBytes r)) (c .before .before .match .keys2) in
     let p = c .before .before .before .before .pre in
     omega arith
 
@@ -41,8 +46,7 @@ slice-aggregate-put-bytes-3 c = search needs
 put-bytes-requires-3 : tie.Need-put-bytes-requires-3
 unfolding keyBytes
 put-bytes-requires-3 c κs =
-    let e : keyBytes (c .before .before .before .before .args .role) ≡ keyBytes 2 = ap keyBytes (c .before .before .match .keys3) in
-    let l = ap length e in
+    let l = ap (λ (r : ℕ). length (keyBytes r)) (c .before .before .match .keys3) in
     let p = c .before .before .before .before .pre in
     omega arith
 
@@ -52,8 +56,7 @@ slice-aggregate-put-bytes-4 c = search needs
 put-bytes-requires-4 : tie.Need-put-bytes-requires-4
 unfolding keyBytes
 put-bytes-requires-4 c κs =
-    let e : keyBytes (c .before .before .before .before .args .role) ≡ keyBytes 3 = ap keyBytes (c .before .before .match .keys4) in
-    let l = ap length e in
+    let l = ap (λ (r : ℕ). length (keyBytes r)) (c .before .before .match .keys4) in
     let p = c .before .before .before .before .pre in
     omega arith
 
@@ -72,35 +75,44 @@ same-length c = search needs
 
 returns : tie.Need-returns
 unfolding keyBytes
-returns c = puts-same (sym (ap keyBytes (c .before .before .before .before .before .match .keys1))) (c .before .before .put-bytes .ensures)
+returns c =
+    puts-same (sym (ap keyBytes (c .before .before .before .before .before .match .keys1)))
+    (c .before .before .put-bytes .ensures)
 
 same-length-2 : tie.Need-same-length-2
 same-length-2 c = search needs
 
 returns-2 : tie.Need-returns-2
 unfolding keyBytes
-returns-2 c = puts-same (sym (ap keyBytes (c .before .before .before .before .before .match .keys2))) (c .before .before .put-bytes2 .ensures)
+returns-2 c =
+    puts-same (sym (ap keyBytes (c .before .before .before .before .before .match .keys2)))
+    (c .before .before .put-bytes2 .ensures)
 
 same-length-3 : tie.Need-same-length-3
 same-length-3 c = search needs
 
 returns-3 : tie.Need-returns-3
 unfolding keyBytes
-returns-3 c = puts-same (sym (ap keyBytes (c .before .before .before .before .before .match .keys3))) (c .before .before .put-bytes3 .ensures)
+returns-3 c =
+    puts-same (sym (ap keyBytes (c .before .before .before .before .before .match .keys3)))
+    (c .before .before .put-bytes3 .ensures)
 
 same-length-4 : tie.Need-same-length-4
 same-length-4 c = search needs
 
 returns-4 : tie.Need-returns-4
 unfolding keyBytes
-returns-4 c = puts-same (sym (ap keyBytes (c .before .before .before .before .before .match .keys4))) (c .before .before .put-bytes4 .ensures)
+returns-4 c =
+    puts-same (sym (ap keyBytes (c .before .before .before .before .before .match .keys4)))
+    (c .before .before .put-bytes4 .ensures)
 
 same-length-5 : tie.Need-same-length-5
 same-length-5 c = search needs
 
 returns-5 : tie.Need-returns-5
 unfolding keyBytes
-returns-5 c = puts-same (sym (goal-key (c .before .before .before .before .before))) (c .before .before .put-bytes5 .ensures)
+returns-5 c =
+    puts-same (sym (goal-key (c .before .before .before .before .before))) (c .before .before .put-bytes5 .ensures)
 
 pub put-key-spec : {M : Type 1} → statement M
 put-key-spec =

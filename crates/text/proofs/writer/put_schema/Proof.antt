@@ -28,7 +28,8 @@ Left c left text next =
 
 begin : (c : tie.Start) → Left c (schemaLine c ++ (atoms c ++ partLine c)) (c .args .text .now) (c .args .at)
 begin c =
-    going-left (schemaText-is (c .args .table .now) (c .args .params) (c .args .base) (c .args .n)) (going-start (c .pre .1 .1))
+    going-left (schemaText-is (c .args .table .now) (c .args .params) (c .args .base) (c .args .n))
+    (going-start (c .pre .1 .1))
 
 abbrev start : tie.After-slice-known2 → tie.Start
 start c = c .before .before .before .before .before .before .before
@@ -80,7 +81,8 @@ same-length c = search needs
 
 returns : tie.Need-returns
 unfolding line bytes
-returns c = going-last (behind-atoms (c .before .before .before .before .before)) (c .before .before .put-list-line .ensures)
+returns c =
+    going-last (behind-atoms (c .before .before .before .before .before)) (c .before .before .put-list-line .ensures)
 
 pub put-schema-spec : {M : Type 1} → statement M
 put-schema-spec =

@@ -1,5 +1,5 @@
--- `text::writer::put_schemas` meets its contract. The invariant of its loop: a turn stands at schema s, and what is still
--- to come is the lines from schema s on. The measure is the number of schemas less s.
+-- `text::writer::put_schemas` meets its contract. The invariant of its loop: a turn stands at schema s, and what is
+-- still to come is the lines from schema s on. The measure is the number of schemas less s.
 use native.Mathlib.Omega.{arith}
 use Prim.Native.Nat.{ℕ, _+_, _-_, _*_, _≤_, _<_}
 use mathlib.Core.Path.{_≡_, sym, _∙_, ap}
@@ -35,7 +35,8 @@ loop-holds c =
     let e = ap (onwards (schemaLinesIn (args .table .now)) 0) (start .pre .1 .0) in (
       omega arith,
       (
-        turn-first (start .pre .0) (args .schemas) (args .counts) (args .atoms) (start .pre .1 .0) (start .pre .1 .1 .0) (start .pre .1 .1 .1 .0),
+        turn-first (start .pre .0) (args .schemas) (args .counts) (args .atoms) (start .pre .1 .0)
+            (start .pre .1 .1 .0) (start .pre .1 .1 .1 .0),
         going-left (sym (e ∙ lines)) (going-start (start .pre .1 .1 .1 .1)),
       ),
     )
@@ -58,7 +59,8 @@ lines-are : (c : tie.After-atoms-of Inv-loop μ-loop) →
     let args = start (c .before .before) .args in
     let at-loop = c .before .before .loop in
     schemaLinesIn (args .table .now) (at-loop .s) ≡
-    schemaText (args .table .now) (getD (args .table .now) (args .counts + at-loop .s) 0) (at-loop .base) (c .atoms-of .result)
+    schemaText (args .table .now) (getD (args .table .now) (args .counts + at-loop .s) 0) (at-loop .base)
+    (c .atoms-of .result)
 lines-are c =
     turn-lines (start (c .before .before) .pre .0) (c .before .before .loop .inv .1 .0) (c .before .loop-test .taken)
     (c .atoms-of .ensures)
@@ -76,7 +78,8 @@ to-come : (c : tie.After-atoms-of Inv-loop μ-loop) →
     let args = start (c .before .before) .args in
     let at-loop = c .before .before .loop in
     Going (args .text .now) (args .at) (schemasText (args .table .now))
-    (schemaText (args .table .now) (getD (args .table .now) (args .counts + at-loop .s) 0) (at-loop .base) (c .atoms-of .result) ++
+    (schemaText (args .table .now) (getD (args .table .now) (args .counts + at-loop .s) 0) (at-loop .base)
+    (c .atoms-of .result) ++
     onwards (schemaLinesIn (args .table .now)) (at-loop .s + 1) (args .schemas)) (at-loop .text) (at-loop .next)
 to-come c =
     let args = start (c .before .before) .args in
@@ -102,11 +105,13 @@ put-schema-requires c κs =
     let at-loop = counted .before .before in
     let args = start at-loop .args in
     let l = run-inside counted in (
-      atoms-inside (start at-loop .pre .0) (at-loop .loop .inv .1 .0) (counted .before .loop-test .taken) (counted .atoms-of .ensures),
+      atoms-inside (start at-loop .pre .0) (at-loop .loop .inv .1 .0) (counted .before .loop-test .taken)
+          (counted .atoms-of .ensures),
       (
         omega arith,
         going-room
-            (schemaText (args .table .now) (getD (args .table .now) (args .counts + at-loop .loop .s) 0) (at-loop .loop .base) (counted .atoms-of .result))
+            (schemaText (args .table .now) (getD (args .table .now) (args .counts + at-loop .loop .s) 0)
+            (at-loop .loop .base) (counted .atoms-of .result))
             (onwards (schemaLinesIn (args .table .now)) (at-loop .loop .s + 1) (args .schemas)) (to-come counted),
       ),
     )
@@ -132,7 +137,8 @@ loop-again c =
     let at-loop = counted .before .before in (
       omega arith,
       (
-        turn-next (start at-loop .pre .0) (at-loop .loop .inv .1 .0) (counted .before .loop-test .taken) (counted .atoms-of .ensures),
+        turn-next (start at-loop .pre .0) (at-loop .loop .inv .1 .0) (counted .before .loop-test .taken)
+            (counted .atoms-of .ensures),
         going-on (to-come counted) (c .before .before .put-schema .ensures),
       ),
     )

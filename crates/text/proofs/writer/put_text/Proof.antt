@@ -1,5 +1,5 @@
--- `text::writer::put_text` meets its contract: head, schemas, initial and goal atoms and the last line are put one behind
--- another. A lemma for each says what is still to come behind it.
+-- `text::writer::put_text` meets its contract: head, schemas, initial and goal atoms and the last line are put one
+-- behind another. A lemma for each says what is still to come behind it.
 use native.Mathlib.Omega.{arith}
 use Prim.Native.Nat.{ℕ, _+_, _*_, _≤_}
 use mathlib.Core.Path.{_≡_}
@@ -57,14 +57,16 @@ begin : (c : tie.After-count5) →
     (start c .args .text .now) 0
 begin c =
     let r = start c .pre .1 in
-    going-left (write-by-words (words c) (start c .pre .0) (base c) (facts c) (base-is c) (facts-are c)) (going-start (omega arith))
+    going-left (write-by-words (words c) (start c .pre .0) (base c) (facts c) (base-is c) (facts-are c))
+    (going-start (omega arith))
 
 abbrev counted : tie.After-slice-known2 → tie.After-count5
 counted c = c .before .before .before .before
 
 behind-head : (c : tie.After-slice-known2) →
     Left (counted c)
-    (schemasText (words (counted c)) ++ (atomsText (words (counted c)) (base (counted c)) (facts (counted c)) ++ endBytes))
+    (schemasText (words (counted c)) ++
+    (atomsText (words (counted c)) (base (counted c)) (facts (counted c)) ++ endBytes))
     (c .before .before .put-head .last .0) (c .before .before .put-head .result)
 behind-head c = going-on (begin (counted c)) (c .before .before .put-head .ensures)
 
@@ -81,7 +83,8 @@ abbrev listed : tie.After-slice-known4 → tie.After-slice-known3
 listed c = c .before .before .before .before
 
 behind-facts : (c : tie.After-slice-known4) →
-    Left (counted (headed (listed c))) endBytes (c .before .before .put-atoms .last .0) (c .before .before .put-atoms .result)
+    Left (counted (headed (listed c))) endBytes (c .before .before .put-atoms .last .0)
+    (c .before .before .put-atoms .result)
 behind-facts c = going-on (behind-schemas (listed c)) (c .before .before .put-atoms .ensures)
 
 count-requires : tie.Need-count-requires
@@ -111,7 +114,8 @@ add-facts c = let l = inside c in omega arith
 put-head-requires : tie.Need-put-head-requires
 put-head-requires c κs =
     let at = c .before in
-    let r = going-room (headText (words at)) (schemasText (words at) ++ (atomsText (words at) (base at) (facts at) ++ endBytes)) (begin at) in
+    let r = going-room (headText (words at)) (schemasText (words at) ++
+    (atomsText (words at) (base at) (facts at) ++ endBytes)) (begin at) in
     (start at .pre .0, omega arith)
 
 put-schemas-requires : tie.Need-put-schemas-requires
@@ -125,7 +129,8 @@ put-schemas-requires c κs =
           omega arith,
           (
             at .before .before .count3 .ensures,
-            going-room (schemasText (words at)) (atomsText (words at) (base at) (facts at) ++ endBytes) (behind-head (c .before)),
+            going-room (schemasText (words at)) (atomsText (words at) (base at) (facts at) ++ endBytes)
+                (behind-head (c .before)),
           ),
         ),
       ),
@@ -157,7 +162,8 @@ same-length : tie.Need-same-length
 same-length c = search needs
 
 returns : tie.Need-returns
-returns c = going-last (behind-facts (c .before .before .before .before .before)) (c .before .before .put-bytes .ensures)
+returns c =
+    going-last (behind-facts (c .before .before .before .before .before)) (c .before .before .put-bytes .ensures)
 
 pub put-text-spec : {M : Type 1} → statement M
 put-text-spec =

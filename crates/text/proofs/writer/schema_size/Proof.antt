@@ -25,8 +25,11 @@ add-list-size c = omega arith
 list-size-requires : tie.Need-list-size-requires
 list-size-requires c κs =
     let start = c .before .before in
-    let l = whole start in
-    (parts-inside (start .args .table .now) (start .args .params) (start .args .base) (start .args .n) (start .pre .0), omega arith)
+    let l = whole start in (
+      parts-inside (start .args .table .now) (start .args .params) (start .args .base) (start .args .n)
+          (start .pre .0),
+      omega arith,
+    )
 
 number-size-requires : tie.Need-number-size-requires
 number-size-requires c κs = search needs

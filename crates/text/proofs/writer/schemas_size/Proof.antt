@@ -1,5 +1,5 @@
--- `text::writer::schemas_size` meets its contract. The invariant of its loop: a turn stands at schema s, and the size so
--- far and that of the lines from schema s on make the whole. The measure is the number of schemas less s.
+-- `text::writer::schemas_size` meets its contract. The invariant of its loop: a turn stands at schema s, and the size
+-- so far and that of the lines from schema s on make the whole. The measure is the number of schemas less s.
 use native.Mathlib.Omega.{arith}
 use Prim.Native.Nat.{ℕ, _+_, _-_, _*_, _≤_, _<_}
 use mathlib.Core.Path.{_≡_, ap}
@@ -33,7 +33,8 @@ loop-holds c =
     let e = ap (λ (n : ℕ). length (onwards (schemaLinesIn (args .table .now)) 0 n)) (start .pre .1 .0) in (
       omega arith,
       (
-        turn-first (start .pre .0) (args .schemas) (args .counts) (args .atoms) (start .pre .1 .0) (start .pre .1 .1 .0) (start .pre .1 .1 .1 .0),
+        turn-first (start .pre .0) (args .schemas) (args .counts) (args .atoms) (start .pre .1 .0)
+            (start .pre .1 .1 .0) (start .pre .1 .1 .1 .0),
         omega arith,
       ),
     )
@@ -56,7 +57,8 @@ lines-are : (c : tie.After-atoms-of Inv-loop μ-loop) →
     let args = start (c .before .before) .args in
     let at-loop = c .before .before .loop in
     schemaLinesIn (args .table .now) (at-loop .s) ≡
-    schemaText (args .table .now) (getD (args .table .now) (args .counts + at-loop .s) 0) (at-loop .base) (c .atoms-of .result)
+    schemaText (args .table .now) (getD (args .table .now) (args .counts + at-loop .s) 0) (at-loop .base)
+    (c .atoms-of .result)
 lines-are c =
     turn-lines (start (c .before .before) .pre .0) (c .before .before .loop .inv .1 .0) (c .before .loop-test .taken)
     (c .atoms-of .ensures)
@@ -74,7 +76,8 @@ longer : (c : tie.After-atoms-of Inv-loop μ-loop) →
     let args = start (c .before .before) .args in
     let at-loop = c .before .before .loop in
     length (onwards (schemaLinesIn (args .table .now)) (at-loop .s) (args .schemas)) ≡
-    length (schemaText (args .table .now) (getD (args .table .now) (args .counts + at-loop .s) 0) (at-loop .base) (c .atoms-of .result)) +
+    length (schemaText (args .table .now) (getD (args .table .now) (args .counts + at-loop .s) 0) (at-loop .base)
+    (c .atoms-of .result)) +
     length (onwards (schemaLinesIn (args .table .now)) (at-loop .s + 1) (args .schemas))
 longer c =
     let args = start (c .before .before) .args in
@@ -99,7 +102,8 @@ schema-size-requires c κs =
     let at-loop = counted .before .before in
     let l = run-inside counted in
     let m = longer counted in (
-      atoms-inside (start at-loop .pre .0) (at-loop .loop .inv .1 .0) (counted .before .loop-test .taken) (counted .atoms-of .ensures),
+      atoms-inside (start at-loop .pre .0) (at-loop .loop .inv .1 .0) (counted .before .loop-test .taken)
+          (counted .atoms-of .ensures),
       (omega arith, omega arith),
     )
 
@@ -132,7 +136,8 @@ loop-again c =
     let e = c .schema-size .ensures in (
       omega arith,
       (
-        turn-next (start at-loop .pre .0) (at-loop .loop .inv .1 .0) (counted .before .loop-test .taken) (counted .atoms-of .ensures),
+        turn-next (start at-loop .pre .0) (at-loop .loop .inv .1 .0) (counted .before .loop-test .taken)
+            (counted .atoms-of .ensures),
         omega arith,
       ),
     )

@@ -50,11 +50,14 @@ inside c =
 -- the parts make the whole, which is small
 whole : (c : tie.After-count5) →
     (length (write (taskOf (words c))) ≡
-    length (headText (words c)) + (length (schemasText (words c)) + (length (atomsText (words c) (base c) (facts c)) + 6))) ×
+    length (headText (words c)) + (length (schemasText (words c)) +
+    (length (atomsText (words c) (base c) (facts c)) + 6))) ×
     (length (write (taskOf (words c))) ≤ 68834)
 unfolding longestText
-whole c =
-    (length-write (words c) (start c .pre) (base c) (facts c) (base-is c) (facts-are c), text-most (words c) (start c .pre))
+whole c = (
+  length-write (words c) (start c .pre) (base c) (facts c) (base-is c) (facts-are c),
+  text-most (words c) (start c .pre),
+)
 
 count-requires : tie.Need-count-requires
 count-requires c κs = search needs
@@ -101,8 +104,13 @@ schemas-size-requires : tie.Need-schemas-size-requires
 schemas-size-requires c κs =
     let counted = c .before .before in
     let l = whole counted in
-    let e₁ = counted .before .before .before .before .count .ensures in
-    (start counted .pre, (counted .before .before .before .count2 .ensures, (omega arith, (counted .before .before .count3 .ensures, omega arith))))
+    let e₁ = counted .before .before .before .before .count .ensures in (
+      start counted .pre,
+      (
+        counted .before .before .before .count2 .ensures,
+        (omega arith, (counted .before .before .count3 .ensures, omega arith)),
+      ),
+    )
 
 sizes : (c : tie.After-schemas-size) →
     (length (write (taskOf (words (c .before .before .before)))) ≡

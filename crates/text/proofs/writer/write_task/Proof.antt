@@ -30,7 +30,8 @@ returns c =
     (sym (ap (λ (o : Outcome). o .told) none), sym (ap (λ (o : Outcome). o .buffer) none))
 
 room : (c : tie.Else1) →
-    leb (length (write (taskOf (c .before .before .before .before .args .table .now)))) (length (c .before .before .before .before .args .text .now)) ≡ true
+    leb (length (write (taskOf (c .before .before .before .before .args .table .now))))
+    (length (c .before .before .before .before .args .text .now)) ≡ true
 room c = sym (c .before .has-room .ensures) ∙ not-false _ (c .if1 .left)
 
 put-text-requires : tie.Need-put-text-requires

@@ -1,4 +1,4 @@
--- `text::writer::list_size` meets its contract. The invariant of its loop: the size so far and that of the numbers from
+-- `text::put::list_size` meets its contract. The invariant of its loop: the size so far and that of the numbers from
 -- k on make the size of the list. The measure is n less k.
 use native.Mathlib.Omega.{arith}
 use Prim.Native.Nat.{ℕ, _+_, _-_, _*_, _≤_, _<_}
@@ -7,11 +7,13 @@ use lib.ListN.{length}
 use Rattle.text.specs.Lines.{commaed}
 use Rattle.text.specs.Code.{spaced}
 use Rattle.text.proofs.Onwards.{onwards, onwards-longer, onwards-short, listed, commaed-none, commaed-long}
-use Rattle.text.proofs.writer.list_size.Statement.{statement}
-use Rattle.text.proofs.writer.list_size.Tie as tie
+use Rattle.text.proofs.put.list_size.Statement.{statement}
+use Rattle.text.proofs.put.list_size.Tie as tie
 
 abbrev Inv-loop : tie.InvT-loop
-Inv-loop table from step n size₀ k₀ size k = (1 ≤ k) × ((k ≤ n) × (size + length (onwards (listed table from step) k n) ≡ length (commaed (spaced table from step n))))
+Inv-loop table from step n size₀ k₀ size k =
+    (1 ≤ k) × ((k ≤ n) × (size + length (onwards (listed table from step) k n) ≡
+    length (commaed (spaced table from step n))))
 
 abbrev μ-loop : tie.MeasureT-loop
 μ-loop table from step n size₀ k₀ size k = n - k
@@ -19,7 +21,8 @@ abbrev μ-loop : tie.MeasureT-loop
 returns : tie.Need-returns Inv-loop μ-loop
 returns c =
     let start = c .before .before in
-    sym (ap length (ap (λ (n : ℕ). commaed (spaced (start .args .table .now) (start .args .from) (start .args .step) n)) (c .if1 .taken) ∙
+    sym (ap length (ap (λ (n : ℕ). commaed
+    (spaced (start .args .table .now) (start .args .from) (start .args .step) n)) (c .if1 .taken) ∙
     commaed-none (start .args .table .now) (start .args .from) (start .args .step)))
 
 first-inside : (c : tie.Start Inv-loop μ-loop) → (c .args .n ≡ 0 → ⊥) → c .args .from < length (c .args .table .now)
@@ -38,7 +41,8 @@ loop-holds : tie.Need-loop-holds Inv-loop μ-loop
 loop-holds c =
     let start = c .before .before .before .before in
     let e = c .number-size .ensures in
-    let l = commaed-long (start .args .table .now) (start .args .from) (start .args .step) (start .args .n) (omega arith) in
+    let l = commaed-long (start .args .table .now) (start .args .from) (start .args .step) (start .args .n)
+    (omega arith) in
     (omega arith, (omega arith, omega arith))
 
 -- number k lies in the table; it and its comma are part of what is to come
@@ -54,7 +58,8 @@ longer : (c : tie.In-loop Inv-loop μ-loop) →
     length (numbers (c .before .loop .k)) + length (onwards numbers (c .before .loop .k + 1) (args .n))
 longer c =
     let args = c .before .before .before .before .before .before .args in
-    onwards-longer (listed (args .table .now) (args .from) (args .step)) (c .before .loop .k) (args .n) (c .loop-test .taken)
+    onwards-longer (listed (args .table .now) (args .from) (args .step)) (c .before .loop .k) (args .n)
+    (c .loop-test .taken)
 
 add-size : tie.Need-add-size Inv-loop μ-loop
 add-size c = let l = longer c in omega arith
@@ -95,7 +100,8 @@ loop-again c =
 returns-2 : tie.Need-returns-2 Inv-loop μ-loop
 returns-2 c =
     let start = c .before .before .before .before .before .before in
-    let s = onwards-short (listed (start .args .table .now) (start .args .from) (start .args .step)) (c .before .loop .k) (start .args .n) (omega arith) in
+    let s = onwards-short (listed (start .args .table .now) (start .args .from) (start .args .step))
+    (c .before .loop .k) (start .args .n) (omega arith) in
     omega arith
 
 pub list-size-spec : {M : Type 1} → statement M

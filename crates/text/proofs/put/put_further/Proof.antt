@@ -1,8 +1,8 @@
--- `text::writer::put_further` meets its contract: a comma, then the number's digits.
+-- `text::put::put_further` meets its contract: a comma, then the number's digits.
 use Rattle.text.proofs.Puts.{puts-append}
 use borrow.Author.Needs.{needs}
-use Rattle.text.proofs.writer.put_further.Statement.{statement}
-use Rattle.text.proofs.writer.put_further.Tie as tie
+use Rattle.text.proofs.put.put_further.Statement.{statement}
+use Rattle.text.proofs.put.put_further.Tie as tie
 
 put-byte-requires : tie.Need-put-byte-requires
 put-byte-requires c κs = search needs

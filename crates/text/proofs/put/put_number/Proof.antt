@@ -1,4 +1,4 @@
--- `text::writer::put_number` meets its contract. The invariant of its loop: the digits behind `place` stand, and those
+-- `text::put::put_number` meets its contract. The invariant of its loop: the digits behind `place` stand, and those
 -- of `rest` come before them. The measure is `rest`, which falls to a tenth.
 use native.Mathlib.Omega.{arith}
 use Prim.Native.Nat.{ℕ, _+_, _-_, _≤_}
@@ -7,11 +7,12 @@ use lib.ListN.{length, length-set}
 use Rattle.text.specs.Lines.{digits}
 use Rattle.text.proofs.DigitSteps.{some-digit}
 use Rattle.text.proofs.PutDigits.{Behind, behind-start, behind-long, behind-room, behind-again, behind-more, behind-end}
-use Rattle.text.proofs.writer.put_number.Statement.{statement}
-use Rattle.text.proofs.writer.put_number.Tie as tie
+use Rattle.text.proofs.put.put_number.Statement.{statement}
+use Rattle.text.proofs.put.put_number.Tie as tie
 
 abbrev Inv-loop : tie.InvT-loop
-Inv-loop text₀ at n end rest₀ place₀ text rest place = (end ≡ at + length (digits n)) × ((end ≤ length text₀) × Behind text₀ at n rest place text)
+Inv-loop text₀ at n end rest₀ place₀ text rest place =
+    (end ≡ at + length (digits n)) × ((end ≤ length text₀) × Behind text₀ at n rest place text)
 
 abbrev μ-loop : tie.MeasureT-loop
 μ-loop text₀ at n end rest₀ place₀ text rest place = rest
@@ -42,7 +43,8 @@ digit-requires : tie.Need-digit-requires Inv-loop μ-loop
 digit-requires c κs = omega arith
 
 slice-write-text : tie.Need-slice-write-text Inv-loop μ-loop
-slice-write-text c = behind-room (c .before .before .loop .inv .1 .1) (let b = c .before .before .loop .inv in omega arith)
+slice-write-text c =
+    behind-room (c .before .before .loop .inv .1 .1) (let b = c .before .before .loop .inv in omega arith)
 
 sub-place-2 : tie.Need-sub-place-2 Inv-loop μ-loop
 sub-place-2 c = let l = behind-again (c .before .before .loop .inv .1 .1) (omega arith) in omega arith
@@ -59,7 +61,8 @@ digit-requires-2 : tie.Need-digit-requires-2 Inv-loop μ-loop
 digit-requires-2 c κs = omega arith
 
 slice-write-text-2 : tie.Need-slice-write-text-2 Inv-loop μ-loop
-slice-write-text-2 c = behind-room (c .before .before .loop .inv .1 .1) (let b = c .before .before .loop .inv in omega arith)
+slice-write-text-2 c =
+    behind-room (c .before .before .loop .inv .1 .1) (let b = c .before .before .loop .inv in omega arith)
 
 same-length : tie.Need-same-length Inv-loop μ-loop
 same-length c = simp length-set (behind-long (c .before .before .loop .inv .1 .1))

@@ -1,4 +1,4 @@
--- `text::writer::put_list` meets its contract. The invariant of its loop: what is still to come is the numbers from k
+-- `text::put::put_list` meets its contract. The invariant of its loop: what is still to come is the numbers from k
 -- on, each behind its comma. The measure is n less k.
 use native.Mathlib.Omega.{arith}
 use Prim.Native.Nat.{ℕ, _+_, _-_, _*_, _≤_, _<_}
@@ -9,11 +9,13 @@ use Rattle.text.specs.Lines.{digits, commaed}
 use Rattle.text.specs.Code.{spaced}
 use Rattle.text.proofs.Puts.{puts-long, puts-append, puts-same, Going, going-start, going-long, going-left, going-room, going-on, going-end}
 use Rattle.text.proofs.Onwards.{onwards, onwards-next, onwards-none, listed, commaed-none, commaed-first, commaed-long}
-use Rattle.text.proofs.writer.put_list.Statement.{statement}
-use Rattle.text.proofs.writer.put_list.Tie as tie
+use Rattle.text.proofs.put.put_list.Statement.{statement}
+use Rattle.text.proofs.put.put_list.Tie as tie
 
 abbrev Inv-loop : tie.InvT-loop
-Inv-loop text₀ at table from step n next₀ k₀ text next k = (1 ≤ k) × ((k ≤ n) × Going text₀ next₀ (onwards (listed table from step) 1 n) (onwards (listed table from step) k n) text next)
+Inv-loop text₀ at table from step n next₀ k₀ text next k =
+    (1 ≤ k) × ((k ≤ n) × Going text₀ next₀ (onwards (listed table from step) 1 n)
+    (onwards (listed table from step) k n) text next)
 
 abbrev μ-loop : tie.MeasureT-loop
 μ-loop text₀ at table from step n next₀ k₀ text next k = n - k
@@ -32,7 +34,8 @@ first-inside c h = let l = c .pre .0 0 (omega arith) in omega arith
 first-long : (c : tie.Start Inv-loop μ-loop) → (c .args .n ≡ 0 → ⊥) →
     let w = c .args .table .now in
     length (commaed (spaced w (c .args .from) (c .args .step) (c .args .n))) ≡
-    length (digits (getD w (c .args .from) 0)) + length (onwards (listed w (c .args .from) (c .args .step)) 1 (c .args .n))
+    length (digits (getD w (c .args .from) 0)) + length (onwards (listed w (c .args .from) (c .args .step)) 1
+    (c .args .n))
 first-long c h = commaed-long (c .args .table .now) (c .args .from) (c .args .step) (c .args .n) (omega arith)
 
 mul-put-number : tie.Need-mul-put-number Inv-loop μ-loop
@@ -42,7 +45,8 @@ shared-slice-read-put-number : tie.Need-shared-slice-read-put-number Inv-loop μ
 shared-slice-read-put-number c = first-inside (c .before .before .before .before .before) (c .before .before .if1 .left)
 
 put-number-requires : tie.Need-put-number-requires Inv-loop μ-loop
-put-number-requires c κs = let l = first-long (c .before .before .before .before .before) (c .before .before .if1 .left) in omega arith
+put-number-requires c κs =
+    let l = first-long (c .before .before .before .before .before) (c .before .before .if1 .left) in omega arith
 
 loop-holds : tie.Need-loop-holds Inv-loop μ-loop
 loop-holds c =
@@ -66,11 +70,14 @@ to-come : (c : tie.In-loop Inv-loop μ-loop) →
     let args = start (c .before) .args in
     let numbers = listed (args .table .now) (args .from) (args .step) in
     let k = c .before .loop .k in
-    Going (c .before .before .before .before .put-number .last .0) (c .before .before .before .before .put-number .result)
-    (onwards numbers 1 (args .n)) (numbers k ++ onwards numbers (k + 1) (args .n)) (c .before .loop .text) (c .before .loop .next)
+    Going (c .before .before .before .before .put-number .last .0)
+    (c .before .before .before .before .put-number .result)
+    (onwards numbers 1 (args .n)) (numbers k ++ onwards numbers (k + 1) (args .n)) (c .before .loop .text)
+    (c .before .loop .next)
 to-come c =
     let args = start (c .before) .args in
-    going-left (onwards-next (listed (args .table .now) (args .from) (args .step)) (c .before .loop .k) (args .n) (c .loop-test .taken))
+    going-left (onwards-next (listed (args .table .now) (args .from) (args .step)) (c .before .loop .k) (args .n)
+    (c .loop-test .taken))
     (c .before .loop .inv .1 .1)
 
 mul-put-further : tie.Need-mul-put-further Inv-loop μ-loop
@@ -90,7 +97,8 @@ put-further-requires c κs =
     let at-loop = c .before .before .before in
     let args = start at-loop .args in
     let numbers = listed (args .table .now) (args .from) (args .step) in
-    going-room (numbers (at-loop .loop .k)) (onwards numbers (at-loop .loop .k + 1) (args .n)) (to-come (c .before .before))
+    going-room (numbers (at-loop .loop .k)) (onwards numbers (at-loop .loop .k + 1) (args .n))
+    (to-come (c .before .before))
 
 add-k : tie.Need-add-k Inv-loop μ-loop
 add-k c = omega arith

@@ -1,8 +1,8 @@
--- `text::writer::number_size` meets its contract: each comparison tells one more digit.
+-- `text::put::number_size` meets its contract: each comparison tells one more digit.
 use native.Mathlib.Omega.{arith}
 use Rattle.text.proofs.DigitSteps.{one-digit-long, two-digits-long, three-digits-long, four-digits-long, five-digits-long}
-use Rattle.text.proofs.writer.number_size.Statement.{statement}
-use Rattle.text.proofs.writer.number_size.Tie as tie
+use Rattle.text.proofs.put.number_size.Statement.{statement}
+use Rattle.text.proofs.put.number_size.Tie as tie
 
 returns : tie.Need-returns
 returns c = let e = one-digit-long (c .before .args .n) (omega arith) in omega arith

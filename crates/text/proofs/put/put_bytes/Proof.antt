@@ -1,5 +1,5 @@
--- `text::writer::put_bytes` meets its contract. The invariant of its loop: what is still to come is the bytes from k on.
--- The measure is the number of bytes less k.
+-- `text::put::put_bytes` meets its contract. The invariant of its loop: what is still to come is the bytes from k
+-- on. The measure is the number of bytes less k.
 use native.Mathlib.Omega.{arith}
 use Prim.Native.Nat.{ℕ, suc, _+_, _-_, _≤_}
 use mathlib.Core.Path.{_≡_, refl, ap, subst}
@@ -7,11 +7,12 @@ use mathlib.Core.List.{_∷_}
 use lib.ListN.{length, getD, drop}
 use lib.Seq.{drop-cons, drop-length}
 use Rattle.text.proofs.Puts.{Going, going-start, going-long, going-left, going-end, byte-room, going-byte}
-use Rattle.text.proofs.writer.put_bytes.Statement.{statement}
-use Rattle.text.proofs.writer.put_bytes.Tie as tie
+use Rattle.text.proofs.put.put_bytes.Statement.{statement}
+use Rattle.text.proofs.put.put_bytes.Tie as tie
 
 abbrev Inv-loop : tie.InvT-loop
-Inv-loop text₀ at bytes k₀ k-end text k = (k-end ≡ length bytes) × ((k ≤ length bytes) × Going text₀ at bytes (drop k bytes) text (at + k))
+Inv-loop text₀ at bytes k₀ k-end text k =
+    (k-end ≡ length bytes) × ((k ≤ length bytes) × Going text₀ at bytes (drop k bytes) text (at + k))
 
 abbrev μ-loop : tie.MeasureT-loop
 μ-loop text₀ at bytes k₀ k-end text k = length bytes - k
@@ -58,7 +59,8 @@ loop-again c =
       (
         omega arith,
         going-byte (start .args .at + (at-loop .loop .k + 1)) (omega arith)
-            (going-left (ap (λ (i : ℕ). getD (start .args .bytes .now) (at-loop .loop .k) 0 ∷ drop i (start .args .bytes .now)) e) (to-come (c .before))),
+            (going-left (ap (λ (i : ℕ). getD (start .args .bytes .now) (at-loop .loop .k) 0 ∷
+            drop i (start .args .bytes .now)) e) (to-come (c .before))),
       ),
     )
 
@@ -76,7 +78,8 @@ returns c =
     let e : at-loop .loop .k ≡ length bs = omega arith in
     going-end (going-left (drop-length bs)
     (subst
-    (λ (i : ℕ). Going (start .args .text .now) (start .args .at) bs (drop i bs) (at-loop .loop .text) (start .args .at + i))
+    (λ (i : ℕ). Going (start .args .text .now) (start .args .at) bs (drop i bs) (at-loop .loop .text)
+    (start .args .at + i))
     e (at-loop .loop .inv .1 .1)))
 
 pub put-bytes-spec : {M : Type 1} → statement M
