@@ -14,7 +14,8 @@ use Rattle.task.proofs.Laws.{In, here, there, append-concatMap}
 use Rattle.task.proofs.Tests.{task-tests}
 use Rattle.task.proofs.Tables.{of-table}
 use Rattle.text.specs.Lines.{Entry, newline, colon, digits, commaed, entryBytes, bytes}
-use Rattle.text.specs.Text.{roleKey, Line, taskLine, objectsLine, schemaLine, endLine, arityLine, partLine, atomLine, writeLine, factEntry, atomEntry, schemaLines, write}
+use Rattle.text.specs.Text.{roleKey, Line, taskLine, objectsLine, schemaLine, endLine, arityLine, partLine}
+use Rattle.text.specs.Text.{atomLine, writeLine, factEntry, atomEntry, schemaLines, write}
 use Rattle.text.specs.Code.{longestText}
 use Rattle.text.proofs.DigitSteps.{at-most-five}
 use Rattle.text.proofs.AtomLines.{commaed-most}

@@ -10,7 +10,8 @@ use Rattle.task.specs.Lists.{sum}
 use Rattle.task.specs.Run.{schemaAt}
 use Rattle.task.specs.Table.{atomBase, taskOf, isTable}
 use Rattle.task.proofs.Tables.{startOf, length-content, tableWords-is}
-use Rattle.task.proofs.TablesByIndex.{table-long, arities-word, schemas-word, atoms-word, init-word, goal-word, start-suc}
+use Rattle.task.proofs.TablesByIndex.{table-long, arities-word, schemas-word, atoms-word, init-word, goal-word}
+use Rattle.task.proofs.TablesByIndex.{start-suc}
 use Rattle.text.specs.Code.{AtomInside, SchemaRun, schemaText}
 use Rattle.text.proofs.TableAtoms.{frame, each-inside, start-most, run-long}
 use Rattle.text.proofs.TableText.{schemaLinesIn, schema-lines}
@@ -76,6 +77,9 @@ module _ {w : List ℕ} (table : isTable w ≡ true) where
       run-is =
           let e = turn .schemas-are in
           run-long w table s at left n (omega arith) (turn .atoms-begin) (turn .atoms-left) run
+
+      pub run-inside : at + 8 * n ≤ length w
+      run-inside = let l = begin-inside in let r = run .within in omega arith
 
       pub atoms-inside : (k : ℕ) → k < n → AtomInside w (at + 8 * k)
       unfolding atomBase

@@ -15,7 +15,9 @@ use Rattle.task.proofs.Laws.{append-concatMap, upFrom-in}
 use Rattle.task.proofs.Tables.{startOf, upFrom-append, indices}
 use Rattle.task.proofs.TablesByIndex.{schemas-word}
 use Rattle.text.specs.Lines.{digits, commaed, entryBytes, line}
-use Rattle.text.specs.Text.{Key, Line, taskLine, objectsLine, schemaLine, endLine, arityLine, partLine, atomLine, initLine, goalLine, keyName, keyOf, roleKey, writeLine, factEntry, atomEntry, schemaLines, taskLines, write}
+use Rattle.text.specs.Text.{Key, Line, taskLine, objectsLine, schemaLine, endLine, arityLine, partLine}
+use Rattle.text.specs.Text.{atomLine, initLine, goalLine, keyName, keyOf, roleKey, writeLine, factEntry}
+use Rattle.text.specs.Text.{atomEntry, schemaLines, taskLines, write}
 use Rattle.text.specs.Code.{spaced, entryAt, atomKey, atomText, atomsText, schemaText, schemasText, headText}
 use Rattle.text.proofs.Onwards.{onwards, onwards-all}
 use Rattle.text.proofs.AtomLines.{spaced-words}

@@ -1,7 +1,7 @@
 -- The whole text of a table, as code writes it: its parts with their lengths, that what they read lies in the table,
 -- and what `write` does with a table for which there is room, or none.
 use Prim.Native.Nat.{ℕ, _+_, _*_, _≤_, _<_}
-use mathlib.Core.Path.{_≡_, refl, sym, _∙_, ap, subst}
+use mathlib.Core.Path.{_≡_, refl, _∙_, ap, subst}
 use mathlib.Core.Bool.{true, false}
 use mathlib.Core.List.{List, [], _∷_, _++_}
 use native.Mathlib.Omega.{arith}
@@ -17,7 +17,8 @@ use Rattle.task.proofs.TablesByIndex.{table-long}
 use Rattle.text.specs.Lines.{bytes, newline, digits, commaed, line}
 use Rattle.text.specs.Text.{endLine, writeLine, write}
 use Rattle.text.specs.Outcomes.{writeOutcome}
-use Rattle.text.specs.Code.{spaced, AtomInside, atomsText, headText, schemasText, longestText}
+use Rattle.text.specs.Code.{spaced, AtomInside, atomsText, headText, schemasText, factsBase, factCount}
+use Rattle.text.specs.Code.{longestText}
 use Rattle.text.proofs.TableAtoms.{each-inside}
 use Rattle.text.proofs.TableText.{write-table}
 use Rattle.text.proofs.SchemaTurns.{content-inside}
@@ -55,39 +56,36 @@ end-is : writeLine (endLine 1) ≡ endBytes
 unfolding writeLine
 end-is = refl
 
-module _ (w : List ℕ) (table : isTable w ≡ true) (b : ℕ) (n : ℕ) (e : b ≡ 6 + getD w 1 0 + getD w 2 0 + 8 * getD w 3 0)
-    (m : n ≡ getD w 4 0 + getD w 5 0) where
-  pub write-by-words : write (taskOf w) ≡ headText w ++ (schemasText w ++ (atomsText w b n ++ endBytes))
-  unfolding atomBase
-  write-by-words =
-      write-table w table ∙
-      (ap (λ (x : List ℕ). headText w ++
-      (schemasText w ++ (atomsText w (atomBase w (getD w 3 0)) (getD w 4 0 + getD w 5 0) ++ x))) end-is ∙
-      (ap (λ (i : ℕ). headText w ++ (schemasText w ++ (atomsText w i (getD w 4 0 + getD w 5 0) ++ endBytes))) (sym e) ∙
-      ap (λ (k : ℕ). headText w ++ (schemasText w ++ (atomsText w b k ++ endBytes))) (sym m)))
+module _ (w : List ℕ) (table : isTable w ≡ true) where
+  abbrev pub factsText : List ℕ
+  factsText = atomsText w (factsBase w) (factCount w)
 
-  pub length-write : length (write (taskOf w)) ≡
-      length (headText w) + (length (schemasText w) + (length (atomsText w b n) + 6))
+  pub write-by-words : write (taskOf w) ≡ headText w ++ (schemasText w ++ (factsText ++ endBytes))
+  unfolding factsBase factCount atomBase
+  write-by-words =
+      write-table w table ∙ ap (λ (x : List ℕ). headText w ++ (schemasText w ++ (factsText ++ x))) end-is
+
+  pub length-write : length (write (taskOf w)) ≡ length (headText w) + (length (schemasText w) + (length factsText + 6))
   length-write =
       let whole = ap length write-by-words in
-      let h = length-append (headText w) (schemasText w ++ (atomsText w b n ++ endBytes)) in
-      let s = length-append (schemasText w) (atomsText w b n ++ endBytes) in
-      let a = length-append (atomsText w b n) endBytes in
+      let h = length-append (headText w) (schemasText w ++ (factsText ++ endBytes)) in
+      let s = length-append (schemasText w) (factsText ++ endBytes) in
+      let a = length-append factsText endBytes in
       omega arith
 
-  pub facts-inside : (k : ℕ) → k < n → AtomInside w (b + 8 * k)
-  unfolding atomBase
-  facts-inside k l =
-      let q : atomBase w (getD w 3 0 + k) ≡ b + 8 * k = omega arith in
-      subst (AtomInside w) q (each-inside w table (getD w 3 0 + k) (omega arith))
+  -- the whole is small, and so is each part
+  pub write-most : length (write (taskOf w)) ≤ 68834
+  unfolding longestText
+  write-most = text-most w table
 
--- the head is part of the whole
-pub head-most : (w : List ℕ) → isTable w ≡ true → length (headText w) ≤ 68834
-unfolding longestText
-head-most w table =
-    let l = length-write w table (6 + getD w 1 0 + getD w 2 0 + 8 * getD w 3 0) (getD w 4 0 + getD w 5 0) refl refl in
-    let m = text-most w table in
-    omega arith
+  pub head-most : length (headText w) ≤ 68834
+  head-most = let l = length-write in let m = write-most in omega arith
+
+  pub facts-inside : (k : ℕ) → k < factCount w → AtomInside w (factsBase w + 8 * k)
+  unfolding factsBase factCount atomBase
+  facts-inside k l =
+      let q : atomBase w (getD w 3 0 + k) ≡ factsBase w + 8 * k = omega arith in
+      subst (AtomInside w) q (each-inside w table (getD w 3 0 + k) (omega arith))
 
 -- ---- what `write` does with a table
 long-enough : (w : List ℕ) → isTable w ≡ true → longEnough w ≡ true

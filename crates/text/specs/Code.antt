@@ -78,6 +78,15 @@ pub record SchemaRun (w : List ℕ) (b left schema n : ℕ) : Type 0 where
   pub same : (k : ℕ) → k < n → getD w (b + atomSize * k) 0 ≡ schema
   pub stops : n < left → getD w (b + atomSize * n) 0 ≡ schema → ⊥
 
--- no text of a table is longer: shut, since a list function would count a numeral down
+-- where the initial and goal atoms of a table begin, and how many they are
+unfoldable pub factsBase : List ℕ → ℕ
+factsBase w = headWords + getD w 1 0 + getD w 2 0 + atomSize * getD w 3 0
+
+unfoldable pub factCount : List ℕ → ℕ
+factCount w = getD w 4 0 + getD w 5 0
+
+-- no text of a table is longer, with five digits for each number: 7 and 14 bytes for `task` and `objects`, 7 and 6 for
+-- each of 400 arities, 19 for each of 200 schemas, 35 for each of 1,000 atoms and 6 for its part, 36 for each of 600
+-- initial and goal atoms, 6 for `end`; shut, since a list function would count a numeral down
 unfoldable pub longestText : ℕ
 longestText = 68834

@@ -1,5 +1,5 @@
-// Bytes, numbers, lists and lines of them, put into a lent text from a place on. Each `put_x` gives the place behind what
-// it put, and `x_size` gives the number of bytes that `put_x` puts.
+// Bytes, numbers, lists and lines of them, put into a lent text from a place on. Each `put_x` gives the place behind
+// what it put, and `x_size` gives the number of bytes that `put_x` puts.
 ghost use mathlib.Core.Path.{_≡_};
 ghost use mathlib.Core.List.{[], _∷_, _++_};
 ghost use Prim.Native.Nat.{ℕ, _+_, _*_, _^_, _≤_, _<_};
@@ -112,7 +112,8 @@ pub fn put_list(
 ) -> usize
     requires { ⌜ ((k : ℕ) → k < n → from + step * k < length (now table)) ⌝ }
     requires { ⌜ at + length (commaed (spaced (now table) from step n)) ≤ length (now text) ⌝ }
-    ensures { λ r. ⌜ Puts (now (text .entry)) at (commaed (spaced (now (table .entry)) from step n)) (now (text .exit)) r ⌝ }
+    ensures { λ r. ⌜ Puts (now (text .entry)) at
+        (commaed (spaced (now (table .entry)) from step n)) (now (text .exit)) r ⌝ }
 {
     if n == 0 {
         return at;
@@ -127,7 +128,8 @@ pub fn put_list(
 // A line whose body is a number, and one whose body is a list.
 pub fn put_number_line(text: &mut [u8], at: usize, key: &[u8], n: u16) -> usize
     requires { ⌜ at + length (now key ++ (digits n ++ (newline ∷ []))) ≤ length (now text) ⌝ }
-    ensures { λ r. ⌜ Puts (now (text .entry)) at (now (key .entry) ++ (digits n ++ (newline ∷ []))) (now (text .exit)) r ⌝ }
+    ensures { λ r. ⌜ Puts (now (text .entry)) at
+        (now (key .entry) ++ (digits n ++ (newline ∷ []))) (now (text .exit)) r ⌝ }
 {
     let at_body = put_bytes(text, at, key);
     let at_end = put_number(text, at_body, n);
@@ -144,9 +146,11 @@ pub fn put_list_line(
     n: usize,
 ) -> usize
     requires { ⌜ ((k : ℕ) → k < n → from + step * k < length (now table)) ⌝ }
-    requires { ⌜ at + length (now key ++ (commaed (spaced (now table) from step n) ++ (newline ∷ []))) ≤ length (now text) ⌝ }
+    requires { ⌜ at + length (now key ++ (commaed (spaced (now table) from step n) ++ (newline ∷ []))) ≤
+        length (now text) ⌝ }
     ensures { λ r. ⌜ Puts (now (text .entry)) at
-        (now (key .entry) ++ (commaed (spaced (now (table .entry)) from step n) ++ (newline ∷ []))) (now (text .exit)) r ⌝ }
+        (now (key .entry) ++ (commaed (spaced (now (table .entry)) from step n) ++ (newline ∷ [])))
+        (now (text .exit)) r ⌝ }
 {
     let at_body = put_bytes(text, at, key);
     let at_end = put_list(text, at_body, table, from, step, n);

@@ -20,7 +20,7 @@ ghost use Rattle.task.specs.Table.{taskOf, isTable};
 ghost use Rattle.text.specs.Text.{write};
 ghost use Rattle.text.specs.Outcomes.{writeOutcome, writeAnswerTold};
 ghost use Rattle.text.specs.Code.{Puts, AtomInside, keyBytes, atomText, atomsText, schemaText};
-ghost use Rattle.text.specs.Code.{headText, schemasText, SchemaRun};
+ghost use Rattle.text.specs.Code.{headText, schemasText, SchemaRun, factsBase, factCount};
 
 // The six counts stand first; an atom takes 8 words.
 const HEAD_WORDS: usize = 6;
@@ -139,7 +139,8 @@ fn put_schema(
     requires { ⌜ ((k : ℕ) → k < n → AtomInside (now table) (base + 8 * k)) ⌝ }
     requires { ⌜ base ≤ length (now table) ⌝ }
     requires { ⌜ at + length (schemaText (now table) params base n) ≤ length (now text) ⌝ }
-    ensures { λ r. ⌜ Puts (now (text .entry)) at (schemaText (now (table .entry)) params base n) (now (text .exit)) r ⌝ }
+    ensures { λ r. ⌜ Puts (now (text .entry)) at
+        (schemaText (now (table .entry)) params base n) (now (text .exit)) r ⌝ }
 {
     let at_atoms = put_number_line(text, at, b"schema=", params);
     let at_parts = put_atoms(text, at_atoms, table, base, n);
@@ -155,18 +156,17 @@ fn count(table: &[u16], i: usize) -> usize
     wide(table[i])
 }
 
-// The lines of all schemas, whose atoms stand one schema behind another: `schemas` schemas with `atoms` atoms, and their
-// parameter counts from `counts` on.
-fn schemas_size(table: &[u16], schemas: usize, counts: usize, atoms: usize) -> usize
+// The lines of all schemas. Their atoms stand one schema behind another, so each schema begins where the one before it
+// ends.
+fn schemas_size(table: &[u16]) -> usize
     requires { ⌜ isTable (now table) ≡ true ⌝ }
-    requires { ⌜ schemas ≡ getD (now table) 2 0 ⌝ }
-    requires { ⌜ counts ≡ 6 + getD (now table) 1 0 ⌝ }
-    requires { ⌜ atoms ≡ getD (now table) 3 0 ⌝ }
     requires { ⌜ length (schemasText (now table)) < 2 ^ 64 ⌝ }
     ensures { λ r. ⌜ r ≡ length (schemasText (now (table .entry))) ⌝ }
 {
+    let schemas = count(table, 2);
+    let counts = HEAD_WORDS + count(table, 1);
     let mut base = counts + schemas;
-    let mut left = atoms;
+    let mut left = count(table, 3);
     let mut size = 0;
     for s in 0..schemas {
         let n = atoms_of(table, base, left, s);
@@ -177,23 +177,15 @@ fn schemas_size(table: &[u16], schemas: usize, counts: usize, atoms: usize) -> u
     size
 }
 
-fn put_schemas(
-    text: &mut [u8],
-    at: usize,
-    table: &[u16],
-    schemas: usize,
-    counts: usize,
-    atoms: usize,
-) -> usize
+fn put_schemas(text: &mut [u8], at: usize, table: &[u16]) -> usize
     requires { ⌜ isTable (now table) ≡ true ⌝ }
-    requires { ⌜ schemas ≡ getD (now table) 2 0 ⌝ }
-    requires { ⌜ counts ≡ 6 + getD (now table) 1 0 ⌝ }
-    requires { ⌜ atoms ≡ getD (now table) 3 0 ⌝ }
     requires { ⌜ at + length (schemasText (now table)) ≤ length (now text) ⌝ }
     ensures { λ r. ⌜ Puts (now (text .entry)) at (schemasText (now (table .entry))) (now (text .exit)) r ⌝ }
 {
+    let schemas = count(table, 2);
+    let counts = HEAD_WORDS + count(table, 1);
     let mut base = counts + schemas;
-    let mut left = atoms;
+    let mut left = count(table, 3);
     let mut next = at;
     for s in 0..schemas {
         let n = atoms_of(table, base, left, s);
@@ -231,16 +223,26 @@ fn put_head(text: &mut [u8], table: &[u16]) -> usize
 }
 
 // Initial and goal atoms follow the schemas' own, and their roles say which they are.
+fn facts_base(table: &[u16]) -> usize
+    requires { ⌜ isTable (now table) ≡ true ⌝ }
+    ensures { λ r. ⌜ r ≡ factsBase (now (table .entry)) ⌝ }
+{
+    HEAD_WORDS + count(table, 1) + count(table, 2) + ATOM_SIZE * count(table, 3)
+}
+
+fn fact_count(table: &[u16]) -> usize
+    requires { ⌜ isTable (now table) ≡ true ⌝ }
+    ensures { λ r. ⌜ r ≡ factCount (now (table .entry)) ⌝ }
+{
+    count(table, 4) + count(table, 5)
+}
+
 fn text_size(table: &[u16]) -> usize
     requires { ⌜ isTable (now table) ≡ true ⌝ }
     ensures { λ r. ⌜ r ≡ length (write (taskOf (now (table .entry)))) ⌝ }
 {
-    let counts = HEAD_WORDS + count(table, 1);
-    let schemas = count(table, 2);
-    let atoms = count(table, 3);
-    let facts = count(table, 4) + count(table, 5);
-    let facts_size = atoms_size(table, counts + schemas + ATOM_SIZE * atoms, facts);
-    head_size(table) + schemas_size(table, schemas, counts, atoms) + facts_size + b"end=1\n".len()
+    let facts = atoms_size(table, facts_base(table), fact_count(table));
+    head_size(table) + schemas_size(table) + facts + b"end=1\n".len()
 }
 
 fn put_text(text: &mut [u8], table: &[u16]) -> usize
@@ -248,19 +250,11 @@ fn put_text(text: &mut [u8], table: &[u16]) -> usize
     requires { ⌜ length (write (taskOf (now table))) ≤ length (now text) ⌝ }
     ensures { λ r. ⌜ Puts (now (text .entry)) 0 (write (taskOf (now (table .entry)))) (now (text .exit)) r ⌝ }
 {
-    let counts = HEAD_WORDS + count(table, 1);
-    let schemas = count(table, 2);
-    let atoms = count(table, 3);
-    let facts = count(table, 4) + count(table, 5);
+    let base = facts_base(table);
+    let n = fact_count(table);
     let at_schemas = put_head(text, table);
-    let at_facts = put_schemas(text, at_schemas, table, schemas, counts, atoms);
-    let at_end = put_atoms(
-        text,
-        at_facts,
-        table,
-        counts + schemas + ATOM_SIZE * atoms,
-        facts,
-    );
+    let at_facts = put_schemas(text, at_schemas, table);
+    let at_end = put_atoms(text, at_facts, table, base, n);
     put_bytes(text, at_end, b"end=1\n")
 }
 

@@ -1,6 +1,7 @@
 -- `text::put::number_size` meets its contract: each comparison tells one more digit.
 use native.Mathlib.Omega.{arith}
-use Rattle.text.proofs.DigitSteps.{one-digit-long, two-digits-long, three-digits-long, four-digits-long, five-digits-long}
+use Rattle.text.proofs.DigitSteps.{one-digit-long, two-digits-long, three-digits-long, four-digits-long}
+use Rattle.text.proofs.DigitSteps.{five-digits-long}
 use Rattle.text.proofs.put.number_size.Statement.{statement}
 use Rattle.text.proofs.put.number_size.Tie as tie
 

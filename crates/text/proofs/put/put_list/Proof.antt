@@ -7,8 +7,10 @@ use mathlib.Core.List.{[], _++_}
 use lib.ListN.{length, getD}
 use Rattle.text.specs.Lines.{digits, commaed}
 use Rattle.text.specs.Code.{spaced}
-use Rattle.text.proofs.Puts.{puts-long, puts-append, puts-same, Going, going-start, going-long, going-left, going-room, going-on, going-end}
-use Rattle.text.proofs.Onwards.{onwards, onwards-next, onwards-none, listed, commaed-none, commaed-first, commaed-long}
+use Rattle.text.proofs.Puts.{puts-long, puts-append, puts-same, Going, going-start, going-long, going-left}
+use Rattle.text.proofs.Puts.{going-room, going-on, going-end}
+use Rattle.text.proofs.Onwards.{onwards, onwards-next, onwards-none, listed, commaed-none, commaed-first}
+use Rattle.text.proofs.Onwards.{commaed-long}
 use Rattle.text.proofs.put.put_list.Statement.{statement}
 use Rattle.text.proofs.put.put_list.Tie as tie
 

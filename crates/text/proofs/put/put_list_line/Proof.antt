@@ -1,5 +1,5 @@
--- `text::put::put_list_line` meets its contract: key, list and byte 10 are put one behind another. A lemma for each says
--- what is still to come behind it.
+-- `text::put::put_list_line` meets its contract: key, list and byte 10 are put one behind another. A lemma for each
+-- says what is still to come behind it.
 use Prim.Native.Nat.{ℕ}
 use mathlib.Core.List.{List, [], _∷_, _++_}
 use Rattle.text.specs.Lines.{newline, commaed}

@@ -6,7 +6,8 @@ use mathlib.Core.Path.{_≡_}
 use lib.ListN.{length, length-set}
 use Rattle.text.specs.Lines.{digits}
 use Rattle.text.proofs.DigitSteps.{some-digit}
-use Rattle.text.proofs.PutDigits.{Behind, behind-start, behind-long, behind-room, behind-again, behind-more, behind-end}
+use Rattle.text.proofs.PutDigits.{Behind, behind-start, behind-long, behind-room, behind-again, behind-more}
+use Rattle.text.proofs.PutDigits.{behind-end}
 use Rattle.text.proofs.put.put_number.Statement.{statement}
 use Rattle.text.proofs.put.put_number.Tie as tie
 

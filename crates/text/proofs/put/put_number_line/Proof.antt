@@ -1,5 +1,5 @@
--- `text::put::put_number_line` meets its contract: key, digits and byte 10 are put one behind another. A lemma for each says
--- what is still to come behind it.
+-- `text::put::put_number_line` meets its contract: key, digits and byte 10 are put one behind another. A lemma for
+-- each says what is still to come behind it.
 use Prim.Native.Nat.{ℕ}
 use mathlib.Core.List.{List, [], _∷_, _++_}
 use Rattle.text.specs.Lines.{newline, digits}
@@ -27,7 +27,8 @@ abbrev keyed : tie.After-slice-known3 → tie.After-slice-known2
 keyed c = c .before .before .before .before
 
 behind-body : (c : tie.After-slice-known3) →
-    Left (start (keyed c)) (newline ∷ []) (c .before .before .put-number .last .0) (c .before .before .put-number .result)
+    Left (start (keyed c)) (newline ∷ []) (c .before .before .put-number .last .0)
+    (c .before .before .put-number .result)
 behind-body c = going-on (behind-key (keyed c)) (c .before .before .put-number .ensures)
 
 put-bytes-requires : tie.Need-put-bytes-requires

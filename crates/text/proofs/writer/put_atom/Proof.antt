@@ -8,7 +8,8 @@ use lib.ListN.{length, getD}
 use Rattle.task.specs.Table.{arityIn}
 use Rattle.text.specs.Lines.{colon, newline, digits, commaed}
 use Rattle.text.specs.Code.{spaced, keyBytes}
-use Rattle.text.proofs.Puts.{puts-same, Going, first-room, going-start, going-room, going-on, going-last, byte-room}
+use Rattle.text.proofs.Puts.{puts-same, Going, first-room, going-start, going-room, going-on, going-last}
+use Rattle.text.proofs.Puts.{byte-room}
 use Rattle.text.proofs.AtomLines.{argsAt, atomText-is, args-inside}
 use borrow.Author.Needs.{needs}
 use Rattle.text.proofs.writer.put_atom.Statement.{statement}

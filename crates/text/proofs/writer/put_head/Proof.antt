@@ -7,7 +7,8 @@ use mathlib.Core.List.{List, [], _∷_, _++_}
 use lib.ListN.{length, getD}
 use Rattle.text.specs.Lines.{bytes, newline, digits, commaed, line}
 use Rattle.text.specs.Code.{spaced, headText}
-use Rattle.text.proofs.Puts.{Going, puts-same, going-start, going-left, going-room, going-on, last-room, going-last}
+use Rattle.text.proofs.Puts.{Going, puts-same, going-start, going-left, going-room, going-on, last-room}
+use Rattle.text.proofs.Puts.{going-last}
 use Rattle.text.proofs.SchemaTurns.{head-inside}
 use Rattle.text.proofs.WholeText.{arityBytes, taskBytes, head-parts, arities-inside}
 use borrow.Author.Needs.{needs}
