@@ -1,0 +1,173 @@
+-- The sizes of the split, as sums over the task: what can be counted before a word of the split is written.
+-- A part has the old atoms of its number, whatever their role, one bare token in each role that has tokens, and its
+-- pars; schemas and their atoms are added up part by part. (`predicate-count` is among the predicates.)
+use Prim.Native.Nat.{ℕ, zero, suc, _+_, _≤_, _<_}
+use mathlib.Core.Path.{_≡_, refl, sym, _∙_, ap, ap₂}
+use mathlib.Core.Bool.{Bool, true, false, cond, _&&_}
+use mathlib.Core.List.{List, [], _∷_, _++_, map}
+use native.Mathlib.Omega.{arith}
+use lib.ListN.{length, getD, length-append, length-map}
+use lib.Dec.{eqb}
+use Rattle.task.specs.Lists.{filter, keepIf, concatMap, sum, upTo, upFrom}
+use Rattle.task.specs.Task.{Atom, Schema, Task, precondition, addition, deletion, schemaAtoms, schemaFits, wellFormed}
+use Rattle.task.specs.Run.{schemaAt, ofRole}
+use Rattle.tokens.specs.Split.{parts, token, own, oldAtoms, required, handedOn, lone, firstHere, lastHere}
+use Rattle.tokens.specs.Split.{laterHere, pars, orders, free, splitSchema, splitTask}
+use Rattle.task.proofs.Laws.{In, here, there, map-same, map-append, sum-append, length-concatMap, length-upTo}
+use Rattle.task.proofs.Laws.{upTo-in}
+use Rattle.task.proofs.Tests.{schema-tests}
+use Rattle.task.proofs.Tables.{tabulate}
+use Rattle.arcs.proofs.Laws.{orderOf-laws}
+use Rattle.tokens.proofs.Accepted.{Ordered}
+use Rattle.tokens.proofs.AtomLists.{role-small}
+use Rattle.tokens.proofs.RoleAtoms.{renumber, atomsHere, parAtom, roleAtoms, preAtoms, addAtoms, delAtoms}
+use Rattle.tokens.proofs.WellSplit.{part-of}
+use Rattle.tokens.proofs.Ground.{map-map}
+
+-- ---- initial and goal atoms
+pub init-count : (t : Task) → length (splitTask t .init) ≡ length (t .init) + 1
+unfolding splitTask
+init-count t = length-append (t .init) (free t ∷ [])
+
+pub goal-count : (t : Task) → length (splitTask t .goal) ≡ length (t .goal) + 1
+unfolding splitTask
+goal-count t = length-append (t .goal) (free t ∷ [])
+
+-- ---- old atoms: each has one of the three roles
+abbrev pub one : Bool → ℕ
+one b = cond b 1 0
+
+length-keep : {A : Type 0} (b : Bool) (x : A) (xs : List A) → length (keepIf b x xs) ≡ one b + length xs
+unfolding keepIf
+length-keep true x xs = omega arith
+length-keep false x xs = omega arith
+
+filter-keep : (p : Atom → Bool) (b : Bool) (a : Atom) (xs : List Atom) →
+    length (filter p (keepIf b a xs)) ≡ one (b && p a) + length (filter p xs)
+unfolding filter keepIf
+filter-keep p true a xs = length-keep (p a) a (filter p xs)
+filter-keep p false a xs = omega arith
+
+roles-count : (p : Atom → Bool) (atoms : List Atom) → ((a : Atom) → In a atoms → a .role ≤ deletion) →
+    length (filter p (ofRole 0 atoms)) + (length (filter p (ofRole 1 atoms)) + length (filter p (ofRole 2 atoms))) ≡
+    length (filter p atoms)
+unfolding filter ofRole
+roles-count p [] h = refl
+roles-count p (a ∷ rest) h =
+    let e = roles-count p rest (λ b i. h b (there i)) in
+    let x = filter-keep p (eqb 0 (a .role)) a (ofRole 0 rest) in
+    let y = filter-keep p (eqb 1 (a .role)) a (ofRole 1 rest) in
+    let z = filter-keep p (eqb 2 (a .role)) a (ofRole 2 rest) in
+    let u = length-keep (p a) a (filter p rest) in
+    let v = go (a .role) (p a) (h a (here refl)) in
+    omega arith
+  where
+    go : (r : ℕ) (b : Bool) → r ≤ 2 → one (eqb 0 r && b) + (one (eqb 1 r && b) + one (eqb 2 r && b)) ≡ one b
+    go zero true l = refl
+    go zero false l = refl
+    go (suc zero) true l = refl
+    go (suc zero) false l = refl
+    go (suc (suc zero)) true l = refl
+    go (suc (suc zero)) false l = refl
+    go (suc (suc (suc r))) b l = absurd (omega arith)
+
+-- ---- a part's schema
+-- the old atoms of part p
+abbrev pub atomsOf : Schema → ℕ → ℕ
+atomsOf s p = length (filter (λ a. eqb p (a .part)) (s .atoms))
+
+module _ (t : Task) (s : ℕ) (o : List ℕ) (j : ℕ) where
+  -- the pars of a role
+  abbrev pub parsOf : (ℕ → Bool) → ℕ
+  parsOf test = length (filter test (own t s o j))
+
+  abbrev pub partSize : ℕ
+  partSize =
+      atomsOf (schemaAt t s) (getD o j 0) + (1 + parsOf (laterHere t s o j)) +
+      cond (lone t s o j) 0 ((1 + parsOf (firstHere t s o j)) + (1 + parsOf (lastHere t s o j)))
+
+  role-size : (r : ℕ) (without : Bool) (k : ℕ) (test : ℕ → Bool) →
+      length (roleAtoms t s o j r without k test) ≡ length (atomsHere t s o j r) + cond without 0 (1 + parsOf test)
+  unfolding oldAtoms pars
+  role-size r without k test =
+      length-append (oldAtoms t s o j r) _ ∙
+      ap₂ (λ (m n : ℕ). m + n) (length-map (atomsHere t s o j r) (renumber t s o j r)) (go without)
+    where
+      go : (b : Bool) → length (cond b [] (token r k [] ∷ pars t s o j r test)) ≡ cond b 0 (1 + parsOf test)
+      go true = refl
+      go false = let z = length-map (filter test (own t s o j)) (parAtom t s o j r) in omega arith
+
+  pub part-size : schemaFits (t .arities) (schemaAt t s) ≡ true → length (splitSchema t s o j .atoms) ≡ partSize
+  unfolding splitSchema
+  part-size fits =
+      let a = role-size precondition false (required t s o j) (laterHere t s o j) in
+      let b = role-size addition (lone t s o j) (handedOn t s o j) (firstHere t s o j) in
+      let c = role-size deletion (lone t s o j) (required t s o j) (lastHere t s o j) in
+      let d = length-append (preAtoms t s o j) (addAtoms t s o j ++ delAtoms t s o j) in
+      let e = length-append (addAtoms t s o j) (delAtoms t s o j) in
+      let f = roles-count (λ a. eqb (getD o j 0) (a .part)) (schemaAt t s .atoms)
+      (role-small (schemaAt t s .atoms) (schema-tests (t .arities) (schemaAt t s) fits .roles)) in
+      let g = go (lone t s o j) (1 + parsOf (firstHere t s o j)) (1 + parsOf (lastHere t s o j)) in
+      omega arith
+    where
+      go : (b : Bool) (m n : ℕ) → cond b 0 m + cond b 0 n ≡ cond b 0 (m + n)
+      go true m n = refl
+      go false m n = refl
+
+-- ---- all schemas of the split
+sum-concatMap : {A B : Type 0} (f : B → ℕ) (g : A → List B) (xs : List A) →
+    sum (map f (concatMap g xs)) ≡ sum (map (λ x. sum (map f (g x))) xs)
+unfolding concatMap sum
+sum-concatMap f g [] = refl
+sum-concatMap f g (x ∷ xs) =
+    ap sum (map-append f (g x) (concatMap g xs)) ∙ sum-append (map f (g x)) (map f (concatMap g xs)) ∙
+    ap (λ n. sum (map f (g x)) + n) (sum-concatMap f g xs)
+
+-- the schemas by their numbers
+by-number : (f : Schema → ℕ) (t : Task) → map (λ s. f (schemaAt t s)) (upTo (length (t .schemas))) ≡ map f (t .schemas)
+unfolding upTo schemaAt
+by-number f t =
+    sym (map-map f (schemaAt t) (upFrom 0 (length (t .schemas)))) ∙
+    ap (map f) (tabulate (schemaAt t) 0 (t .schemas) (record { params = 0; atoms = [] })
+    (λ k l. let e : 0 + k ≡ k = omega arith in ap (schemaAt t) e))
+
+abbrev partSchemas : Task → ℕ → List Schema
+partSchemas t s = map (splitSchema t s (orders t s)) (upTo (length (orders t s)))
+
+module _ (t : Task) (ordered : Ordered t) where
+  order-size : (s : ℕ) → s < length (t .schemas) → length (orders t s) ≡ parts (schemaAt t s)
+  unfolding parts
+  order-size s l = orderOf-laws (schemaAt t s) (orders t s) (ordered s l) .size
+
+  pub schema-count : length (splitTask t .schemas) ≡ sum (map parts (t .schemas))
+  unfolding splitTask
+  schema-count =
+      length-concatMap (partSchemas t) (upTo (length (t .schemas))) ∙
+      ap sum
+      (map-same (λ s. length (partSchemas t s)) (λ s. parts (schemaAt t s)) (upTo (length (t .schemas)))
+      (λ s i. size s (upTo-in (length (t .schemas)) s i)) ∙
+      by-number parts t)
+    where
+      size : (s : ℕ) → s < length (t .schemas) → length (partSchemas t s) ≡ parts (schemaAt t s)
+      size s l =
+          length-map (upTo (length (orders t s))) (splitSchema t s (orders t s)) ∙ length-upTo (length (orders t s)) ∙
+          order-size s l
+
+  -- the schema atoms, part by part
+  pub atom-count : wellFormed t ≡ true →
+      schemaAtoms (splitTask t .schemas) ≡
+      sum (map (λ s. sum (map (partSize t s (orders t s)) (upTo (length (orders t s))))) (upTo (length (t .schemas))))
+  unfolding splitTask
+  atom-count well =
+      sum-concatMap (λ u. length (u .atoms)) (partSchemas t) (upTo (length (t .schemas))) ∙
+      ap sum (map-same (λ s. sum (map (λ u. length (u .atoms)) (partSchemas t s)))
+      (λ s. sum (map (partSize t s (orders t s)) (upTo (length (orders t s))))) (upTo (length (t .schemas)))
+      (λ s i. ap sum (sizes s (upTo-in (length (t .schemas)) s i))))
+    where
+      sizes : (s : ℕ) → s < length (t .schemas) →
+          map (λ u. length (u .atoms)) (partSchemas t s) ≡ map (partSize t s (orders t s)) (upTo (length (orders t s)))
+      sizes s l =
+          map-map (λ u. length (u .atoms)) (splitSchema t s (orders t s)) (upTo (length (orders t s))) ∙
+          map-same (λ j. length (splitSchema t s (orders t s) j .atoms)) (partSize t s (orders t s))
+          (upTo (length (orders t s)))
+          (λ j i. part-size t s (orders t s) j (part-of t well ordered s j l (upTo-in (length (orders t s)) j i) .fits))
