@@ -2,7 +2,7 @@
 -- It asks for no par and adds and deletes no token; it has every atom and every parameter, and renumbering the
 -- parameters 0, 1, .. by their places changes nothing.
 use Prim.Native.Nat.{ℕ, zero, suc, _+_, _≤_, _<_}
-use mathlib.Core.Path.{_≡_, refl, sym, _∙_, ap, ap₂}
+use mathlib.Core.Path.{_≡_, sym, _∙_, ap, ap₂}
 use mathlib.Core.Bool.{true}
 use mathlib.Core.List.{List, [], _∷_, _++_, map, append-nil}
 use native.Mathlib.Omega.{arith}
@@ -15,9 +15,10 @@ use Rattle.task.specs.Task.{Atom, Task, precondition, addition, deletion}
 use Rattle.task.specs.Run.{schemaAt, ofRole}
 use Rattle.tokens.specs.Split.{has, paramsOf, firstPosition, parts, procnone, token, own, oldAtoms, required}
 use Rattle.tokens.specs.Split.{lone, laterHere, pars, splitSchema}
-use Rattle.task.proofs.Laws.{In, here, there, in-getD, filter-in, upTo-in, length-upTo}
+use Rattle.task.proofs.Laws.{In, in-getD, filter-in, upTo-in, length-upTo}
 use Rattle.task.proofs.Tables.{filter-all, filter-none}
 use Rattle.arcs.proofs.Laws.{part-small}
+use Rattle.tokens.proofs.Lists.{map-keeps}
 use Rattle.tokens.proofs.Places.{atom-has}
 use Rattle.tokens.proofs.RoleAtoms.{renumber, atomsHere, parAtom, here-atom}
 use Rattle.tokens.proofs.PartRoles.{PartOf, facts}
@@ -41,11 +42,6 @@ module _ (t : Task) (s : ℕ) (o : List ℕ) (alone : length o ≡ 1) where
   lone-part = simp (lone-is, no-later-pars, append-nil)
 
 -- ---- its old atoms and parameters
-keep-all : {A : Type 0} (f : A → A) (xs : List A) → ((x : A) → In x xs → f x ≡ x) → map f xs ≡ xs
-keep-all f [] h = refl
-keep-all {A} f (x ∷ xs) h =
-    ap₂ (λ (y : A) (ys : List A). y ∷ ys) (h x (here refl)) (keep-all f xs (λ y i. h y (there i)))
-
 index-upFrom : (s n x : ℕ) → s ≤ x → x < s + n → indexOf x (upFrom s n) + s ≡ x
 unfolding indexOf upFrom
 index-upFrom s zero x h k = absurd (omega arith)
@@ -84,13 +80,13 @@ module _ (t : Task) (s : ℕ) (o : List ℕ) (P : PartOf t s o 0) (alone : lengt
   renumber-keeps r a i q =
       let p : 0 ≡ a .part = sym (every-part a i ∙ first-part) in
       let n : map (λ x. indexOf x (own t s o 0)) (a .args) ≡ a .args =
-      keep-all (λ x. indexOf x (own t s o 0)) (a .args) (λ x k. index-keeps x (facts t s o 0 P .fit a i .small x k)) in
+      map-keeps (λ x. indexOf x (own t s o 0)) (a .args) (λ x k. index-keeps x (facts t s o 0 P .fit a i .small x k)) in
       λ d. record { role = sym q d; pred = a .pred; part = p d; args = n d }
 
   pub lone-old : (r : ℕ) → oldAtoms t s o 0 r ≡ ofRole r (schemaAt t s .atoms)
   unfolding oldAtoms ofRole
   lone-old r =
-      keep-all (renumber t s o 0 r) (atomsHere t s o 0 r)
+      map-keeps (renumber t s o 0 r) (atomsHere t s o 0 r)
       (λ a i. let (k, q, p) = here-atom t s o 0 r a i in renumber-keeps r a k q) ∙
       filter-all (λ a. eqb (getD o 0 0) (a .part)) (ofRole r (schemaAt t s .atoms))
       (λ a i. eq-eqb (getD o 0 0) (a .part) (sym (every-part a (of-role r a i))))

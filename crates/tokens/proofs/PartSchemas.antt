@@ -1,6 +1,6 @@
 -- A part's schema is a schema of the split: it meets every test, the limit of 64 atoms aside, and has just the
 -- parameters that its atoms name. Its three roles are put together: roles differ between them, all atoms are in
--- part 0, and the part's own parameters each stand in one of its old atoms. Alone, a part gains procnone only.
+-- part 0, and the part's own parameters each stand in one of its old atoms.
 use Prim.Native.Nat.{ℕ, zero, suc, _≤_, _<_}
 use mathlib.Core.Path.{_≡_, refl, sym}
 use mathlib.Core.Bool.{true, false}
@@ -11,6 +11,7 @@ use lib.ListN.{length, getD}
 use lib.Dec.{eqb, leb}
 use borrow.Author.Tests.{leb-true, le-leb, eq-eqb}
 use Rattle.task.specs.Lists.{any, upTo, indexOf}
+use Rattle.task.specs.Limits.{mostParameters, mostAtoms, mostParts}
 use Rattle.task.specs.Task.{Atom, Schema, Task, argsFit, rolesAscend, names, partCount, schemaFits, precondition}
 use Rattle.task.specs.Task.{addition, deletion}
 use Rattle.task.specs.Run.{schemaAt}
@@ -25,7 +26,7 @@ use Rattle.tokens.proofs.AtomLists.{Apart, apart-distinct, apart-append
 use Rattle.tokens.proofs.RoleAtoms.{renumber, an-old, the-token, to-role, part-is, preAtoms, addAtoms}
 use Rattle.tokens.proofs.RoleAtoms.{delAtoms, of-pre, of-add, of-del, of-schema, in-schema, pre-role, add-role}
 use Rattle.tokens.proofs.RoleAtoms.{del-role}
-use Rattle.tokens.proofs.Predicates.{some-length}
+use Rattle.tokens.proofs.Lists.{some-length}
 use Rattle.tokens.proofs.PartRoles.{PartOf, tests, pre-tokens, add-tokens, del-tokens, role-fits, role-apart}
 
 -- a schema has just the parameters that its atoms name
@@ -107,14 +108,14 @@ module _ (t : Task) (s : ℕ) (o : List ℕ) (j : ℕ) (P : PartOf t s o j) wher
     small = λ a i. schema-fits a i .small;
   }
 
-  few-params : new .params ≤ 12
+  few-params : new .params ≤ mostParameters
   unfolding splitSchema own paramsOf
   few-params =
       omega (
         arith,
         filter-le (λ x. has (schemaAt t s) x (getD o j 0)) (upTo (schemaAt t s .params)),
         length-upTo (schemaAt t s .params),
-        leb-true (schemaAt t s .params) 12 (tests t s o j P .params),
+        leb-true (schemaAt t s .params) mostParameters (tests t s o j P .params),
       )
 
   -- ---- one part
@@ -134,10 +135,10 @@ module _ (t : Task) (s : ℕ) (o : List ℕ) (j : ℕ) (P : PartOf t s o j) wher
   schema-parts = one-part (new .atoms) (some-length requires-token) schema-part
 
   -- the limit of 64 atoms aside, a part's schema fits
-  pub part-fits : leb (length (new .atoms)) 64 ≡ true → schemaFits (splitTask t .arities) new ≡ true
+  pub part-fits : leb (length (new .atoms)) mostAtoms ≡ true → schemaFits (splitTask t .arities) new ≡ true
   unfolding token
   part-fits few = tests-schema (splitTask t .arities) new (record {
-    params = le-leb (new .params) 12 few-params;
+    params = le-leb (new .params) mostParameters few-params;
     some-atom = le-leb 1 (length (new .atoms)) (some-length requires-token);
     few = few;
     roles = schema-roles;
@@ -147,7 +148,7 @@ module _ (t : Task) (s : ℕ) (o : List ℕ) (j : ℕ) (P : PartOf t s o j) wher
     used = in-all (λ x. any (names x) (new .atoms)) (upTo (new .params)) (λ x i.
         let (a, k, n) = part-params .named x (upTo-in (new .params) x i) in
         in-any (names x) k (in-names x a n));
-    parts = le-leb (partCount (new .atoms)) 16 (omega (arith, schema-parts));
+    parts = le-leb (partCount (new .atoms)) mostParts (omega (arith, schema-parts));
     filled = in-all (hasPart (new .atoms)) (upTo (partCount (new .atoms))) (λ x i.
         let l = upTo-in (partCount (new .atoms)) x i in
         in-any (λ a. eqb x (a .part)) requires-token (eq-eqb x 0 (omega (arith, schema-parts))));

@@ -16,6 +16,7 @@ use Rattle.task.specs.Run.{schemaAt}
 use Rattle.tokens.specs.Split.{has, parts, laterParts, shared, sharedBound, maximum, parCount, procnone}
 use Rattle.tokens.specs.Split.{doToken, parToken, splitTask}
 use Rattle.task.proofs.Laws.{In, here, there, in-empty, in-filter, in-getD, in-map, in-upFrom, in-upTo}
+use Rattle.tokens.proofs.Lists.{some-length}
 use Rattle.tokens.proofs.Places.{last-most}
 use Rattle.tokens.proofs.Accepted.{later-step, later-mono, tokenAt, token-zero, token-end, token-inside}
 
@@ -106,10 +107,6 @@ module _ (t : Task) where
 schema-in : (t : Task) (s : ℕ) → s < length (t .schemas) → In (schemaAt t s) (t .schemas)
 unfolding schemaAt
 schema-in t s l = in-getD (t .schemas) s (record { params = 0; atoms = [] }) l
-
-pub some-length : {A : Type 0} {a : A} {xs : List A} → In a xs → 1 ≤ length xs
-some-length (here e) = omega arith
-some-length (there i) = omega arith
 
 two-length : {a b : ℕ} {xs : List ℕ} → In a xs → In b xs → (a ≡ b → ⊥) → 1 < length xs
 two-length (here e) (here f) n = absurd (n (e ∙ sym f))

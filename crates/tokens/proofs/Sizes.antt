@@ -2,27 +2,26 @@
 -- A part has the old atoms of its number, whatever their role, one bare token in each role that has tokens, and its
 -- pars; schemas and their atoms are added up part by part. (`predicate-count` is among the predicates.)
 use Prim.Native.Nat.{ℕ, zero, suc, _+_, _≤_, _<_}
-use mathlib.Core.Path.{_≡_, refl, sym, _∙_, ap, ap₂}
+use mathlib.Core.Path.{_≡_, refl, _∙_, ap, ap₂}
 use mathlib.Core.Bool.{Bool, true, false, cond, _&&_}
 use mathlib.Core.List.{List, [], _∷_, _++_, map}
 use native.Mathlib.Omega.{arith}
 use lib.ListN.{length, getD, length-append, length-map}
 use lib.Dec.{eqb}
-use Rattle.task.specs.Lists.{filter, keepIf, concatMap, sum, upTo, upFrom}
+use Rattle.task.specs.Lists.{filter, keepIf, sum, upTo}
 use Rattle.task.specs.Task.{Atom, Schema, Task, precondition, addition, deletion, schemaAtoms, schemaFits, wellFormed}
 use Rattle.task.specs.Run.{schemaAt, ofRole}
 use Rattle.tokens.specs.Split.{parts, token, own, oldAtoms, required, handedOn, lone, firstHere, lastHere}
 use Rattle.tokens.specs.Split.{laterHere, pars, orders, free, splitSchema, splitTask}
-use Rattle.task.proofs.Laws.{In, here, there, map-same, map-append, sum-append, length-concatMap, length-upTo}
-use Rattle.task.proofs.Laws.{upTo-in}
+use Rattle.task.proofs.Laws.{In, here, there, map-same, length-concatMap, length-upTo, upTo-in}
 use Rattle.task.proofs.Tests.{schema-tests}
-use Rattle.task.proofs.Tables.{tabulate}
 use Rattle.arcs.proofs.Laws.{orderOf-laws}
 use Rattle.tokens.proofs.Accepted.{Ordered}
 use Rattle.tokens.proofs.AtomLists.{role-small}
 use Rattle.tokens.proofs.RoleAtoms.{renumber, atomsHere, parAtom, roleAtoms, preAtoms, addAtoms, delAtoms}
 use Rattle.tokens.proofs.WellSplit.{part-of}
-use Rattle.tokens.proofs.Ground.{map-map}
+use Rattle.tokens.proofs.Lists.{map-map}
+use Rattle.tokens.proofs.Sums.{one, total, length-keep, total-same, total-concatMap, by-place}
 
 -- ---- initial and goal atoms
 pub init-count : (t : Task) → length (splitTask t .init) ≡ length (t .init) + 1
@@ -34,14 +33,6 @@ unfolding splitTask
 goal-count t = length-append (t .goal) (free t ∷ [])
 
 -- ---- old atoms: each has one of the three roles
-abbrev pub one : Bool → ℕ
-one b = cond b 1 0
-
-length-keep : {A : Type 0} (b : Bool) (x : A) (xs : List A) → length (keepIf b x xs) ≡ one b + length xs
-unfolding keepIf
-length-keep true x xs = omega arith
-length-keep false x xs = omega arith
-
 filter-keep : (p : Atom → Bool) (b : Bool) (a : Atom) (xs : List Atom) →
     length (filter p (keepIf b a xs)) ≡ one (b && p a) + length (filter p xs)
 unfolding filter keepIf
@@ -115,22 +106,6 @@ module _ (t : Task) (s : ℕ) (o : List ℕ) (j : ℕ) where
       go false m n = refl
 
 -- ---- all schemas of the split
-sum-concatMap : {A B : Type 0} (f : B → ℕ) (g : A → List B) (xs : List A) →
-    sum (map f (concatMap g xs)) ≡ sum (map (λ x. sum (map f (g x))) xs)
-unfolding concatMap sum
-sum-concatMap f g [] = refl
-sum-concatMap f g (x ∷ xs) =
-    ap sum (map-append f (g x) (concatMap g xs)) ∙ sum-append (map f (g x)) (map f (concatMap g xs)) ∙
-    ap (λ n. sum (map f (g x)) + n) (sum-concatMap f g xs)
-
--- the schemas by their numbers
-by-number : (f : Schema → ℕ) (t : Task) → map (λ s. f (schemaAt t s)) (upTo (length (t .schemas))) ≡ map f (t .schemas)
-unfolding upTo schemaAt
-by-number f t =
-    sym (map-map f (schemaAt t) (upFrom 0 (length (t .schemas)))) ∙
-    ap (map f) (tabulate (schemaAt t) 0 (t .schemas) (record { params = 0; atoms = [] })
-    (λ k l. let e : 0 + k ≡ k = omega arith in ap (schemaAt t) e))
-
 abbrev partSchemas : Task → ℕ → List Schema
 partSchemas t s = map (splitSchema t s (orders t s)) (upTo (length (orders t s)))
 
@@ -139,14 +114,13 @@ module _ (t : Task) (ordered : Ordered t) where
   unfolding parts
   order-size s l = orderOf-laws (schemaAt t s) (orders t s) (ordered s l) .size
 
-  pub schema-count : length (splitTask t .schemas) ≡ sum (map parts (t .schemas))
-  unfolding splitTask
+  pub schema-count : length (splitTask t .schemas) ≡ total parts (t .schemas)
+  unfolding splitTask schemaAt
   schema-count =
       length-concatMap (partSchemas t) (upTo (length (t .schemas))) ∙
-      ap sum
-      (map-same (λ s. length (partSchemas t s)) (λ s. parts (schemaAt t s)) (upTo (length (t .schemas)))
+      total-same (λ s. length (partSchemas t s)) (λ s. parts (schemaAt t s)) (upTo (length (t .schemas)))
       (λ s i. size s (upTo-in (length (t .schemas)) s i)) ∙
-      by-number parts t)
+      by-place parts (t .schemas) (record { params = 0; atoms = [] })
     where
       size : (s : ℕ) → s < length (t .schemas) → length (partSchemas t s) ≡ parts (schemaAt t s)
       size s l =
@@ -156,13 +130,13 @@ module _ (t : Task) (ordered : Ordered t) where
   -- the schema atoms, part by part
   pub atom-count : wellFormed t ≡ true →
       schemaAtoms (splitTask t .schemas) ≡
-      sum (map (λ s. sum (map (partSize t s (orders t s)) (upTo (length (orders t s))))) (upTo (length (t .schemas))))
+      total (λ s. total (partSize t s (orders t s)) (upTo (length (orders t s)))) (upTo (length (t .schemas)))
   unfolding splitTask
   atom-count well =
-      sum-concatMap (λ u. length (u .atoms)) (partSchemas t) (upTo (length (t .schemas))) ∙
-      ap sum (map-same (λ s. sum (map (λ u. length (u .atoms)) (partSchemas t s)))
-      (λ s. sum (map (partSize t s (orders t s)) (upTo (length (orders t s))))) (upTo (length (t .schemas)))
-      (λ s i. ap sum (sizes s (upTo-in (length (t .schemas)) s i))))
+      total-concatMap (λ u. length (u .atoms)) (partSchemas t) (upTo (length (t .schemas))) ∙
+      total-same (λ s. schemaAtoms (partSchemas t s))
+      (λ s. total (partSize t s (orders t s)) (upTo (length (orders t s)))) (upTo (length (t .schemas)))
+      (λ s i. ap sum (sizes s (upTo-in (length (t .schemas)) s i)))
     where
       sizes : (s : ℕ) → s < length (t .schemas) →
           map (λ u. length (u .atoms)) (partSchemas t s) ≡ map (partSize t s (orders t s)) (upTo (length (orders t s)))

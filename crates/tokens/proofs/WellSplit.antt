@@ -1,8 +1,8 @@
 -- The split of a well-formed task is well formed just where it is within the limits, so 10 is given exactly when the
 -- split passes one of them. Every other test holds of every split: a part's schema fits (`part-fits`), and procnone,
 -- higher than every old predicate, keeps initial and goal atoms ascending.
-use Prim.Native.Nat.{ℕ, zero, suc, _<_}
-use mathlib.Core.Path.{_≡_, refl, sym, _∙_, subst}
+use Prim.Native.Nat.{ℕ, _<_}
+use mathlib.Core.Path.{_≡_, sym, _∙_, subst}
 use mathlib.Core.Bool.{true}
 use mathlib.Core.List.{List, [], _∷_, _++_, map}
 use mathlib.Core.Logic.{_⊎_, inl, inr}
@@ -10,8 +10,10 @@ use native.Mathlib.Omega.{arith}
 use lib.ListN.{length, replicate}
 use lib.Dec.{leb}
 use borrow.Author.Tests.{le-leb}
-use Rattle.task.specs.Lists.{all, concatMap, upTo}
+use Rattle.task.specs.Lists.{all, upTo}
 use Rattle.task.specs.Task.{Fact, Schema, Task, argsFit, factsFit, schemaFits, schemaAtoms, wellFormed}
+use Rattle.task.specs.Limits.{mostPredicates, mostSchemas, mostSchemaAtoms, mostAtoms, mostInitial, mostGoal}
+use Rattle.task.specs.Limits.{mostArity}
 use Rattle.task.specs.Run.{schemaAt}
 use Rattle.tokens.specs.Split.{parts, laterParts, parCount, procnone, orders, free, splitSchema, splitTask}
 use Rattle.tokens.specs.Split.{limitTests, withinLimits, splitAs, split}
@@ -20,6 +22,7 @@ use Rattle.task.proofs.Laws.{in-append, all-in, in-all, map-in, in-getD, upTo-i
 use Rattle.task.proofs.Tests.{TaskTests, task-tests, tests-task, schema-tests}
 use Rattle.task.proofs.States.{asc-snoc, asc-ascending, Fitting, fitting-argsFit, State, factsFit-state, less-pred}
 use Rattle.arcs.proofs.Laws.{orderOf-laws}
+use Rattle.tokens.proofs.Lists.{concatMap-in, replicate-in}
 use Rattle.tokens.proofs.Accepted.{Ordered, split-is, split-within, split-orders}
 use Rattle.tokens.proofs.Predicates.{predicate-count, old-arity, bare-arity}
 use Rattle.tokens.proofs.PartRoles.{PartOf}
@@ -27,12 +30,12 @@ use Rattle.tokens.proofs.PartSchemas.{part-fits}
 
 -- ---- the limits, by name
 pub record Within (t : Task) : Type 0 where
-  pub preds : leb (length (t .arities)) 400 ≡ true
-  pub schemas : leb (length (t .schemas)) 200 ≡ true
-  pub atoms : leb (schemaAtoms (t .schemas)) 1000 ≡ true
-  pub few : all (λ s. leb (length (s .atoms)) 64) (t .schemas) ≡ true
-  pub inits : leb (length (t .init)) 500 ≡ true
-  pub goals : leb (length (t .goal)) 100 ≡ true
+  pub preds : leb (length (t .arities)) mostPredicates ≡ true
+  pub schemas : leb (length (t .schemas)) mostSchemas ≡ true
+  pub atoms : leb (schemaAtoms (t .schemas)) mostSchemaAtoms ≡ true
+  pub few : all (λ s. leb (length (s .atoms)) mostAtoms) (t .schemas) ≡ true
+  pub inits : leb (length (t .init)) mostInitial ≡ true
+  pub goals : leb (length (t .goal)) mostGoal ≡ true
 
 pub within : (t : Task) → withinLimits t ≡ true → Within t
 unfolding withinLimits
@@ -55,41 +58,32 @@ well-within t h =
       preds = c .preds;
       schemas = c .schemas;
       atoms = c .atoms;
-      few = in-all (λ s. leb (length (s .atoms)) 64) (t .schemas)
+      few = in-all (λ s. leb (length (s .atoms)) mostAtoms) (t .schemas)
           (λ s i. schema-tests (t .arities) s (all-in (schemaFits (t .arities)) (c .fit) i) .few);
       inits = c .inits;
       goals = c .goals;
     }
 
--- ---- the split's schemas are those of the parts
-concatMap-in : {A B : Type 0} (f : A → List B) (xs : List A) (y : B) → In y (concatMap f xs) →
-    (x : A) × In x xs × In y (f x)
-unfolding concatMap
-concatMap-in f [] y i = absurd (in-empty i)
-concatMap-in f (x ∷ xs) y i = elim (in-append (f x) i) [
-  | inl k ↦ (x, here refl, k)
-  | inr k ↦ let (z, l, m) = concatMap-in f xs y k in (z, there l, m)
-]
-
 -- ---- arities, and the facts that gain procnone
-replicate-in : (n a x : ℕ) → In x (replicate n a) → x ≡ a
-replicate-in zero a x i = absurd (in-empty i)
-replicate-in (suc n) a x (here e) = e
-replicate-in (suc n) a x (there i) = replicate-in n a x i
-
-arities-small : (t : Task) → all (λ n. leb n 4) (t .arities) ≡ true → all (λ n. leb n 4) (splitTask t .arities) ≡ true
+arities-small : (t : Task) → all (λ n. leb n mostArity) (t .arities) ≡ true →
+    all (λ n. leb n mostArity) (splitTask t .arities) ≡ true
 unfolding splitTask
-arities-small t h = in-all (λ n. leb n 4) (splitTask t .arities) (λ n i. go n (in-append (t .arities) i))
+arities-small t h = in-all (λ n. leb n mostArity) (splitTask t .arities) (λ n i. go n (in-append (t .arities) i))
   where
-    new : (n : ℕ) → In n (replicate (laterParts (t .schemas)) 0) ⊎ In n (replicate (parCount t) 1) → leb n 4 ≡ true
-    new n (inl i) = let e = replicate-in (laterParts (t .schemas)) 0 n i in le-leb n 4 (omega arith)
-    new n (inr i) = let e = replicate-in (parCount t) 1 n i in le-leb n 4 (omega arith)
+    dos : List ℕ
+    dos = replicate (laterParts (t .schemas)) 0
 
-    go : (n : ℕ) → In n (t .arities) ⊎ In n (0 ∷ (replicate (laterParts (t .schemas)) 0 ++ replicate (parCount t) 1)) →
-        leb n 4 ≡ true
-    go n (inl i) = all-in (λ n. leb n 4) h i
-    go n (inr (here e)) = le-leb n 4 (omega arith)
-    go n (inr (there i)) = new n (in-append (replicate (laterParts (t .schemas)) 0) i)
+    ones : List ℕ
+    ones = replicate (parCount t) 1
+
+    new : (n : ℕ) → In n dos ⊎ In n ones → leb n mostArity ≡ true
+    new n (inl i) = let e = replicate-in (laterParts (t .schemas)) 0 n i in le-leb n mostArity (omega arith)
+    new n (inr i) = let e = replicate-in (parCount t) 1 n i in le-leb n mostArity (omega arith)
+
+    go : (n : ℕ) → In n (t .arities) ⊎ In n (0 ∷ (dos ++ ones)) → leb n mostArity ≡ true
+    go n (inl i) = all-in (λ n. leb n mostArity) h i
+    go n (inr (here e)) = le-leb n mostArity (omega arith)
+    go n (inr (there i)) = new n (in-append dos i)
 
 -- "Initial and goal atoms gain procnone", and so may every state
 pub facts-with-free : (t : Task) (fs : List Fact) → factsFit (t .objects) (t .arities) fs ≡ true →
@@ -118,6 +112,16 @@ facts-with-free t fs h =
     })
 
 -- ---- the tests of the split
+-- each schema is that of a part
+pub schema-of-part : (t : Task) (u : Schema) → In u (splitTask t .schemas) →
+    (s : ℕ) × (j : ℕ) × (s < length (t .schemas)) × (j < length (orders t s)) × (u ≡ splitSchema t s (orders t s) j)
+unfolding splitTask
+schema-of-part t u i =
+    let partSchemas : ℕ → List Schema = λ s. map (splitSchema t s (orders t s)) (upTo (length (orders t s))) in
+    let (s, k, m) = concatMap-in partSchemas (upTo (length (t .schemas))) u i in
+    let (j, n, e) = map-in (splitSchema t s (orders t s)) (upTo (length (orders t s))) u m in
+    (s, j, upTo-in (length (t .schemas)) s k, upTo-in (length (orders t s)) j n, e)
+
 module _ (t : Task) (well : wellFormed t ≡ true) (ordered : Ordered t) where
   abbrev tests : TaskTests t
   tests = task-tests t well
@@ -131,22 +135,13 @@ module _ (t : Task) (well : wellFormed t ≡ true) (ordered : Ordered t) where
     inside = h;
   }
 
-  pub schema-of-part : (u : Schema) → In u (splitTask t .schemas) →
-      (s : ℕ) × (j : ℕ) × (s < length (t .schemas)) × (j < length (orders t s)) × (u ≡ splitSchema t s (orders t s) j)
-  unfolding splitTask
-  schema-of-part u i =
-      let partSchemas : ℕ → List Schema = λ s. map (splitSchema t s (orders t s)) (upTo (length (orders t s))) in
-      let (s, k, m) = concatMap-in partSchemas (upTo (length (t .schemas))) u i in
-      let (j, n, e) = map-in (splitSchema t s (orders t s)) (upTo (length (orders t s))) u m in
-      (s, j, upTo-in (length (t .schemas)) s k, upTo-in (length (orders t s)) j n, e)
-
-  schemas-fit : all (λ s. leb (length (s .atoms)) 64) (splitTask t .schemas) ≡ true →
+  schemas-fit : all (λ s. leb (length (s .atoms)) mostAtoms) (splitTask t .schemas) ≡ true →
       all (schemaFits (splitTask t .arities)) (splitTask t .schemas) ≡ true
   schemas-fit few = in-all (schemaFits (splitTask t .arities)) (splitTask t .schemas) (λ u i.
-      let (s, j, l, h, e) = schema-of-part u i in
-      let k = all-in (λ s. leb (length (s .atoms)) 64) few i in
+      let (s, j, l, h, e) = schema-of-part t u i in
+      let k = all-in (λ s. leb (length (s .atoms)) mostAtoms) few i in
       subst (λ u. schemaFits (splitTask t .arities) u ≡ true) (sym e)
-      (part-fits t s (orders t s) j (part-of s j l h) (subst (λ u. leb (length (u .atoms)) 64 ≡ true) e k)))
+      (part-fits t s (orders t s) j (part-of s j l h) (subst (λ u. leb (length (u .atoms)) mostAtoms ≡ true) e k)))
 
   pub within-well : Within (splitTask t) → wellFormed (splitTask t) ≡ true
   unfolding splitTask

@@ -1,0 +1,55 @@
+-- 'Text form', the two programs as functions of their input bytes.
+use Prim.Native.Nat.{ℕ}
+use mathlib.Core.List.{List, [], _∷_, _++_}
+use lib.ListN.{take}
+use Rattle.task.specs.Task.{Task}
+use Rattle.task.specs.Run.{Step}
+use Rattle.tokens.specs.Split.{Splitting, circular, tooLarge, splitAs, split}
+use Rattle.blocks.specs.Blocks.{unfoldSteps}
+use Rattle.text.specs.Lines.{digits, entryBytes, line}
+use Rattle.text.specs.Reading.{Reading, read, refusedAt}
+use Rattle.text.specs.Text.{write, readText}
+use Rattle.text.specs.Plan.{readPlan, writePlan}
+
+-- "A program takes the first 65,536 bytes of an input": shut, since a list function would count a numeral down
+unfoldable pub mostBytes : ℕ
+mostBytes = 65536
+
+unfoldable pub taken : List ℕ → List ℕ
+unfolding mostBytes
+taken input = take mostBytes input
+
+-- "`refused=` number, colon, place"
+unfoldable pub refusal : ℕ → ℕ → List ℕ
+unfolding line entryBytes
+refusal number place = line "refused" (entryBytes (record { head = number; list = place ∷ [] }))
+
+-- what splitting gives is printed, or its refusal: 9 with the schema, 10 with none
+unfoldable pub printSplitting : (Task → List ℕ) → Splitting → List ℕ
+unfolding refusal
+printSplitting prints (circular s) = refusal 9 s
+printSplitting prints tooLarge = refusal 10 0
+printSplitting prints (splitAs t) = prints t
+
+-- what is read is used, or its refusal printed with the line
+unfoldable pub printReading : {R : Type 0} → (R → List ℕ) → Reading R → List ℕ
+unfolding refusal
+printReading uses (read r) = uses r
+printReading uses (refusedAt number place) = refusal number place
+
+-- "The program `split` prints the split of the task on standard input, or `refused=` number, colon, place"
+unfoldable pub splitProgram : List ℕ → List ℕ
+unfolding printReading readText taken printSplitting split write
+splitProgram input = printReading (λ t. printSplitting write (split t)) (readText (taken input))
+
+-- "A second program reads the files `task` and `plan` .. and prints the unfolding so";
+-- "`task` is read first, unfolding comes last", and unfolding first refuses "as splitting would";
+-- "a missing file counts as empty"
+unfoldable pub unfoldProgram : List ℕ → List ℕ → List ℕ
+unfolding printReading readText readPlan taken printSplitting split writePlan unfoldSteps
+unfoldProgram task plan =
+    printReading
+    (λ t. printReading
+    (λ steps. printSplitting (λ t′. writePlan (unfoldSteps t steps)) (split t))
+    (readPlan t (taken plan)))
+    (readText (taken task))

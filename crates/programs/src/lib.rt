@@ -1,0 +1,1 @@
+// What the two programs print, as functions of their input bytes.

@@ -1,0 +1,251 @@
+//! Every entry point on sound and damaged input: it always answers, and leaves
+//! each lent word as document 01 says.
+
+use std::collections::BTreeMap;
+
+use checks::{read_table, report};
+use generate::split_lists::split_list;
+use generate::tasks::any_task;
+use generate::{limits, states, steps, tables, texts, Random};
+use reference::run::{Step, RECORD_WORDS, STEP_WORDS};
+use reference::table::{Task, TABLE_WORDS};
+use reference::{tokens, Answer, Refusal};
+
+const CASES: usize = 5000;
+
+/// Puts an entry point to many cases, each of which gives its answer's number,
+/// and requires that exactly the expected numbers were given.
+fn each_answer(
+    entry: &str,
+    seed: u64,
+    cases: usize,
+    expected: &[u32],
+    case: impl Fn(&mut Random) -> u32,
+) {
+    let mut random = Random::new(seed);
+    let mut given: BTreeMap<u32, usize> = BTreeMap::new();
+    for _ in 0..cases {
+        *given.entry(case(&mut random)).or_default() += 1;
+    }
+    let numbers: Vec<u32> = given.keys().copied().collect();
+    assert_eq!(numbers, expected, "{entry}");
+    for (number, count) in given {
+        report(&format!("{entry}, answer {number}"), count);
+    }
+}
+
+/// The refusal's number, or 0 for a result.
+fn number<Value>(answer: &Answer<Value>) -> u32 {
+    answer.as_ref().err().map_or(0, Refusal::number)
+}
+
+fn junk(random: &mut Random, length: usize) -> Vec<u16> {
+    (0..length).map(|_| random.word()).collect()
+}
+
+/// A lent table full of junk, sometimes too short or too long.
+fn lent_table(random: &mut Random) -> Vec<u16> {
+    let length = match random.below(20) {
+        0 => random.below(TABLE_WORDS),
+        1 => TABLE_WORDS + 3,
+        _ => TABLE_WORDS,
+    };
+    junk(random, length)
+}
+
+/// A task and its table, or a damaged one.
+fn task_and_table(random: &mut Random) -> (Task, Vec<u16>) {
+    let task = any_task(random);
+    let table = if random.chance(1, 8) {
+        tables::damaged(random, &task)
+    } else {
+        tables::table(&task)
+    };
+    (task, table)
+}
+
+/// The words of steps, or damaged ones.
+fn step_words(random: &mut Random, list: &[Step]) -> Vec<u16> {
+    if random.chance(1, 3) {
+        steps::damaged(random, list)
+    } else {
+        steps::words(list)
+    }
+}
+
+#[test]
+fn reading() {
+    let expected = [0, 1, 3, 4, 5, 6, 7, 8];
+    each_answer("reading", 71, CASES, &expected, |random| {
+        let task = if random.chance(1, 32) {
+            limits::any_side(random)
+        } else {
+            any_task(random)
+        };
+        let mut text = task.to_string().into_bytes();
+        if random.chance(7, 8) {
+            text = texts::damaged(random, &text);
+        }
+        let found = lent_table(random);
+        let mut table = found.clone();
+        let number = number(&reference::read(&text, &mut table));
+        match number {
+            0 => {
+                let task = Task::from_words(&table).expect("a table");
+                assert!(task.to_string().as_bytes() == text);
+            }
+            1 => assert!(table == found),
+            _ => assert!(table[..TABLE_WORDS] == [0; TABLE_WORDS]),
+        }
+        assert!(table.get(TABLE_WORDS..) == found.get(TABLE_WORDS..));
+        number
+    });
+}
+
+#[test]
+fn writing() {
+    each_answer("writing", 72, CASES, &[0, 1, 2, 11], |random| {
+        let (task, table) = task_and_table(random);
+        let length = task.to_string().len();
+        let lent = random.pick(&[length - 1, length, length + 1, 2 * length]);
+        let mut text = vec![b'x'; lent];
+        let answer = reference::write(&table, &mut text);
+        let written = answer.unwrap_or(0) as usize;
+        assert!(text[written..].iter().all(|byte| *byte == b'x'));
+        if written > 0 {
+            assert!(read_table(&text[..written]) == table[..TABLE_WORDS]);
+        }
+        number(&answer)
+    });
+}
+
+#[test]
+fn splitting() {
+    each_answer("splitting", 73, CASES, &[0, 1, 2, 9, 10], |random| {
+        let (_, table) = task_and_table(random);
+        let found = lent_table(random);
+        let mut out = found.clone();
+        let answer = reference::split(&table, &mut out);
+        match answer {
+            Ok(()) => assert!(Task::from_words(&out).is_some()),
+            Err(_) => assert!(out == found),
+        }
+        assert!(out.get(TABLE_WORDS..) == found.get(TABLE_WORDS..));
+        number(&answer)
+    });
+}
+
+/// Requires that the lent words hold so many ascending records, then zeros.
+fn require_records(lent: &[u16], records: u64) {
+    let (records, rest) = lent.split_at(RECORD_WORDS * records as usize);
+    let records: Vec<&[u16]> = records.chunks(RECORD_WORDS).collect();
+    assert!(records.is_sorted_by(|a, b| a < b));
+    assert!(rest.iter().all(|word| *word == 0));
+}
+
+#[test]
+fn running() {
+    let expected = [0, 1, 2, 12, 15, 16, 17];
+    each_answer("running", 74, 2 * CASES, &expected, |random| {
+        let (task, table) = task_and_table(random);
+        let (state, list) = generate::cases::run(random, &task);
+        let steps = step_words(random, &list);
+        let spare = random.below(40);
+        let found = if random.chance(1, 8) {
+            states::damaged(random, &state, spare)
+        } else {
+            states::lent(random, &state, spare)
+        };
+        let mut lent = found.words.clone();
+        let answer = reference::run(&table, &steps, &mut lent, found.records);
+        match answer {
+            Ok(ran) => require_records(&lent, ran.records),
+            Err(refusal) if matches!(refusal.number(), 16 | 17) => {
+                require_records(&lent, refusal.records);
+                let before = &steps[..STEP_WORDS * refusal.place.number() as usize];
+                let mut state = found.words;
+                let ran = reference::run(&table, before, &mut state, found.records);
+                assert_eq!(ran.map(|ran| ran.records), Ok(refusal.records));
+                assert_eq!(lent, state);
+            }
+            Err(_) => assert_eq!(lent, found.words),
+        }
+        number(&answer)
+    });
+}
+
+/// Requires that so many steps were written over the sevens lent, and no more.
+fn require_steps(out: &[u16], task: &Task, steps: u64) {
+    let (list, rest) = out.split_at(STEP_WORDS * steps as usize);
+    assert!(reference::run::steps_from_words(task, list).is_ok());
+    assert!(rest.iter().all(|word| *word == 7));
+}
+
+#[test]
+fn unfolding() {
+    let expected = [0, 1, 2, 9, 10, 12, 13];
+    each_answer("unfolding", 75, CASES, &expected, |random| {
+        let (task, table) = task_and_table(random);
+        let length = random.below(6);
+        let list = steps::list(random, &task, length);
+        let steps = step_words(random, &list);
+        let mut out = vec![7; random.below(30 * STEP_WORDS)];
+        let answer = reference::unfold(&table, &steps, &mut out);
+        let task = Task::from_words(&table).unwrap_or(task);
+        match (answer, tokens::split(&task)) {
+            (Ok(steps), Ok(split)) => require_steps(&out, &split.task, steps),
+            _ => require_steps(&out, &task, 0),
+        }
+        number(&answer)
+    });
+}
+
+#[test]
+fn folding() {
+    let expected = [0, 1, 2, 9, 10, 12, 13, 14];
+    each_answer("folding", 76, 2 * CASES, &expected, |random| {
+        let (task, table) = task_and_table(random);
+        let list = match tokens::split(&task) {
+            Ok(split) => split_list(random, &task, &split),
+            Err(_) => steps::list(random, &task, 3),
+        };
+        let steps = step_words(random, &list);
+        let mut out = vec![7; random.below(8 * STEP_WORDS)];
+        let answer = reference::fold(&table, &steps, &mut out);
+        let task = Task::from_words(&table).unwrap_or(task);
+        require_steps(&out, &task, answer.map_or(0, |folded| folded.steps));
+        if let Ok(folded) = answer {
+            assert_eq!(STEP_WORDS * folded.split_steps as usize, steps.len());
+        }
+        number(&answer)
+    });
+}
+
+/// Words of any length and value, which are mostly no table.
+#[test]
+fn anything() {
+    let mut random = Random::new(77);
+    for _ in 0..CASES {
+        let words = |random: &mut Random| {
+            let length = random.below(40);
+            junk(random, length)
+        };
+        let mut table = words(&mut random);
+        if random.chance(1, 2) {
+            let small = |word: &mut u16| *word %= 3;
+            table.iter_mut().for_each(small);
+            table.resize(TABLE_WORDS, 0);
+        }
+        let steps = words(&mut random);
+        let mut lent = words(&mut random);
+        let records = random.bits();
+        let bytes: Vec<u8> = steps.iter().map(|word| *word as u8).collect();
+        let _ = reference::write(&table, &mut [0; 100]);
+        let _ = reference::run(&table, &steps, &mut lent, records);
+        let _ = reference::unfold(&table, &steps, &mut lent);
+        let _ = reference::fold(&table, &steps, &mut lent);
+        let _ = reference::split(&table.clone(), &mut table);
+        assert!(reference::read(&bytes, &mut table).is_err());
+    }
+    report("anything", CASES);
+}

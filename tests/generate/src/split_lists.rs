@@ -1,0 +1,61 @@
+//! Lists of split steps for folding.
+
+use reference::blocks::unfold;
+use reference::run::Step;
+use reference::table::{ObjectNumber, Task};
+use reference::tokens::Split;
+
+use crate::random::Random;
+use crate::steps;
+
+/// An unfolding: whole, cut, woven from two, with a part dropped, doubled,
+/// swapped or given another object; or any split steps. Each step is one of
+/// the split task.
+pub fn split_list(random: &mut Random, task: &Task, split: &Split) -> Vec<Step> {
+    let mut list = unfolding(random, task, split);
+    if list.is_empty() {
+        return list;
+    }
+    let [at, other] = [(); 2].map(|()| random.below(list.len()));
+    match random.below(9) {
+        0 | 1 => {}
+        2 => list.truncate(at),
+        3 => drop(list.remove(at)),
+        4 => list.insert(at, list[at]),
+        5 => list.swap(at, other),
+        6 => change_object(random, &split.task, &mut list[at]),
+        7 => {
+            let second = unfolding(random, task, split);
+            return woven(random, &list, &second);
+        }
+        _ => list = steps::list(random, &split.task, list.len()),
+    }
+    list
+}
+
+fn unfolding(random: &mut Random, task: &Task, split: &Split) -> Vec<Step> {
+    let length = random.below(5);
+    unfold(split, &steps::list(random, task, length))
+}
+
+fn change_object(random: &mut Random, task: &Task, step: &mut Step) {
+    let parameters = usize::from(task.schemas[usize::from(step.schema)].parameters);
+    if parameters > 0 {
+        let object = random.below(task.objects.into());
+        step.objects[random.below(parameters)] = ObjectNumber(object as u16);
+    }
+}
+
+/// Both lists in one, each in its own order.
+fn woven<'a>(random: &mut Random, mut first: &'a [Step], mut second: &'a [Step]) -> Vec<Step> {
+    let mut woven = Vec::with_capacity(first.len() + second.len());
+    while let [step, rest @ ..] = first {
+        woven.push(*step);
+        first = rest;
+        if random.chance(1, 2) {
+            (first, second) = (second, first);
+        }
+    }
+    woven.extend(second);
+    woven
+}

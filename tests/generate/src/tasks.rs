@@ -1,0 +1,274 @@
+//! Random tasks. Each is a table; its split may be refused.
+
+use std::collections::{BTreeMap, BTreeSet};
+use std::ops::RangeInclusive;
+
+use reference::arcs::RULES;
+use reference::table::{
+    used_arguments, Atom, GroundAtom, LiftedAtom, ObjectNumber, ParameterNumber, PartNumber, Role,
+    Schema, SchemaAtom, Task,
+};
+
+use crate::limits;
+use crate::random::Random;
+
+type Range = RangeInclusive<usize>;
+
+/// How much a random task has of each thing.
+#[derive(Clone, Debug)]
+pub struct Shape {
+    pub objects: Range,
+    pub predicates: Range,
+    pub arity: Range,
+    pub schemas: Range,
+    pub parameters: Range,
+    /// Atoms of one schema.
+    pub atoms: Range,
+    pub parts: Range,
+    pub initial: Range,
+    pub goal: Range,
+    /// Of 8 schemas so many are parted without regard to arcs, and are often
+    /// circular.
+    pub free: usize,
+}
+
+impl Shape {
+    pub const SMALL: Shape = Shape {
+        objects: 1..=3,
+        predicates: 1..=4,
+        arity: 0..=2,
+        schemas: 0..=3,
+        parameters: 0..=3,
+        atoms: 1..=12,
+        parts: 1..=5,
+        initial: 0..=8,
+        goal: 0..=3,
+        free: 3,
+    };
+
+    pub const SMALL_SPLITTABLE: Shape = Shape {
+        schemas: 1..=3,
+        free: 0,
+        ..Shape::SMALL
+    };
+
+    pub const USUAL: Shape = Shape {
+        objects: 5..=40,
+        predicates: 5..=20,
+        arity: 0..=4,
+        schemas: 3..=12,
+        parameters: 0..=6,
+        atoms: 4..=16,
+        parts: 1..=6,
+        initial: 10..=80,
+        goal: 1..=10,
+        free: 1,
+    };
+
+    /// Splits of these pass some limit about as often as not.
+    pub const LARGE: Shape = Shape {
+        objects: 500..=1000,
+        predicates: 100..=300,
+        arity: 0..=4,
+        schemas: 20..=40,
+        parameters: 0..=12,
+        atoms: 4..=20,
+        parts: 1..=16,
+        initial: 300..=500,
+        goal: 50..=100,
+        free: 0,
+    };
+}
+
+pub fn task(random: &mut Random, shape: &Shape) -> Task {
+    let arities = arities(random, shape);
+    let schemas = (0..random.within(&shape.schemas))
+        .map(|_| schema(random, shape, &arities))
+        .collect();
+    with_ground_atoms(random, shape, arities, schemas)
+}
+
+/// A task of any size, most of them small.
+pub fn any_task(random: &mut Random) -> Task {
+    match random.below(64) {
+        0 => task(random, &Shape::LARGE),
+        1 => limits::any_table(random),
+        2..=7 => task(random, &Shape::USUAL),
+        8..=15 => telling_task(random),
+        _ => task(random, &Shape::SMALL),
+    }
+}
+
+fn arities(random: &mut Random, shape: &Shape) -> Vec<u16> {
+    (0..random.within(&shape.predicates))
+        .map(|_| random.within(&shape.arity) as u16)
+        .collect()
+}
+
+fn with_ground_atoms(
+    random: &mut Random,
+    shape: &Shape,
+    arities: Vec<u16>,
+    schemas: Vec<Schema>,
+) -> Task {
+    let objects = random.within(&shape.objects) as u16;
+    let mut atoms = |range: &Range| -> Vec<GroundAtom> {
+        let count = random.within(range);
+        let atoms: BTreeSet<GroundAtom> = (0..count)
+            .map(|_| ground_atom(random, &arities, objects))
+            .collect();
+        atoms.into_iter().collect()
+    };
+    let initial = atoms(&shape.initial);
+    let goal = atoms(&shape.goal);
+    Task {
+        objects,
+        arities,
+        schemas,
+        initial,
+        goal,
+    }
+}
+
+pub fn ground_atom(random: &mut Random, arities: &[u16], objects: u16) -> GroundAtom {
+    let predicate = random.below(arities.len());
+    let arguments: Vec<ObjectNumber> = (0..arities[predicate])
+        .map(|_| ObjectNumber(random.below(objects.into()) as u16))
+        .collect();
+    Atom::new(predicate as u16, &arguments)
+}
+
+fn schema(random: &mut Random, shape: &Shape, arities: &[u16]) -> Schema {
+    let parameters = random.within(&shape.parameters).max(1);
+    let mut atoms: Vec<SchemaAtom> = Vec::new();
+    for _ in 0..random.within(&shape.atoms) {
+        let role = random.pick(&Role::ALL);
+        let atom = if random.chance(1, 2) && !atoms.is_empty() {
+            random.pick(&atoms).atom
+        } else {
+            let predicate = random.below(arities.len());
+            lifted_atom(random, arities, predicate, parameters)
+        };
+        push(&mut atoms, role, PartNumber(0), atom);
+    }
+    let parts = random.within(&shape.parts);
+    if random.chance(shape.free, 8) {
+        for atom in &mut atoms {
+            atom.part = PartNumber(random.below(parts) as u16);
+        }
+    } else {
+        part_along_arcs(random, &mut atoms, parts);
+    }
+    finished(random, atoms, arities)
+}
+
+fn lifted_atom(
+    random: &mut Random,
+    arities: &[u16],
+    predicate: usize,
+    parameters: usize,
+) -> LiftedAtom {
+    let arguments: Vec<ParameterNumber> = (0..arities[predicate])
+        .map(|_| ParameterNumber(random.below(parameters) as u16))
+        .collect();
+    Atom::new(predicate as u16, &arguments)
+}
+
+/// Adds the atom unless its role has it.
+fn push(atoms: &mut Vec<SchemaAtom>, role: Role, part: PartNumber, atom: LiftedAtom) {
+    if !atoms
+        .iter()
+        .any(|other| (other.role, other.atom) == (role, atom))
+    {
+        atoms.push(SchemaAtom { role, part, atom });
+    }
+}
+
+/// Parts the atoms so that an order complies: each predicate is tested up to a
+/// first part, deleted up to a second and added from there on.
+fn part_along_arcs(random: &mut Random, atoms: &mut [SchemaAtom], parts: usize) {
+    let mut cuts: BTreeMap<u16, (usize, usize)> = BTreeMap::new();
+    for atom in atoms {
+        let (first, second) = *cuts.entry(atom.atom.predicate).or_insert_with(|| {
+            let first = random.below(parts);
+            (first, random.within(&(first..=parts - 1)))
+        });
+        let part = random.within(&match atom.role {
+            Role::Precondition => 0..=first,
+            Role::Delete => first..=second,
+            Role::Add => second..=parts - 1,
+        });
+        atom.part = PartNumber(part as u16);
+    }
+}
+
+/// The schema of these atoms: sorted by role, its parameters without an unused
+/// one and its parts without a gap, numbered at random.
+fn finished(random: &mut Random, mut atoms: Vec<SchemaAtom>, arities: &[u16]) -> Schema {
+    atoms.sort_by_key(|atom| atom.role);
+    let parts: BTreeSet<PartNumber> = atoms.iter().map(|atom| atom.part).collect();
+    let new_parts = random.permutation(parts.len());
+    let parts: BTreeMap<PartNumber, usize> = parts.into_iter().zip(new_parts).collect();
+    let parameters: BTreeSet<ParameterNumber> = atoms
+        .iter()
+        .flat_map(|atom| used_arguments(&atom.atom, arities))
+        .copied()
+        .collect();
+    let parameters: Vec<ParameterNumber> = parameters.into_iter().collect();
+    for atom in &mut atoms {
+        atom.part = PartNumber(parts[&atom.part] as u16);
+        let arity = usize::from(arities[usize::from(atom.atom.predicate)]);
+        for argument in &mut atom.atom.arguments[..arity] {
+            let number = parameters.partition_point(|other| *other < *argument);
+            *argument = ParameterNumber(number as u16);
+        }
+    }
+    Schema {
+        parameters: parameters.len() as u16,
+        atoms,
+    }
+}
+
+/// A small task with schemas in which a missing arc would be seen: without it,
+/// the part it leads to would mostly come first, since it has more
+/// preconditions than the part it comes from.
+pub fn telling_task(random: &mut Random) -> Task {
+    let shape = Shape {
+        predicates: 3..=5,
+        ..Shape::SMALL_SPLITTABLE
+    };
+    let arities = arities(random, &shape);
+    let mut schemas: Vec<Schema> = (0..random.within(&(1..=2)))
+        .map(|_| telling_schema(random, &arities))
+        .collect();
+    if random.chance(1, 3) {
+        schemas.push(schema(random, &shape, &arities));
+    }
+    random.shuffle(&mut schemas);
+    with_ground_atoms(random, &shape, arities, schemas)
+}
+
+/// One predicate stands in both roles of an arc, in an early and a late part;
+/// all the others are only tested, most often in the late part.
+fn telling_schema(random: &mut Random, arities: &[u16]) -> Schema {
+    const EARLY: PartNumber = PartNumber(0);
+    const LATE: PartNumber = PartNumber(1);
+    const APART: PartNumber = PartNumber(2);
+    let parameters = random.within(&(1..=3));
+    let told = random.below(arities.len());
+    let mut told_atom = || lifted_atom(random, arities, told, parameters);
+    let (first, other) = (told_atom(), told_atom());
+    let second = if random.chance(1, 2) { first } else { other };
+    let (first_role, second_role) = random.pick(&RULES);
+    let mut atoms = Vec::new();
+    push(&mut atoms, first_role, EARLY, first);
+    push(&mut atoms, second_role, LATE, second);
+    let tested_in = [LATE, LATE, LATE, EARLY, APART];
+    for part in &tested_in[..random.within(&(3..=tested_in.len()))] {
+        let skip = random.within(&(1..=arities.len() - 1));
+        let predicate = (told + skip) % arities.len();
+        let atom = lifted_atom(random, arities, predicate, parameters);
+        push(&mut atoms, Role::Precondition, *part, atom);
+    }
+    finished(random, atoms, arities)
+}

@@ -1,0 +1,116 @@
+//! A second implementation of document 01, "Splitting STRIPS action schemas
+//! for station work", with one module for each of its sections and the entry
+//! points on lent words and bytes here.
+
+pub mod answer;
+pub mod arcs;
+pub mod blocks;
+pub mod programs;
+pub mod run;
+pub mod table;
+pub mod text;
+pub mod tokens;
+
+pub use answer::{Answer, Place, Reason, Refusal};
+
+use run::{Step, STEP_WORDS};
+use table::{Task, TABLE_WORDS};
+
+/// What running answers with a result.
+#[derive(Clone, Copy, Debug, PartialEq, Eq)]
+pub struct Ran {
+    pub records: u64,
+    pub goal_met: bool,
+}
+
+/// What folding answers with a result.
+#[derive(Clone, Copy, Debug, PartialEq, Eq)]
+pub struct Folded {
+    pub split_steps: u64,
+    pub steps: u64,
+}
+
+/// Reads a text into a table.
+pub fn read(text: &[u8], table: &mut [u16]) -> Answer<()> {
+    let table = lent_table(table)?;
+    table.fill(0);
+    text::read_task(text)?.store(table);
+    Ok(())
+}
+
+/// Writes a table as text and answers the number of bytes.
+pub fn write(table: &[u16], text: &mut [u8]) -> Answer<u64> {
+    let written = task_of(table)?.to_string();
+    text.get_mut(..written.len())
+        .ok_or(Refusal::nowhere(Reason::TextTooLong))?
+        .copy_from_slice(written.as_bytes());
+    Ok(written.len() as u64)
+}
+
+/// Writes the split of a table's task as a table.
+pub fn split(table: &[u16], out: &mut [u16]) -> Answer<()> {
+    let out = lent_table(out)?;
+    tokens::split(&task_of(table)?)?.task.store(out);
+    Ok(())
+}
+
+/// Runs steps from the state that the first `records` records hold.
+pub fn run(table: &[u16], steps: &[u16], state: &mut [u16], records: u64) -> Answer<Ran> {
+    let task = task_of(table)?;
+    let steps = run::steps_from_words(&task, steps)?;
+    let mut atoms = run::state_from_words(&task, state, records)?;
+    let answer = run::run(&task, &steps, &mut atoms, run::room(state));
+    run::store_state(&atoms, state);
+    answer.map(|()| Ran {
+        records: atoms.len() as u64,
+        goal_met: run::goal_met(&task, &atoms),
+    })
+}
+
+/// Writes the unfolding of steps and answers its number of split steps.
+pub fn unfold(table: &[u16], steps: &[u16], out: &mut [u16]) -> Answer<u64> {
+    let task = task_of(table)?;
+    let split = tokens::split(&task)?;
+    let steps = run::steps_from_words(&task, steps)?;
+    let unfolded = blocks::unfold(&split, &steps);
+    store_steps(&unfolded, out)?;
+    Ok(unfolded.len() as u64)
+}
+
+/// Writes the steps whose blocks a list of split steps is.
+pub fn fold(table: &[u16], split_steps: &[u16], out: &mut [u16]) -> Answer<Folded> {
+    let split = tokens::split(&task_of(table)?)?;
+    let split_steps = run::steps_from_words(&split.task, split_steps)?;
+    let steps = blocks::fold(&split, &split_steps)?;
+    store_steps(&steps, out)?;
+    Ok(Folded {
+        split_steps: split_steps.len() as u64,
+        steps: steps.len() as u64,
+    })
+}
+
+/// Refusal 1: "a lent table is shorter than 13,406 words".
+fn lent_table(table: &mut [u16]) -> Answer<&mut [u16]> {
+    table
+        .get_mut(..TABLE_WORDS)
+        .ok_or(Refusal::nowhere(Reason::TableTooShort))
+}
+
+/// Refusals 1 and 2: "a table lent for reading is no such table".
+fn task_of(table: &[u16]) -> Answer<Task> {
+    if table.len() < TABLE_WORDS {
+        return Err(Refusal::nowhere(Reason::TableTooShort));
+    }
+    Task::from_words(table).ok_or(Refusal::nowhere(Reason::NotATable))
+}
+
+/// Refusal 13: "the result is longer than the lent words".
+fn store_steps(steps: &[Step], out: &mut [u16]) -> Answer<()> {
+    let used = out
+        .get_mut(..STEP_WORDS * steps.len())
+        .ok_or(Refusal::nowhere(Reason::ResultTooLong))?;
+    for (words, step) in used.chunks_exact_mut(STEP_WORDS).zip(steps) {
+        words.copy_from_slice(&step.words());
+    }
+    Ok(())
+}

@@ -1,0 +1,46 @@
+//! The two programs of document 01, "Text form", as functions of their input.
+
+use crate::answer::{Answer, Refusal};
+use crate::blocks;
+use crate::text::{read_plan, read_task, Plan};
+use crate::tokens;
+
+/// "A program takes the first 65,536 bytes of an input."
+pub const INPUT_BYTES: usize = 65_536;
+
+/// What `split` prints for its standard input.
+pub fn split_program(stdin: &[u8]) -> Vec<u8> {
+    let split = read_task(taken(stdin)).and_then(|task| tokens::split(&task));
+    printed(split.map(|split| split.task.to_string()))
+}
+
+/// What `unfold` prints for its files; "a missing file counts as empty".
+pub fn unfold_program(task: Option<&[u8]>, plan: Option<&[u8]>) -> Vec<u8> {
+    printed(unfolding(
+        taken(task.unwrap_or_default()),
+        taken(plan.unwrap_or_default()),
+    ))
+}
+
+/// "`task` is read first, unfolding comes last."
+fn unfolding(task: &[u8], plan: &[u8]) -> Answer<String> {
+    let task = read_task(task)?;
+    let steps = read_plan(plan, &task)?;
+    let split = tokens::split(&task)?;
+    let plan = Plan {
+        task: &split.task,
+        steps: &blocks::unfold(&split, &steps),
+    };
+    Ok(plan.to_string())
+}
+
+fn taken(input: &[u8]) -> &[u8] {
+    &input[..input.len().min(INPUT_BYTES)]
+}
+
+/// "Or `refused=` number, colon, place."
+fn printed(answer: Answer<String>) -> Vec<u8> {
+    let refused =
+        |refusal: Refusal| format!("refused={}:{}\n", refusal.number(), refusal.place.number());
+    answer.unwrap_or_else(refused).into_bytes()
+}
