@@ -1,0 +1,149 @@
+-- When splitting refuses: 9 at the lowest schema that has no order, and at no other; 10 where every schema has one and
+-- the split passes a limit. By cases on `settle`, and on what the first of 0, 1, .. that passes a test is.
+use Prim.Native.Nat.{ℕ, zero, suc, _+_, _≤_, _<_}
+use mathlib.Core.Path.{_≡_, refl, sym, _∙_, ap}
+use mathlib.Core.Bool.{Bool, true, false, cond}
+use mathlib.Core.List.{List}
+use mathlib.Core.Option.{Option, none, some}
+use native.Mathlib.Omega.{arith}
+use native.Mathlib.Decide.{decLt}
+use lib.ListN.{length}
+use Rattle.task.specs.Lists.{head, first, filter, keepIf, upTo, upFrom}
+use Rattle.task.specs.Task.{Task}
+use Rattle.task.specs.Run.{schemaAt}
+use Rattle.arcs.specs.Order.{orderOf}
+use Rattle.arcs.proofs.Laws.{some-inj, no-none}
+use Rattle.tokens.specs.Split.{orderAt, orEmpty, orders, splitTask, circular, tooLarge, splitAs, isNone}
+use Rattle.tokens.specs.Split.{withinLimits, settle, split}
+use Rattle.task.proofs.Laws.{no-tf, no-ft}
+use Rattle.tokens.proofs.Accepted.{circularAt, Ordered, none-circular, ordered-split}
+
+-- ---- the first number that passes a test
+module _ (test : ℕ → Bool) where
+  pub record FirstOf (s n x : ℕ) : Type 0 where
+    pub from : s ≤ x
+    pub below : x < s + n
+    pub passes : test x ≡ true
+    pub lowest : (i : ℕ) → s ≤ i → i < x → test i ≡ false
+
+  pub is-first : (s n x : ℕ) → FirstOf s n x → first test (upFrom s n) ≡ some x
+  unfolding first head filter keepIf upFrom
+  is-first s zero x f = absurd (omega arith)
+  is-first s (suc n) x f = elim (decLt s x) [
+    | yes l ↦ rw (f .lowest s (omega arith) l) (is-first (suc s) n x (record {
+      from = l;
+      below = omega arith;
+      passes = f .passes;
+      lowest = λ i h. f .lowest i (omega arith);
+    }))
+    | no l ↦ let e : s ≡ x = omega arith in rw (ap test e ∙ f .passes) (ap some e)
+  ]
+
+  pub first-is : (s n x : ℕ) → first test (upFrom s n) ≡ some x → FirstOf s n x
+  unfolding first head filter keepIf upFrom
+  first-is s zero x h = absurd (no-none h)
+  first-is s (suc n) x h = go (test s) refl (first-is (suc s) n x) h
+    where
+      below : FirstOf (suc s) n x → test s ≡ false → (i : ℕ) → s ≤ i → i < x → test i ≡ false
+      below f e i a b = elim (decLt s i) [
+        | yes l ↦ f .lowest i l b
+        | no l ↦ let d : i ≡ s = omega arith in ap test d ∙ e
+      ]
+
+      go : (b : Bool) → test s ≡ b → (first test (upFrom (suc s) n) ≡ some x → FirstOf (suc s) n x) →
+          head (keepIf b s (filter test (upFrom (suc s) n))) ≡ some x → FirstOf s (suc n) x
+      go true e ih k =
+          let d = some-inj k in
+          record {
+            from = omega arith;
+            below = omega arith;
+            passes = ap test (sym d) ∙ e;
+            lowest = λ i a b. absurd (omega arith);
+          }
+      go false e ih k =
+          let f = ih k in
+          record { from = omega arith; below = omega arith; passes = f .passes; lowest = below f e }
+
+-- ---- refusal 9
+-- "no order complies; lowest such schema"
+pub record Circular (t : Task) (s : ℕ) : Type 0 where
+  pub known : s < length (t .schemas)
+  pub no-order : orderOf (schemaAt t s) ≡ none
+  pub before : (q : ℕ) → q < s → orderOf (schemaAt t q) ≡ some (orders t q)
+
+-- whether a schema has an order, as the test tells it
+none-order : (t : Task) (s : ℕ) → isNone (orderAt t s) ≡ true → orderOf (schemaAt t s) ≡ none
+unfolding isNone orderAt
+none-order t s h = go (orderOf (schemaAt t s)) h
+  where
+    go : (b : Option (List ℕ)) → isNone b ≡ true → b ≡ none
+    go none e = refl
+    go (some o) e = absurd (no-ft e)
+
+some-order : (t : Task) (s : ℕ) → isNone (orderAt t s) ≡ false → orderOf (schemaAt t s) ≡ some (orders t s)
+unfolding isNone orderAt orders orEmpty
+some-order t s h = go (orderOf (schemaAt t s)) h
+  where
+    go : (b : Option (List ℕ)) → isNone b ≡ false → b ≡ some (orEmpty b)
+    go none e = absurd (no-tf e)
+    go (some o) e = refl
+
+abbrev noOrder : Task → ℕ → Bool
+noOrder t s = isNone (orderAt t s)
+
+pub circular-split : (t : Task) (s : ℕ) → Circular t s → split t ≡ circular s
+unfolding split settle upTo isNone orderAt
+circular-split t s c =
+    ap (λ l. settle l (splitTask t)) (is-first (noOrder t) 0 (length (t .schemas)) s (record {
+      from = omega arith;
+      below = omega (arith, c .known);
+      passes = ap isNone (c .no-order);
+      lowest = λ i a b. ap isNone (c .before i b);
+    }))
+
+pub split-circular : (t : Task) (s : ℕ) → split t ≡ circular s → Circular t s
+unfolding split settle upTo
+split-circular t s h = go (circularAt t) refl h
+  where
+    at : FirstOf (noOrder t) 0 (length (t .schemas)) s → Circular t s
+    at f = record {
+      known = omega (arith, f .below);
+      no-order = none-order t s (f .passes);
+      before = λ q l. some-order t q (f .lowest q (omega arith) l);
+    }
+
+    judged : (b : Bool) → cond b (splitAs (splitTask t)) tooLarge ≡ circular s → ⊥
+    judged true e = let z : _≡_ {A = ℕ} 0 1 = cc in omega arith
+    judged false e = let z : _≡_ {A = ℕ} 0 1 = cc in omega arith
+
+    go : (l : Option ℕ) → circularAt t ≡ l → settle l (splitTask t) ≡ circular s → Circular t s
+    go none e k = absurd (judged (withinLimits (splitTask t)) k)
+    go (some q) e k =
+        let d : q ≡ s = cc in
+        at (first-is (noOrder t) 0 (length (t .schemas)) s (e ∙ ap {B = Option ℕ} some d))
+
+-- ---- refusal 10
+-- every schema has an order, and the split passes a limit
+pub record TooLarge (t : Task) : Type 0 where
+  pub ordered : Ordered t
+  pub beyond : withinLimits (splitTask t) ≡ false
+
+pub large-split : (t : Task) → TooLarge t → split t ≡ tooLarge
+large-split t c =
+    ordered-split t (c .ordered) ∙ ap (λ b. cond b (splitAs (splitTask t)) tooLarge) (c .beyond)
+
+pub split-large : (t : Task) → split t ≡ tooLarge → TooLarge t
+unfolding split settle
+split-large t h = go (circularAt t) refl h
+  where
+    judged : (b : Bool) → withinLimits (splitTask t) ≡ b → cond b (splitAs (splitTask t)) tooLarge ≡ tooLarge →
+        withinLimits (splitTask t) ≡ false
+    judged true e k = absurd (let z : _≡_ {A = ℕ} 0 1 = cc in omega arith)
+    judged false e k = e
+
+    go : (l : Option ℕ) → circularAt t ≡ l → settle l (splitTask t) ≡ tooLarge → TooLarge t
+    go none e k = record {
+      ordered = none-circular t e;
+      beyond = judged (withinLimits (splitTask t)) refl k;
+    }
+    go (some q) e k = absurd (let z : _≡_ {A = ℕ} 0 1 = cc in omega arith)
