@@ -1,0 +1,44 @@
+// More of sets of bits: several sets at once, and how many numbers one has.
+ghost use Prim.Native.Nat.{ℕ, _≤_};
+ghost use mathlib.Core.Path.{_≡_};
+ghost use mathlib.Core.Bool.{not, _&&_, _||_};
+ghost use lib.ListN.{length};
+ghost use Rattle.arcs.specs.Code.{member, members};
+use arcs::sets::has;
+
+// The numbers in either set.
+pub fn union(a: u64, b: u64) -> u64
+    ensures { λ r. ⌜ ((k : ℕ) → member r k ≡ member a k || member b k) ⌝ }
+{
+    a | b
+}
+
+// The numbers in both sets.
+pub fn common(a: u64, b: u64) -> u64
+    ensures { λ r. ⌜ ((k : ℕ) → member r k ≡ member a k && member b k) ⌝ }
+{
+    a & b
+}
+
+// The numbers of one set that are not in another.
+pub fn minus(a: u64, b: u64) -> u64
+    ensures { λ r. ⌜ ((k : ℕ) → member r k ≡ member a k && not (member b k)) ⌝ }
+{
+    a & !b
+}
+
+// How many numbers below 16 are in the set.
+pub fn size(set: u64) -> usize
+    ensures { λ r. ⌜ r ≡ length (members set 16) ⌝ }
+    ensures { λ r. ⌜ r ≤ 16 ⌝ }
+{
+    let mut n = 0;
+    let mut k = 0;
+    while k < 16 {
+        if has(set, k) {
+            n += 1;
+        }
+        k += 1;
+    }
+    n
+}
