@@ -13,7 +13,8 @@ use Rattle.task.specs.declared.Part.{Part}
 use Rattle.task.specs.Run.{schemaAt}
 use Rattle.arcs.specs.Order.{orderOf}
 use Rattle.arcs.specs.Code.{member, atomsIn}
-use Rattle.tokens.specs.Split.{has, orders}
+use Rattle.tokens.specs.Split.{has, orders, firstHere, lastHere, laterHere}
+use Rattle.tokens.specs.declared.pars.Pars.{Pars}
 use Rattle.tokens.specs.declared.parts.Circular.{Circular}
 use Rattle.tokens.specs.declared.parts.Circular.the-variants as circle
 
@@ -37,6 +38,18 @@ pub record PartsKept (t : Task) (n : ℕ) (starts counts order own : List ℕ) :
   pub part : (s j : ℕ) → s < n → j < length (orders t s) → getD order (16 * s + j) 0 ≡ getD (orders t s) j 0
   pub params : (s j x : ℕ) → s < n → j < length (orders t s) →
       member (getD own (16 * s + j) 0) x ≡ has (schemaAt t s) x (getD (orders t s) j 0)
+
+-- at each position of an order of schema s: the parameters of its part, as a set of bits
+abbrev pub ParamsKept : Task → ℕ → List ℕ → List ℕ → Type 0
+ParamsKept t s o own =
+    (j x : ℕ) → j < length o → member (getD own (16 * s + j) 0) x ≡ has (schemaAt t s) x (getD o j 0)
+
+-- the parameters of the part at position j, and those of them whose par it requires, adds and deletes
+pub record ParsHere (t : Task) (s : ℕ) (o : List ℕ) (j : ℕ) (r : Pars) : Type 0 where
+  pub own : (x : ℕ) → member (r .own) x ≡ has (schemaAt t s) x (getD o j 0)
+  pub later : (x : ℕ) → member (r .later) x ≡ has (schemaAt t s) x (getD o j 0) && laterHere t s o j x
+  pub first : (x : ℕ) → member (r .first) x ≡ has (schemaAt t s) x (getD o j 0) && firstHere t s o j x
+  pub last : (x : ℕ) → member (r .last) x ≡ has (schemaAt t s) x (getD o j 0) && lastHere t s o j x
 
 -- the part at position j of parts found
 abbrev pub partAt : List Part → ℕ → ℕ

@@ -6,6 +6,13 @@ ghost use lib.ListN.{length};
 ghost use Rattle.arcs.specs.Code.{member, members};
 use arcs::sets::has;
 
+// The set that a word holds.
+pub fn held(word: u16) -> u64
+    ensures { λ r. ⌜ r ≡ word ⌝ }
+{
+    word as u64
+}
+
 // The numbers in either set.
 pub fn union(a: u64, b: u64) -> u64
     ensures { λ r. ⌜ ((k : ℕ) → member r k ≡ member a k || member b k) ⌝ }
