@@ -9,7 +9,7 @@ use native.Mathlib.Decide.{decLt}
 use lib.ListN.{length, getD}
 use lib.Dec.{eqb, ltb}
 use borrow.Author.Tests.{eqb-true, eq-eqb, ne-eqb, ltb-true, lt-ltb, le-ltb}
-use Rattle.task.specs.Lists.{any, filter, keepIf, upTo, upFrom}
+use Rattle.task.specs.Lists.{any, filter, upTo, upFrom}
 use Rattle.task.specs.Task.{Schema, Task, schemaFits}
 use Rattle.task.specs.Run.{schemaAt}
 use Rattle.task.proofs.Laws.{bool-ext, and-left, any-in, in-any, in-upFrom, upFrom-in, upFrom-last}
@@ -19,6 +19,7 @@ use Rattle.arcs.proofs.ArcSets.{any-more}
 use Rattle.tokens.specs.Split.{has, paramsOf, firstPosition, lastPosition, own, firstHere, lastHere, laterHere}
 use Rattle.tokens.specs.Code.{ParamsKept, ParsHere}
 use Rattle.tokens.specs.declared.pars.Pars.{Pars}
+use Rattle.tokens.proofs.Lists.{filter-same}
 use Rattle.tokens.proofs.Places.{At, at-first, at-last, first-at, last-at, has-small}
 use Rattle.tokens.proofs.Sums.{eqb-turn, filter-filter}
 use Rattle.tokens.proofs.SetMembers.{filter-below}
@@ -158,11 +159,6 @@ module _ (t : Task) (s : ℕ) (o : List ℕ) (j : ℕ) (l : j < length o) (kept 
     }
 
 -- ---- as lists
-filter-same : (p q : ℕ → Bool) (xs : List ℕ) → ((x : ℕ) → p x ≡ q x) → filter p xs ≡ filter q xs
-unfolding filter
-filter-same p q [] h = refl
-filter-same p q (x ∷ xs) h = ap₂ (λ b ys. keepIf b x ys) (h x) (filter-same p q xs h)
-
 -- the numbers of a set of the part's parameters that a test picks are those of its own list
 module _ (t : Task) (s : ℕ) (o : List ℕ) (j n : ℕ) (fits : schemaFits (t .arities) (schemaAt t s) ≡ true)
     (wide : schemaAt t s .params ≤ n) where
@@ -172,7 +168,7 @@ module _ (t : Task) (s : ℕ) (o : List ℕ) (j n : ℕ) (fits : schemaFits (t .
   pub own-listed : (set : ℕ) → ((x : ℕ) → member set x ≡ has old x (getD o j 0)) → members set n ≡ own t s o j
   unfolding members own paramsOf
   own-listed set h =
-      filter-same (member set) (λ x. has old x (getD o j 0)) (upTo n) h ∙
+      filter-same (member set) (λ x. has old x (getD o j 0)) (upTo n) (λ x i. h x) ∙
       filter-below (λ x. has old x (getD o j 0)) (old .params) n wide
       (λ x e. has-small old (t .arities) (schemaFits-fits (t .arities) old fits) x (getD o j 0) e)
 
@@ -180,7 +176,7 @@ module _ (t : Task) (s : ℕ) (o : List ℕ) (j n : ℕ) (fits : schemaFits (t .
       members set n ≡ filter test (own t s o j)
   unfolding members own paramsOf
   picked-listed set test h =
-      filter-same (member set) (λ x. has old x (getD o j 0) && test x) (upTo n) h ∙
+      filter-same (member set) (λ x. has old x (getD o j 0) && test x) (upTo n) (λ x i. h x) ∙
       filter-below (λ x. has old x (getD o j 0) && test x) (old .params) n wide
       (λ x e. has-small old (t .arities) (schemaFits-fits (t .arities) old fits) x (getD o j 0)
       (and-left (has old x (getD o j 0)) _ e)) ∙

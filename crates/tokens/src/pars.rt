@@ -3,12 +3,17 @@ ghost use Prim.Native.Nat.{ℕ, _+_, _-_, _*_, _≤_, _<_};
 ghost use mathlib.Core.Path.{_≡_};
 ghost use mathlib.Core.List.{List};
 ghost use lib.ListN.{length, getD};
+ghost use lib.Dec.{ltb};
 ghost use Rattle.task.specs.Lists.{any, upFrom};
 ghost use Rattle.task.specs.Task.{Task};
+ghost use Rattle.task.specs.Run.{schemaAt};
 ghost use Rattle.arcs.specs.Code.{member};
+ghost use Rattle.tokens.specs.Split.{positions};
 ghost use Rattle.tokens.specs.Code.{ParamsKept, ParsHere};
-
-use crate::sets::{common, held, minus, union};
+use crate::sets::common;
+use crate::sets::held;
+use crate::sets::minus;
+use crate::sets::union;
 
 // The parameters of the part at a position; and of these, those that stand in a part before it,
 // those that stand first here and again later, and those that stand here last and stood before.
@@ -52,4 +57,23 @@ pub fn pars_at(own: &[u16; 3200], s: usize, count: usize, j: usize) -> Pars
         first: common(minus(here, before), after),
         last: minus(later, after),
     }
+}
+
+// The parameters that are "found in two parts" of schema s.
+pub fn shared_in(own: &[u16; 3200], s: usize, count: usize) -> u64
+    requires { ⌜ s < 200 ⌝ }
+    requires { ⌜ count ≤ 16 ⌝ }
+    ensures { λ r. ⌜ ((t : Task) (o : List ℕ) → length o ≡ count → ParamsKept t s o (now (own .entry)) →
+        (x : ℕ) → member r x ≡ ltb 1 (length (positions (schemaAt t s) o x))) ⌝ }
+{
+    let mut seen = 0;
+    let mut twice = 0;
+    let mut j = 0;
+    while j < count {
+        let here = held(own[16 * s + j]);
+        twice = union(twice, common(seen, here));
+        seen = union(seen, here);
+        j += 1;
+    }
+    twice
 }

@@ -1,8 +1,10 @@
 // More of sets of bits: several sets at once, and how many numbers one has.
-ghost use Prim.Native.Nat.{ℕ, _≤_};
+ghost use Prim.Native.Nat.{ℕ, suc, _≤_};
 ghost use mathlib.Core.Path.{_≡_};
 ghost use mathlib.Core.Bool.{not, _&&_, _||_};
+ghost use mathlib.Core.List.{map};
 ghost use lib.ListN.{length};
+ghost use Rattle.task.specs.Lists.{lastOr};
 ghost use Rattle.arcs.specs.Code.{member, members};
 use arcs::sets::has;
 
@@ -48,4 +50,20 @@ pub fn size(set: u64) -> usize
         k += 1;
     }
     n
+}
+
+// One more than the largest number below 16 in the set, or 0.
+pub fn bound(set: u64) -> usize
+    ensures { λ r. ⌜ r ≡ lastOr (map suc (members set 16)) 0 ⌝ }
+    ensures { λ r. ⌜ r ≤ 16 ⌝ }
+{
+    let mut most = 0;
+    let mut k = 0;
+    while k < 16 {
+        if has(set, k) {
+            most = k + 1;
+        }
+        k += 1;
+    }
+    most
 }

@@ -61,8 +61,8 @@ loop-again c =
       omega arith,
       omega arith,
       λ x.
-      c .union .ensures x ∙ ap₂ _||_ (h .inv .2 x) (ap (λ (v : ℕ). member v x) (c .before .held .ensures)) ∙
-      sym (between-more (test x) (a .from) (h .j) (h .inv .0)),
+          c .union .ensures x ∙ ap₂ _||_ (h .inv .2 x) (ap (λ (v : ℕ). member v x) (c .before .held .ensures)) ∙
+          sym (between-more (test x) (a .from) (h .j) (h .inv .0)),
     )
 
 returns : tie.Need-returns Inv-loop μ-loop
