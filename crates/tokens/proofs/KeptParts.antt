@@ -1,13 +1,11 @@
 -- What is kept of the parts grows: position by position within a schema, and schema by schema. A store changes the one
 -- place that it goes to.
-use Prim.Native.Nat.{ℕ, suc, _+_, _*_, _≤_, _<_}
+use Prim.Native.Nat.{ℕ, _+_, _*_, _<_}
 use mathlib.Core.Path.{_≡_, refl, sym, _∙_, ap, subst}
-use mathlib.Core.Bool.{Bool, true, false, cond}
-use mathlib.Core.List.{List, map}
-use mathlib.Core.Option.{Option, none, some}
+use mathlib.Core.List.{List}
 use native.Mathlib.Omega.{arith}
 use native.Mathlib.Decide.{decLt}
-use lib.ListN.{length, getD, set, take}
+use lib.ListN.{length, getD, set}
 use lib.Seq.{getD-set-same, getD-set-other}
 use Rattle.task.specs.declared.Part.{Part}
 use Rattle.task.proofs.Laws.{getD-map}
@@ -18,7 +16,8 @@ use Rattle.tokens.proofs.PartParameters.{inPart}
 -- ---- a store
 -- what holds of each place below n, and of n, after a store at a place from `from` on
 below-stored : (P : ℕ → ℕ → Type 0) (xs : List ℕ) (from n v : ℕ) → from + n < length xs →
-    ((j : ℕ) → j < n → P j (getD xs (from + j) 0)) → P n v → (j : ℕ) → j < n + 1 → P j (getD (set xs (from + n) v) (from + j) 0)
+    ((j : ℕ) → j < n → P j (getD xs (from + j) 0)) → P n v → (j : ℕ) → j < n + 1 →
+    P j (getD (set xs (from + n) v) (from + j) 0)
 below-stored P xs from n v l h k j m = elim (decLt j n) [
   | yes a ↦
       subst (P j) (sym (getD-set-other xs (from + n) (from + j) v 0 (λ z. omega arith))) (h j a)

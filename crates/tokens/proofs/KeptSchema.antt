@@ -1,5 +1,5 @@
 -- What is known of one schema of a table whose parts are kept: its stretch of atoms, and that its numbers are small.
-use Prim.Native.Nat.{ℕ, suc, _+_, _-_, _≤_, _<_}
+use Prim.Native.Nat.{ℕ, _+_, _-_, _≤_, _<_}
 use mathlib.Core.Path.{_≡_, sym, _∙_, ap, ap₂, subst}
 use mathlib.Core.Bool.{true}
 use mathlib.Core.List.{List}
@@ -20,8 +20,9 @@ use Rattle.arcs.proofs.Laws.{OrderOf, orderOf-laws, part-small}
 use Rattle.arcs.proofs.Stretches.{schema-atoms, schema-stretch}
 use Rattle.tokens.specs.Split.{parts, orders}
 use Rattle.tokens.specs.Code.{startOf, PartsKept, SchemaKept}
+use Rattle.tokens.proofs.AtomWords.{schema-fits}
 use Rattle.tokens.proofs.PartParameters.{schema-known}
-use Rattle.tokens.proofs.KeptSchemas.{schemas-few, schema-fits, order-few}
+use Rattle.tokens.proofs.KeptSchemas.{schemas-few, order-few}
 
 -- one schema of many
 pub schema-kept : (w : List ℕ) → isTable w ≡ true → (s from to count : ℕ) (starts counts order own : List ℕ) →

@@ -1,10 +1,10 @@
 -- What is kept of the parts grows schema by schema, as long as an order complies; and the first schema for which none
 -- does is the circular one. A schema has sixteen places, and its order has at most sixteen parts, so a store for one
 -- schema leaves the places of earlier ones.
-use Prim.Native.Nat.{ℕ, zero, suc, _+_, _-_, _*_, _≤_, _<_}
-use mathlib.Core.Path.{_≡_, refl, sym, _∙_, ap, subst}
+use Prim.Native.Nat.{ℕ, suc, _+_, _-_, _*_, _≤_, _<_}
+use mathlib.Core.Path.{_≡_, sym, _∙_, ap, subst}
 use mathlib.Core.Bool.{Bool, true, false, cond}
-use mathlib.Core.List.{List, [], _∷_, _++_, map}
+use mathlib.Core.List.{List, [], _++_, map}
 use mathlib.Core.Option.{Option, none, some}
 use native.Mathlib.Omega.{arith}
 use native.Mathlib.Decide.{decLt}
@@ -13,21 +13,22 @@ use lib.ListN.{length, getD, set, take, length-map}
 use lib.Seq.{getD-set-same, getD-set-other, getD-take, length-take-le}
 use borrow.Author.Tests.{leb-true}
 use Rattle.task.specs.Lists.{sum, filter, keepIf, head, first, upTo, upFrom}
-use Rattle.task.specs.Task.{Atom, Schema, Task, schemaAtoms, schemaFits, partCount}
+use Rattle.task.specs.Task.{Task, schemaAtoms, partCount}
 use Rattle.task.specs.Run.{schemaAt}
 use Rattle.task.specs.Table.{taskOf, isTable}
 use Rattle.task.specs.declared.Part.{Part}
-use Rattle.task.proofs.Laws.{all-in, in-getD, getD-map, upFrom-in}
+use Rattle.task.proofs.Laws.{getD-map, upFrom-in}
 use Rattle.task.proofs.Tests.{schema-tests, task-tests}
-use Rattle.task.proofs.Tables.{noSchema, of-table, filter-append, filter-none, upFrom-append}
-use Rattle.task.proofs.TablesByIndex.{table-frame, schemas-word, atoms-word}
+use Rattle.task.proofs.Tables.{of-table, filter-append, filter-none, upFrom-append}
+use Rattle.task.proofs.TablesByIndex.{table-frame, atoms-word}
 use Rattle.arcs.specs.declared.Order.{Order}
 use Rattle.arcs.specs.Order.{orderOf}
 use Rattle.arcs.specs.Code.{member, atomsIn, orderTold}
-use Rattle.arcs.proofs.Laws.{some-inj, orderOf-laws}
+use Rattle.arcs.proofs.Laws.{orderOf-laws}
 use Rattle.tokens.specs.Split.{has, isNone, orderAt, orEmpty, orders, parts}
-use Rattle.tokens.specs.Code.{startOf, partAt, AreKept, OrderKept, PartsKept}
+use Rattle.tokens.specs.Code.{startOf, partAt, OrderKept, PartsKept}
 use Rattle.tokens.proofs.Accepted.{circularAt}
+use Rattle.tokens.proofs.AtomWords.{schema-fits}
 use Rattle.tokens.proofs.PartParameters.{inPart}
 use Rattle.tokens.proofs.KeptParts.{part-is}
 
@@ -39,11 +40,13 @@ partsFound f = map (λ (p : Part). p .0) (take (f .count) (f .parts))
 found-count : (f : Order) → f .count ≤ length (f .parts) → length (partsFound f) ≡ f .count
 found-count f l = length-map (take (f .count) (f .parts)) (λ (p : Part). p .0) ∙ length-take-le (f .count) (f .parts) l
 
-found-part : (f : Order) (j : ℕ) → f .count ≤ length (f .parts) → j < f .count → getD (partsFound f) j 0 ≡ partAt (f .parts) j
+found-part : (f : Order) (j : ℕ) → f .count ≤ length (f .parts) → j < f .count →
+    getD (partsFound f) j 0 ≡ partAt (f .parts) j
 found-part f j l k =
     let n = length-take-le (f .count) (f .parts) l in
     getD-map (λ (p : Part). p .0) (take (f .count) (f .parts)) j (record { 0 = 0 }) 0 (omega arith) ∙
-    ap (λ (p : Part). p .0) (getD-take (f .count) (f .parts) j (record { 0 = 0 }) k) ∙ part-is (f .parts) j (omega arith)
+    ap (λ (p : Part). p .0) (getD-take (f .count) (f .parts) j (record { 0 = 0 }) k) ∙
+    part-is (f .parts) j (omega arith)
 
 module _ (t : Task) (s : ℕ) (f : Order) (told : orderTold f ≡ orderOf (schemaAt t s)) where
   pub told-none : f .found ≡ false → orderOf (schemaAt t s) ≡ none
@@ -71,22 +74,19 @@ module _ (w : List ℕ) (h : isTable w ≡ true) where
       let b = leb-true (schemaAtoms (taskOf w .schemas)) 1000 (task-tests (taskOf w) (of-table w h .0) .atoms) in
       omega (arith, atoms-word w (table-frame w h))
 
-  pub schema-fits : (s : ℕ) → s < length (taskOf w .schemas) → schemaFits (taskOf w .arities) (schemaAt (taskOf w) s) ≡ true
-  unfolding schemaAt
-  schema-fits s l =
-      let t = taskOf w in
-      all-in (schemaFits (t .arities)) (task-tests t (of-table w h .0) .fit) (in-getD (t .schemas) s noSchema l)
-
   -- "It has 1 to 16 parts"
-  pub order-few : (s : ℕ) → s < length (taskOf w .schemas) → orderOf (schemaAt (taskOf w) s) ≡ some (orders (taskOf w) s) →
+  pub order-few : (s : ℕ) → s < length (taskOf w .schemas) →
+      orderOf (schemaAt (taskOf w) s) ≡ some (orders (taskOf w) s) →
       length (orders (taskOf w) s) ≤ 16
   order-few s l e =
       let t = taskOf w in
-      let b = leb-true (partCount (schemaAt t s .atoms)) 16 (schema-tests (t .arities) (schemaAt t s) (schema-fits s l) .parts) in
+      let b = leb-true (partCount (schemaAt t s .atoms)) 16
+      (schema-tests (t .arities) (schemaAt t s) (schema-fits w h s l) .parts) in
       omega (arith, orderOf-laws (schemaAt t s) (orders t s) e .size)
 
   -- ---- schema by schema
-  pub parts-none : (starts counts order own : List ℕ) → 0 < length starts → PartsKept (taskOf w) 0 (set starts 0 0) counts order own
+  pub parts-none : (starts counts order own : List ℕ) → 0 < length starts →
+      PartsKept (taskOf w) 0 (set starts 0 0) counts order own
   unfolding sum
   parts-none starts counts order own l = record {
     start = λ s k. let e : s ≡ 0 = omega arith in
@@ -145,12 +145,15 @@ module _ (w : List ℕ) (h : isTable w ≡ true) where
       count = up-to (λ r. getD (set counts s (f .count)) r 0 ≡ length (orders t r))
           (λ r k. getD-set-other counts s r (f .count) 0 (λ z. omega arith) ∙ old .count r k)
           (getD-set-same counts s (f .count) 0 b ∙ sym here-count);
-      part = λ r j k. up-to (λ r. (j : ℕ) → j < length (orders t r) → getD order′ (16 * r + j) 0 ≡ getD (orders t r) j 0)
+      part = λ r j k. up-to
+          (λ r. (j : ℕ) → j < length (orders t r) → getD order′ (16 * r + j) 0 ≡ getD (orders t r) j 0)
           (λ r m j n. new .orders-stay (16 * r + j) (earlier r j m n) ∙ old .part r j m n)
           (λ j n. let q = here-count in new .part j (omega arith) ∙ here-part j (omega arith)) r k j;
       params = λ r j x k. up-to
-          (λ r. (j : ℕ) → j < length (orders t r) → member (getD own′ (16 * r + j) 0) x ≡ has (schemaAt t r) x (getD (orders t r) j 0))
-          (λ r m j n. ap (λ (v : ℕ). member v x) (new .owns-stay (16 * r + j) (earlier r j m n)) ∙ old .params r j x m n)
+          (λ r. (j : ℕ) → j < length (orders t r) →
+          member (getD own′ (16 * r + j) 0) x ≡ has (schemaAt t r) x (getD (orders t r) j 0))
+          (λ r m j n. ap (λ (v : ℕ). member v x) (new .owns-stay (16 * r + j) (earlier r j m n)) ∙
+          old .params r j x m n)
           (λ j n. let q = here-count in here-params j x (omega arith)) r k j;
     }
 
@@ -159,7 +162,8 @@ module _ (t : Task) (s : ℕ) (kept : (r : ℕ) → r < s → orderOf (schemaAt 
   none-before : filter (λ r. isNone (orderAt t r)) (upFrom 0 s) ≡ []
   unfolding isNone orderAt
   none-before =
-      filter-none (λ r. isNone (orderAt t r)) (upFrom 0 s) (λ r i. ap isNone (kept r (let z = upFrom-in 0 s r i .1 in omega arith)))
+      filter-none (λ r. isNone (orderAt t r)) (upFrom 0 s)
+      (λ r i. ap isNone (kept r (let z = upFrom-in 0 s r i .1 in omega arith)))
 
   pub circular-here : s < length (t .schemas) → orderOf (schemaAt t s) ≡ none → circularAt t ≡ some s
   unfolding first upTo upFrom head filter keepIf isNone orderAt
@@ -170,7 +174,8 @@ module _ (t : Task) (s : ℕ) (kept : (r : ℕ) → r < s → orderOf (schemaAt 
       ap (λ (k : ℕ). head (filter test (upFrom 0 k))) n ∙
       ap (λ (xs : List ℕ). head (filter test xs)) (upFrom-append 0 s (suc m)) ∙
       ap head (filter-append test (upFrom 0 s) (upFrom (0 + s) (suc m))) ∙
-      ap (λ (k : ℕ). head (filter test (upFrom 0 s) ++ filter test (upFrom k (suc m)))) (let z : 0 + s ≡ s = omega arith in z) ∙
+      ap (λ (k : ℕ). head (filter test (upFrom 0 s) ++ filter test (upFrom k (suc m))))
+      (let z : 0 + s ≡ s = omega arith in z) ∙
       ap (λ (xs : List ℕ). head (xs ++ filter test (upFrom s (suc m)))) none-before ∙
       ap (λ (o : Option (List ℕ)). head (keepIf (isNone o) s (filter test (upFrom (suc s) m)))) e
 

@@ -3,17 +3,17 @@
 use Prim.Native.Nat.{ℕ, zero, suc, _+_, _-_, _*_, _≤_, _<_}
 use mathlib.Core.Path.{_≡_, refl, sym, _∙_, ap, ap₂}
 use mathlib.Core.Bool.{Bool, true, false, not, _&&_, _||_}
-use mathlib.Core.List.{List, [], _∷_, _++_}
+use mathlib.Core.List.{List}
 use native.Mathlib.Omega.{arith}
 use native.Mathlib.Decide.{decLt}
 use lib.ListN.{length, getD}
 use lib.Dec.{eqb, ltb}
-use borrow.Author.Tests.{eqb-true, eq-eqb, ne-eqb, ltb-true, lt-ltb, le-ltb}
+use borrow.Author.Tests.{eq-eqb, ne-eqb, ltb-true, lt-ltb, le-ltb}
 use Rattle.task.specs.Lists.{any, filter, upTo, upFrom}
 use Rattle.task.specs.Task.{Schema, Task, schemaFits}
 use Rattle.task.specs.Run.{schemaAt}
 use Rattle.task.proofs.Laws.{bool-ext, and-left, any-in, in-any, in-upFrom, upFrom-in, upFrom-last}
-use Rattle.task.proofs.States.{SchemaFits, schemaFits-fits}
+use Rattle.task.proofs.States.{schemaFits-fits}
 use Rattle.arcs.specs.Code.{member, members}
 use Rattle.arcs.proofs.ArcSets.{any-more}
 use Rattle.tokens.specs.Split.{has, paramsOf, firstPosition, lastPosition, own, firstHere, lastHere, laterHere}
@@ -104,7 +104,8 @@ module _ (t : Task) (s : ℕ) (o : List ℕ) (j : ℕ) (l : j < length o) where
     first-is : (here x && not before) && after ≡ here x && firstHere t s o j x
     unfolding firstHere
     first-is = by-part x (λ c. (c && not before) && after) (λ c. c && firstHere t s o j x)
-        (λ at. ap₂ _&&_ (ap not (is-before at) ∙ turned (firstPosition (schemaAt t s) o x) j (at-first (schemaAt t s) o x j at)) (is-after at))
+        (λ at. ap₂ _&&_ (ap not (is-before at) ∙
+        turned (firstPosition (schemaAt t s) o x) j (at-first (schemaAt t s) o x j at)) (is-after at))
         refl
 
     last-is : (here x && before) && not after ≡ here x && lastHere t s o j x
@@ -118,7 +119,8 @@ module _ (t : Task) (s : ℕ) (o : List ℕ) (j : ℕ) (l : j < length o) where
         refl
 
 -- ---- the sets that the code makes
-module _ (t : Task) (s : ℕ) (o : List ℕ) (j : ℕ) (l : j < length o) (kept : List ℕ) (known : ParamsKept t s o kept) where
+module _ (t : Task) (s : ℕ) (o : List ℕ) (j : ℕ) (l : j < length o) (kept : List ℕ)
+    (known : ParamsKept t s o kept) where
   -- the set kept at a position
   abbrev at : ℕ → ℕ
   at i = getD kept (16 * s + i) 0

@@ -1,9 +1,9 @@
 -- How the parameters that are found of a part grow, an argument and then an atom at a time, and where a schema's atoms
 -- end. Parameters are tests over lists that grow at their end.
-use Prim.Native.Nat.{ℕ, zero, suc, _+_, _-_, _≤_, _<_}
-use mathlib.Core.Path.{_≡_, refl, sym, _∙_, ap, subst}
+use Prim.Native.Nat.{ℕ, suc, _+_, _-_, _≤_, _<_}
+use mathlib.Core.Path.{_≡_, sym, _∙_, ap, subst}
 use mathlib.Core.Bool.{Bool, true, false, _&&_, _||_}
-use mathlib.Core.List.{List, [], _∷_, _++_}
+use mathlib.Core.List.{List}
 use native.Mathlib.Omega.{arith}
 use native.Mathlib.Decide.{decLt}
 use native.Mathlib.Numerals.{add-one}
@@ -13,9 +13,8 @@ use lib.Dec.{eqb}
 use borrow.Author.Tests.{eq-eqb, ne-eqb}
 use Rattle.task.specs.Lists.{any, upFrom}
 use Rattle.task.specs.Task.{Atom, names}
-use Rattle.task.specs.Run.{schemaAt}
 use Rattle.task.specs.Table.{atomIn, schemaNumberIn, taskOf, isTable}
-use Rattle.task.proofs.Laws.{In, and-right, any-in, map-in, upFrom-in}
+use Rattle.task.proofs.Laws.{and-right, any-in, map-in, upFrom-in}
 use Rattle.task.proofs.States.{names-in}
 use Rattle.task.proofs.TablesByIndex.{table-frame, schemas-word, start-suc, schema-of-atom, atom-lies}
 use Rattle.arcs.specs.Code.{member, IsStretch, atomsIn}
@@ -47,9 +46,11 @@ named-more set named r args k y l e h g x =
         ap (λ (n : ℕ). any (λ z. eqb x z) (take n args)) (add-one k) ∙
         ap (any (λ z. eqb x z)) (take-suc args k 0 l) ∙
         any-more (λ z. eqb x z) (take k args) (getD args k 0) ∙
-        ap (λ (b : Bool). any (λ z. eqb x z) (take k args) || b) (eqb-turn x (getD args k 0) ∙ ap (λ (z : ℕ). eqb z x) (sym e))
+        ap (λ (b : Bool). any (λ z. eqb x z) (take k args) || b)
+        (eqb-turn x (getD args k 0) ∙ ap (λ (z : ℕ). eqb z x) (sym e))
 
-pub named-all : (set : ℕ) (a : Atom) (n x : ℕ) → n ≡ length (a .args) → namedIn set (a .args) n x ≡ member set x || names x a
+pub named-all : (set : ℕ) (a : Atom) (n x : ℕ) → n ≡ length (a .args) →
+    namedIn set (a .args) n x ≡ member set x || names x a
 unfolding names
 named-all set a n x e =
     ap (λ (xs : List ℕ). member set x || any (λ y. eqb x y) xs)
@@ -66,7 +67,8 @@ module _ (w : List ℕ) (from p : ℕ) where
   part-none x e = e ∙ sym (ap (inPart p x) (atoms-none w from))
 
   grown : (i x : ℕ) → from ≤ i →
-      inPart p x (atomsIn w from (i + 1)) ≡ inPart p x (atomsIn w from i) || (eqb p (atomIn w i .part) && names x (atomIn w i))
+      inPart p x (atomsIn w from (i + 1)) ≡
+      inPart p x (atomsIn w from i) || (eqb p (atomIn w i .part) && names x (atomIn w i))
   grown i x l =
       ap (inPart p x) (atoms-more w from i l) ∙
       any-more (λ a. eqb p (a .part) && names x a) (atomsIn w from i) (atomIn w i)
@@ -100,7 +102,8 @@ module _ (w : List ℕ) (from p : ℕ) where
       let (k, m, q) = map-in (atomIn w) (upFrom from (to - from)) a i in
       let l = upFrom-in from (to - from) k m .1 in
       let f = s .forward in
-      let n : names x (atomIn w k) ≡ true = subst (λ (b : Atom). names x b ≡ true) q (and-right (eqb p (a .part)) _ e) in
+      let n : names x (atomIn w k) ≡ true =
+      subst (λ (b : Atom). names x b ≡ true) q (and-right (eqb p (a .part)) _ e) in
       argument-small w k (stretch-atom s k (omega arith)) x (names-in x (atomIn w k) n)
 
 -- ---- where a schema's atoms end

@@ -1,7 +1,7 @@
 -- The numbers of sets of bits: of a difference, how they are listed and counted one number after another, and that a
 -- set of small numbers is a small word. A set from n on is its word divided by 2 ^ n, and is 0 where it has no number.
-use Prim.Native.Nat.{ℕ, zero, suc, _+_, _-_, _*_, _/_, _%_, _^_, _≤_, _<_}
-use mathlib.Core.Path.{_≡_, refl, sym, _∙_, ap}
+use Prim.Native.Nat.{ℕ, _+_, _-_, _*_, _/_, _%_, _^_, _≤_, _<_}
+use mathlib.Core.Path.{_≡_, refl, _∙_, ap}
 use mathlib.Core.Bool.{Bool, true, false, not, _&&_}
 use mathlib.Core.List.{List, [], _∷_, _++_, append-nil}
 use native.Mathlib.Omega.{arith}
@@ -13,7 +13,7 @@ use lib.Bits.{bitAnd}
 use lib.Dec.{eqb}
 use lib.Pow.{pow-pos, shr-shr, shr-le}
 use Rattle.task.specs.Lists.{filter, keepIf, upTo, upFrom}
-use Rattle.task.proofs.Laws.{In, false-if, both-ft, upTo-suc, upFrom-in}
+use Rattle.task.proofs.Laws.{In, false-if, upTo-suc, upFrom-in}
 use Rattle.task.proofs.Tables.{filter-append, filter-none, upFrom-append}
 use Rattle.arcs.specs.Code.{member, members}
 use Rattle.arcs.proofs.BitSets.{member-and, member-not, member-beyond, member-none}

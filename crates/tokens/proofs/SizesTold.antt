@@ -1,14 +1,12 @@
 -- The sizes of the split, once every schema is counted; and a limit that is passed.
-use Prim.Native.Nat.{ℕ, _+_, _≤_, _<_}
-use mathlib.Core.Path.{_≡_, refl, sym, _∙_, ap, ap₂}
-use mathlib.Core.Bool.{Bool, true, false, _&&_}
-use mathlib.Core.List.{List, [], _∷_, map}
+use Prim.Native.Nat.{ℕ, _+_}
+use mathlib.Core.Path.{_≡_, refl, _∙_, ap}
+use mathlib.Core.Bool.{Bool, true}
+use mathlib.Core.List.{List, map}
 use native.Mathlib.Omega.{arith}
 use lib.ListN.{length, getD, take}
 use lib.Seq.{take-length}
-use lib.Dec.{leb}
-use Rattle.task.specs.Lists.{all, every, upTo, concatMap}
-use Rattle.task.specs.Limits.{mostAtoms}
+use Rattle.task.specs.Lists.{every, upTo, concatMap}
 use Rattle.task.specs.Task.{Schema, Task, schemaAtoms}
 use Rattle.task.specs.Table.{taskOf, isTable}
 use Rattle.task.proofs.TablesByIndex.{table-frame, arities-word, init-word, goal-word}

@@ -1,6 +1,6 @@
 -- The sizes of the split as the code counts them: the atoms of a part one by one, the parts of a schema one by one, and
 -- schema by schema. Each size is of a list that grows at its end.
-use Prim.Native.Nat.{ℕ, suc, _+_, _-_, _*_, _≤_, _<_, max}
+use Prim.Native.Nat.{ℕ, _+_, _-_, _*_, _≤_, _<_, max}
 use mathlib.Core.Path.{_≡_, refl, sym, _∙_, ap, ap₂}
 use mathlib.Core.Bool.{Bool, true, false, cond, _&&_}
 use mathlib.Core.List.{List, [], _∷_, _++_, map, append-nil}
@@ -26,7 +26,7 @@ use Rattle.tokens.specs.declared.measure.Measured.{Measured}
 use Rattle.tokens.specs.declared.measure.Sizes.{Sizes}
 use Rattle.tokens.proofs.Accepted.{later-step}
 use Rattle.tokens.proofs.Sums.{one}
-use Rattle.tokens.proofs.Sizes.{atomsOf, parsOf, partSize, part-size}
+use Rattle.tokens.proofs.Sizes.{atomsOf, parsOf, part-size}
 use Rattle.tokens.proofs.KeptSchema.{kept-atoms, kept-fits, kept-params}
 use Rattle.tokens.proofs.ParPlaces.{picked-listed}
 use Rattle.tokens.proofs.SharedParameters.{filter-more}
@@ -68,7 +68,8 @@ module _ (w : List ℕ) (s from to count : ℕ) (order own : List ℕ) (kept : S
       let later = pars (r .later) (laterHere t s o j) (here .later) in
       let first = pars (r .first) (firstHere t s o j) (here .first) in
       let last = pars (r .last) (lastHere t s o j) (here .last) in
-      let lone-is = ap (λ (n : ℕ). cond (eqb n 1) 0 ((1 + parsOf t s o j (firstHere t s o j)) + (1 + parsOf t s o j (lastHere t s o j)))) n in
+      let more = (1 + parsOf t s o j (firstHere t s o j)) + (1 + parsOf t s o j (lastHere t s o j)) in
+      let lone-is = ap (λ (n : ℕ). cond (eqb n 1) 0 more) n in
       let tokens = ap₂ (λ (a b : ℕ). cond (eqb count 1) 0 (1 + a + (1 + b))) first last in
       omega arith
     where
@@ -123,7 +124,8 @@ module _ (t : Task) (s : ℕ) where
       ap (λ n. schemaAtoms (partsUpTo j) + n) z
 
   pub part-few-more : (j : ℕ) →
-      areFew (partsUpTo (j + 1)) ≡ areFew (partsUpTo j) && leb (length (splitSchema t s (orders t s) j .atoms)) mostAtoms
+      areFew (partsUpTo (j + 1)) ≡
+      areFew (partsUpTo j) && leb (length (splitSchema t s (orders t s) j .atoms)) mostAtoms
   unfolding areFew all
   part-few-more j =
       let u = splitSchema t s (orders t s) j in
@@ -167,7 +169,8 @@ module _ (t : Task) where
   }
 
   pub sizes-more : (n : ℕ) (r next : Sizes) (one : Measured) (count : ℕ) → n < length (t .schemas) →
-      count ≡ length (orders t n) → count ≡ parts (schemaAt t n) → count ≤ 16 → SchemaSized t n one → SizesBefore t n r →
+      count ≡ length (orders t n) → count ≡ parts (schemaAt t n) → count ≤ 16 → SchemaSized t n one →
+      SizesBefore t n r →
       next .later ≡ r .later + (count - 1) → next .pars ≡ max (r .pars) (one .shared) →
       next .schemas ≡ r .schemas + count → next .atoms ≡ r .atoms + one .atoms → next .within ≡ r .within && one .few →
       SizesBefore t (n + 1) next
@@ -193,7 +196,8 @@ module _ (t : Task) where
         pars = b ∙ ap₂ max (old .pars) (sized .shared) ∙ sym pars-more;
         schemas = omega arith;
         atoms = omega arith;
-        within = g ∙ ap₂ _&&_ (old .within) (sized .few) ∙ sym (ap areFew (schemas-more n) ∙ few-append (schemasUpTo n) (partSchemas t n));
+        within = g ∙ ap₂ _&&_ (old .within) (sized .few) ∙
+            sym (ap areFew (schemas-more n) ∙ few-append (schemasUpTo n) (partSchemas t n));
         later-most = omega arith;
         pars-most = omega arith;
         schemas-most = omega arith;

@@ -127,7 +127,8 @@ numbersFit predicates schemas atoms few initial goal =
 unfoldable pub sizesFit : List ℕ → Sizes → Bool
 unfolding numbersFit
 sizesFit w r =
-    numbersFit (getD w 1 0 + 1 + r .later + r .pars) (r .schemas) (r .atoms) (r .within) (getD w 4 0 + 1) (getD w 5 0 + 1)
+    numbersFit (getD w 1 0 + 1 + r .later + r .pars) (r .schemas) (r .atoms) (r .within) (getD w 4 0 + 1)
+    (getD w 5 0 + 1)
 
 -- the sizes of the split
 pub record SizesTold (t : Task) (r : Sizes) : Type 0 where

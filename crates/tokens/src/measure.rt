@@ -84,7 +84,8 @@ fn part_size(
 ) -> usize
     requires { ⌜ SchemaKept (now table) s from to count (now order) (now own) ⌝ }
     requires { ⌜ j < count ⌝ }
-    ensures { λ r. ⌜ r ≡ length (splitSchema (taskOf (now (table .entry))) s (orders (taskOf (now (table .entry))) s) j .atoms) ⌝ }
+    ensures { λ r. ⌜ r ≡
+        length (splitSchema (taskOf (now (table .entry))) s (orders (taskOf (now (table .entry))) s) j .atoms) ⌝ }
     ensures { λ r. ⌜ r ≤ 115 ⌝ }
 {
     let old = atoms_in(table, from, to, Part(order[16 * s + j]));
@@ -206,7 +207,8 @@ pub fn sizes_of(
     own: &[u16; 3200],
 ) -> Sizes
     requires { ⌜ isTable (now table) ≡ true ⌝ }
-    requires { ⌜ PartsKept (taskOf (now table)) (length (taskOf (now table) .schemas)) (now starts) (now counts) (now order) (now own) ⌝ }
+    requires { ⌜ PartsKept (taskOf (now table)) (length (taskOf (now table) .schemas)) (now starts) (now counts)
+        (now order) (now own) ⌝ }
     ensures { λ r. ⌜ SizesTold (taskOf (now (table .entry))) r ⌝ }
 {
     let schemas = number(table[2]);

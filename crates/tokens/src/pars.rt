@@ -45,7 +45,8 @@ fn parameters_between(own: &[u16; 3200], s: usize, from: usize, to: usize) -> u6
 pub fn pars_at(own: &[u16; 3200], s: usize, count: usize, j: usize) -> Pars
     requires { ⌜ s < 200 ⌝ }
     requires { ⌜ (j < count) × (count ≤ 16) ⌝ }
-    ensures { λ r. ⌜ ((t : Task) (o : List ℕ) → length o ≡ count → ParamsKept t s o (now (own .entry)) → ParsHere t s o j r) ⌝ }
+    ensures { λ r. ⌜ ((t : Task) (o : List ℕ) → length o ≡ count → ParamsKept t s o (now (own .entry)) →
+        ParsHere t s o j r) ⌝ }
 {
     let here = held(own[16 * s + j]);
     let before = parameters_between(own, s, 0, j);

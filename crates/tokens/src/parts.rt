@@ -44,7 +44,8 @@ fn with_arguments(table: &[u16], i: usize, set: u64) -> u64
 // The parameters that the atoms `from` to `to - 1` in a part name.
 pub fn parameters_of(table: &[u16], from: usize, to: usize, part: Part) -> u64
     requires { ⌜ IsStretch (now table) from to ⌝ }
-    ensures { λ r. ⌜ ((x : ℕ) → member r x ≡ any (λ a. eqb (part .0) (a .part) && names x a) (atomsIn (now (table .entry)) from to)) ⌝ }
+    ensures { λ r. ⌜ ((x : ℕ) →
+        member r x ≡ any (λ a. eqb (part .0) (a .part) && names x a) (atomsIn (now (table .entry)) from to)) ⌝ }
     ensures { λ r. ⌜ r < 4096 ⌝ }
 {
     let mut named = 0;
@@ -91,7 +92,8 @@ fn keep_order(
     requires { ⌜ (found .count ≤ 16) × (length (found .parts) ≡ 16) ⌝ }
     requires { ⌜ (length (now order) ≡ 3200) × (length (now own) ≡ 3200) ⌝ }
     ensures { λ _. ⌜ (length (now (order .exit)) ≡ 3200) × (length (now (own .exit)) ≡ 3200) ⌝ }
-    ensures { λ _. ⌜ OrderKept (now (table .entry)) from to s (found .count) (found .parts) (now (order .entry)) (now (own .entry))
+    ensures { λ _. ⌜ OrderKept (now (table .entry)) from to s (found .count) (found .parts) (now (order .entry))
+        (now (own .entry))
         (now (order .exit)) (now (own .exit)) ⌝ }
 {
     let parts = found.parts;
@@ -117,7 +119,8 @@ pub fn keep_parts(
     requires { ⌜ AreKept (now starts) (now counts) (now order) (now own) ⌝ }
     ensures { λ r. ⌜ AreKept (now (starts .exit)) (now (counts .exit)) (now (order .exit)) (now (own .exit)) ⌝ }
     ensures { λ r. ⌜ circularTold r ≡
-        first (λ s. isNone (orderAt (taskOf (now (table .entry))) s)) (upTo (length (taskOf (now (table .entry)) .schemas))) ⌝ }
+        first (λ s. isNone (orderAt (taskOf (now (table .entry))) s))
+        (upTo (length (taskOf (now (table .entry)) .schemas))) ⌝ }
     ensures { λ r. ⌜ (circularTold r ≡ none →
         PartsKept (taskOf (now (table .entry))) (length (taskOf (now (table .entry)) .schemas))
         (now (starts .exit)) (now (counts .exit)) (now (order .exit)) (now (own .exit))) ⌝ }

@@ -1,6 +1,7 @@
--- `tokens::atoms::argument` meets its contract: an atom's arguments are its words from 4 on, and parameters of its schema.
+-- `tokens::atoms::argument` meets its contract: an atom's arguments are its words from 4 on, and parameters of its
+-- schema.
 use Prim.Native.Nat.{ℕ, _+_, _<_}
-use mathlib.Core.Path.{_≡_, sym, _∙_, ap, subst}
+use mathlib.Core.Path.{_≡_, sym, _∙_, ap}
 use native.Mathlib.Omega.{arith}
 use lib.ListN.{length, getD}
 use Rattle.task.specs.Table.{atomBase, atomIn}
@@ -28,8 +29,10 @@ returns c =
     let b = atomBase w (s .args .i) in
     let z : b + (4 + s .args .k) ≡ b + 4 + s .args .k = omega arith in
     let e : c .word-of .result ≡ getD args (s .args .k) 0 =
-    c .word-of .ensures ∙ ap (λ (k : ℕ). getD w k 0) z ∙ sym (argument-at w (s .args .i) (s .pre .0) (s .args .k) (s .pre .1)) in
-    let l = argument-small w (s .args .i) (s .pre .0) (getD args (s .args .k) 0) (in-getD args (s .args .k) 0 (s .pre .1)) in
+    c .word-of .ensures ∙ ap (λ (k : ℕ). getD w k 0) z ∙
+    sym (argument-at w (s .args .i) (s .pre .0) (s .args .k) (s .pre .1)) in
+    let l = argument-small w (s .args .i) (s .pre .0) (getD args (s .args .k) 0)
+    (in-getD args (s .args .k) 0 (s .pre .1)) in
     (e, omega arith)
 
 pub argument-spec : {M : Type 1} → statement M

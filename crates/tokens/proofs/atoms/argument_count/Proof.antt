@@ -1,9 +1,8 @@
--- `tokens::atoms::argument_count` meets its contract: word 2 of an atom is its predicate, and a table's arities follow its
--- first six words.
-use Prim.Native.Nat.{ℕ, _+_, _<_}
+-- `tokens::atoms::argument_count` meets its contract: word 2 of an atom is its predicate, and a table's arities
+-- follow its first six words.
+use Prim.Native.Nat.{_+_}
 use mathlib.Core.Path.{_≡_, sym, _∙_, ap}
 use native.Mathlib.Omega.{arith}
-use lib.ListN.{length, getD}
 use borrow.Author.Needs.{needs}
 use Rattle.task.specs.Table.{atomBase, arityIn, atomIn}
 use Rattle.arcs.proofs.Stretches.{atom-words}

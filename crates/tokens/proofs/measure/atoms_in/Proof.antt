@@ -2,14 +2,10 @@
 -- measure is the atoms left.
 use Prim.Native.Nat.{ℕ, _+_, _-_, _≤_}
 use mathlib.Core.Path.{_≡_, sym, _∙_, ap}
-use mathlib.Core.Bool.{Bool}
-use mathlib.Core.List.{List}
 use mathlib.Core.Logic.{⊎-elim}
 use native.Mathlib.Omega.{arith}
-use lib.ListN.{length}
 use lib.Dec.{eqb}
 use borrow.Author.Tests.{eq-eqb, ne-eqb}
-use Rattle.task.specs.Task.{Atom}
 use Rattle.task.specs.Table.{atomIn}
 use Rattle.arcs.specs.Code.{atomsIn}
 use Rattle.arcs.proofs.Stretches.{stretch-atom}
@@ -27,8 +23,12 @@ abbrev μ-loop : tie.MeasureT-loop
 
 loop-holds : tie.Need-loop-holds Inv-loop μ-loop
 loop-holds c =
-    let s = c .before in
-    (omega arith, s .pre .forward, omega arith, sym (part-count-none (s .args .table .now) (s .args .from) (s .args .part .0)))
+    let s = c .before in (
+      omega arith,
+      s .pre .forward,
+      omega arith,
+      sym (part-count-none (s .args .table .now) (s .args .from) (s .args .part .0)),
+    )
 
 part-of-requires : tie.Need-part-of-requires Inv-loop μ-loop
 part-of-requires c κs = stretch-atom (c .before .before .before .pre) (c .before .loop .i) (c .loop-test .taken)
@@ -61,8 +61,10 @@ returns : tie.Need-returns Inv-loop μ-loop
 returns c =
     let s = c .before .before .before in
     let h = c .before .loop in
-    let e : h .i ≡ s .args .to = omega arith in
-    (h .inv .3 ∙ ap (λ (k : ℕ). inPartCount (s .args .part .0) (atomsIn (s .args .table .now) (s .args .from) k)) e, omega arith)
+    let e : h .i ≡ s .args .to = omega arith in (
+      h .inv .3 ∙ ap (λ (k : ℕ). inPartCount (s .args .part .0) (atomsIn (s .args .table .now) (s .args .from) k)) e,
+      omega arith,
+    )
 
 pub atoms-in-spec : {M : Type 1} → statement M
 atoms-in-spec =

@@ -1,7 +1,7 @@
--- `tokens::measure::measure_schema` meets its contract. The invariant: the first j parts are counted, each of at most 115
--- atoms. The measure is the parts left.
-use Prim.Native.Nat.{ℕ, _+_, _-_, _*_, _≤_, _<_}
-use mathlib.Core.Path.{_≡_, refl, sym, _∙_, ap, ap₂, subst}
+-- `tokens::measure::measure_schema` meets its contract. The invariant: the first j parts are counted, each of at most
+-- 115 atoms. The measure is the parts left.
+use Prim.Native.Nat.{ℕ, _-_, _*_, _≤_, _<_}
+use mathlib.Core.Path.{_≡_, refl, sym, _∙_, ap}
 use mathlib.Core.Bool.{Bool, true, false, _&&_}
 use mathlib.Core.Logic.{⊎-elim}
 use native.Mathlib.Omega.{arith}
@@ -79,8 +79,11 @@ loop-again c =
     let e = part-atoms-more t (a .s) (h .j) in
     let m = n .ensures .0 in
     let few : c .if1 .few ≡ areFew (partsUpTo t (a .s) (h .j)) && leb size 64 = ⊎-elim
-    (λ x. x .1 ∙ sym (and-no (areFew (partsUpTo t (a .s) (h .j))) (leb size 64) (lt-leb size 64 (let y = x .0 .taken in omega arith))))
-    (λ x. x .1 ∙ h .inv .3 ∙ sym (and-yes (areFew (partsUpTo t (a .s) (h .j))) (leb size 64) (le-leb size 64 (let y = x .0 .left in omega arith))))
+    (λ x. x .1 ∙ sym (and-no (areFew (partsUpTo t (a .s) (h .j))) (leb size 64)
+    (lt-leb size 64 (let y = x .0 .taken in omega arith))))
+    (λ x. x .1 ∙ h .inv .3 ∙
+    sym (and-yes (areFew (partsUpTo t (a .s) (h .j))) (leb size 64)
+    (le-leb size 64 (let y = x .0 .left in omega arith))))
     (c .if1 .came) in
     (omega arith, omega (arith, n .ensures .1), omega arith, few ∙ sym (part-few-more t (a .s) (h .j)))
 

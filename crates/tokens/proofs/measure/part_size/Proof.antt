@@ -1,11 +1,11 @@
 -- `tokens::measure::part_size` meets its contract: what it adds up are the sizes of the lists that the part's schema is
 -- made of. Each is small, so no sum is too large.
 use borrow.Author.Needs.{needs}
-use Prim.Native.Nat.{ℕ, _+_, _-_, _*_, _≤_, _<_}
-use mathlib.Core.Path.{_≡_, sym, _∙_, ap}
-use mathlib.Core.Bool.{Bool, true, false, cond}
+use Prim.Native.Nat.{ℕ, _+_, _-_, _≤_, _<_}
+use mathlib.Core.Path.{_≡_, sym, ap}
+use mathlib.Core.Bool.{Bool, cond}
 use native.Mathlib.Omega.{arith}
-use lib.ListN.{length, getD}
+use lib.ListN.{length}
 use lib.Dec.{eqb}
 use borrow.Author.Tests.{eq-eqb, ne-eqb}
 use Rattle.task.specs.Table.{taskOf}
@@ -67,13 +67,15 @@ counted : (c : tie.After-pars-at) →
     let s = c .before .before .before .before in
     let t = taskOf (s .args .table .now) in
     length (splitSchema t (s .args .s) (orders t (s .args .s)) (s .args .j) .atoms) ≡
-    c .before .atoms-in .result + 1 + length (members (c .pars-at .result .later) 16) + tokens c (eqb (s .args .count) 1)
+    c .before .atoms-in .result + 1 + length (members (c .pars-at .result .later) 16) +
+    tokens c (eqb (s .args .count) 1)
 counted c =
     let s = c .before .before .before .before in
     let a = s .args in
     let t = taskOf (a .table .now) in
     let k = s .pre .0 in
-    part-counted (a .table .now) (a .s) (a .from) (a .to) (a .count) (a .order .now) (a .own .now) k (a .j) (c .pars-at .result)
+    part-counted (a .table .now) (a .s) (a .from) (a .to) (a .count) (a .order .now) (a .own .now) k (a .j)
+    (c .pars-at .result)
     (c .before .atoms-in .result) (s .pre .1) (c .pars-at .ensures t (orders t (a .s)) (sym (k .counted)) (k .params))
     (c .before .atoms-in .ensures .0)
 

@@ -1,12 +1,11 @@
 -- `tokens::measure::sizes_of` meets its contract. The invariant: the first s schemas are counted. The measure is the
 -- schemas left.
-use Prim.Native.Nat.{ℕ, _+_, _-_, _*_, _≤_, _<_}
-use mathlib.Core.Path.{_≡_, refl, sym, _∙_, ap, subst}
-use mathlib.Core.Bool.{true}
+use Prim.Native.Nat.{_-_, _≤_}
+use mathlib.Core.Path.{_≡_, refl}
 use native.Mathlib.Omega.{arith}
-use lib.ListN.{length, getD}
+use lib.ListN.{length}
 use borrow.Author.Needs.{needs}
-use Rattle.task.specs.Table.{taskOf, isTable}
+use Rattle.task.specs.Table.{taskOf}
 use Rattle.task.proofs.Tables.{tableWords-is}
 use Rattle.task.proofs.TablesByIndex.{table-frame, table-long, schemas-word}
 use Rattle.tokens.specs.Code.{SchemaKept, SizesBefore}
@@ -18,7 +17,8 @@ use Rattle.tokens.proofs.measure.sizes_of.Statement.{statement}
 use Rattle.tokens.proofs.measure.sizes_of.Tie as tie
 
 abbrev Inv-loop : tie.InvT-loop
-Inv-loop table starts counts order own schemas sizes₀ s₀ sizes s = (s ≤ schemas) × (schemas ≤ 200) × SizesBefore (taskOf table) s sizes
+Inv-loop table starts counts order own schemas sizes₀ s₀ sizes s =
+    (s ≤ schemas) × (schemas ≤ 200) × SizesBefore (taskOf table) s sizes
 
 abbrev μ-loop : tie.MeasureT-loop
 μ-loop table starts counts order own schemas sizes₀ s₀ sizes s = schemas - s
@@ -73,7 +73,8 @@ number-requires-4 c κs = search needs
 kept : (c : tie.After-number4 Inv-loop μ-loop) →
     let l = c .before .before .before .before .before .before .before in
     let a = l .before .before .before .before .args in
-    SchemaKept (a .table .now) (l .loop .s) (c .before .before .before .before .number2 .result) (c .before .before .number3 .result)
+    SchemaKept (a .table .now) (l .loop .s) (c .before .before .before .before .number2 .result)
+    (c .before .before .number3 .result)
     (c .number4 .result) (a .order .now) (a .own .now)
 kept c =
     let l = c .before .before .before .before .before .before .before in
@@ -83,8 +84,10 @@ kept c =
     let n = l .before .number .ensures .0 in
     let e = schemas-word w (table-frame w (s .pre .0)) in
     let k = c .before .before .before .before .before .before .loop-test .taken in
-    schema-kept w (s .pre .0) (l .loop .s) _ _ _ (a .starts .now) (a .counts .now) (a .order .now) (a .own .now) (omega arith) (s .pre .1)
-    (c .before .before .before .before .number2 .ensures .0) (c .before .before .number3 .ensures .0) (c .number4 .ensures .0)
+    schema-kept w (s .pre .0) (l .loop .s) _ _ _ (a .starts .now) (a .counts .now) (a .order .now) (a .own .now)
+    (omega arith) (s .pre .1)
+    (c .before .before .before .before .number2 .ensures .0) (c .before .before .number3 .ensures .0)
+    (c .number4 .ensures .0)
 
 measure-schema-requires : tie.Need-measure-schema-requires Inv-loop μ-loop
 measure-schema-requires c κs = kept c
@@ -99,8 +102,10 @@ with-schema-requires c κs =
     let z = h .atoms-most in
     let a = l .before .before .before .before .args in
     let n = l .loop .inv .0 in
-    let m = l .loop .inv .1 in
-    ((count-some _ _ _ _ _ _ _ k, count-small _ _ _ _ _ _ _ k), ((omega arith, omega arith, omega arith), c .measure-schema .ensures .atoms-most))
+    let m = l .loop .inv .1 in (
+      (count-some _ _ _ _ _ _ _ k, count-small _ _ _ _ _ _ _ k),
+      ((omega arith, omega arith, omega arith), c .measure-schema .ensures .atoms-most),
+    )
 
 add-s : tie.Need-add-s Inv-loop μ-loop
 add-s c = omega arith
@@ -120,7 +125,8 @@ loop-again c =
     let count = c .before .before .number4 .result in (
       omega (arith, c .before .before .before .before .before .before .before .before .loop-test .taken),
       h .inv .1,
-      sizes-more t (h .s) (h .sizes) (c .with-schema .result) (c .before .measure-schema .result) count (k .known) (k .counted)
+      sizes-more t (h .s) (h .sizes) (c .with-schema .result) (c .before .measure-schema .result) count (k .known)
+          (k .counted)
           (count-parts _ _ _ _ _ _ _ k) (count-small _ _ _ _ _ _ _ k) (c .before .measure-schema .ensures) (h .inv .2)
           (e .0) (e .1 .0) (e .1 .1 .0) (e .1 .1 .1 .0) (e .1 .1 .1 .1),
     )
@@ -142,7 +148,8 @@ returns c =
     let e = schemas-word w (table-frame w (s .pre .0)) in
     let n = l .before .number .ensures .0 in
     let all : l .loop .s ≡ length (taskOf w .schemas) = omega arith in
-    sizes-told w (s .pre .0) (l .loop .sizes) (l .loop .s) all (l .loop .inv .2) (c .within-limits .result) (c .within-limits .ensures)
+    sizes-told w (s .pre .0) (l .loop .sizes) (l .loop .s) all (l .loop .inv .2) (c .within-limits .result)
+    (c .within-limits .ensures)
 
 pub sizes-of-spec : {M : Type 1} → statement M
 sizes-of-spec =

@@ -1,6 +1,6 @@
--- `tokens::pars::parameters_between` meets its contract. The invariant: the set has the parameters at positions `from` to
--- j - 1. The measure is the positions left.
-use Prim.Native.Nat.{ℕ, _+_, _-_, _*_, _≤_, _<_}
+-- `tokens::pars::parameters_between` meets its contract. The invariant: the set has the parameters at positions
+-- `from` to j - 1. The measure is the positions left.
+use Prim.Native.Nat.{ℕ, _+_, _-_, _*_, _≤_}
 use mathlib.Core.Path.{_≡_, sym, _∙_, ap, ap₂}
 use mathlib.Core.Bool.{Bool, _||_}
 use native.Mathlib.Omega.{arith}

@@ -1,10 +1,10 @@
 -- `tokens::pars::pars_at` meets its contract: its sets are made of those at the position, before it and after it.
 use borrow.Author.Needs.{needs}
 use Prim.Native.Nat.{ℕ, _+_, _-_, _*_}
-use mathlib.Core.Path.{_≡_, sym, _∙_, ap}
+use mathlib.Core.Path.{sym, _∙_, ap}
 use mathlib.Core.Bool.{Bool, not, _&&_}
 use native.Mathlib.Omega.{arith}
-use lib.ListN.{length, getD}
+use lib.ListN.{getD}
 use Rattle.task.specs.Lists.{any, upFrom}
 use Rattle.arcs.specs.Code.{member}
 use Rattle.tokens.proofs.ParPlaces.{pars-here}
@@ -62,7 +62,8 @@ returns c = λ t o e known.
     (λ x. ap (λ (v : ℕ). member v x) here)
     (before .ensures)
     (λ x. after .ensures x ∙
-    ap (λ (k : ℕ). any (λ i. member (getD (a .own .now) (16 * a .s + i) 0) x) (upFrom (a .j + 1) (k - (a .j + 1)))) (sym e))
+    ap (λ (k : ℕ). any (λ i. member (getD (a .own .now) (16 * a .s + i) 0) x) (upFrom (a .j + 1) (k - (a .j + 1))))
+    (sym e))
     (λ x. later x ∙ ap (λ (v : ℕ). member v x && member (before .result) x) here)
     (λ x. first x ∙ ap (λ (b : Bool). b && member (after .result) x)
     (none x ∙ ap (λ (v : ℕ). member v x && not (member (before .result) x)) here))

@@ -1,9 +1,9 @@
--- `tokens::pars::shared_in` meets its contract. The invariant: the two sets are of the parameters that more than none and
--- more than one of the first j parts have. The measure is the positions left.
-use Prim.Native.Nat.{ℕ, _+_, _-_, _*_, _≤_}
-use mathlib.Core.Path.{_≡_, sym, _∙_, ap}
+-- `tokens::pars::shared_in` meets its contract. The invariant: the two sets are of the parameters that more than none
+-- and more than one of the first j parts have. The measure is the positions left.
+use Prim.Native.Nat.{ℕ, _-_, _≤_}
+use mathlib.Core.Path.{_≡_, _∙_, ap}
 use native.Mathlib.Omega.{arith}
-use lib.ListN.{length, getD}
+use lib.ListN.{length}
 use lib.Dec.{ltb}
 use borrow.Author.Needs.{needs}
 use Rattle.arcs.specs.Code.{member}
@@ -66,8 +66,10 @@ loop-again c =
     let both = c .before .before .common in
     let seen = h .inv .1 in (
       omega arith,
-      seen-more (a .own .now) (a .s) (h .seen) (c .union2 .result) (here .result) (h .j) (here .ensures) seen (c .union2 .ensures),
-      twice-more (a .own .now) (a .s) (h .seen) (h .twice) (both .result) (c .before .union .result) (here .result) (h .j)
+      seen-more (a .own .now) (a .s) (h .seen) (c .union2 .result) (here .result) (h .j) (here .ensures) seen
+          (c .union2 .ensures),
+      twice-more (a .own .now) (a .s) (h .seen) (h .twice) (both .result) (c .before .union .result) (here .result)
+          (h .j)
           (here .ensures) seen (h .inv .2) (both .ensures) (c .before .union .ensures),
     )
 

@@ -1,7 +1,7 @@
 -- `tokens::parts::keep_order` meets its contract. The invariant: the first j positions are kept. The measure is the
 -- positions left.
 use Prim.Native.Nat.{ℕ, _+_, _-_, _*_, _≤_, _<_}
-use mathlib.Core.Path.{_≡_, sym, _∙_, ap, subst}
+use mathlib.Core.Path.{_≡_, _∙_, subst}
 use native.Mathlib.Omega.{arith}
 use lib.ListN.{length, getD, length-set}
 use Rattle.tokens.specs.Code.{OrderKept}
@@ -83,7 +83,8 @@ loop-again c =
       omega arith,
       length-set (h .order) k p ∙ h .inv .1,
       length-set (h .own) k r ∙ h .inv .2,
-      order-more (a .table .now) (a .from) (a .to) (a .s) (a .found .parts) (a .order .now) (a .own .now) (h .j) (h .order)
+      order-more (a .table .now) (a .from) (a .to) (a .s) (a .found .parts) (a .order .now) (a .own .now) (h .j)
+          (h .order)
           (h .own) p r e (omega arith) (omega arith) (c .parameters-of .ensures .0) (h .inv .3),
     )
 

@@ -1,6 +1,6 @@
--- `tokens::parts::keep_parts` meets its contract. The invariant: the parts of the schemas before s are kept, and s begins
--- at `from`. The measure is the schemas left.
-use Prim.Native.Nat.{ℕ, suc, _+_, _-_, _*_, _≤_, _<_}
+-- `tokens::parts::keep_parts` meets its contract. The invariant: the parts of the schemas before s are kept, and s
+-- begins at `from`. The measure is the schemas left.
+use Prim.Native.Nat.{ℕ, suc, _+_, _-_, _≤_, _<_}
 use mathlib.Core.Path.{_≡_, refl, sym, _∙_, ap, ap₂, subst}
 use mathlib.Core.Bool.{true}
 use mathlib.Core.List.{List}
@@ -17,13 +17,15 @@ use Rattle.arcs.specs.Code.{IsStretch, atomsIn}
 use Rattle.arcs.proofs.Laws.{no-none}
 use Rattle.arcs.proofs.Stretches.{schema-atoms, schema-stretch}
 use Rattle.tokens.specs.Code.{startOf, AreKept, PartsKept, circularTold}
-use Rattle.tokens.proofs.KeptSchemas.{schemas-few, atoms-few, parts-none, parts-more, told-none, circular-here, circular-nowhere}
+use Rattle.tokens.proofs.KeptSchemas.{schemas-few, atoms-few, parts-none, parts-more, told-none, circular-here}
+use Rattle.tokens.proofs.KeptSchemas.{circular-nowhere}
 use Rattle.tokens.proofs.parts.keep_parts.Statement.{statement}
 use Rattle.tokens.proofs.parts.keep_parts.Tie as tie
 
 abbrev Inv-loop : tie.InvT-loop
 Inv-loop table starts₀ counts₀ order₀ own₀ schemas from₀ s₀ starts counts order own from s =
-    (s ≤ schemas) × (schemas ≤ 200) × (from ≡ startOf (taskOf table) s) × AreKept starts counts order own × PartsKept (taskOf table) s starts counts order own
+    (s ≤ schemas) × (schemas ≤ 200) × (from ≡ startOf (taskOf table) s) ×
+    AreKept starts counts order own × PartsKept (taskOf table) s starts counts order own
 
 abbrev μ-loop : tie.MeasureT-loop
 μ-loop table starts₀ counts₀ order₀ own₀ schemas from₀ s₀ starts counts order own from s = schemas - s
@@ -47,9 +49,11 @@ stretch : (l : Loop) → l .loop .s < getD (words l) 2 0 → (to : ℕ) → to �
 stretch l k to e =
     let t = taskOf (words l) in
     subst (λ (n : ℕ). IsStretch (words l) n to) (sym (l .loop .inv .2))
-    (subst (λ (n : ℕ). IsStretch (words l) (startOf t (l .loop .s)) n) (sym e) (schema-stretch (words l) (is-table l) (l .loop .s) k))
+    (subst (λ (n : ℕ). IsStretch (words l) (startOf t (l .loop .s)) n) (sym e)
+    (schema-stretch (words l) (is-table l) (l .loop .s) k))
 
-atoms-are : (l : Loop) → l .loop .s < getD (words l) 2 0 → (to : ℕ) → to ≡ startOf (taskOf (words l)) (suc (l .loop .s)) →
+atoms-are : (l : Loop) → l .loop .s < getD (words l) 2 0 → (to : ℕ) →
+    to ≡ startOf (taskOf (words l)) (suc (l .loop .s)) →
     schemaAt (taskOf (words l)) (l .loop .s) .atoms ≡ atomsIn (words l) (l .loop .from) to
 atoms-are l k to e =
     schema-atoms (words l) (is-table l) (l .loop .s) k ∙ ap₂ (atomsIn (words l)) (sym (l .loop .inv .2)) (sym e)
@@ -77,8 +81,14 @@ loop-holds c =
       omega arith,
       omega arith,
       refl,
-      record { starts-long = length-set (a .starts .now) 0 0 ∙ k .starts-long; counts-long = k .counts-long; order-long = k .order-long; own-long = k .own-long },
-      parts-none w (s .pre .0) (a .starts .now) (a .counts .now) (a .order .now) (a .own .now) (let z = k .starts-long in omega arith),
+      record {
+        starts-long = length-set (a .starts .now) 0 0 ∙ k .starts-long;
+        counts-long = k .counts-long;
+        order-long = k .order-long;
+        own-long = k .own-long;
+      },
+      parts-none w (s .pre .0) (a .starts .now) (a .counts .now) (a .order .now) (a .own .now)
+          (let z = k .starts-long in omega arith),
     )
 
 schema-end-requires : tie.Need-schema-end-requires Inv-loop μ-loop
@@ -119,7 +129,13 @@ keep-order-requires c κs =
     let e = c .before .before .before .before .before .before .schema-end in
     let kept = l .loop .inv .3 in (
       stretch l t (e .result) (e .ensures),
-      (omega arith, (c .before .before .before .before .before .order-of .ensures .1, (kept .order-long, kept .own-long))),
+      (
+        omega arith,
+        (
+          c .before .before .before .before .before .order-of .ensures .1,
+          (kept .order-long, kept .own-long),
+        ),
+      ),
     )
 
 add-s : tie.Need-add-s Inv-loop μ-loop
@@ -163,7 +179,8 @@ loop-again c =
         own-long = c .keep-order .ensures .0 .1;
       },
       parts-more (words l) (is-table l) (h .s) (h .from) (to .result) (known l k) (to .ensures) atoms (found .result)
-          (omega (arith, n .0, n .1)) yes told (h .starts) (h .counts) (h .order) (h .own) _ _ (c .keep-order .ensures .1) (h .inv .4)
+          (omega (arith, n .0, n .1)) yes told (h .starts) (h .counts) (h .order) (h .own) _ _
+          (c .keep-order .ensures .1) (h .inv .4)
           (omega (arith, kept .starts-long)) (omega (arith, kept .counts-long)),
     )
 
@@ -172,11 +189,13 @@ unfolding circularTold
 returns-2 c =
     let l = c .before in
     let t = taskOf (words l) in
-    let e : l .loop .s ≡ length (t .schemas) = omega (arith, schemas-word (words l) (table-frame (words l) (is-table l))) in (
+    let e : l .loop .s ≡ length (t .schemas) =
+    omega (arith, schemas-word (words l) (table-frame (words l) (is-table l))) in (
       l .loop .inv .3,
       (
         sym (circular-nowhere t (l .loop .s) (l .loop .inv .4 .taken) e),
-        λ z. subst (λ (n : ℕ). PartsKept t n (l .loop .starts) (l .loop .counts) (l .loop .order) (l .loop .own)) e (l .loop .inv .4),
+        λ z. subst (λ (n : ℕ). PartsKept t n (l .loop .starts) (l .loop .counts) (l .loop .order) (l .loop .own)) e
+            (l .loop .inv .4),
       ),
     )
 

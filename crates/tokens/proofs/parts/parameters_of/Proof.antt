@@ -1,8 +1,7 @@
--- `tokens::parts::parameters_of` meets its contract. The invariant: the set has the parameters of the part's atoms before
--- i. The measure is the atoms left. Parameters are below 12, so the set is below 2 ^ 12.
+-- `tokens::parts::parameters_of` meets its contract. The invariant: the set has the parameters of the part's atoms
+-- before i. The measure is the atoms left. Parameters are below 12, so the set is below 2 ^ 12.
 use Prim.Native.Nat.{ℕ, _+_, _-_, _^_, _≤_, _<_}
 use mathlib.Core.Path.{_≡_, sym, _∙_, ap, subst}
-use mathlib.Core.Bool.{true}
 use mathlib.Core.Logic.{⊎-elim}
 use native.Mathlib.Omega.{arith}
 use Rattle.arcs.specs.Code.{member, atomsIn}
@@ -22,8 +21,12 @@ abbrev μ-loop : tie.MeasureT-loop
 
 loop-holds : tie.Need-loop-holds Inv-loop μ-loop
 loop-holds c =
-    let s = c .before in
-    (omega arith, s .pre .forward, omega arith, λ x. part-none (s .args .table .now) (s .args .from) (s .args .part .0) x (member-zero x))
+    let s = c .before in (
+      omega arith,
+      s .pre .forward,
+      omega arith,
+      λ x. part-none (s .args .table .now) (s .args .from) (s .args .part .0) x (member-zero x),
+    )
 
 part-of-requires : tie.Need-part-of-requires Inv-loop μ-loop
 part-of-requires c κs = stretch-atom (c .before .before .before .pre) (c .before .loop .i) (c .loop-test .taken)
@@ -31,7 +34,8 @@ part-of-requires c κs = stretch-atom (c .before .before .before .pre) (c .befor
 with-arguments-requires : tie.Need-with-arguments-requires Inv-loop μ-loop
 with-arguments-requires c κs =
     let s = c .before .before .before .before .before .before .before in
-    stretch-atom (s .pre) (c .before .before .before .before .before .loop .i) (c .before .before .before .before .loop-test .taken)
+    stretch-atom (s .pre) (c .before .before .before .before .before .loop .i)
+    (c .before .before .before .before .loop-test .taken)
 
 add-i : tie.Need-add-i Inv-loop μ-loop
 add-i c = omega arith
@@ -44,22 +48,26 @@ grown : (c : tie.Joined1 Inv-loop μ-loop) →
     let s = c .before .before .before .before .before .before .before in
     (c .if1 .named < 2 ^ 64) ×
     ((x : ℕ) → member (c .if1 .named) x ≡
-    inPart (s .args .part .0) x (atomsIn (s .args .table .now) (s .args .from) (c .before .before .before .before .before .loop .i + 1)))
+    inPart (s .args .part .0) x
+    (atomsIn (s .args .table .now) (s .args .from) (c .before .before .before .before .before .loop .i + 1)))
 grown c =
     let s = c .before .before .before .before .before .before .before in
     let h = c .before .before .before .before .before .loop in
     let w = s .args .table .now in
-    let P : ℕ → Type 0 = λ n. (n < 2 ^ 64) × ((x : ℕ) → member n x ≡ inPart (s .args .part .0) x (atomsIn w (s .args .from) (h .i + 1))) in
+    let P : ℕ → Type 0 = λ n. (n < 2 ^ 64) ×
+    ((x : ℕ) → member n x ≡ inPart (s .args .part .0) x (atomsIn w (s .args .from) (h .i + 1))) in
     let q = c .before .before .before .part-of in
     ⊎-elim
     (λ x. subst P (sym (x .2)) (
       x .1 .ok,
-      part-more w (s .args .from) (s .args .part .0) (h .named) (x .1 .result) (h .i) (q .result .0) (h .inv .0) (q .ensures .0)
+      part-more w (s .args .from) (s .args .part .0) (h .named) (x .1 .result) (h .i) (q .result .0) (h .inv .0)
+          (q .ensures .0)
           (x .0 .taken) (h .inv .3) (x .1 .ensures),
     ))
     (λ x. subst P (sym (x .1)) (
       h .inv .2,
-      part-same w (s .args .from) (s .args .part .0) (h .named) (h .i) (q .result .0) (h .inv .0) (q .ensures .0) (x .0 .left) (h .inv .3),
+      part-same w (s .args .from) (s .args .part .0) (h .named) (h .i) (q .result .0) (h .inv .0) (q .ensures .0)
+          (x .0 .left) (h .inv .3),
     ))
     (c .if1 .came)
 
@@ -73,8 +81,11 @@ returns c =
     let w = s .args .table .now in
     let e : h .i ≡ s .args .to = omega arith in
     let r : (x : ℕ) → member (h .named) x ≡ inPart (s .args .part .0) x (atomsIn w (s .args .from) (s .args .to)) =
-    λ x. h .inv .3 x ∙ ap (λ (n : ℕ). inPart (s .args .part .0) x (atomsIn w (s .args .from) n)) e in
-    (r, set-small 12 (h .named) (h .inv .2) (λ x m. part-small w (s .args .from) (s .args .part .0) (s .args .to) x (s .pre) (sym (r x) ∙ m)))
+    λ x. h .inv .3 x ∙ ap (λ (n : ℕ). inPart (s .args .part .0) x (atomsIn w (s .args .from) n)) e in (
+      r,
+      set-small 12 (h .named) (h .inv .2)
+          (λ x m. part-small w (s .args .from) (s .args .part .0) (s .args .to) x (s .pre) (sym (r x) ∙ m)),
+    )
 
 pub parameters-of-spec : {M : Type 1} → statement M
 parameters-of-spec =

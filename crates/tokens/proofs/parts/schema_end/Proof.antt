@@ -1,11 +1,9 @@
 -- `tokens::parts::schema_end` meets its contract. The invariant: i is not past the end of schema s. An atom of another
 -- schema stands at the end, and so does the end of all schema atoms. The measure is the atoms left.
-use Prim.Native.Nat.{ℕ, suc, _+_, _-_, _≤_, _<_}
-use mathlib.Core.Path.{_≡_, sym, _∙_, subst}
+use Prim.Native.Nat.{suc, _-_, _≤_}
+use mathlib.Core.Path.{_≡_, sym, _∙_}
 use native.Mathlib.Omega.{arith}
-use lib.ListN.{length, getD}
-use Rattle.task.specs.Limits.{tableWords}
-use Rattle.task.specs.Table.{taskOf, schemaNumberIn}
+use Rattle.task.specs.Table.{taskOf}
 use Rattle.task.proofs.Tables.{tableWords-is}
 use Rattle.task.proofs.TablesByIndex.{table-long}
 use Rattle.tokens.specs.Code.{startOf}
@@ -31,7 +29,8 @@ stretch s =
     schema-stretch w (s .pre .0) (s .args .s) (schema-known w (s .pre .0) (s .args .s) (s .pre .1 .0))
 
 shared-slice-read-atoms : tie.Need-shared-slice-read-atoms Inv-loop μ-loop
-shared-slice-read-atoms c = omega (arith, table-long (c .before .before .args .table .now) (c .before .before .pre .0), tableWords-is)
+shared-slice-read-atoms c =
+    omega (arith, table-long (c .before .before .args .table .now) (c .before .before .pre .0), tableWords-is)
 
 cast-atoms : tie.Need-cast-atoms Inv-loop μ-loop
 cast-atoms c = omega (arith, c .shared-slice-known2 .given 3)
@@ -63,7 +62,8 @@ loop-again : tie.Need-loop-again Inv-loop μ-loop
 loop-again c =
     let s = c .before .before .before .before .before .before in
     let h = c .before .before .before .loop in
-    let l = goes-on (s .args .table .now) (s .pre .0) (s .args .s) (s .pre .1 .0) (h .i) (c .before .before .loop-test .taken)
+    let l = goes-on (s .args .table .now) (s .pre .0) (s .args .s) (s .pre .1 .0) (h .i)
+    (c .before .before .loop-test .taken)
     (sym (c .before .schema-of .ensures) ∙ c .if1 .left) in
     (omega arith, omega arith)
 

@@ -1,7 +1,7 @@
 -- `tokens::parts::with_arguments` meets its contract. The invariant: the set has the first k arguments besides.
 -- The measure is the arguments left.
-use Prim.Native.Nat.{ℕ, _+_, _-_, _≤_, _<_}
-use mathlib.Core.Path.{_≡_, sym, _∙_, subst}
+use Prim.Native.Nat.{ℕ, _-_, _≤_, _<_}
+use mathlib.Core.Path.{_≡_, _∙_}
 use native.Mathlib.Omega.{arith}
 use lib.ListN.{length}
 use Rattle.task.specs.Table.{atomIn}
@@ -48,15 +48,23 @@ loop-again c =
     let h = c .before .before .before .before .loop in
     let args = atomIn (s .args .table .now) (s .args .i) .args in
     let l : h .k < length args =
-    omega (arith, c .before .before .before .before .before .argument-count .ensures .0, c .before .before .before .loop-test .taken) in
-    let y = c .before .before .argument in
-    (omega arith, named-more (s .args .set) (h .named) (c .with .result) args (h .k) (y .result .0) l (y .ensures .0) (h .inv .1) (c .with .ensures))
+    omega (
+      arith,
+      c .before .before .before .before .before .argument-count .ensures .0,
+      c .before .before .before .loop-test .taken,
+    ) in
+    let y = c .before .before .argument in (
+      omega arith,
+      named-more (s .args .set) (h .named) (c .with .result) args (h .k) (y .result .0) l (y .ensures .0)
+          (h .inv .1) (c .with .ensures),
+    )
 
 returns : tie.Need-returns Inv-loop μ-loop
 returns c = λ x.
     let s = c .before .before .before .before in
     let h = c .before .loop in
-    let n : h .k ≡ length (atomIn (s .args .table .now) (s .args .i) .args) = omega (arith, c .before .before .argument-count .ensures .0) in
+    let n : h .k ≡ length (atomIn (s .args .table .now) (s .args .i) .args) =
+    omega (arith, c .before .before .argument-count .ensures .0) in
     h .inv .1 x ∙ named-all (s .args .set) (atomIn (s .args .table .now) (s .args .i)) (h .k) x n
 
 pub with-arguments-spec : {M : Type 1} → statement M

@@ -5,7 +5,7 @@ use mathlib.Core.Path.{_≡_, sym, _∙_, ap}
 use mathlib.Core.Bool.{Bool, cond}
 use mathlib.Core.Logic.{⊎-elim}
 use native.Mathlib.Omega.{arith}
-use Rattle.arcs.specs.Code.{member, members}
+use Rattle.arcs.specs.Code.{members}
 use Rattle.tokens.proofs.SharedParameters.{above, above-none, above-more}
 use Rattle.tokens.proofs.sets.bound.Statement.{statement}
 use Rattle.tokens.proofs.sets.bound.Tie as tie

@@ -1,7 +1,7 @@
 -- `tokens::sets::size` meets its contract. The invariant: n is how many numbers below k are in the set.
 -- The measure is the numbers left.
 use Prim.Native.Nat.{ℕ, _+_, _-_, _≤_}
-use mathlib.Core.Path.{_≡_, refl, sym, _∙_, ap}
+use mathlib.Core.Path.{_≡_, sym, _∙_, ap}
 use mathlib.Core.Logic.{⊎-elim}
 use native.Mathlib.Omega.{arith}
 use lib.ListN.{length}
