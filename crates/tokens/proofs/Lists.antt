@@ -1,11 +1,12 @@
 -- Laws of lists that the proofs of this crate share; each by induction on the list.
 use Prim.Native.Nat.{ℕ, zero, suc, _≤_}
 use mathlib.Core.Path.{_≡_, refl, ap, ap₂, subst}
+use mathlib.Core.Bool.{Bool}
 use mathlib.Core.List.{List, [], _∷_, map}
 use mathlib.Core.Logic.{inl, inr}
 use native.Mathlib.Omega.{arith}
 use lib.ListN.{length, replicate}
-use Rattle.task.specs.Lists.{concatMap}
+use Rattle.task.specs.Lists.{filter, keepIf, concatMap}
 use Rattle.task.proofs.Laws.{In, here, there, in-empty, in-left, in-right, in-append}
 
 pub map-map : {A B C : Type 0} (f : B → C) (g : A → B) (xs : List A) → map f (map g xs) ≡ map (λ x. f (g x)) xs
@@ -37,6 +38,13 @@ pub replicate-in : (n a x : ℕ) → In x (replicate n a) → x ≡ a
 replicate-in zero a x i = absurd (in-empty i)
 replicate-in (suc n) a x (here e) = e
 replicate-in (suc n) a x (there i) = replicate-in n a x i
+
+-- tests that agree on every element
+pub filter-same : {A : Type 0} (p q : A → Bool) (xs : List A) → ((x : A) → In x xs → p x ≡ q x) → filter p xs ≡ filter q xs
+unfolding filter
+filter-same p q [] h = refl
+filter-same {A} p q (x ∷ xs) h =
+    ap₂ (λ (b : Bool) (ys : List A). keepIf b x ys) (h x (here refl)) (filter-same p q xs (λ y i. h y (there i)))
 
 -- a list with an element is not empty
 pub some-length : {A : Type 0} {a : A} {xs : List A} → In a xs → 1 ≤ length xs
