@@ -1,17 +1,19 @@
 -- What the functions that write the split promise: the words that each one puts, over what it is handed. No promise of
 -- an entry point cites these.
-use Prim.Native.Nat.{ℕ, _+_}
+use Prim.Native.Nat.{ℕ, _+_, _-_, _*_, _≤_, _<_}
 use mathlib.Core.Path.{_≡_}
-use mathlib.Core.Bool.{Bool, false, cond}
+use mathlib.Core.Bool.{Bool, true, false, cond}
 use mathlib.Core.List.{List, [], _∷_, _++_, map}
-use lib.ListN.{length}
+use lib.ListN.{length, getD}
 use lib.Dec.{eqb}
-use Rattle.task.specs.Lists.{put, filter, concatMap}
-use Rattle.task.specs.Task.{Atom, precondition, addition, deletion}
-use Rattle.task.specs.Table.{atomWords}
-use Rattle.task.specs.Run.{ofRole}
-use Rattle.arcs.specs.Code.{members, atomsIn}
-use Rattle.tokens.specs.Split.{token}
+use Rattle.task.specs.Lists.{put, filter, concatMap, upTo}
+use Rattle.task.specs.Task.{Atom, Schema, Task, precondition, addition, deletion}
+use Rattle.task.specs.Limits.{mostAtoms, mostParameters}
+use Rattle.task.specs.Table.{atomWords, taskOf, isTable}
+use Rattle.task.specs.Run.{ofRole, schemaAt}
+use Rattle.arcs.specs.Code.{IsStretch, member, members, atomsIn}
+use Rattle.tokens.specs.Split.{has, orders, parToken, token, splitSchema, splitTask, withinLimits}
+use Rattle.tokens.specs.Code.{PartsKept}
 use Rattle.tokens.specs.declared.part_atoms.PartPlace.{PartPlace}
 
 -- words put one after another from a place on, and the place behind them
@@ -57,3 +59,30 @@ abbrev pub partWords : List ℕ → PartPlace → Bool → ℕ → ℕ → ℕ �
 partWords w here lone required handed later first last =
     roleWords w here precondition false required later ++
     (roleWords w here addition lone handed first ++ roleWords w here deletion lone required last)
+
+-- ---- a part of the task
+-- the place of the part of schema s at position j of its order
+pub record PlaceOf (w : List ℕ) (s j : ℕ) (here : PartPlace) : Type 0 where
+  pub stretch : IsStretch w (here .from) (here .to)
+  pub short : here .to - here .from ≤ mostAtoms
+  pub atoms : atomsIn w (here .from) (here .to) ≡ schemaAt (taskOf w) s .atoms
+  pub part : here .part .0 ≡ getD (orders (taskOf w) s) j 0
+  pub params : here .params ≡ schemaAt (taskOf w) s .params
+  pub few : here .params ≤ mostParameters
+  pub own : (x : ℕ) → member (here .own) x ≡ has (schemaAt (taskOf w) s) x (getD (orders (taskOf w) s) j 0)
+  pub par : here .par ≡ parToken (taskOf w) 0
+  pub low : here .par < 1000
+
+-- what splitting has found before it writes: a table, its parts, and that the split is within the limits
+pub record Splits (w starts counts order own : List ℕ) : Type 0 where
+  pub table : isTable w ≡ true
+  pub kept : PartsKept (taskOf w) (length (taskOf w .schemas)) starts counts order own
+  pub within : withinLimits (splitTask (taskOf w)) ≡ true
+
+-- the schemas of a schema's parts
+abbrev pub partSchemas : Task → ℕ → List Schema
+partSchemas t s = map (splitSchema t s (orders t s)) (upTo (length (orders t s)))
+
+-- the size of the set kept for position j of schema s
+abbrev pub setSize : List ℕ → ℕ → ℕ → ℕ
+setSize own s j = length (members (getD own (16 * s + j) 0) 16)

@@ -111,7 +111,7 @@ fn old_atoms(table: &[u16], here: PartPlace, role: u16, out: &mut [u16], at: usi
 }
 
 // A bare token: procnone or a do.
-fn bare_token(number: u16, role: u16, predicate: u16, out: &mut [u16], at: usize) -> usize
+pub fn bare_token(number: u16, role: u16, predicate: u16, out: &mut [u16], at: usize) -> usize
     requires { ⌜ at + 8 ≤ length (now out) ⌝ }
     ensures { λ r. ⌜ Puts (now (out .entry)) at (atomWords number (token role predicate [])) (now (out .exit)) r ⌝ }
     ensures { λ r. ⌜ r ≡ at + 8 ⌝ }

@@ -1,10 +1,18 @@
 // Words put into a table one after another: each function is handed the place of its first word, and hands back the
 // place behind its last.
 ghost use Prim.Native.Nat.{_+_, _≤_};
+ghost use mathlib.Core.Path.{_≡_};
 ghost use mathlib.Core.List.{[], _∷_};
 ghost use lib.ListN.{length, replicate};
 ghost use Rattle.task.specs.Table.{wordsAt};
 ghost use Rattle.tokens.specs.Writing.{Puts};
+
+// A word as a number.
+pub fn wide(word: u16) -> usize
+    ensures { λ r. ⌜ r ≡ word ⌝ }
+{
+    word as usize
+}
 
 // `count` words of a table, from a place on.
 pub fn copy(table: &[u16], from: usize, count: usize, out: &mut [u16], at: usize) -> usize
