@@ -2,16 +2,40 @@
 -- found.
 use Prim.Native.Nat.{ℕ}
 use mathlib.Core.Path.{_≡_, refl, _∙_, ap}
-use mathlib.Core.Bool.{true, false, _&&_}
+use mathlib.Core.Bool.{Bool, true, false, cond, _&&_}
 use mathlib.Core.List.{List, [], _∷_}
+use mathlib.Core.Option.{Option, none, some}
+use lib.ListN.{length}
 use Rattle.task.specs.declared.Place.the-variants as place
-use Rattle.task.specs.Lists.{over}
+use Rattle.task.specs.Lists.{first, upTo, over}
 use Rattle.task.specs.Answers.{result, Check, Outcome, refuseUnless, inOrder}
 use Rattle.task.specs.Task.{Task}
 use Rattle.task.specs.Table.{taskOf, wordsOf, longEnough, isTable}
-use Rattle.tokens.specs.Split.{circular, tooLarge, splitAs, split, splitTask, splitCheck, splitOutcome}
+use Rattle.tokens.specs.Split.{orderAt, isNone, circular, tooLarge, splitAs, settle, split}
+use Rattle.tokens.specs.Split.{splitTask, withinLimits, splitCheck, splitOutcome}
 use Rattle.task.proofs.Answers.{asFound, check-passes, check-refuses, passes-on, refuses-at}
 
+-- ---- what splitting gives, by what is found of the orders and the sizes
+module _ (t : Task) where
+  -- the lowest schema for whose parts no order was found
+  abbrev lowest : Option ℕ
+  lowest = first (λ s. isNone (orderAt t s)) (upTo (length (t .schemas)))
+
+  pub found-circular : {s : ℕ} → lowest ≡ some s → split t ≡ circular s
+  unfolding split settle
+  found-circular e = ap (λ (o : Option ℕ). settle o (splitTask t)) e
+
+  settled : lowest ≡ none → split t ≡ cond (withinLimits (splitTask t)) (splitAs (splitTask t)) tooLarge
+  unfolding split settle
+  settled e = ap (λ (o : Option ℕ). settle o (splitTask t)) e
+
+  pub found-large : lowest ≡ none → withinLimits (splitTask t) ≡ false → split t ≡ tooLarge
+  found-large e h = settled e ∙ ap (λ (b : Bool). cond b (splitAs (splitTask t)) tooLarge) h
+
+  pub found-split : lowest ≡ none → withinLimits (splitTask t) ≡ true → split t ≡ splitAs (splitTask t)
+  found-split e h = settled e ∙ ap (λ (b : Bool). cond b (splitAs (splitTask t)) tooLarge) h
+
+-- ---- the outcome, check by check
 module _ (w out : List ℕ) where
   abbrev t : Task
   t = taskOf w

@@ -1,0 +1,31 @@
+-- `tokens::part_atoms::bare_token` meets its contract: an atom without arguments is four words and four zeros.
+use mathlib.Core.Path.{refl, _∙_}
+use native.Mathlib.Omega.{arith}
+use borrow.Author.Needs.{needs}
+use Rattle.task.specs.Lists.{padded}
+use Rattle.task.specs.Table.{atomWords}
+use Rattle.tokens.specs.Split.{token}
+use Rattle.tokens.proofs.Runs.{puts-then, puts-length}
+use Rattle.tokens.proofs.part_atoms.bare_token.Statement.{statement}
+use Rattle.tokens.proofs.part_atoms.bare_token.Tie as tie
+
+four-requires : tie.Need-four-requires
+four-requires c κs = search needs
+
+four-requires-2 : tie.Need-four-requires-2
+four-requires-2 c κs =
+    let f = c .before .before .before .four .ensures in
+    omega (arith, puts-length f, f .place)
+
+same-length : tie.Need-same-length
+same-length c = search needs
+
+returns : tie.Need-returns
+unfolding atomWords padded token
+returns c =
+    let f = c .before .before .before .before .before .before .four .ensures in
+    let g = c .before .before .four2 .ensures in
+    (puts-then f g _ refl, omega (arith, f .place, g .place))
+
+pub bare-token-spec : {M : Type 1} → statement M
+bare-token-spec = tie.close (tie.spec four-requires four-requires-2 same-length returns)

@@ -1,0 +1,37 @@
+-- `tokens::part_atoms::is_here` meets its contract: word 1 of an atom is its role.
+use Prim.Native.Nat.{ℕ}
+use mathlib.Core.Path.{_≡_, refl, sym, _∙_}
+use mathlib.Core.Bool.{false, _&&_}
+use lib.Dec.{eqb}
+use borrow.Author.Needs.{needs}
+use borrow.Author.Tests.{eq-eqb, ne-eqb}
+use Rattle.task.specs.Table.{atomIn}
+use Rattle.tokens.proofs.part_atoms.is_here.Statement.{statement}
+use Rattle.tokens.proofs.part_atoms.is_here.Tie as tie
+
+same-role : (r a p : ℕ) {q : ℕ} (b : ℕ) → r ≡ a → q ≡ b → eqb p q ≡ eqb r a && eqb p b
+same-role r a p b e f = rw (eq-eqb r a e, f) refl
+
+other-role : (r a p b : ℕ) → (r ≡ a → ⊥) → false ≡ eqb r a && eqb p b
+other-role r a p b n = rw (ne-eqb r a n) refl
+
+word-of-requires : tie.Need-word-of-requires
+word-of-requires c κs = search needs
+
+part-of-requires : tie.Need-part-of-requires
+part-of-requires c κs = search needs
+
+returns : tie.Need-returns
+unfolding atomIn
+returns c =
+    let s = c .before .before .before .before .before .before in
+    same-role (s .args .role) _ (s .args .part .0) _ (c .before .before .before .if1 .taken ∙ c .before .before .before .before .word-of .ensures) (c .before .before .part-of .ensures .0)
+
+returns-2 : tie.Need-returns-2
+unfolding atomIn
+returns-2 c =
+    let s = c .before .before .before in
+    other-role (s .args .role) _ (s .args .part .0) _ (λ e. c .if1 .left (e ∙ sym (c .before .word-of .ensures)))
+
+pub is-here-spec : {M : Type 1} → statement M
+is-here-spec = tie.close (tie.spec word-of-requires part-of-requires returns returns-2)

@@ -1,0 +1,39 @@
+-- `tokens::part_atoms::old_atom` meets its contract: word 2 of the old atom is its predicate.
+use Prim.Native.Nat.{ℕ}
+use mathlib.Core.Path.{sym, ap}
+use mathlib.Core.List.{_∷_, map}
+use native.Mathlib.Omega.{arith}
+use borrow.Author.Needs.{needs}
+use Rattle.task.specs.Lists.{padded}
+use Rattle.task.specs.Table.{atomIn, atomWords}
+use Rattle.tokens.specs.Writing.{newNumber}
+use Rattle.tokens.proofs.Runs.{puts-then, puts-length}
+use Rattle.tokens.proofs.part_atoms.old_atom.Statement.{statement}
+use Rattle.tokens.proofs.part_atoms.old_atom.Tie as tie
+
+word-of-requires : tie.Need-word-of-requires
+word-of-requires c κs = search needs
+
+four-requires : tie.Need-four-requires
+four-requires c κs = search needs
+
+arguments-requires : tie.Need-arguments-requires
+arguments-requires c κs = search needs
+
+same-length : tie.Need-same-length
+same-length c = search needs
+
+returns : tie.Need-returns
+unfolding atomIn atomWords
+returns c =
+    let a = c .before .before .before .before .before .before .before .before .before .before .before .args in
+    let f = c .before .before .before .before .before .before .four .ensures in
+    let g = c .before .before .arguments .ensures in
+    let p = c .before .before .before .before .before .before .before .before .word-of .ensures in (
+      puts-then f (g .0) _ (ap (λ (x : ℕ). a .number ∷ a .role ∷ x ∷ 0 ∷
+          padded 4 (map (newNumber (a .own)) (atomIn (a .table .now) (a .i) .args))) (sym p)),
+      omega (arith, f .place, g .1),
+    )
+
+pub old-atom-spec : {M : Type 1} → statement M
+old-atom-spec = tie.close (tie.spec word-of-requires four-requires arguments-requires same-length returns)

@@ -1,0 +1,44 @@
+-- `tokens::part_atoms::par_atom` meets its contract: an atom with one argument is four words, it, and three zeros.
+use Prim.Native.Nat.{ℕ, _+_}
+use mathlib.Core.Path.{sym, ap}
+use mathlib.Core.List.{[], _∷_}
+use native.Mathlib.Omega.{arith}
+use borrow.Author.Needs.{needs}
+use Rattle.task.specs.Lists.{padded}
+use Rattle.task.specs.Table.{atomWords}
+use Rattle.tokens.specs.Split.{token}
+use Rattle.tokens.proofs.Runs.{puts-then, puts-length}
+use Rattle.tokens.proofs.part_atoms.par_atom.Statement.{statement}
+use Rattle.tokens.proofs.part_atoms.par_atom.Tie as tie
+
+add-four : tie.Need-add-four
+add-four c = omega arith
+
+four-requires : tie.Need-four-requires
+four-requires c κs = search needs
+
+renumbered-in-requires : tie.Need-renumbered-in-requires
+renumbered-in-requires c κs = search needs
+
+four-requires-2 : tie.Need-four-requires-2
+four-requires-2 c κs =
+    let f = c .before .before .before .before .four .ensures in
+    omega (arith, puts-length f, f .place)
+
+same-length : tie.Need-same-length
+same-length c = search needs
+
+returns : tie.Need-returns
+unfolding atomWords padded token
+returns c =
+    let s = c .before .before .before .before .before .before .before .before .before .before .before .before in
+    let f = c .before .before .before .before .before .before .before .four .ensures in
+    let n = c .before .before .before .before .renumbered-in .ensures in
+    let g = c .before .before .four2 .ensures in (
+      puts-then f g _ (ap (λ (x : ℕ). s .args .here .number ∷ s .args .role ∷ (s .args .here .par + s .args .x .0) ∷ 0 ∷ x ∷ 0 ∷ 0 ∷ 0 ∷ []) (sym n)),
+      omega (arith, f .place, g .place),
+    )
+
+pub par-atom-spec : {M : Type 1} → statement M
+par-atom-spec =
+    tie.close (tie.spec add-four four-requires renumbered-in-requires four-requires-2 same-length returns)
