@@ -1,9 +1,13 @@
 // The entry points for a C host, on slices and numbers; include/splitter.h declares them.
 use task::Place;
 use task::RunAnswer;
+use text::WriteAnswer;
+use tokens::SplitAnswer;
 ghost use mathlib.Core.Path.{_≡_};
 ghost use Rattle.task.specs.Answers.{placeNumber, toldNumber, toldPlace, toldValue};
 ghost use Rattle.task.specs.Run.{runOutcome};
+ghost use Rattle.text.specs.Outcomes.{writeOutcome};
+ghost use Rattle.tokens.specs.Split.{splitOutcome};
 
 // "Lines count from 1, the others from 0; none is 0."
 fn place_number(place: Place) -> u64
@@ -65,6 +69,52 @@ pub extern "C" fn splitter_run(
         } => {
             *place = place_number(at);
             *left = kept;
+            number
+        }
+    }
+}
+
+// Writes a table's task as text. The answer is 0 for a result, else the refusal's number.
+#[no_mangle]
+pub extern "C" fn splitter_write(
+    table: &[u16],
+    text: &mut [u8],
+    place: &mut u64,
+    bytes: &mut u64,
+) -> u32
+    ensures { λ r. ⌜ r ≡ toldNumber (writeOutcome (now (table .entry)) (now (text .entry)) .told) ⌝ }
+    ensures { λ r. ⌜ now (text .exit) ≡ writeOutcome (now (table .entry)) (now (text .entry)) .buffer ⌝ }
+    ensures { λ r. ⌜ now (place .exit) ≡ toldPlace (writeOutcome (now (table .entry)) (now (text .entry)) .told) ⌝ }
+    ensures { λ r. ⌜ now (bytes .exit) ≡ toldValue 0 (writeOutcome (now (table .entry)) (now (text .entry)) .told) ⌝ }
+{
+    *place = 0;
+    *bytes = 0;
+    let answer = text::write(table, text);
+    match answer {
+        WriteAnswer::Written(count) => {
+            *bytes = count;
+            0
+        }
+        WriteAnswer::Refused(number, at) => {
+            *place = place_number(at);
+            number
+        }
+    }
+}
+
+// Splits a table's task into a second table. The answer is 0 for a result, else the refusal's number.
+#[no_mangle]
+pub extern "C" fn splitter_split(table: &[u16], split: &mut [u16], place: &mut u64) -> u32
+    ensures { λ r. ⌜ r ≡ toldNumber (splitOutcome (now (table .entry)) (now (split .entry)) .told) ⌝ }
+    ensures { λ r. ⌜ now (split .exit) ≡ splitOutcome (now (table .entry)) (now (split .entry)) .buffer ⌝ }
+    ensures { λ r. ⌜ now (place .exit) ≡ toldPlace (splitOutcome (now (table .entry)) (now (split .entry)) .told) ⌝ }
+{
+    *place = 0;
+    let answer = tokens::split(table, split);
+    match answer {
+        SplitAnswer::Split => 0,
+        SplitAnswer::Refused(number, at) => {
+            *place = place_number(at);
             number
         }
     }
