@@ -26,7 +26,7 @@ use Rattle.correspondence.specs.SharedRunsOnWords.{number, place, value,
 use Rattle.correspondence.specs.SharedRunsOnWords.{procnoneRecord, SecondStart, SameEnd, RunsUnfolded}
 use Rattle.correspondence.proofs.OneList.{goal-same, Alike, both-run, both-stop, alike}
 use Rattle.correspondence.proofs.UnfoldedSteps.{unfolded-steps, unfolded-length}
-use Rattle.correspondence.proofs.RunAnswers.{RunCase, run-refused, state-refused, run-does, run-cases, leaves-state}
+use Rattle.correspondence.proofs.RunAnswers.{RunCase, run-refused, state-refused, run-does, run-cases, run-leaves}
 use Rattle.correspondence.proofs.SplitAnswers.{AcceptedSplit, take-over}
 use Rattle.correspondence.proofs.BlockAnswers.{length-list, list-good, list-read, unfoldingOf, UnfoldCase}
 use Rattle.correspondence.proofs.BlockAnswers.{unfold-refused, unfold-longer, unfolds, unfold-cases}
@@ -115,7 +115,7 @@ module _ {table split : List ℕ} (A : AcceptedSplit table split) where
     -- both are states, so both runs do what the lists do
     done : isState t state k ≡ true → first ≡ runDone t (length state) (run t xs s) →
         second ≡ runDone t′ (length state′) (run t′ (unfoldSteps t xs) (withFree t s)) → Both
-    unfolding runDone runTold toldNumber toldPlace placeNumber run
+    unfolding runDone runTold toldNumber toldPlace placeNumber
     done h f g = go (alike (the-given A) s fine xs (w .steps-of))
       where
         fine : StateOf t s
@@ -126,7 +126,7 @@ module _ {table split : List ℕ} (A : AcceptedSplit table split) where
             let f₀ = f ∙ ap (runDone t (length state)) r in
             let g₀ = g ∙ ap (runDone t′ (length state′)) r′ in
             both-ran (ap number f₀) (ap number g₀) (same-end (length state) state′ e
-            (leaves-state t (the-given A .well) xs (w .steps-of) 0 s e (factsFit-state t s fine) r) first second f₀ g₀)
+            (run-leaves t (the-given A .well) xs (w .steps-of) s e (factsFit-state t s fine) r) first second f₀ g₀)
         go (both-stop j i e e′ r r′ l m) =
             let f₀ = f ∙ ap (runDone t (length state)) r in
             let g₀ = g ∙ ap (runDone t′ (length state′)) r′ in

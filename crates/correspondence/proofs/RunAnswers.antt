@@ -40,7 +40,7 @@ within t fits i (x ∷ xs) s = go (applies t s x) (fits (next t s x)) (within t 
     go true true h = h
 
 -- ---- a list that runs leaves a state
-pub leaves-state : (t : Task) → WellFormed t → (xs : List Step) → all (isStep t) xs ≡ true →
+leaves-state : (t : Task) → WellFormed t → (xs : List Step) → all (isStep t) xs ≡ true →
     (i : ℕ) (s e : List Fact) → State t s → runFrom t i xs s ≡ ran e → State t e
 unfolding runFrom runFitting turn all
 leaves-state t w [] h i s e st r = subst (State t) (cc) st
@@ -52,6 +52,11 @@ leaves-state t w (x ∷ xs) h i s e st r = go (applies t s x) r
         (runFrom t (suc i) xs (next t s x) ≡ ran e → State t e) → State t e
     go true q ih = ih q
     go false q ih = absurd (let z : _≡_ {A = ℕ} 0 1 = cc in omega arith)
+
+pub run-leaves : (t : Task) → WellFormed t → (xs : List Step) → all (isStep t) xs ≡ true → (s e : List Fact) →
+    State t s → run t xs s ≡ ran e → State t e
+unfolding run
+run-leaves t w xs h s e st r = leaves-state t w xs h 0 s e st r
 
 -- ---- the answers
 pub data RunCase (table steps state : List ℕ) (n : ℕ) : Type 0 where

@@ -10,9 +10,11 @@ use native.Mathlib.Omega.{arith}
 use lib.ListN.{length, getD, take, drop, replicate, length-append, take-append-drop, List·getD-append}
 use lib.Seq.{length-take-le, getD-append-seam}
 use Rattle.task.specs.Lists.{concatMap, upTo, padded}
+use Rattle.task.specs.Answers.{toldValue}
 use Rattle.task.specs.Task.{Fact, Task, factsFit, wellFormed}
 use Rattle.task.specs.Table.{wordsAt, taskOf}
-use Rattle.task.specs.Run.{recordWords, stateWords, recordAt, stateIn, roomIn, isState, holds}
+use Rattle.task.specs.Run.{recordWords, stateWords, recordAt, stateIn, roomIn, isState, holds, ran, left, runTold}
+use Rattle.task.specs.Run.{runDone}
 use Rattle.tokens.specs.Split.{procnone, free, splitTask}
 use Rattle.task.proofs.Laws.{In, here, there, in-eq, in-left, in-right, in-all, in-getD, getD-in, append-concatMap}
 use Rattle.task.proofs.Laws.{map-append, upTo-suc, append-same-length, Less, smaller, same}
@@ -25,7 +27,7 @@ use Rattle.task.proofs.TablesByWords.{length-wordsAt}
 use Rattle.task.proofs.RecordWords.{arity-few, length-recordWords}
 use Rattle.task.proofs.StateWords.{Short, length-state, at-record, state-words, words-read, words-state, length-stateIn}
 use Rattle.correspondence.specs.SharedRuns.{withFree}
-use Rattle.correspondence.specs.SharedRunsOnWords.{procnoneRecord, thenProcnone, SecondStart}
+use Rattle.correspondence.specs.SharedRunsOnWords.{procnoneRecord, thenProcnone, LeavesProcnone, SecondStart}
 use Rattle.correspondence.proofs.Given.{Given, given}
 use Rattle.correspondence.proofs.UnfoldedSteps.{free-state}
 use Rattle.correspondence.proofs.SplitAnswers.{AcceptedSplit}
@@ -205,8 +207,8 @@ module _ {table split : List ℕ} (A : AcceptedSplit table split) where
         let z : 0 + k ≡ k = omega arith in
         ap (λ j. getD w j 0) z ∙ List·getD-append (stateWords e) (replicate (n - length (stateWords e)) 0) 0 k m) i l)
 
-    pub procnone-left : ((i : ℕ) × (i < length e) × (wordsAt w (5 * i) 5 ≡ procnoneRecord table)) ↔
-        (holds e (free t) ≡ true)
+    pub procnone-left : LeavesProcnone table (runDone t′ n (ran e)) ↔ (holds e (free t) ≡ true)
+    unfolding toldValue runDone runTold left
     procnone-left = (
       λ (i, l, q).
           let f = getD e i noFact in
