@@ -19,16 +19,17 @@ use Rattle.task.proofs.Laws.{both-ft}
 use Rattle.task.proofs.States.{State, factsFit-state, wellFormed-is}
 use Rattle.task.proofs.BadSteps.{steps-whole}
 use Rattle.task.proofs.StateWords.{state-words}
+use Rattle.task.proofs.RunAnswers.{RunCase, run-refused, state-refused, run-does, run-cases, run-leaves}
+use Rattle.task.proofs.Put.{take-over}
+use Rattle.tokens.proofs.SplitAnswers.{AcceptedSplit}
+use Rattle.blocks.proofs.BlockAnswers.{length-list, list-good, list-read, FoldCase, fold-refused}
+use Rattle.blocks.proofs.BlockAnswers.{fold-misfits, fold-longer, folds, fold-cases}
 use Rattle.correspondence.specs.SharedRuns.{StepsOf, StateOf, withFree, RunsBack}
 use Rattle.correspondence.specs.SharedRunsOnWords.{number, place, value, LengthsAside, foldedBack, SecondStart}
 use Rattle.correspondence.specs.SharedRunsOnWords.{LeavesProcnone, FoundRuns, RunsFolded}
 use Rattle.correspondence.proofs.UnfoldedSteps.{free-state}
 use Rattle.correspondence.proofs.FoldReads.{misfit-inj, folded-no-misfit}
 use Rattle.correspondence.proofs.Demand3.{demand-3}
-use Rattle.correspondence.proofs.RunAnswers.{RunCase, run-refused, state-refused, run-does, run-cases, run-leaves}
-use Rattle.correspondence.proofs.SplitAnswers.{AcceptedSplit, take-over}
-use Rattle.correspondence.proofs.BlockAnswers.{length-list, list-good, list-read, FoldCase, fold-refused}
-use Rattle.correspondence.proofs.BlockAnswers.{fold-misfits, fold-longer, folds, fold-cases}
 use Rattle.correspondence.proofs.StatesOnWords.{the-given, second-read, first-state, procnone-left}
 use Rattle.correspondence.proofs.ForwardOnWords.{same-end}
 

@@ -2,7 +2,6 @@
 -- first bad step; past that, folding's answer is that of `foldSteps`, of which `demand-3` says what it means.
 use Prim.Native.Nat.{ℕ, _*_}
 use mathlib.Core.Path.{_≡_, refl, sym, _∙_, ap, subst}
-use mathlib.Core.Bool.{true}
 use mathlib.Core.List.{List, []}
 use mathlib.Core.Logic.{_⊎_, inl, inr}
 use mathlib.Core.Option.{Option, none, some}
@@ -14,20 +13,21 @@ use Rattle.task.specs.Task.{Task}
 use Rattle.task.specs.Table.{taskOf}
 use Rattle.task.specs.Run.{Step, stepsIn, badStep, stateIn, Running, ran, stopped, outgrown, run, runTold, runDone}
 use Rattle.task.specs.Run.{runOutcome}
-use Rattle.blocks.specs.Blocks.{unfoldSteps, foldSteps, folded, misfit, listWords, unfoldOutcome, foldOutcome}
+use Rattle.blocks.specs.Blocks.{unfoldSteps, listWords, unfoldOutcome, foldOutcome}
 use Rattle.task.proofs.BadSteps.{steps-whole}
+use Rattle.task.proofs.RunAnswers.{RunCase, run-refused, state-refused, run-does, run-cases}
+use Rattle.task.proofs.Put.{take-over}
+use Rattle.tokens.proofs.SplitAnswers.{AcceptedSplit}
+use Rattle.blocks.proofs.BlockAnswers.{length-list, list-good, list-read, read-list, unfoldingOf}
+use Rattle.blocks.proofs.BlockAnswers.{UnfoldCase, unfold-refused, unfold-longer, unfolds, unfold-cases}
+use Rattle.blocks.proofs.BlockAnswers.{FoldCase, fold-refused, fold-misfits, fold-longer, folds, fold-cases}
 use Rattle.correspondence.specs.SharedRuns.{StepsOf, MisfitAt}
 use Rattle.correspondence.specs.SharedRuns as shared
-use Rattle.correspondence.specs.SharedRunsOnWords.{number, place, LengthsAside, unfolded, foldedBack, JudgedAlike}
+use Rattle.correspondence.specs.SharedRunsOnWords.{number, LengthsAside, unfolded, foldedBack, JudgedAlike}
 use Rattle.correspondence.specs.SharedRunsOnWords.{FoldsApart}
 use Rattle.correspondence.proofs.FoldReads.{misfit-inj, folded-inj, folded-no-misfit}
 use Rattle.correspondence.proofs.Demand3.{demand-3}
-use Rattle.correspondence.proofs.RunAnswers.{RunCase, run-refused, state-refused, run-does, run-cases}
-use Rattle.correspondence.proofs.SplitAnswers.{AcceptedSplit, take-over}
-use Rattle.correspondence.proofs.BlockAnswers.{length-list, list-good, list-read, read-list, unfoldingOf}
-use Rattle.correspondence.proofs.BlockAnswers.{UnfoldCase, unfold-refused, unfold-longer, unfolds, unfold-cases}
-use Rattle.correspondence.proofs.BlockAnswers.{FoldCase, fold-refused, fold-misfits, fold-longer, folds, fold-cases}
-use Rattle.correspondence.proofs.ForwardOnWords.{Wrote, wrote-list}
+use Rattle.correspondence.proofs.ForwardOnWords.{wrote-list}
 
 -- ---- 12
 -- an answer is 12 at the first bad step of some words, and only where there is one

@@ -1,19 +1,19 @@
 -- From the original to the split, on words: the unfolding is read as the blocks that were written, the second state as
 -- the first with procnone, and then the two runs are alike.
-use Prim.Native.Nat.{ℕ, suc, _+_, _*_, _≤_, _<_}
-use mathlib.Core.Path.{_≡_, refl, sym, _∙_, ap, ap₂, subst}
+use Prim.Native.Nat.{ℕ, suc, _*_, _≤_, _<_}
+use mathlib.Core.Path.{_≡_, sym, _∙_, ap, ap₂, subst}
 use mathlib.Core.Bool.{true}
 use mathlib.Core.List.{List, [], _∷_, _++_}
-use mathlib.Core.Logic.{_⊎_, inl, inr}
-use mathlib.Core.Option.{none, some}
+use mathlib.Core.Logic.{inl, inr}
+use mathlib.Core.Option.{none}
 use native.Mathlib.Omega.{arith}
-use lib.ListN.{length, take, length-append}
+use lib.ListN.{length, length-append}
 use lib.Seq.{take-at}
 use Rattle.task.specs.Lists.{padded}
 use Rattle.task.specs.Answers.{toldNumber, toldPlace, toldValue, placeNumber, Outcome}
 use Rattle.task.specs.Task.{Fact, Task}
 use Rattle.task.specs.Table.{taskOf}
-use Rattle.task.specs.Run.{Step, stepsIn, badStep, stateIn, isState, stateWords, Running, ran, stopped, run, goalMet, bit}
+use Rattle.task.specs.Run.{Step, stepsIn, badStep, stateIn, isState, stateWords, ran, run, bit}
 use Rattle.task.specs.Run.{left, runTold, runDone, runOutcome}
 use Rattle.tokens.specs.Split.{free}
 use Rattle.blocks.specs.Blocks.{unfoldSteps, listWords, unfoldOutcome}
@@ -21,15 +21,16 @@ use Rattle.task.proofs.Laws.{both-ft}
 use Rattle.task.proofs.States.{State, factsFit-state}
 use Rattle.task.proofs.BadSteps.{steps-whole}
 use Rattle.task.proofs.StateWords.{length-state, state-words}
+use Rattle.task.proofs.RunAnswers.{RunCase, run-refused, state-refused, run-does, run-cases, run-leaves}
+use Rattle.task.proofs.Put.{take-over}
+use Rattle.tokens.proofs.SplitAnswers.{AcceptedSplit}
+use Rattle.blocks.proofs.BlockAnswers.{length-list, list-good, list-read, unfoldingOf, UnfoldCase}
+use Rattle.blocks.proofs.BlockAnswers.{unfold-refused, unfold-longer, unfolds, unfold-cases}
 use Rattle.correspondence.specs.SharedRuns.{StepsOf, StateOf, withFree}
 use Rattle.correspondence.specs.SharedRunsOnWords.{number, place, value, LengthsAside, unfolded, partsBefore}
 use Rattle.correspondence.specs.SharedRunsOnWords.{procnoneRecord, SecondStart, SameEnd, RunsUnfolded}
 use Rattle.correspondence.proofs.OneList.{goal-same, Alike, both-run, both-stop, alike}
 use Rattle.correspondence.proofs.UnfoldedSteps.{unfolded-steps, unfolded-length}
-use Rattle.correspondence.proofs.RunAnswers.{RunCase, run-refused, state-refused, run-does, run-cases, run-leaves}
-use Rattle.correspondence.proofs.SplitAnswers.{AcceptedSplit, take-over}
-use Rattle.correspondence.proofs.BlockAnswers.{length-list, list-good, list-read, unfoldingOf, UnfoldCase}
-use Rattle.correspondence.proofs.BlockAnswers.{unfold-refused, unfold-longer, unfolds, unfold-cases}
 use Rattle.correspondence.proofs.StatesOnWords.{the-given, state-short, free-words, second-state, second-read, first-state}
 
 -- what unfolding wrote, given its result

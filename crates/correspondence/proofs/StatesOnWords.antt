@@ -26,11 +26,11 @@ use Rattle.task.proofs.WordRows.{wordsAt-is}
 use Rattle.task.proofs.TablesByWords.{length-wordsAt}
 use Rattle.task.proofs.RecordWords.{arity-few, length-recordWords}
 use Rattle.task.proofs.StateWords.{Short, length-state, at-record, state-words, words-read, words-state, length-stateIn}
+use Rattle.tokens.proofs.SplitAnswers.{AcceptedSplit}
 use Rattle.correspondence.specs.SharedRuns.{withFree}
 use Rattle.correspondence.specs.SharedRunsOnWords.{procnoneRecord, thenProcnone, LeavesProcnone, SecondStart}
 use Rattle.correspondence.proofs.Given.{Given, given}
 use Rattle.correspondence.proofs.UnfoldedSteps.{free-state}
-use Rattle.correspondence.proofs.SplitAnswers.{AcceptedSplit}
 
 -- ---- states and their words
 pub state-short : (t : Task) → wellFormed t ≡ true → (s : List Fact) → State t s → Short s

@@ -31,10 +31,6 @@ value i o = toldValue i (o .told)
 abbrev pub LengthsAside : Outcome → Type 0
 LengthsAside o = (number o ≡ 1 → ⊥) × (number o ≡ 13 → ⊥) × (number o ≡ 17 → ⊥)
 
--- the steps that words hold, of the task of a table
-abbrev pub stepsOf : List ℕ → List ℕ → List Step
-stepsOf table words = stepsIn (taskOf table) words
-
 -- "The split and the unfolding are as splitting and unfolding wrote them": the words of the steps that unfolding wrote,
 -- and of those that folding wrote; 13 each, at the front of the lent words
 abbrev pub unfolded : Outcome → List ℕ
@@ -45,7 +41,7 @@ foldedBack wrote = take (stepSize * value 1 wrote) (wrote .buffer)
 
 -- "A step's part count is that of its schema": the sum of those of the steps before j
 abbrev pub partsBefore : List ℕ → List ℕ → ℕ → ℕ
-partsBefore table steps j = partSum (taskOf table) (take j (stepsOf table steps))
+partsBefore table steps j = partSum (taskOf table) (take j (stepsIn (taskOf table) steps))
 
 -- "P is procnone (the free token), arity 0": its record; P is a table's second word
 abbrev pub procnoneRecord : List ℕ → List ℕ
@@ -62,7 +58,6 @@ LeavesProcnone table run =
 
 -- "The second run starts from the records that the first started from, then procnone, in words of its own."
 pub record SecondStart (table state : List ℕ) (k : ℕ) (state′ : List ℕ) : Type 0 where
-  -- not "more records than lent"
   pub lent : k ≤ roomIn state
   pub records : take (recordSize * suc k) state′ ≡ thenProcnone table k state
 
@@ -80,12 +75,11 @@ pub record JudgedAlike (run other : Outcome) : Type 0 where
 -- ---- from the original to the split: a list, its unfolding, the first run, and the second run, of the unfolding
 pub record RunsUnfolded (table steps state′ : List ℕ) (wrote first second : Outcome) : Type 0 where
   -- "Unfolding writes the blocks one after another."
-  pub list : unfolded wrote ≡ listWords (unfoldSteps (taskOf table) (stepsOf table steps))
+  pub list : unfolded wrote ≡ listWords (unfoldSteps (taskOf table) (stepsIn (taskOf table) steps))
   -- "the number of split steps, which is the length of the list that unfolding writes"
-  pub count : value 0 wrote ≡ partSum (taskOf table) (stepsOf table steps)
-  -- the list runs exactly when its unfolding does, and stops exactly when that does
+  pub count : value 0 wrote ≡ partSum (taskOf table) (stepsIn (taskOf table) steps)
+  -- the list runs exactly when its unfolding does, and stops exactly when that does; or the records are no state (15)
   pub alike : number second ≡ number first
-  -- and nothing else happens, but that the records are no state (15)
   pub answers : (number first ≡ 0) ⊎ ((number first ≡ 16) ⊎ (number first ≡ 15))
   pub end : number first ≡ 0 → SameEnd table state′ first second
   -- "Where the first answers 16 at step j, the second answers 16 at a step that is at least the sum of the part counts
@@ -105,10 +99,10 @@ pub record RunsFolded (table split ys state : List ℕ) (k : ℕ) (state′ : Li
   -- the list is whole blocks, then a remainder: nothing, or a proper beginning of a block; in one way only
   pub list : List Step
   pub rest : List Step
-  pub apart : TakenApart (taskOf table) (stepsOf split ys) list rest
-  pub only : (xs r : List Step) → TakenApart (taskOf table) (stepsOf split ys) xs r → (xs ≡ list) × (r ≡ rest)
-  pub first : LengthsAside (runOutcome table (listWords list) state k) →
-      FoundRuns table state′ rest (runOutcome table (listWords list) state k) second
+  pub apart : TakenApart (taskOf table) (stepsIn (taskOf split) ys) list rest
+  pub only : (xs r : List Step) → TakenApart (taskOf table) (stepsIn (taskOf split) ys) xs r → (xs ≡ list) × (r ≡ rest)
+  pub first : let first = runOutcome table (listWords list) state k in
+      LengthsAside first → FoundRuns table state′ rest first second
   -- procnone holds at the end exactly when nothing is left over
   pub token : LeavesProcnone table second ↔ (rest ≡ [])
   -- folding gives the steps found exactly when nothing is left over
@@ -124,36 +118,36 @@ pub record FoldsApart (table split ys : List ℕ) (fold : Outcome) : Type 0 wher
   -- "the number of split steps, which is the length of the list that .. folding is lent"
   pub count : number fold ≡ 0 → stepSize * value 0 fold ≡ length ys
   -- "Folding takes a list apart into whole blocks": what it wrote unfolds to the list, and what was unfolded it folds
-  pub unfolds-back : number fold ≡ 0 → (lent : List ℕ) → LengthsAside (unfoldOutcome table (foldedBack fold) lent) →
-      (number (unfoldOutcome table (foldedBack fold) lent) ≡ 0) ×
-      (unfolded (unfoldOutcome table (foldedBack fold) lent) ≡ ys)
-  pub folds-back : (steps lent : List ℕ) → number (unfoldOutcome table steps lent) ≡ 0 →
-      unfolded (unfoldOutcome table steps lent) ≡ ys → (number fold ≡ 0) × (foldedBack fold ≡ steps)
+  pub unfolds-back : number fold ≡ 0 → (lent : List ℕ) → let wrote = unfoldOutcome table (foldedBack fold) lent in
+      LengthsAside wrote → (number wrote ≡ 0) × (unfolded wrote ≡ ys)
+  pub folds-back : (steps lent : List ℕ) → let wrote = unfoldOutcome table steps lent in
+      number wrote ≡ 0 → unfolded wrote ≡ ys → (number fold ≡ 0) × (foldedBack fold ≡ steps)
   -- "first step that fits no block; the step count if the last block is unfinished"
-  pub misfits : (i : ℕ) → ((number fold ≡ 14) × (place fold ≡ i)) ↔ MisfitAt (taskOf table) (stepsOf split ys) i
+  pub misfits : (i : ℕ) →
+      ((number fold ≡ 14) × (place fold ≡ i)) ↔ MisfitAt (taskOf table) (stepsIn (taskOf split) ys) i
 
 -- ---- the claim
 pub record SharedRunsOnWords (table split : List ℕ) : Type 0 where
-  -- every list of original steps is unfolded
-  pub unfolds : (steps lent : List ℕ) → LengthsAside (unfoldOutcome table steps lent) →
-      (number (unfoldOutcome table steps lent) ≡ 0) ⊎ (number (unfoldOutcome table steps lent) ≡ 12)
+  -- every list of original steps is unfolded, and no other
+  pub unfolds : (steps lent : List ℕ) → let wrote = unfoldOutcome table steps lent in
+      LengthsAside wrote → (number wrote ≡ 0) ⊎ (number wrote ≡ 12)
   pub original : (steps lent state : List ℕ) (k : ℕ) →
       JudgedAlike (runOutcome table steps state k) (unfoldOutcome table steps lent)
   pub forward : (steps lent state : List ℕ) (k : ℕ) (state′ : List ℕ) → SecondStart table state k state′ →
-      number (unfoldOutcome table steps lent) ≡ 0 →
-      LengthsAside (runOutcome table steps state k) →
-      LengthsAside (runOutcome split (unfolded (unfoldOutcome table steps lent)) state′ (suc k)) →
-      RunsUnfolded table steps state′ (unfoldOutcome table steps lent) (runOutcome table steps state k)
-      (runOutcome split (unfolded (unfoldOutcome table steps lent)) state′ (suc k))
-  -- "folding's list is judged by 12 against the split task"
-  pub of-split : (ys lent state : List ℕ) (k : ℕ) → JudgedAlike (runOutcome split ys state k) (foldOutcome table ys lent)
+      let wrote = unfoldOutcome table steps lent in
+      let first = runOutcome table steps state k in
+      let second = runOutcome split (unfolded wrote) state′ (suc k) in
+      number wrote ≡ 0 → LengthsAside first → LengthsAside second → RunsUnfolded table steps state′ wrote first second
   pub backward : (ys lent state : List ℕ) (k : ℕ) (state′ : List ℕ) → SecondStart table state k state′ →
-      number (runOutcome split ys state′ (suc k)) ≡ 0 → LengthsAside (foldOutcome table ys lent) →
-      RunsFolded table split ys state k state′ (foldOutcome table ys lent) (runOutcome split ys state′ (suc k))
-  pub folding : (ys lent : List ℕ) → LengthsAside (foldOutcome table ys lent) →
-      (number (foldOutcome table ys lent) ≡ 12 → ⊥) → FoldsApart table split ys (foldOutcome table ys lent)
+      let second = runOutcome split ys state′ (suc k) in let fold = foldOutcome table ys lent in
+      number second ≡ 0 → LengthsAside fold → RunsFolded table split ys state k state′ fold second
+  -- "folding's list is judged by 12 against the split task"
+  pub of-split : (ys lent state : List ℕ) (k : ℕ) →
+      JudgedAlike (runOutcome split ys state k) (foldOutcome table ys lent)
+  pub folding : (ys lent : List ℕ) → let fold = foldOutcome table ys lent in
+      LengthsAside fold → (number fold ≡ 12 → ⊥) → FoldsApart table split ys fold
 
 -- "a split is accepted when splitting gives it as its result"
 abbrev pub Demand3OnWords : Type 0
-Demand3OnWords = (table lent : List ℕ) → number (splitOutcome table lent) ≡ 0 →
-    SharedRunsOnWords table (splitOutcome table lent .buffer)
+Demand3OnWords = (table lent : List ℕ) → let wrote = splitOutcome table lent in
+    number wrote ≡ 0 → SharedRunsOnWords table (wrote .buffer)

@@ -1,29 +1,24 @@
--- What splitting answers: with a result it was lent a table, and left the words of its split, a table again.
-use Prim.Native.Nat.{ℕ, _≤_}
+-- What splitting answers: with a result it was lent a table, and what it wrote is a table, of the split. By the checks
+-- that a result has passed, and since the split of a well-formed task is well formed.
+use Prim.Native.Nat.{ℕ}
 use mathlib.Core.Path.{_≡_, refl, sym, _∙_, ap, subst}
 use mathlib.Core.Bool.{Bool, true, false, _&&_}
 use mathlib.Core.List.{List, [], _∷_}
 use native.Mathlib.Omega.{arith}
-use lib.ListN.{length, take}
-use lib.Seq.{take-at}
-use lib.Dec.{leb}
+use lib.ListN.{length}
 use borrow.Author.Tests.{le-leb}
 use Rattle.task.specs.Lists.{over}
 use Rattle.task.specs.Limits.{tableWords}
 use Rattle.task.specs.Answers.{toldNumber, result, Outcome, refuseUnless, inOrder}
 use Rattle.task.specs.Task.{Task, wellFormed}
 use Rattle.task.specs.Table.{taskOf, wordsOf, longEnough, isTable}
 use Rattle.tokens.specs.Split.{splitTask, Splitting, circular, tooLarge, splitAs, splitCheck, split, splitOutcome}
 use Rattle.task.proofs.Laws.{and-left}
+use Rattle.task.proofs.Put.{take-over}
 use Rattle.task.proofs.Tables.{words-length, of-table}
 use Rattle.task.proofs.TablesByIndex.{table-of, table-long}
 use Rattle.tokens.proofs.Accepted.{split-is}
 use Rattle.tokens.proofs.WellSplit.{split-well}
-
--- words lie at the front of the buffer that they are written over
-pub take-over : (xs lent : List ℕ) (n : ℕ) → length xs ≡ n → take n (over xs lent) ≡ xs
-unfolding over
-take-over xs lent n h = take-at xs _ n h
 
 -- a table, and the words of its accepted split
 pub record AcceptedSplit (table words : List ℕ) : Type 0 where

@@ -9,16 +9,16 @@ use mathlib.Core.Option.{Option, none, some}
 use native.Mathlib.Omega.{arith}
 use lib.ListN.{length}
 use lib.Dec.{leb}
 use Rattle.task.specs.declared.Place.the-variants as place
 use Rattle.task.specs.Lists.{all}
-use Rattle.task.specs.Answers.{refused, toldNumber, Outcome, Check, refuseUnless, refuseStep, inOrder}
+use Rattle.task.specs.Answers.{refused, toldNumber, Outcome, refuseUnless, refuseStep, inOrder}
 use Rattle.task.specs.Task.{Fact, Task}
 use Rattle.task.specs.Table.{taskOf, longEnough, isTable}
-use Rattle.task.specs.Run.{Step, isStep, applies, next, Running, ran, stopped, outgrown, turn, runFitting, runFrom}
+use Rattle.task.specs.Run.{Step, isStep, applies, next, Running, ran, outgrown, turn, runFitting, runFrom}
 use Rattle.task.specs.Run.{run, runWithin, roomIn, stepsIn, badStep, stateIn, isState, runTold, runDone, runOutcome}
 use Rattle.task.proofs.Laws.{and-left, and-right}
 use Rattle.task.proofs.States.{WellFormed, State, next-state, isStep-is}
 use Rattle.task.proofs.Answers.{check-passes}
 
 -- ---- with room for so many records a list does what it does without, or a state outgrows them
 abbrev Outgrown : Running → Type 0
