@@ -1,7 +1,7 @@
 -- What unfolding and folding answer, lent a table whose split is accepted: the steps are refused (12), or do not fit a
 -- block (14), or are longer than the lent words (13); or the result is written over those.
 use Prim.Native.Nat.{ℕ, _*_}
-use mathlib.Core.Path.{_≡_, refl, sym, _∙_, ap, subst}
+use mathlib.Core.Path.{_≡_, refl, sym, _∙_, ap, ap₂, subst}
 use mathlib.Core.Bool.{Bool, true, false}
 use mathlib.Core.List.{List, [], _∷_}
 use mathlib.Core.Option.{Option, none, some}
@@ -88,10 +88,9 @@ unfold-cases table steps out t′ long is h =
         out (unfoldedOver ys out) t′ long is h
 
     go : (b : Option ℕ) → badStep t steps ≡ b → (c : Bool) → fitsIn (listWords ys) out ≡ c → UnfoldCase table steps out
-    go (some i) e c d = unfold-refused i e (ap (λ o. o .told) (passed ∙ ap (λ b. later b (fitsIn (listWords ys) out)) e))
-    go none e false d = unfold-longer e
-        (ap (λ o. o .told) (passed ∙ ap (λ b. later b (fitsIn (listWords ys) out)) e ∙ ap (later none) d))
-    go none e true d = unfolds e (passed ∙ ap (λ b. later b (fitsIn (listWords ys) out)) e ∙ ap (later none) d)
+    go (some i) e c d = unfold-refused i e (ap (λ o. o .told) (passed ∙ ap₂ later e d))
+    go none e false d = unfold-longer e (ap (λ o. o .told) (passed ∙ ap₂ later e d))
+    go none e true d = unfolds e (passed ∙ ap₂ later e d)
 
 -- ---- folding
 abbrev pub foldedOver : List Step → List Step → List ℕ → Outcome
@@ -146,8 +145,6 @@ fold-cases table words out t′ long is h =
 
     go : (b : Option ℕ) → badStep u words ≡ b → (f : Folding) → foldSteps t ys ≡ f →
         FoldCase table words out u
-    go (some i) e f q = fold-refused i e (ap (λ o. o .told) (passed ∙ ap (λ b. later b (foldSteps t ys)) e))
-    go none e (misfit i) q = fold-misfits i e q
-        (ap (λ o. o .told) (passed ∙ ap (λ b. later b (foldSteps t ys)) e ∙ ap (later none) q))
-    go none e (folded xs) q =
-        room xs q e (passed ∙ ap (λ b. later b (foldSteps t ys)) e ∙ ap (later none) q) (fitsIn (listWords xs) out) refl
+    go (some i) e f q = fold-refused i e (ap (λ o. o .told) (passed ∙ ap₂ later e q))
+    go none e (misfit i) q = fold-misfits i e q (ap (λ o. o .told) (passed ∙ ap₂ later e q))
+    go none e (folded xs) q = room xs q e (passed ∙ ap₂ later e q) (fitsIn (listWords xs) out) refl

@@ -164,7 +164,8 @@ module _ {table split : List ℕ} (A : AcceptedSplit table split) where
     from-unfolding steps lent h z =
         let w = wrote-list A steps lent h in (
           w .steps-of,
-          ap (stepsIn t′) (sym z ∙ w .list) ∙ list-read t′ (A .split-well-formed) (unfoldingOf table steps) (w .split-steps),
+          ap (stepsIn t′) (sym z ∙ w .list) ∙
+              list-read t′ (A .split-well-formed) (unfoldingOf table steps) (w .split-steps),
         )
 
     module _ (aside : LengthsAside wrote) (passes : number wrote ≡ 12 → ⊥) where

@@ -31,7 +31,8 @@ use Rattle.correspondence.specs.SharedRunsOnWords.{number, place, value,
 use Rattle.correspondence.specs.SharedRunsOnWords.{procnoneRecord, SecondStart, SameEnd, RunsUnfolded}
 use Rattle.correspondence.proofs.OneList.{goal-same, Alike, both-run, both-stop, alike}
 use Rattle.correspondence.proofs.UnfoldedSteps.{unfolded-steps, unfolded-length}
-use Rattle.correspondence.proofs.StatesOnWords.{the-given, state-short, free-words, second-state, second-read, first-state}
+use Rattle.correspondence.proofs.StatesOnWords.{the-given, state-short, free-words, second-state}
+use Rattle.correspondence.proofs.StatesOnWords.{second-read, first-state}
 
 -- what unfolding wrote, given its result
 pub record Wrote (table split steps : List ℕ) (wrote : Outcome) : Type 0 where

@@ -1,7 +1,7 @@
 -- What running answers, lent a table: it refuses the steps (12) or the state (15), or does what the list does, unless
 -- the lent records are outgrown (17). And a list that runs leaves a state.
 use Prim.Native.Nat.{ℕ, suc}
-use mathlib.Core.Path.{_≡_, refl, _∙_, ap, subst}
+use mathlib.Core.Path.{_≡_, refl, _∙_, ap, ap₂, subst}
 use mathlib.Core.Bool.{Bool, true, false}
 use mathlib.Core.List.{List, [], _∷_}
 use mathlib.Core.Logic.{_⊎_, inl, inr}
@@ -15,7 +15,8 @@ use Rattle.task.specs.Answers.{refused, toldNumber, Outcome, refuseUnles
 use Rattle.task.specs.Task.{Fact, Task}
 use Rattle.task.specs.Table.{taskOf, longEnough, isTable}
 use Rattle.task.specs.Run.{Step, isStep, applies, next, Running, ran, outgrown, turn, runFitting, runFrom}
-use Rattle.task.specs.Run.{run, runWithin, roomIn, stepsIn, badStep, stateIn, isState, runTold, runDone, runOutcome}
+use Rattle.task.specs.Run.{run, runWithin, roomIn, stepsIn, badStep, stateIn, isState, runTold, runDone}
+use Rattle.task.specs.Run.{runOutcome}
 use Rattle.task.proofs.Laws.{and-left, and-right}
 use Rattle.task.proofs.States.{WellFormed, State, next-state, isStep-is}
 use Rattle.task.proofs.Answers.{check-passes}
@@ -66,8 +67,8 @@ pub data RunCase (table steps state : List ℕ) (n : ℕ) : Type 0 where
       runOutcome table steps state n .told ≡ refused 15 place.Nowhere [] → RunCase table steps state n
   run-does : badStep (taskOf table) steps ≡ none → isState (taskOf table) state n ≡ true →
       ((toldNumber (runOutcome table steps state n .told) ≡ 17 → ⊥) →
-      runOutcome table steps state n ≡
-      runDone (taskOf table) (length state) (run (taskOf table) (stepsIn (taskOf table) steps) (stateIn (taskOf table) state n))) →
+      runOutcome table steps state n ≡ runDone (taskOf table) (length state)
+      (run (taskOf table) (stepsIn (taskOf table) steps) (stateIn (taskOf table) state n))) →
       RunCase table steps state n
 
 module _ (table steps state : List ℕ) (n : ℕ) where
@@ -100,8 +101,6 @@ module _ (table steps state : List ℕ) (n : ℕ) where
       ]
 
       go : (b : Option ℕ) → badStep t steps ≡ b → (c : Bool) → isState t state n ≡ c → RunCase table steps state n
-      go (some i) e c d =
-          run-refused i e (ap (λ o. o .told) (passed ∙ ap (λ b. checked b (isState t state n)) e))
-      go none e false d =
-          state-refused e d (ap (λ o. o .told) (passed ∙ ap (λ b. checked b (isState t state n)) e ∙ ap (checked none) d))
-      go none e true d = run-does e d (roomy (passed ∙ ap (λ b. checked b (isState t state n)) e ∙ ap (checked none) d))
+      go (some i) e c d = run-refused i e (ap (λ o. o .told) (passed ∙ ap₂ checked e d))
+      go none e false d = state-refused e d (ap (λ o. o .told) (passed ∙ ap₂ checked e d))
+      go none e true d = run-does e d (roomy (passed ∙ ap₂ checked e d))
