@@ -3,11 +3,12 @@
 
 use std::collections::BTreeMap;
 
+use checks::inputs::{junk, lent_table, step_words, task_and_table};
 use checks::{read_table, report};
 use generate::split_lists::split_list;
 use generate::tasks::any_task;
-use generate::{limits, states, steps, tables, texts, Random};
-use reference::run::{Step, RECORD_WORDS, STEP_WORDS};
+use generate::{limits, states, steps, texts, Random};
+use reference::run::{RECORD_WORDS, STEP_WORDS};
 use reference::table::{Task, TABLE_WORDS};
 use reference::{tokens, Answer, Refusal};
 
@@ -37,40 +38,6 @@ fn each_answer(
 /// The refusal's number, or 0 for a result.
 fn number<Value>(answer: &Answer<Value>) -> u32 {
     answer.as_ref().err().map_or(0, Refusal::number)
-}
-
-fn junk(random: &mut Random, length: usize) -> Vec<u16> {
-    (0..length).map(|_| random.word()).collect()
-}
-
-/// A lent table full of junk, sometimes too short or too long.
-fn lent_table(random: &mut Random) -> Vec<u16> {
-    let length = match random.below(20) {
-        0 => random.below(TABLE_WORDS),
-        1 => TABLE_WORDS + 3,
-        _ => TABLE_WORDS,
-    };
-    junk(random, length)
-}
-
-/// A task and its table, or a damaged one.
-fn task_and_table(random: &mut Random) -> (Task, Vec<u16>) {
-    let task = any_task(random);
-    let table = if random.chance(1, 8) {
-        tables::damaged(random, &task)
-    } else {
-        tables::table(&task)
-    };
-    (task, table)
-}
-
-/// The words of steps, or damaged ones.
-fn step_words(random: &mut Random, list: &[Step]) -> Vec<u16> {
-    if random.chance(1, 3) {
-        steps::damaged(random, list)
-    } else {
-        steps::words(list)
-    }
 }
 
 #[test]
