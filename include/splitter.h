@@ -1,0 +1,38 @@
+/* The splitter for a C host. Every function is proved, in Rattle, to do what document 01 says, for every input.
+ *
+ * Each returns 0 for a result, else the number of its refusal (1 to 17). Every number lent by pointer is written: `place`
+ * is the refusal's line (from 1), schema or step (from 0), and 0 with a result or where there is no place; values that
+ * have no meaning are 0. A slice is lent as a pointer and the number of its elements; none may overlap another that is
+ * written. A pointer is never NULL, also where its length is 0.
+ */
+#ifndef SPLITTER_H
+#define SPLITTER_H
+
+#include <stddef.h>
+#include <stdint.h>
+
+#ifdef __cplusplus
+extern "C" {
+#endif
+
+/* The words of a table, of a step and of a state's record. */
+#define SPLITTER_TABLE_WORDS 13406
+#define SPLITTER_STEP_WORDS 13
+#define SPLITTER_RECORD_WORDS 5
+
+/* Runs a list of steps of the table's task, 13 words each, in a state of `records` ascending 5-word records, which lie at
+ * the front of the words lent; there is room for state_len / 5 records.
+ *
+ * `left` is the number of records afterwards, `goal` 1 if all goal atoms hold then. Refusals: 1 a short table, 2 no table,
+ * 12 no step of the task (place: its number), 15 no state, 16 a precondition is missing at a step, 17 the next state would
+ * outgrow the room; 16 and 17 leave the state before that step, with `left` its records. With a result, 16 and 17 the words
+ * behind the records are 0; else nothing is changed. */
+uint32_t splitter_run(const uint16_t *table, size_t table_len, const uint16_t *steps, size_t steps_len,
+                      uint16_t *state, size_t state_len, uint64_t records,
+                      uint64_t *place, uint64_t *left, uint64_t *goal);
+
+#ifdef __cplusplus
+}
+#endif
+
+#endif
