@@ -4,7 +4,7 @@ use mathlib.Core.Path.{_≡_, refl, ap}
 use mathlib.Core.Bool.{Bool, true, false}
 use mathlib.Core.List.{List, _∷_}
 use native.Mathlib.Omega.{arith}
-use Rattle.task.specs.Answers.{Told, result, Outcome, Check, refuseUnless, inOrder}
+use Rattle.task.specs.Answers.{result, Outcome, Check, refuseUnless, inOrder}
 
 pub check-passes : {b : Bool} (n : ℕ) (more : List Check) (found : List ℕ) (done : Outcome) → b ≡ true →
     inOrder (refuseUnless b n ∷ more) found done ≡ inOrder more found done

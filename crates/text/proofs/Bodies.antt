@@ -4,14 +4,15 @@ use Prim.Native.Nat.{ℕ, _<_}
 use Prim.Native.String.{String}
 use mathlib.Core.Path.{_≡_, refl, sym, _∙_, ap, subst}
 use mathlib.Core.Bool.{true}
-use mathlib.Core.List.{List, [], _∷_, _++_}
+use mathlib.Core.List.{List, _∷_, _++_}
 use mathlib.Core.Option.{Option, some}
-use lib.ListN.{length}
 use Rattle.task.proofs.Laws.{In}
-use Rattle.text.specs.Lines.{newline, digits, Entry, entryBytes, line, Taken, Reader, taken, isDigit, number, entry, ended, readLine}
+use Rattle.text.specs.Lines.{newline, digits, Entry, entryBytes, line, Taken, Reader, taken, isDigit, number}
+use Rattle.text.specs.Lines.{entry, ended, readLine}
 use Rattle.text.proofs.Digits.{at-other, number-written, number-read}
 use Rattle.text.proofs.NumberLists.{SmallEntry, entry-read}
-use Rattle.text.proofs.Lines.{Ended, ended-read, keyed, line-append, line-long, apart, readLine-written, readLine-read}
+use Rattle.text.proofs.Lines.{Ended, ended-read, keyed, line-append, line-long, apart, readLine-written}
+use Rattle.text.proofs.Lines.{readLine-read}
 use Rattle.text.proofs.Reading.{Exact}
 
 pub number-ends : (n : ℕ) → n < 100000 → (r : List ℕ) → number (digits n ++ (newline ∷ r)) ≡ taken n (newline ∷ r)
@@ -19,13 +20,15 @@ unfolding isDigit
 number-ends n h r = number-written n h (at-other {b = 10} {bs = r} refl)
 
 -- ---- bodies that were read
-pub record BodyRead {K L : Type 0} (bodyOf : L → List ℕ) (Says : K → L → Type 0) (k : K) (bs : List ℕ) (m : Taken L) : Type 0 where
+pub record BodyRead {K L : Type 0} (bodyOf : L → List ℕ) (Says : K → L → Type 0)
+    (k : K) (bs : List ℕ) (m : Taken L) : Type 0 where
   pub says : Says k (m .value)
   pub whole : bs ≡ bodyOf (m .value) ++ (newline ∷ m .rest)
 
 module _ {K L : Type 0} (bodyOf : L → List ℕ) (Says : K → L → Type 0) (k : K) (bs : List ℕ) (m : Taken L) where
   -- a body that was read and ended makes a line
-  pub line-made : {A : Type 0} (make : A → L) {o : Option (Taken A)} (e : Ended make o m) → Says k (make (e .body .value)) →
+  pub line-made : {A : Type 0} (make : A → L) {o : Option (Taken A)} (e : Ended make o m) →
+      Says k (make (e .body .value)) →
       bs ≡ bodyOf (make (e .body .value)) ++ e .body .rest → BodyRead bodyOf Says k bs m
   line-made make e s w = record {
     says = subst (Says k) (e .said) s;
@@ -41,8 +44,8 @@ module _ {K L : Type 0} (bodyOf : L → List ℕ) (Says : K → L → Type 0) (k
       let n = number-read bs (e .body) (e .took) in
       line-made make e (says a (n .small)) (n .whole ∙ ap (λ (x : List ℕ). x ++ e .body .rest) (same a))
 
-  pub entry-line : (make : Entry → L) → ((x : Entry) → SmallEntry x → Says k (make x)) → ((x : Entry) → entryBytes x ≡ bodyOf (make x)) →
-      ended make (entry bs) ≡ some m → BodyRead bodyOf Says k bs m
+  pub entry-line : (make : Entry → L) → ((x : Entry) → SmallEntry x → Says k (make x)) →
+      ((x : Entry) → entryBytes x ≡ bodyOf (make x)) → ended make (entry bs) ≡ some m → BodyRead bodyOf Says k bs m
   entry-line make says same h =
       let e = ended-read make (entry bs) m h in
       let a = e .body .value in
@@ -56,15 +59,18 @@ pub record Allows {K L D : Type 0} (Says : K → L → Type 0) (keys : D → Lis
   pub listed : In key (keys d)
   pub says : Says key l
 
-pub record Bodies {K L : Type 0} (name : K → String) (body : K → Reader L) (bodyOf : L → List ℕ) (text : L → List ℕ) (Says : K → L → Type 0) : Type 0 where
+pub record Bodies {K L : Type 0} (name : K → String) (body : K → Reader L)
+    (bodyOf : L → List ℕ) (text : L → List ℕ) (Says : K → L → Type 0) : Type 0 where
   pub some-byte : (l : L) → (k : K) × (text l ≡ line (name k) (bodyOf l))
   pub line-is : (k : K) (l : L) → Says k l → text l ≡ line (name k) (bodyOf l)
   pub written : (k : K) (l : L) → Says k l → (r : List ℕ) → body k (bodyOf l ++ (newline ∷ r)) ≡ taken l r
   pub was-read : (k : K) (bs : List ℕ) (m : Taken L) → body k bs ≡ some m → BodyRead bodyOf Says k bs m
 
-module _ {K L D : Type 0} {name : K → String} {body : K → Reader L} {bodyOf : L → List ℕ} {text : L → List ℕ} {Says : K → L → Type 0}
-    (b : Bodies name body bodyOf text Says) (keys : D → List K) (told-apart : (d : D) → apart name (keys d) ≡ true) where
-  pub text-append : (k : K) (l : L) → Says k l → (r : List ℕ) → text l ++ r ≡ keyed (name k) ++ (bodyOf l ++ (newline ∷ r))
+module _ {K L D : Type 0} {name : K → String} {body : K → Reader L}
+    {bodyOf : L → List ℕ} {text : L → List ℕ} {Says : K → L → Type 0} (b : Bodies name body bodyOf text Says)
+    (keys : D → List K) (told-apart : (d : D) → apart name (keys d) ≡ true) where
+  pub text-append : (k : K) (l : L) → Says k l → (r : List ℕ) →
+      text l ++ r ≡ keyed (name k) ++ (bodyOf l ++ (newline ∷ r))
   text-append k l s r = ap (λ (x : List ℕ). x ++ r) (b .line-is k l s) ∙ line-append (name k) (bodyOf l) r
 
   pub lines-exact : Exact (λ d bs. readLine name body (keys d) bs) (Allows Says keys) text
@@ -80,5 +86,6 @@ module _ {K L D : Type 0} {name : K → String} {body : K → Reader L} {bodyOf 
     whole = λ d bs m h.
         let c = readLine-read name body (keys d) bs m h in
         let r = b .was-read (c .key) (c .rest) m (c .body-took) in
-        c .whole ∙ (ap (λ (x : List ℕ). keyed (name (c .key)) ++ x) (r .whole) ∙ sym (text-append (c .key) (m .value) (r .says) (m .rest)));
+        c .whole ∙ (ap (λ (x : List ℕ). keyed (name (c .key)) ++ x) (r .whole) ∙
+        sym (text-append (c .key) (m .value) (r .says) (m .rest)));
   }

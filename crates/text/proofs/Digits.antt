@@ -1,20 +1,21 @@
 -- Numbers: the digits of a number are read as that number, and digits in form are those of the number that they say.
 -- Digits are written from the last to the first and read from the first to the last; `valueFrom` passes from one to
 -- the other, since it is 10 times what stands in front, and a digit.
-use Prim.Native.Nat.{ℕ, zero, suc, _+_, _-_, _*_, _/_, _%_, _≤_, _<_}
+use Prim.Native.Nat.{ℕ, suc, _+_, _-_, _*_, _/_, _%_, _≤_, _<_}
 use mathlib.Core.Path.{_≡_, refl, sym, _∙_, ap, ap₂}
 use mathlib.Core.Bool.{Bool, true, false, not, _&&_}
 use mathlib.Core.List.{List, [], _∷_, _++_, append-assoc, append-nil}
-use mathlib.Core.Option.{Option, none, some}
+use mathlib.Core.Option.{some}
 use native.Mathlib.Omega.{arith}
 use native.Mathlib.Decide.{decLt}
 use lib.ListN.{length, getD, drop, length-append, List·getD-append}
 use lib.Seq.{drop-append-seam}
-use lib.Dec.{eqb, ltb, leb}
+use lib.Dec.{eqb, leb}
 use borrow.Author.Tests.{leb-true, eqb-false, not-true, lt-ltb, le-ltb, le-leb, ne-eqb}
-use Rattle.task.proofs.Laws.{no-ft, no-tf, and-left, and-right, and-both}
-use Rattle.text.specs.Lines.{digitsWithin, digits, Taken, taken, takenIf, isDigit, leadingDigits, valueFrom, noLeadingZero, inForm, number}
-use Rattle.text.proofs.Taken.{no-none, taken-value, taken-rest}
+use Rattle.task.proofs.Laws.{and-left, and-right, and-both}
+use Rattle.text.specs.Lines.{digitsWithin, digits, Taken, taken, takenIf, isDigit, leadingDigits, valueFrom}
+use Rattle.text.specs.Lines.{noLeadingZero, inForm, number}
+use Rattle.text.proofs.Taken.{if-true, if-false, no-none, taken-value, taken-rest}
 
 -- ---- digits at the front
 pub data Digits : List ℕ → Type 0 where
@@ -33,21 +34,12 @@ is-digit b h k = and-both _ _ (le-leb 48 b h) (le-leb b 57 k)
 -- the two turns of a loop over digits
 pub leadingDigits-digit : (b : ℕ) (bs : List ℕ) → isDigit b ≡ true → leadingDigits (b ∷ bs) ≡ b ∷ leadingDigits bs
 unfolding leadingDigits
-leadingDigits-digit b bs h = go (isDigit b) h
-  where
-    go : (c : Bool) → c ≡ true →
-        _≡_ {A = List ℕ} (elim c [ true ↦ b ∷ leadingDigits bs | false ↦ [] ]) (b ∷ leadingDigits bs)
-    go true h = refl
-    go false h = absurd (no-ft h)
+leadingDigits-digit b bs h = if-true [] h
 
 pub leadingDigits-stop : {bs : List ℕ} → Stops bs → leadingDigits bs ≡ []
 unfolding leadingDigits
 leadingDigits-stop at-end = refl
-leadingDigits-stop (at-other {b = b} {bs = bs} h) = go (isDigit b) h
-  where
-    go : (c : Bool) → c ≡ false → _≡_ {A = List ℕ} (elim c [ true ↦ b ∷ leadingDigits bs | false ↦ [] ]) []
-    go true h = absurd (no-tf h)
-    go false h = refl
+leadingDigits-stop (at-other {b = b} {bs = bs} h) = if-false (b ∷ leadingDigits bs) h
 
 pub leadingDigits-are : {ds : List ℕ} → Digits ds → {rest : List ℕ} → Stops rest → leadingDigits (ds ++ rest) ≡ ds
 leadingDigits-are no-digit s = leadingDigits-stop s
@@ -79,7 +71,8 @@ split-digits (b ∷ bs) = go (isDigit b) refl (split-digits bs)
         }
     go false h s = record { front = []; back = b ∷ bs; are = no-digit; stops = at-other h; whole = refl }
 
-pub number-is : {ds rest : List ℕ} → Digits ds → Stops rest → number (ds ++ rest) ≡ takenIf (inForm ds) (valueFrom 0 ds) rest
+pub number-is : {ds rest : List ℕ} → Digits ds → Stops rest →
+    number (ds ++ rest) ≡ takenIf (inForm ds) (valueFrom 0 ds) rest
 unfolding number
 number-is {ds} {rest} h s =
     ap (λ (cs : List ℕ). takenIf (inForm cs) (valueFrom 0 cs) (drop (length cs) (ds ++ rest))) (leadingDigits-are h s) ∙
@@ -88,22 +81,11 @@ number-is {ds} {rest} h s =
 -- ---- the digits of a number
 pub digits-one : (f n : ℕ) → n < 10 → digitsWithin (suc f) n ≡ (48 + n) ∷ []
 unfolding digitsWithin
-digits-one f n h = go (ltb n 10) (lt-ltb n 10 h)
-  where
-    go : (c : Bool) → c ≡ true →
-        _≡_ {A = List ℕ} (elim c [ true ↦ (48 + n) ∷ [] | false ↦ digitsWithin f (n / 10) ++ ((48 + n % 10) ∷ []) ]) ((48 + n) ∷ [])
-    go true e = refl
-    go false e = absurd (no-ft e)
+digits-one f n h = if-true (digitsWithin f (n / 10) ++ ((48 + n % 10) ∷ [])) (lt-ltb n 10 h)
 
 pub digits-more : (f n : ℕ) → 10 ≤ n → digitsWithin (suc f) n ≡ digitsWithin f (n / 10) ++ ((48 + n % 10) ∷ [])
 unfolding digitsWithin
-digits-more f n h = go (ltb n 10) (le-ltb n 10 h)
-  where
-    go : (c : Bool) → c ≡ false →
-        _≡_ {A = List ℕ} (elim c [ true ↦ (48 + n) ∷ [] | false ↦ digitsWithin f (n / 10) ++ ((48 + n % 10) ∷ []) ])
-        (digitsWithin f (n / 10) ++ ((48 + n % 10) ∷ []))
-    go true e = absurd (no-tf e)
-    go false e = refl
+digits-more f n h = if-false ((48 + n) ∷ []) (le-ltb n 10 h)
 
 pub value-append : (n : ℕ) (bs : List ℕ) (b : ℕ) → valueFrom n (bs ++ (b ∷ [])) ≡ 10 * valueFrom n bs + (b - 48)
 unfolding valueFrom
@@ -193,7 +175,8 @@ digits-value f n (digit {b = b} {bs = bs} l m r) h =
     let d : 48 + v % 10 ≡ b = omega arith in
     ap (λ (g : ℕ). digitsWithin g (valueFrom v bs)) turns ∙
     (digits-value (suc f) v r (omega arith) ∙
-    (ap (λ (xs : List ℕ). xs ++ bs) (digits-more f v (omega arith) ∙ ap₂ (λ (a c : ℕ). digitsWithin f a ++ (c ∷ [])) q d) ∙
+    (ap (λ (xs : List ℕ). xs ++ bs) (digits-more f v (omega arith) ∙
+    ap₂ (λ (a c : ℕ). digitsWithin f a ++ (c ∷ [])) q d) ∙
     append-assoc (digitsWithin f n) (b ∷ []) bs))
 
 pub record Formed (ds : List ℕ) : Type 0 where
@@ -250,11 +233,13 @@ number-read bs r h = go c (inForm (c .front)) refl (rw (c .whole, number-is (c .
     c : Split bs
     c = split-digits bs
 
-    go : (c : Split bs) (b : Bool) → inForm (c .front) ≡ b → takenIf b (valueFrom 0 (c .front)) (c .back) ≡ some r → NumberRead bs r
+    go : (c : Split bs) (b : Bool) → inForm (c .front) ≡ b → takenIf b (valueFrom 0 (c .front)) (c .back) ≡ some r →
+        NumberRead bs r
     go c false e h = absurd (no-none h)
     go c true e h =
         let v = taken-value h in
+        let front : c .front ≡ digits (r .value) = sym (digits-formed (c .are) e) ∙ ap digits v in
         record {
-          whole = c .whole ∙ ap₂ (λ (x y : List ℕ). x ++ y) (sym (digits-formed (c .are) e) ∙ ap digits v) (taken-rest h);
+          whole = c .whole ∙ ap₂ (λ (x y : List ℕ). x ++ y) front (taken-rest h);
           small = rw (← v) (value-small (c .are) (formed (c .front) e .at-most));
         }

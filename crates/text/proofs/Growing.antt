@@ -9,9 +9,10 @@ use native.Mathlib.Omega.{arith}
 use lib.ListN.{length, length-append}
 use lib.Dec.{eqb, ltb, leb}
 use borrow.Author.Tests.{ltb-true, leb-true, eqb-true, not-true, lt-ltb, le-leb, eq-eqb}
-use Rattle.task.specs.Lists.{all, any, lastOr, eqList}
+use Rattle.task.specs.Lists.{all, any, eqList}
 use Rattle.task.specs.Task.{Atom, Fact, sameAtom, distinct, rolesAscend, ascending, factLess, factsFit}
-use Rattle.task.proofs.Laws.{both-ft, and-left, and-right, and-both, false-if, In, here, there, in-empty, in-left, in-right, in-append, any-in, in-any, eqList-refl, eqList-eq}
+use Rattle.task.proofs.Laws.{both-ft, and-left, and-right, and-both, false-if, In, here, there, in-empty, in-left}
+use Rattle.task.proofs.Laws.{in-right, in-append, any-in, in-any, eqList-refl, eqList-eq}
 use Rattle.task.proofs.Tests.{fits, fact-tests, tests-fact}
 use Rattle.text.specs.Text.{follows}
 
@@ -124,7 +125,8 @@ snoc-distinct (x ∷ bs) a h =
     let k = and-left (not (any (sameAtom x) (bs ++ (a ∷ [])))) (distinct (bs ++ (a ∷ []))) h in
     let l = and-right (not (any (sameAtom x) (bs ++ (a ∷ [])))) (distinct (bs ++ (a ∷ []))) h in
     let (d, n) = snoc-distinct bs a l in (
-      and-both _ _ (not-any (sameAtom x) bs (λ y i e. any-not (sameAtom x) (bs ++ (a ∷ [])) k y (in-left (a ∷ []) i) e)) d,
+      and-both _ _
+          (not-any (sameAtom x) bs (λ y i e. any-not (sameAtom x) (bs ++ (a ∷ [])) k y (in-left (a ∷ []) i) e)) d,
       not-any (sameAtom a) (x ∷ bs) (λ y i e. go k n y i e),
     )
   where

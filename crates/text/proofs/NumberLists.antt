@@ -9,9 +9,10 @@ use native.Mathlib.Omega.{arith}
 use lib.ListN.{length, length-append}
 use lib.Dec.{eqb}
 use borrow.Author.Tests.{eqb-true, ne-eqb}
-use Rattle.task.proofs.Laws.{In, here, there, in-empty, no-tf}
-use Rattle.text.specs.Lines.{newline, comma, colon, digits, commaed, Entry, entryBytes, Taken, taken, andThen, after, isDigit, number, numbersWithin, numbers, listing, entry}
-use Rattle.text.proofs.Taken.{no-none, taken-value, taken-rest, both-took, andThen-same, after-read}
+use Rattle.task.proofs.Laws.{In, here, there, in-empty}
+use Rattle.text.specs.Lines.{newline, comma, colon, digits, commaed, Entry, entryBytes, Taken, taken, andThen}
+use Rattle.text.specs.Lines.{after, isDigit, number, numbersWithin, numbers, listing, entry}
+use Rattle.text.proofs.Taken.{if-false, no-none, taken-value, taken-rest, both-took, andThen-same, after-read}
 use Rattle.text.proofs.Digits.{Digits, no-digit, digit, at-other, digits-of, number-written, number-read}
 
 -- a number and a rest make one list: a comma and more numbers, or the end of the list
@@ -61,7 +62,9 @@ pub numbersWithin-written : (f n : ℕ) (ns : List ℕ) → Small (n ∷ ns) →
 unfolding commaed andThen goesOn isDigit
 numbersWithin-written zero n ns h l r = absurd (omega arith)
 numbersWithin-written (suc f) n [] h l r =
-    rw (numbersWithin-suc f (digits n ++ (newline ∷ r)), number-written n (h n (here refl)) (at-other {b = 10} {bs = r} refl)) refl
+    let w : number (digits n ++ (newline ∷ r)) ≡ taken n (newline ∷ r) =
+    number-written n (h n (here refl)) (at-other {b = 10} {bs = r} refl) in
+    rw (numbersWithin-suc f (digits n ++ (newline ∷ r)), w) refl
 numbersWithin-written (suc f) n (m ∷ ns) h l r =
     let rest : List ℕ = commaed (m ∷ ns) ++ (newline ∷ r) in
     let e : commaed (n ∷ m ∷ ns) ++ (newline ∷ r) ≡ digits n ++ (comma ∷ rest) =
@@ -75,7 +78,9 @@ numbersWithin-written (suc f) n (m ∷ ns) h l r =
 pub length-commaed : (n : ℕ) (ns : List ℕ) → length ns ≤ length (commaed (n ∷ ns))
 unfolding commaed
 length-commaed n [] = omega arith
-length-commaed n (m ∷ ns) = let i = length-commaed m ns in omega (arith, length-append (digits n) (comma ∷ commaed (m ∷ ns)))
+length-commaed n (m ∷ ns) =
+    let i = length-commaed m ns in
+    omega (arith, length-append (digits n) (comma ∷ commaed (m ∷ ns)))
 
 pub numbers-written : (n : ℕ) (ns : List ℕ) → Small (n ∷ ns) → (r : List ℕ) →
     numbers (commaed (n ∷ ns) ++ (newline ∷ r)) ≡ taken (n ∷ ns) (newline ∷ r)
@@ -89,14 +94,11 @@ numbers-written n ns h r =
 pub listing-numbers : {ds : List ℕ} → Digits ds → 1 ≤ length ds → (r : List ℕ) → listing (ds ++ r) ≡ numbers (ds ++ r)
 unfolding listing
 listing-numbers no-digit h r = absurd (omega arith)
-listing-numbers (digit {b = b} {bs = bs} l m d) h r = go (eqb b newline) (ne-eqb b 10 (λ e. omega arith))
-  where
-    go : (c : Bool) → c ≡ false →
-        _≡_ {A = Option (Taken (List ℕ))} (elim c [ true ↦ taken [] (b ∷ (bs ++ r)) | false ↦ numbers (b ∷ (bs ++ r)) ]) (numbers (b ∷ (bs ++ r)))
-    go true e = absurd (no-tf e)
-    go false e = refl
+listing-numbers (digit {b = b} {bs = bs} l m d) h r =
+    if-false (taken [] (b ∷ (bs ++ r))) (ne-eqb b 10 (λ e. omega arith))
 
-pub listing-written : (ns : List ℕ) → Small ns → (r : List ℕ) → listing (commaed ns ++ (newline ∷ r)) ≡ taken ns (newline ∷ r)
+pub listing-written : (ns : List ℕ) → Small ns → (r : List ℕ) →
+    listing (commaed ns ++ (newline ∷ r)) ≡ taken ns (newline ∷ r)
 unfolding listing commaed
 listing-written [] h r = refl
 listing-written (n ∷ ns) h r = first ns ∙ numbers-written n ns h r
@@ -106,21 +108,26 @@ listing-written (n ∷ ns) h r = first ns ∙ numbers-written n ns h r
 
     first : (ms : List ℕ) → listing (commaed (n ∷ ms) ++ (newline ∷ r)) ≡ numbers (commaed (n ∷ ms) ++ (newline ∷ r))
     first [] = begins (newline ∷ r)
-    first (m ∷ ms) = rw (append-assoc (digits n) (comma ∷ commaed (m ∷ ms)) (newline ∷ r)) (begins (comma ∷ (commaed (m ∷ ms) ++ (newline ∷ r))))
+    first (m ∷ ms) =
+        rw (append-assoc (digits n) (comma ∷ commaed (m ∷ ms)) (newline ∷ r))
+        (begins (comma ∷ (commaed (m ∷ ms) ++ (newline ∷ r))))
 
 abbrev pub SmallEntry : Entry → Type 0
 SmallEntry e = (e .head < 100000) × Small (e .list)
 
-pub entry-written : (e : Entry) → SmallEntry e → (r : List ℕ) → entry (entryBytes e ++ (newline ∷ r)) ≡ taken e (newline ∷ r)
+pub entry-written : (e : Entry) → SmallEntry e → (r : List ℕ) →
+    entry (entryBytes e ++ (newline ∷ r)) ≡ taken e (newline ∷ r)
 unfolding entry entryBytes isDigit
 entry-written e (h, s) r =
     let rest : List ℕ = commaed (e .list) ++ (newline ∷ r) in
+    let made : ℕ → Taken (List ℕ) → Option (Taken Entry) =
+    λ p xs. taken (record { head = p; list = xs .value }) (xs .rest) in
+    let behind : Taken ℕ → Option (Taken Entry) =
+    λ p. andThen (after (colon ∷ []) (p .rest)) (λ rest. andThen (listing rest) (made (p .value))) in
     ap entry (append-assoc (digits (e .head)) (colon ∷ commaed (e .list)) (newline ∷ r)) ∙
-    (ap (λ (o : Option (Taken ℕ)). andThen o (λ p. andThen (after (colon ∷ []) (p .rest)) (λ rest. andThen (listing rest)
-    (λ xs. taken (record { head = p .value; list = xs .value }) (xs .rest)))))
+    (ap (λ (o : Option (Taken ℕ)). andThen o behind)
     (number-written (e .head) h (at-other {b = 58} {bs = rest} refl)) ∙
-    ap (λ (o : Option (Taken (List ℕ))). andThen o (λ xs. taken (record { head = e .head; list = xs .value }) (xs .rest)))
-    (listing-written (e .list) s r))
+    ap (λ (o : Option (Taken (List ℕ))). andThen o (made (e .head))) (listing-written (e .list) s r))
 
 -- ---- what is read was written
 pub record ListRead (bs : List ℕ) (r : Taken (List ℕ)) : Type 0 where
@@ -175,12 +182,13 @@ pub numbersWithin-read : (f : ℕ) (bs : List ℕ) (r : Taken (List ℕ)) → nu
 unfolding goesOn numbersWithin
 numbersWithin-read zero bs r h = absurd (no-none h)
 numbersWithin-read (suc f) bs r h =
-    let b = both-took (number bs) (λ n. goesOn (numbersWithin f) (n .value) (n .rest)) r (sym (numbersWithin-suc f bs) ∙ h) in
+    let on : Taken ℕ → Option (Taken (List ℕ)) = λ n. goesOn (numbersWithin f) (n .value) (n .rest) in
+    let b = both-took (number bs) on r (sym (numbersWithin-suc f bs) ∙ h) in
     rests (b .first) (b .took) (b .first .rest) refl (numbersWithin-read f) (b .then)
   where
     comma-next : (n : Taken ℕ) → number bs ≡ some n → (c : ℕ) (cs : List ℕ) → n .rest ≡ c ∷ cs →
-        ((cs : List ℕ) (r : Taken (List ℕ)) → numbersWithin f cs ≡ some r → NumbersRead cs r) → (b : Bool) → eqb c comma ≡ b →
-        _≡_ {A = Option (Taken (List ℕ))} (elim b [
+        ((cs : List ℕ) (r : Taken (List ℕ)) → numbersWithin f cs ≡ some r → NumbersRead cs r) → (b : Bool) →
+        eqb c comma ≡ b → _≡_ {A = Option (Taken (List ℕ))} (elim b [
           | true ↦ andThen (numbersWithin f cs) (λ ns. taken (n .value ∷ ns .value) (ns .rest))
           | false ↦ taken (n .value ∷ []) (c ∷ cs)
         ]) (some r) → NumbersRead bs r
@@ -205,7 +213,8 @@ unfolding listing commaed
 listing-read [] r h = absurd (no-none h)
 listing-read (b ∷ bs) r h = go (eqb b newline) h
   where
-    go : (c : Bool) → _≡_ {A = Option (Taken (List ℕ))} (elim c [ true ↦ taken [] (b ∷ bs) | false ↦ numbers (b ∷ bs) ]) (some r) →
+    go : (c : Bool) →
+        _≡_ {A = Option (Taken (List ℕ))} (elim c [ true ↦ taken [] (b ∷ bs) | false ↦ numbers (b ∷ bs) ]) (some r) →
         ListRead (b ∷ bs) r
     go true h = record {
       whole = ap₂ (λ (x y : List ℕ). commaed x ++ y) (taken-value h) (taken-rest h);
@@ -231,7 +240,8 @@ entry-read bs r h =
     let c : p .rest ≡ colon ∷ (commaed (xs .value) ++ rest) =
     after-read (colon ∷ []) (p .rest) (b₂ .first) (b₂ .took) ∙ ap {B = List ℕ} (λ (x : List ℕ). colon ∷ x) (l .whole) in
     let w : bs ≡ (digits (p .value) ++ (colon ∷ commaed (xs .value))) ++ rest =
-    n .whole ∙ (ap (λ (x : List ℕ). digits (p .value) ++ x) c ∙ sym (append-assoc (digits (p .value)) (colon ∷ commaed (xs .value)) rest)) in
+    n .whole ∙ (ap (λ (x : List ℕ). digits (p .value) ++ x) c ∙
+    sym (append-assoc (digits (p .value)) (colon ∷ commaed (xs .value)) rest)) in
     let v = taken-value (b₃ .then) in
     record {
       whole = w ∙ ap₂ (λ (x : Entry) (y : List ℕ). entryBytes x ++ y) v (taken-rest (b₃ .then));
@@ -252,32 +262,36 @@ unfolding goesOn
 goesOn-same f g n [] h = refl
 goesOn-same f g n (c ∷ cs) h = ap (λ (o : Option (Taken (List ℕ))). listFrom o n c cs) (h c cs refl)
 
+-- a list is the same for readers that read the same of fewer bytes
+pub list-same : (f g : List ℕ → Option (Taken (List ℕ))) (bs : List ℕ) →
+    ((cs : List ℕ) → length cs < length bs → f cs ≡ g cs) →
+    andThen (number bs) (λ n. goesOn f (n .value) (n .rest)) ≡ andThen (number bs) (λ n. goesOn g (n .value) (n .rest))
+list-same f g bs h =
+    andThen-same (number bs) (λ n. goesOn f (n .value) (n .rest)) (λ n. goesOn g (n .value) (n .rest))
+    (λ n e. goesOn-same f g (n .value) (n .rest) (λ c cs q.
+    let s = number-shorter bs n e in
+    let l = ap length q in
+    h cs (omega arith)))
+
 pub numbersWithin-none : (f : ℕ) → numbersWithin f [] ≡ none
 unfolding numbersWithin
 numbersWithin-none zero = refl
 numbersWithin-none (suc f) = refl
 
-pub numbersWithin-same : (f g : ℕ) (bs : List ℕ) → length bs ≤ f → length bs ≤ g → numbersWithin f bs ≡ numbersWithin g bs
+pub numbersWithin-same : (f g : ℕ) (bs : List ℕ) → length bs ≤ f → length bs ≤ g →
+    numbersWithin f bs ≡ numbersWithin g bs
 numbersWithin-same zero g [] h k = numbersWithin-none zero ∙ sym (numbersWithin-none g)
 numbersWithin-same zero g (b ∷ bs) h k = absurd (omega arith)
 numbersWithin-same (suc f) zero [] h k = numbersWithin-none (suc f) ∙ sym (numbersWithin-none zero)
 numbersWithin-same (suc f) zero (b ∷ bs) h k = absurd (omega arith)
 numbersWithin-same (suc f) (suc g) bs h k =
-    numbersWithin-suc f bs ∙
-    (andThen-same (number bs) (λ n. goesOn (numbersWithin f) (n .value) (n .rest)) (λ n. goesOn (numbersWithin g) (n .value) (n .rest))
-    (λ n e. goesOn-same (numbersWithin f) (numbersWithin g) (n .value) (n .rest) (λ c cs q.
-    let s = number-shorter bs n e in
-    let l = ap length q in
-    numbersWithin-same f g cs (omega arith) (omega arith))) ∙ sym (numbersWithin-suc g bs))
+    numbersWithin-suc f bs ∙ (list-same (numbersWithin f) (numbersWithin g) bs
+    (λ cs l. numbersWithin-same f g cs (omega arith) (omega arith)) ∙ sym (numbersWithin-suc g bs))
 
 -- a list is a number, and then a comma and a list, or nothing more
 pub numbers-step : (bs : List ℕ) → numbers bs ≡ andThen (number bs) (λ n. goesOn numbers (n .value) (n .rest))
 unfolding numbers
 numbers-step bs =
     numbersWithin-same (length bs) (suc (length bs)) bs (omega arith) (omega arith) ∙
-    (numbersWithin-suc (length bs) bs ∙
-    andThen-same (number bs) (λ n. goesOn (numbersWithin (length bs)) (n .value) (n .rest)) (λ n. goesOn numbers (n .value) (n .rest))
-    (λ n e. goesOn-same (numbersWithin (length bs)) numbers (n .value) (n .rest) (λ c cs q.
-    let s = number-shorter bs n e in
-    let l = ap length q in
-    numbersWithin-same (length bs) (length cs) cs (omega arith) (omega arith))))
+    (numbersWithin-suc (length bs) bs ∙ list-same (numbersWithin (length bs)) numbers bs
+    (λ cs l. numbersWithin-same (length bs) (length cs) cs (omega arith) (omega arith)))

@@ -1,18 +1,18 @@
 -- The round trips of the entry points, on words and bytes: what `write` wrote of a table, `read` reads into a table of
 -- the same words; and the table that `read` read from a text, `write` writes as that text.
 use Prim.Native.Nat.{ℕ, _≤_}
-use mathlib.Core.Path.{_≡_, refl, sym, _∙_, ap, ap₂}
-use mathlib.Core.Bool.{Bool, true}
+use mathlib.Core.Path.{_≡_, refl, _∙_, ap}
+use mathlib.Core.Bool.{true}
 use mathlib.Core.List.{List, [], _∷_}
 use native.Mathlib.Omega.{arith}
 use lib.ListN.{length, take}
-use lib.Seq.{take-at}
+use lib.Seq.{take-at, length-take-le}
 use lib.Dec.{leb}
-use borrow.Author.Tests.{leb-true, le-leb}
+use borrow.Author.Tests.{le-leb}
 use Rattle.task.specs.Lists.{over}
 use Rattle.task.specs.Limits.{tableWords}
-use Rattle.task.specs.Answers.{Told, result, refused, Outcome, refuseUnless, inOrder}
-use Rattle.task.specs.Task.{Task, wellFormed}
+use Rattle.task.specs.Answers.{Told, result, Outcome, refuseUnless}
+use Rattle.task.specs.Task.{Task}
 use Rattle.task.specs.Table.{wordsOf, taskOf, longEnough, isTable}
 use Rattle.task.proofs.Answers.{check-passes, check-passed}
 use Rattle.task.proofs.Tables.{words-length, of-table}
@@ -49,7 +49,8 @@ result-read text table vs h =
     let (long, h₁) = check-passed (longEnough table) 1 [] table (readDone table (readText text)) vs h in
     go long (readText text) refl h₁
   where
-    go : longEnough table ≡ true → (r : Reading Task) → readText text ≡ r → readDone table r .told ≡ result vs → ReadResult text table
+    go : longEnough table ≡ true → (r : Reading Task) → readText text ≡ r → readDone table r .told ≡ result vs →
+        ReadResult text table
     go long (read t) e k = record { long = long; task = t; was-read = e }
     go long (refusedAt n l) e k = absurd (let z : _≡_ {A = ℕ} 0 1 = cc in omega arith)
 
@@ -57,7 +58,8 @@ abbrev pub writtenOver : List ℕ → List ℕ → Outcome
 writtenOver bs text = record { told = result (length bs ∷ []); buffer = over bs text }
 
 pub write-result : (table text : List ℕ) → longEnough table ≡ true → isTable table ≡ true →
-    leb (length (write (taskOf table))) (length text) ≡ true → writeOutcome table text ≡ writtenOver (write (taskOf table)) text
+    leb (length (write (taskOf table))) (length text) ≡ true →
+    writeOutcome table text ≡ writtenOver (write (taskOf table)) text
 unfolding writeOutcome
 write-result table text long is-table room =
     let bs = write (taskOf table) in
@@ -72,13 +74,15 @@ pub record WriteResult (table text : List ℕ) (n : ℕ) : Type 0 where
   pub room : leb (length (write (taskOf table))) (length text) ≡ true
   pub count : length (write (taskOf table)) ≡ n
 
-pub result-written : (table text : List ℕ) (n : ℕ) → writeOutcome table text .told ≡ result (n ∷ []) → WriteResult table text n
+pub result-written : (table text : List ℕ) (n : ℕ) → writeOutcome table text .told ≡ result (n ∷ []) →
+    WriteResult table text n
 unfolding writeOutcome
 result-written table text n h =
     let bs = write (taskOf table) in
     let done = writtenOver bs text in
     let eleven = refuseUnless (leb (length bs) (length text)) 11 in
-    let (k₁, h₁) = check-passed (longEnough table) 1 (refuseUnless (isTable table) 2 ∷ eleven ∷ []) text done (n ∷ []) h in
+    let two = refuseUnless (isTable table) 2 in
+    let (k₁, h₁) = check-passed (longEnough table) 1 (two ∷ eleven ∷ []) text done (n ∷ []) h in
     let (k₂, h₂) = check-passed (isTable table) 2 (eleven ∷ []) text done (n ∷ []) h₁ in
     let (k₃, h₃) = check-passed (leb (length bs) (length text)) 11 [] text done (n ∷ []) h₂ in
     let e : _≡_ {A = Told} (result (length bs ∷ [])) (result (n ∷ [])) = h₃ in
@@ -86,8 +90,8 @@ result-written table text n h =
 
 -- ---- the round trips
 -- what was written of a table, read into any table that is long enough, gives the words of that table
-pub write-read : (table text other : List ℕ) (n : ℕ) → writeOutcome table text .told ≡ result (n ∷ []) → longEnough other ≡ true →
-    readOutcome (take n (writeOutcome table text .buffer)) other ≡
+pub write-read : (table text other : List ℕ) (n : ℕ) → writeOutcome table text .told ≡ result (n ∷ []) →
+    longEnough other ≡ true → readOutcome (take n (writeOutcome table text .buffer)) other ≡
     record { told = result []; buffer = over (take tableWords table) other }
 write-read table text other n h long =
     let w = result-written table text n h in
@@ -100,19 +104,38 @@ write-read table text other n h long =
     (read-result bs other t long (read-written t fits) ∙
     ap (λ (ws : List ℕ). record { told = result []; buffer = over ws other }) words)
 
+-- .. so the first 13,406 words of both tables are the same
+pub write-read-words : (table text other : List ℕ) (n : ℕ) → writeOutcome table text .told ≡ result (n ∷ []) →
+    longEnough other ≡ true →
+    take tableWords (readOutcome (take n (writeOutcome table text .buffer)) other .buffer) ≡ take tableWords table
+write-read-words table text other n h long =
+    let size = length-take-le tableWords table (table-long table (result-written table text n h .is-table)) in
+    ap (λ (o : Outcome). take tableWords (o .buffer)) (write-read table text other n h long) ∙
+    take-over (take tableWords table) other tableWords size
+
 -- what was read from a text, written into bytes that it fits in, is that text
-pub read-write : (text table vs other : List ℕ) → readOutcome text table .told ≡ result vs → length text ≤ length other →
-    writeOutcome (readOutcome text table .buffer) other ≡ record { told = result (length text ∷ []); buffer = over text other }
+pub read-write : (text table vs other : List ℕ) → readOutcome text table .told ≡ result vs →
+    length text ≤ length other → writeOutcome (readOutcome text table .buffer) other ≡
+    record { told = result (length text ∷ []); buffer = over text other }
 unfolding longEnough
 read-write text table vs other h room =
     let r = result-read text table vs h in
     let t = r .task in
     let fits = read-fits text t (r .was-read) in
     let w = over (wordsOf t) table in
-    let lies : readOutcome text table .buffer ≡ w = ap (λ (o : Outcome). o .buffer) (read-result text table t (r .long) (r .was-read)) in
+    let lies : readOutcome text table .buffer ≡ w =
+    ap (λ (o : Outcome). o .buffer) (read-result text table t (r .long) (r .was-read)) in
     let (is-table, same) = table-of w t fits (take-over (wordsOf t) table tableWords (words-length t fits)) in
     let bytes : write (taskOf w) ≡ text = ap write same ∙ written-read text t (r .was-read) in
     let long : longEnough w ≡ true = le-leb tableWords (length w) (table-long w is-table) in
-    let fit : leb (length (write (taskOf w))) (length other) ≡ true = rw bytes (le-leb (length text) (length other) room) in
+    let fit : leb (length (write (taskOf w))) (length other) ≡ true =
+    rw bytes (le-leb (length text) (length other) room) in
     ap (λ (x : List ℕ). writeOutcome x other) lies ∙
     (write-result w other long is-table fit ∙ ap (λ (bs : List ℕ). writtenOver bs other) bytes)
+
+-- .. so its bytes begin with the text
+pub read-write-bytes : (text table vs other : List ℕ) → readOutcome text table .told ≡ result vs →
+    length text ≤ length other → take (length text) (writeOutcome (readOutcome text table .buffer) other .buffer) ≡ text
+read-write-bytes text table vs other h room =
+    ap (λ (o : Outcome). take (length text) (o .buffer)) (read-write text table vs other h room) ∙
+    take-over text other (length text) refl

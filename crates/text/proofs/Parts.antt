@@ -32,10 +32,6 @@ module _ {A B : Type 0} where
   any-map p f [] = refl
   any-map p f (x ∷ xs) = ap (λ (b : Bool). p (f x) || b) (any-map p f xs)
 
-  pub map-map : {C : Type 0} (g : B → C) (f : A → B) (xs : List A) → map g (map f xs) ≡ map (λ x. g (f x)) xs
-  map-map g f [] = refl
-  map-map {C = C} g f (x ∷ xs) = ap {B = List C} (λ (ys : List C). g (f x) ∷ ys) (map-map g f xs)
-
 pub roles-bare : (bs : List Atom) → rolesAscend (map bare bs) ≡ rolesAscend bs
 unfolding rolesAscend
 roles-bare [] = refl

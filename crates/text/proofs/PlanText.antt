@@ -7,7 +7,7 @@ use mathlib.Core.List.{List, [], _∷_, _++_, map, append-assoc, append-nil}
 use mathlib.Core.Option.{some}
 use native.Mathlib.Omega.{arith}
 use lib.ListN.{length, length-append}
-use lib.Dec.{eqb, ltb, leb}
+use lib.Dec.{eqb, ltb}
 use borrow.Author.Tests.{ltb-true, leb-true, eqb-true, lt-ltb}
 use Rattle.task.specs.Lists.{all, concatMap}
 use Rattle.task.specs.Task.{Task, wellFormed}
@@ -16,11 +16,13 @@ use Rattle.task.proofs.Laws.{and-left, and-right, here, there, map-append}
 use Rattle.task.proofs.Tests.{TaskTests, task-tests}
 use Rattle.task.proofs.States.{isStep-is}
 use Rattle.text.specs.Lines.{newline, digits, Entry, entryBytes, Taken, taken}
-use Rattle.text.specs.Reading.{Turn, goOn, finish, need, read}
-use Rattle.text.specs.Plan.{PlanKey, step, end, planKeyName, PlanLine, stepLine, endLine, writePlanLine, readPlanBody, stepEntry, planLines, writePlan, takePlanLine, nextPlanLine, readPlan}
+use Rattle.text.specs.Reading.{goOn, finish, read}
+use Rattle.text.specs.Plan.{PlanKey, step, end, planKeyName, PlanLine, stepLine, endLine, writePlanLine}
+use Rattle.text.specs.Plan.{readPlanBody, stepEntry, planLines, writePlan, takePlanLine, nextPlanLine, readPlan}
 use Rattle.text.proofs.NumberLists.{SmallEntry, entry-written}
 use Rattle.text.proofs.Lines.{ended-written, apart}
-use Rattle.text.proofs.Reading.{need-went, need-finished, need-met, Leads, comes-last, goes-on, Exact, lines-read, read-lines}
+use Rattle.text.proofs.Reading.{need-went, need-finished, need-met, Leads, comes-last, goes-on, Exact}
+use Rattle.text.proofs.Reading.{lines-read, read-lines}
 use Rattle.text.proofs.Bodies.{number-ends, BodyRead, number-line, entry-line, Allows, Bodies, lines-exact}
 use Rattle.text.proofs.Growing.{all-snoc}
 
@@ -33,12 +35,14 @@ unfoldable pub planBodyOf : PlanLine → List ℕ
 planBodyOf (stepLine x) = entryBytes x
 planBodyOf (endLine n) = digits n
 
-pub plan-body-written : (k : PlanKey) (l : PlanLine) → PlanSays k l → (r : List ℕ) → readPlanBody k (planBodyOf l ++ (newline ∷ r)) ≡ taken l r
+pub plan-body-written : (k : PlanKey) (l : PlanLine) → PlanSays k l → (r : List ℕ) →
+    readPlanBody k (planBodyOf l ++ (newline ∷ r)) ≡ taken l r
 unfolding readPlanBody planBodyOf
 plan-body-written k l (says-step {x = x} h) r = ended-written stepLine (entry-written x h r)
 plan-body-written k l (says-end {n = n} h) r = ended-written endLine (number-ends n h r)
 
-pub plan-body-read : (k : PlanKey) (bs : List ℕ) (m : Taken PlanLine) → readPlanBody k bs ≡ some m → BodyRead planBodyOf PlanSays k bs m
+pub plan-body-read : (k : PlanKey) (bs : List ℕ) (m : Taken PlanLine) → readPlanBody k bs ≡ some m →
+    BodyRead planBodyOf PlanSays k bs m
 unfolding readPlanBody planBodyOf
 plan-body-read step bs m h = entry-line planBodyOf PlanSays step bs m stepLine (λ x h. says-step h) (λ x. refl) h
 plan-body-read end bs m h = number-line planBodyOf PlanSays end bs m endLine (λ n h. says-end h) (λ n. refl) h
@@ -91,11 +95,12 @@ plan-leads t c xs (y ∷ ys) few h =
     (plan-leads t c (xs ++ (y ∷ [])) ys few′ (and-right (isStep t y) (all (isStep t) ys) h)))
 
 -- reading a written plan gives its steps
-pub plan-read-written : (t : Task) → wellFormed t ≡ true → (xs : List Step) → all (isStep t) xs ≡ true → length xs ≤ 100 →
-    readPlan t (writePlan xs) ≡ read xs
+pub plan-read-written : (t : Task) → wellFormed t ≡ true → (xs : List Step) → all (isStep t) xs ≡ true →
+    length xs ≤ 100 → readPlan t (writePlan xs) ≡ read xs
 unfolding readPlan writePlan
 plan-read-written t w xs h few =
-    lines-read nextPlanLine (takePlanLine t) PlanMay writePlanLine plan-exact (plan-leads t (task-tests t w) [] xs few h) 1
+    let lead = plan-leads t (task-tests t w) [] xs few h in
+    lines-read nextPlanLine (takePlanLine t) PlanMay writePlanLine plan-exact lead 1
 
 -- ---- what is read was written
 abbrev pub stepLines : List Step → List PlanLine
@@ -107,7 +112,8 @@ pub record PlanFound (t : Task) (xs : List Step) (lines : List PlanLine) : Type 
   pub are : planLines xs ≡ lines
 
 module _ (t : Task) where
-  pub last-line : (xs : List Step) (l : PlanLine) (ys : List Step) → takePlanLine t xs l ≡ finish ys → (l ≡ endLine 1) × (xs ≡ ys)
+  pub last-line : (xs : List Step) (l : PlanLine) (ys : List Step) → takePlanLine t xs l ≡ finish ys →
+      (l ≡ endLine 1) × (xs ≡ ys)
   unfolding takePlanLine
   last-line xs (stepLine a) ys h =
       let x : Step = record { schema = a .head; objects = a .list } in
@@ -136,8 +142,8 @@ module _ (t : Task) where
       let (k, h₁) = need-went (eqb n 1) 3 (finish xs) ys h in
       absurd (let z : _≡_ {A = ℕ} 0 1 = cc in omega arith)
 
-  pub plan-found : {xs : List Step} {ls : List PlanLine} {ys : List Step} → PlanLeads t xs ls ys → all (isStep t) xs ≡ true →
-      length xs ≤ 100 → PlanFound t ys (stepLines xs ++ ls)
+  pub plan-found : {xs : List Step} {ls : List PlanLine} {ys : List Step} → PlanLeads t xs ls ys →
+      all (isStep t) xs ≡ true → length xs ≤ 100 → PlanFound t ys (stepLines xs ++ ls)
   unfolding planLines
   plan-found {ys = ys} (comes-last {d = xs} {l = l} m h) all-steps few =
       let (e, q) = last-line xs l ys h in
@@ -172,5 +178,6 @@ module _ (t : Task) where
   plan-written-read bs xs h = plan-text-found bs xs h .2
 
   -- what is read are steps of the task, at most 100
-  pub plan-read-steps : (bs : List ℕ) (xs : List Step) → readPlan t bs ≡ read xs → (all (isStep t) xs ≡ true) × (length xs ≤ 100)
+  pub plan-read-steps : (bs : List ℕ) (xs : List Step) → readPlan t bs ≡ read xs →
+      (all (isStep t) xs ≡ true) × (length xs ≤ 100)
   plan-read-steps bs xs h = let f = plan-text-found bs xs h in (f .0, f .1)

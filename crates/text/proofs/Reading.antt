@@ -1,15 +1,16 @@
 -- Reading line after line, for any text: it ends with a result exactly when the bytes are those of lines that lead
 -- from the draft to that result. `readLines-line` is the turn of a loop, free of the count that bounds the reader.
 use Prim.Native.Nat.{ℕ, zero, suc, _≤_, _<_}
-use mathlib.Core.Path.{_≡_, refl, sym, _∙_, ap}
+use mathlib.Core.Path.{_≡_, refl, _∙_, ap}
 use mathlib.Core.Bool.{Bool, true, false}
-use mathlib.Core.List.{List, [], _∷_, _++_, append-nil}
+use mathlib.Core.List.{List, [], _∷_, _++_}
 use mathlib.Core.Option.{Option, none, some}
 use native.Mathlib.Omega.{arith}
 use lib.ListN.{length, length-append}
 use Rattle.task.specs.Lists.{concatMap}
 use Rattle.text.specs.Lines.{Taken, Reader, taken}
-use Rattle.text.specs.Reading.{Turn, goOn, finish, refuse, need, Reading, read, refusedAt, atEnd, turnAt, lineAt, readWithin, readLines}
+use Rattle.text.specs.Reading.{Turn, goOn, finish, refuse, need, Reading, read, refusedAt, atEnd, turnAt, lineAt}
+use Rattle.text.specs.Reading.{readWithin, readLines}
 
 -- ---- turns
 module _ {D R : Type 0} where
@@ -35,7 +36,8 @@ refused-read h = let z : _≡_ {A = ℕ} 0 1 = cc in omega arith
 -- ---- lines that lead from a draft to a result, each one that may stand there
 pub data Leads {L D R : Type 0} (takes : D → L → Turn D R) (May : D → L → Type 0) : D → List L → R → Type 0 where
   comes-last : {d : D} {l : L} {r : R} → May d l → takes d l ≡ finish r → Leads takes May d (l ∷ []) r
-  goes-on : {d e : D} {l : L} {ls : List L} {r : R} → May d l → takes d l ≡ goOn e → Leads takes May e ls r → Leads takes May d (l ∷ ls) r
+  goes-on : {d e : D} {l : L} {ls : List L} {r : R} → May d l → takes d l ≡ goOn e → Leads takes May e ls r →
+      Leads takes May d (l ∷ ls) r
 
 -- a reader of lines is exact: a line that may stand there is read, whatever follows it, and no other
 pub record Exact {L D : Type 0} (line : D → Reader L) (May : D → L → Type 0) (text : L → List ℕ) : Type 0 where
@@ -44,12 +46,14 @@ pub record Exact {L D : Type 0} (line : D → Reader L) (May : D → L → Type 
   pub may : (d : D) (bs : List ℕ) (m : Taken L) → line d bs ≡ some m → May d (m .value)
   pub whole : (d : D) (bs : List ℕ) (m : Taken L) → line d bs ≡ some m → bs ≡ text (m .value) ++ m .rest
 
-pub record Read {L D R : Type 0} (takes : D → L → Turn D R) (May : D → L → Type 0) (text : L → List ℕ) (d : D) (bs : List ℕ) (r : R) : Type 0 where
+pub record Read {L D R : Type 0} (takes : D → L → Turn D R) (May : D → L → Type 0) (text : L → List ℕ)
+    (d : D) (bs : List ℕ) (r : R) : Type 0 where
   pub lines : List L
   pub lead : Leads takes May d lines r
   pub whole : bs ≡ concatMap text lines
 
-module _ {L D R : Type 0} (line : D → Reader L) (takes : D → L → Turn D R) (May : D → L → Type 0) (text : L → List ℕ) (x : Exact line May text) where
+module _ {L D R : Type 0} (line : D → Reader L) (takes : D → L → Turn D R) (May : D → L → Type 0)
+    (text : L → List ℕ) (x : Exact line May text) where
   pub line-shorter : (d : D) (bs : List ℕ) (m : Taken L) → line d bs ≡ some m → length (m .rest) < length bs
   line-shorter d bs m h =
       let e = ap length (x .whole d bs m h) in
@@ -77,7 +81,8 @@ module _ {L D R : Type 0} (line : D → Reader L) (takes : D → L → Turn D R)
   lines-read {ls = ls} w n = lead-read w (suc (length (concatMap text ls))) n (omega arith)
 
   -- ---- what is read with a result are lines that lead to it
-  pub read-within : (f n : ℕ) (d : D) (bs : List ℕ) (r : R) → readWithin line takes f n d bs ≡ read r → Read takes May text d bs r
+  pub read-within : (f n : ℕ) (d : D) (bs : List ℕ) (r : R) → readWithin line takes f n d bs ≡ read r →
+      Read takes May text d bs r
   unfolding readWithin lineAt turnAt atEnd concatMap
   read-within zero n d bs r h = absurd (refused-read h)
   read-within (suc f) n d bs r h = found (line d bs) refl (read-within f (suc n)) h
@@ -85,8 +90,8 @@ module _ {L D R : Type 0} (line : D → Reader L) (takes : D → L → Turn D R)
       Later : Type 0
       Later = (e : D) (cs : List ℕ) (s : R) → readWithin line takes f (suc n) e cs ≡ read s → Read takes May text e cs s
 
-      ended : (m : Taken L) → line d bs ≡ some m → (s : R) → takes d (m .value) ≡ finish s → (rest : List ℕ) → m .rest ≡ rest →
-          atEnd s (suc n) rest ≡ read r → Read takes May text d bs r
+      ended : (m : Taken L) → line d bs ≡ some m → (s : R) → takes d (m .value) ≡ finish s → (rest : List ℕ) →
+          m .rest ≡ rest → atEnd s (suc n) rest ≡ read r → Read takes May text d bs r
       ended m k s e [] q h = record {
         lines = m .value ∷ [];
         lead = comes-last (x .may d bs m k) (e ∙ (let z : s ≡ r = cc in ap finish z));
@@ -111,7 +116,8 @@ module _ {L D R : Type 0} (line : D → Reader L) (takes : D → L → Turn D R)
       found none k i h = absurd (refused-read h)
       found (some m) k i h = turned m k (takes d (m .value)) refl i h
 
-  pub read-lines : (n : ℕ) (d : D) (bs : List ℕ) (r : R) → readLines line takes n d bs ≡ read r → Read takes May text d bs r
+  pub read-lines : (n : ℕ) (d : D) (bs : List ℕ) (r : R) → readLines line takes n d bs ≡ read r →
+      Read takes May text d bs r
   unfolding readLines
   read-lines n d bs r h = read-within (suc (length bs)) n d bs r h
 

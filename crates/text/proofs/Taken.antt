@@ -1,20 +1,26 @@
 -- Readers in general: what a chain of readers that took something says of each of them, and bytes at the front.
-use Prim.Native.Nat.{ℕ, _+_}
+use Prim.Native.Nat.{ℕ}
 use mathlib.Core.Path.{_≡_, refl, sym, _∙_, ap, ap₂}
 use mathlib.Core.Bool.{Bool, true, false}
 use mathlib.Core.List.{List, [], _∷_, _++_}
 use mathlib.Core.Option.{Option, none, some}
 use native.Mathlib.Omega.{arith}
-use lib.ListN.{length, drop}
-use lib.Seq.{drop-drop, drop-append-seam}
 use lib.Dec.{eqb}
 use borrow.Author.Tests.{eqb-true, eq-eqb}
-use Rattle.task.proofs.Laws.{no-ft}
 use Rattle.text.specs.Lines.{Taken, taken, andThen, after}
 
 pub no-none : {A : Type 0} {x : A} → none ≡ some x → ⊥
 no-none h = let z : _≡_ {A = ℕ} 0 1 = cc in omega arith
 
+-- ---- a test that is known picks its branch; the other one is given
+module _ {A : Type 0} where
+  pub if-true : {b : Bool} {x : A} (y : A) → b ≡ true → _≡_ {A = A} (elim b [ true ↦ x | false ↦ y ]) x
+  if-true {b} {x} y h = ap (λ (c : Bool). elim c [ true ↦ x | false ↦ y ]) h
+
+  pub if-false : {b : Bool} (x : A) {y : A} → b ≡ false → _≡_ {A = A} (elim b [ true ↦ x | false ↦ y ]) y
+  if-false {b} x {y} h = ap (λ (c : Bool). elim c [ true ↦ x | false ↦ y ]) h
+
+-- ---- what was taken
 module _ {A : Type 0} where
   pub taken-value : {a : A} {bs : List ℕ} {r : Taken A} → taken a bs ≡ some r → a ≡ r .value
   taken-value {a} {bs} {r} h =
@@ -40,7 +46,8 @@ module _ {A B : Type 0} where
   both-took none f b h = absurd (no-none h)
   both-took (some a) f b h = record { first = a; took = refl; then = h }
 
-  pub andThen-same : (o : Option A) (f g : A → Option B) → ((a : A) → o ≡ some a → f a ≡ g a) → andThen o f ≡ andThen o g
+  pub andThen-same : (o : Option A) (f g : A → Option B) → ((a : A) → o ≡ some a → f a ≡ g a) →
+      andThen o f ≡ andThen o g
   unfolding andThen
   andThen-same none f g h = refl
   andThen-same (some a) f g h = h a refl
@@ -49,12 +56,7 @@ module _ {A B : Type 0} where
 pub after-written : (ks rest : List ℕ) → after ks (ks ++ rest) ≡ some rest
 unfolding after
 after-written [] rest = refl
-after-written (k ∷ ks) rest = go (eqb k k) (eq-eqb k k refl) (after-written ks rest)
-  where
-    go : (b : Bool) → b ≡ true → after ks (ks ++ rest) ≡ some rest →
-        _≡_ {A = Option (List ℕ)} (elim b [ true ↦ after ks (ks ++ rest) | false ↦ none ]) (some rest)
-    go true e i = i
-    go false e i = absurd (no-ft e)
+after-written (k ∷ ks) rest = if-true none (eq-eqb k k refl) ∙ after-written ks rest
 
 pub after-read : (ks bs rest : List ℕ) → after ks bs ≡ some rest → bs ≡ ks ++ rest
 unfolding after
@@ -66,8 +68,3 @@ after-read (k ∷ ks) (b ∷ bs) rest h = go (eqb k b) refl (after-read ks bs re
         _≡_ {A = Option (List ℕ)} (elim c [ true ↦ after ks bs | false ↦ none ]) (some rest) → b ∷ bs ≡ k ∷ (ks ++ rest)
     go true e i h = ap₂ (λ (x : ℕ) (xs : List ℕ). x ∷ xs) (sym (eqb-true k b e)) (i h)
     go false e i h = absurd (no-none h)
-
--- a cursor at an offset of a text is what is left when the offset is dropped: behind xs it is further by their length
-pub cursor-behind : (text : List ℕ) (at : ℕ) (xs rest : List ℕ) → drop at text ≡ xs ++ rest → rest ≡ drop (at + length xs) text
-cursor-behind text at xs rest h =
-    sym (drop-append-seam xs rest) ∙ (ap (drop (length xs)) (sym h) ∙ drop-drop (length xs) at text)

@@ -1,18 +1,23 @@
 -- A draft while a task is read: the lines that it stands for, what is known of it in each phase, and how both grow
 -- by a schema, an initial atom or a goal atom.
 use Prim.Native.Nat.{ℕ, zero, suc, _+_, _≤_, _<_}
-use mathlib.Core.Path.{_≡_, refl, sym, _∙_, ap, subst}
+use mathlib.Core.Path.{_≡_, refl, _∙_, ap, subst}
 use mathlib.Core.Bool.{true}
-use mathlib.Core.List.{List, [], _∷_, _++_, map, append-assoc, append-nil}
+use mathlib.Core.List.{List, [], _∷_, _++_, append-assoc, append-nil}
 use native.Mathlib.Omega.{arith}
 use lib.ListN.{length}
 use lib.Dec.{leb}
 use Rattle.task.specs.Lists.{all, concatMap}
-use Rattle.task.specs.Task.{Fact, Schema, Task, argsFit, distinct, rolesAscend, schemaAtoms}
+use Rattle.task.specs.Task.{Atom, Fact, Schema, Task, argsFit, distinct, rolesAscend, schemaAtoms}
 use Rattle.task.proofs.Laws.{In, here, there, append-concatMap, map-append}
 use Rattle.task.proofs.Tests.{TaskTests}
 use Rattle.text.specs.Reading.{goOn}
-use Rattle.text.specs.Text.{Key, task, objects, arity, schema, pre, add, del, part, init, goal, end, Line, taskLine, objectsLine, schemaLine, endLine, arityLine, partLine, initLine, goalLine, factEntry, schemaLines, taskLines, Phase, atTask, atObjects, atArity, between, inPre, inAdd, inDel, inInit, inGoal, keysAt, rolePhase, Draft, TaskTurn, withSchemas, withInit, withGoal}
+use Rattle.text.specs.Text.{atomLine, atomEntry, Key, task, objects, arity, schema, pre, add, del, part, init}
+use Rattle.text.specs.Text.{goal, end, Line}
+use Rattle.text.specs.Text.{taskLine, objectsLine, schemaLine, endLine, arityLine, initLine, goalLine, factEntry}
+use Rattle.text.specs.Text.{schemaLines, taskLines, Phase, atTask, atObjects, atArity, between, inPre, inAdd}
+use Rattle.text.specs.Text.{inDel, inInit, inGoal, keysAt, rolePhase, Draft, TaskTurn, withSchemas, withInit}
+use Rattle.text.specs.Text.{withGoal}
 use Rattle.text.proofs.Growing.{lastRole}
 use Rattle.text.proofs.TaskWritten.{initLines, goalLines, atomLines}
 
@@ -49,14 +54,15 @@ taskLines-whole t =
     go : (a b c d e : List Line) → a ++ (b ++ (c ++ (d ++ e))) ≡ (a ++ (b ++ (c ++ d))) ++ e
     go a b c d e = simp append-assoc
 
--- schemas, initial atoms and goal atoms come in this order, so one more of a kind comes last while no later kind has come
+-- schemas, initial atoms and goal atoms come in this order: one more of a kind comes last while no later kind has come
 pub whole-goal : (t : Task) (f : Fact) →
     wholeOf (withGoal t (t .goal ++ (f ∷ []))) ≡ wholeOf t ++ (goalLine (factEntry f) ∷ [])
 unfolding wholeOf withGoal
 whole-goal t f =
     ap (λ (x : List Line). header t ++ (concatMap schemaLines (t .schemas) ++ (initLines (t .init) ++ x)))
     (map-append (λ f. goalLine (factEntry f)) (t .goal) (f ∷ [])) ∙
-    go (header t) (concatMap schemaLines (t .schemas)) (initLines (t .init)) (goalLines (t .goal)) (goalLine (factEntry f) ∷ [])
+    go (header t) (concatMap schemaLines (t .schemas)) (initLines (t .init)) (goalLines (t .goal))
+    (goalLine (factEntry f) ∷ [])
   where
     go : (a b c d w : List Line) → a ++ (b ++ (c ++ (d ++ w))) ≡ (a ++ (b ++ (c ++ d))) ++ w
     go a b c d w = simp append-assoc
@@ -67,8 +73,8 @@ unfolding wholeOf withInit
 whole-init t f h =
     ap (λ (x : List Line). header t ++ (concatMap schemaLines (t .schemas) ++ (x ++ goalLines (t .goal))))
     (map-append (λ f. initLine (factEntry f)) (t .init) (f ∷ [])) ∙
-    go (header t) (concatMap schemaLines (t .schemas)) (initLines (t .init)) (goalLines (t .goal)) (initLine (factEntry f) ∷ [])
-    (ap goalLines h)
+    go (header t) (concatMap schemaLines (t .schemas)) (initLines (t .init)) (goalLines (t .goal))
+    (initLine (factEntry f) ∷ []) (ap goalLines h)
   where
     go : (a b c d w : List Line) → d ≡ [] → a ++ (b ++ ((c ++ w) ++ d)) ≡ (a ++ (b ++ (c ++ d))) ++ w
     go a b c d w e = rw e (simp (append-assoc, append-nil))
@@ -84,6 +90,14 @@ whole-schema t s h k =
   where
     go : (a b c d w : List Line) → c ≡ [] → d ≡ [] → a ++ ((b ++ (w ++ [])) ++ (c ++ d)) ≡ (a ++ (b ++ (c ++ d))) ++ w
     go a b c d w e f = rw (e, f) (simp (append-assoc, append-nil))
+
+pub opened-atom : (c : Schema) (a : Atom) →
+    opened (record { params = c .params; atoms = c .atoms ++ (a ∷ []) }) ≡
+    opened c ++ (atomLine (a .role) (atomEntry a) ∷ [])
+unfolding opened
+opened-atom c a =
+    ap {B = List Line} (λ (ls : List Line). schemaLine (c .params) ∷ ls)
+    (map-append (λ a. atomLine (a .role) (atomEntry a)) (c .atoms) (a ∷ []))
 
 -- ---- what is known of a draft
 pub record Empty (t : Task) : Type 0 where

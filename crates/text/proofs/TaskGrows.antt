@@ -1,80 +1,102 @@
 -- What a line adds to a draft that is known: an initial or a goal atom, an atom of a schema, the parts that close it.
 -- Each refusal that did not come is a test that holds of the longer list, so the grown draft is known again.
-use Prim.Native.Nat.{ℕ, _+_, _≤_, _<_}
-use mathlib.Core.Path.{_≡_, refl, sym, _∙_, ap, ap₂}
+use Prim.Native.Nat.{ℕ, _+_, _≤_}
+use mathlib.Core.Path.{_≡_, sym, _∙_, ap, ap₂}
 use mathlib.Core.Bool.{Bool, true, not}
-use mathlib.Core.List.{List, [], _∷_, _++_, map, append-assoc, append-nil}
+use mathlib.Core.List.{List, [], _∷_, _++_, append-assoc, map-map}
 use native.Mathlib.Omega.{arith}
 use lib.ListN.{length, length-append, length-map}
 use lib.Dec.{eqb, ltb, leb}
 use borrow.Author.Tests.{ltb-true, eqb-true, lt-ltb, le-leb}
 use Rattle.task.specs.Lists.{all, any, sum}
-use Rattle.task.specs.Task.{Atom, Fact, Schema, Task, argsFit, sameAtom, distinct, rolesAscend, schemaFits, allNamed, noGap, schemaAtoms}
+use Rattle.task.specs.Task.{factsFit, Atom, Fact, Schema, Task, argsFit, sameAtom, distinct, rolesAscend, schemaFits}
+use Rattle.task.specs.Task.{allNamed}
+use Rattle.task.specs.Task.{noGap, schemaAtoms}
 use Rattle.task.proofs.Tests.{SchemaTests, tests-schema, TaskTests}
 use Rattle.text.specs.Lines.{Entry}
 use Rattle.text.specs.Reading.{goOn}
-use Rattle.text.specs.Text.{Line, schemaLine, partLine, atomLine, initLine, goalLine, factEntry, atomEntry, schemaLines, Phase, between, inInit, inGoal, rolePhase, Draft, noSchema, atPhase, withSchemas, withInit, withGoal, addAtom, withParts, closeSchema, follows, addFact}
+use Rattle.text.specs.Text.{TaskTurn, Line, schemaLine, partLine, atomLine, initLine, goalLine, factEntry}
+use Rattle.text.specs.Text.{atomEntry}
+use Rattle.text.specs.Text.{schemaLines, Phase, between, inInit, inGoal, rolePhase, Draft, noSchema, atPhase}
+use Rattle.text.specs.Text.{withSchemas, withInit, withGoal, addAtom, withParts, closeSchema, follows, addFact}
 use Rattle.text.proofs.Reading.{need-went}
 use Rattle.text.proofs.Growing.{all-snoc, more-room, more-facts, lastRole-snoc, roles-snoc, distinct-snoc}
-use Rattle.text.proofs.Parts.{bare, partOf, all-map, map-map, roles-bare, distinct-bare, allNamedIn, named-bare, parts-are, parts-same, below-count}
+use Rattle.text.proofs.Parts.{bare, all-map, roles-bare, distinct-bare, allNamedIn, named-bare}
+use Rattle.text.proofs.Parts.{parts-are, parts-same, below-count}
 use Rattle.text.proofs.TaskWritten.{draft, atomLines, schemaAtoms-part}
-use Rattle.text.proofs.TaskDraft.{wholeOf, opened, soFar, whole-goal, whole-init, whole-schema, NoFacts, Open, Next, next, known-role, soFar-role}
+use Rattle.text.proofs.TaskDraft.{wholeOf, opened, soFar, whole-goal, whole-init, whole-schema, opened-atom}
+use Rattle.text.proofs.TaskDraft.{Open, Next, next}
+use Rattle.text.proofs.TaskDraft.{known-role, soFar-role}
 
 -- ---- initial and goal atoms
-module _ (t : Task) (a : Entry) (e : Draft) where
-  fact : Fact
-  fact = record { pred = a .head; args = a .list }
+abbrev pub factOf : Entry → Fact
+factOf a = record { pred = a .head; args = a .list }
 
-  pub init-next : TaskTests t → t .goal ≡ [] →
-      addFact t 500 (t .init) a (λ fs. atPhase inInit (withInit t fs)) ≡ goOn e → Next e (wholeOf t ++ (initLine a ∷ []))
-  unfolding addFact atPhase withInit soFar factEntry fact
-  init-next c g h =
-      let (room, h₁) = need-went (ltb (length (t .init)) 500) 4 _ e h in
-      let (fit, h₂) = need-went (argsFit (t .arities) (t .objects) (a .head) (a .list)) 5 _ e h₁ in
-      let (order, h₃) = need-went (follows (t .init) fact) 6 (goOn (draft inInit (withInit t (t .init ++ (fact ∷ []))) noSchema)) e h₂ in
-      let tests : TaskTests (withInit t (t .init ++ (fact ∷ []))) = record {
-        some-object = c .some-object;
-        objects = c .objects;
-        some-pred = c .some-pred;
-        preds = c .preds;
-        arities = c .arities;
-        schemas = c .schemas;
-        atoms = c .atoms;
-        inits = more-room (t .init) fact 500 room;
-        goals = c .goals;
-        fit = c .fit;
-        init = more-facts (t .objects) (t .arities) (t .init) fact (c .init) fit order;
-        goal = c .goal;
-      } in
-      next h₃ (record { known = (tests, g); stands = whole-init t fact g })
+-- an atom that was added passed its tests
+pub record FactAdded (t : Task) (most : ℕ) (fs : List Fact) (a : Entry)
+    (grown : List Fact → Draft) (e : Draft) : Type 0 where
+  pub room : leb (length (fs ++ (factOf a ∷ []))) most ≡ true
+  pub fits : factsFit (t .objects) (t .arities) fs ≡ true →
+      factsFit (t .objects) (t .arities) (fs ++ (factOf a ∷ [])) ≡ true
+  pub is : _≡_ {A = TaskTurn} (goOn (grown (fs ++ (factOf a ∷ [])))) (goOn e)
 
-  pub goal-next : TaskTests t →
-      addFact t 100 (t .goal) a (λ fs. atPhase inGoal (withGoal t fs)) ≡ goOn e → Next e (wholeOf t ++ (goalLine a ∷ []))
-  unfolding addFact atPhase withGoal soFar factEntry fact
-  goal-next c h =
-      let (room, h₁) = need-went (ltb (length (t .goal)) 100) 4 _ e h in
-      let (fit, h₂) = need-went (argsFit (t .arities) (t .objects) (a .head) (a .list)) 5 _ e h₁ in
-      let (order, h₃) = need-went (follows (t .goal) fact) 6 (goOn (draft inGoal (withGoal t (t .goal ++ (fact ∷ []))) noSchema)) e h₂ in
-      let tests : TaskTests (withGoal t (t .goal ++ (fact ∷ []))) = record {
-        some-object = c .some-object;
-        objects = c .objects;
-        some-pred = c .some-pred;
-        preds = c .preds;
-        arities = c .arities;
-        schemas = c .schemas;
-        atoms = c .atoms;
-        inits = c .inits;
-        goals = more-room (t .goal) fact 100 room;
-        fit = c .fit;
-        init = c .init;
-        goal = more-facts (t .objects) (t .arities) (t .goal) fact (c .goal) fit order;
-      } in
-      next h₃ (record { known = tests; stands = whole-goal t fact })
+pub fact-added : (t : Task) (most : ℕ) (fs : List Fact) (a : Entry) (grown : List Fact → Draft) (e : Draft) →
+    addFact t most fs a grown ≡ goOn e → FactAdded t most fs a grown e
+unfolding addFact
+fact-added t most fs a grown e h =
+    let (k₁, h₁) = need-went (ltb (length fs) most) 4 _ e h in
+    let (k₂, h₂) = need-went (argsFit (t .arities) (t .objects) (a .head) (a .list)) 5 _ e h₁ in
+    let (k₃, h₃) = need-went (follows fs (factOf a)) 6 (goOn (grown (fs ++ (factOf a ∷ [])))) e h₂ in
+    record {
+      room = more-room fs (factOf a) most k₁;
+      fits = λ fit. more-facts (t .objects) (t .arities) fs (factOf a) fit k₂ k₃;
+      is = h₃;
+    }
+
+-- the tests of a task with these initial and goal atoms
+module _ (t : Task) (c : TaskTests t) where
+  pub with-facts : (is gs : List Fact) → leb (length is) 500 ≡ true → leb (length gs) 100 ≡ true →
+      factsFit (t .objects) (t .arities) is ≡ true → factsFit (t .objects) (t .arities) gs ≡ true →
+      TaskTests (record { objects = t .objects; arities = t .arities; schemas = t .schemas; init = is; goal = gs })
+  with-facts is gs few-is few-gs fit-is fit-gs = record {
+    some-object = c .some-object;
+    objects = c .objects;
+    some-pred = c .some-pred;
+    preds = c .preds;
+    arities = c .arities;
+    schemas = c .schemas;
+    atoms = c .atoms;
+    inits = few-is;
+    goals = few-gs;
+    fit = c .fit;
+    init = fit-is;
+    goal = fit-gs;
+  }
+
+  pub init-next : t .goal ≡ [] → (a : Entry) (e : Draft) →
+      addFact t 500 (t .init) a (λ fs. atPhase inInit (withInit t fs)) ≡ goOn e →
+      Next e (wholeOf t ++ (initLine a ∷ []))
+  unfolding atPhase withInit soFar factEntry
+  init-next g a e h =
+      let f = fact-added t 500 (t .init) a (λ fs. atPhase inInit (withInit t fs)) e h in
+      let is = t .init ++ (factOf a ∷ []) in
+      let tests = with-facts is (t .goal) (f .room) (c .goals) (f .fits (c .init)) (c .goal) in
+      next (f .is) (record { known = (tests, g); stands = whole-init t (factOf a) g })
+
+  pub goal-next : (a : Entry) (e : Draft) →
+      addFact t 100 (t .goal) a (λ fs. atPhase inGoal (withGoal t fs)) ≡ goOn e →
+      Next e (wholeOf t ++ (goalLine a ∷ []))
+  unfolding atPhase withGoal soFar factEntry
+  goal-next a e h =
+      let f = fact-added t 100 (t .goal) a (λ fs. atPhase inGoal (withGoal t fs)) e h in
+      let gs = t .goal ++ (factOf a ∷ []) in
+      let tests = with-facts (t .init) gs (c .inits) (f .room) (c .init) (f .fits (c .goal)) in
+      next (f .is) (record { known = tests; stands = whole-goal t (factOf a) })
 
 -- ---- atoms of a schema
 pub atom-next : (p : Phase) (t : Task) (c : Schema) (q r : ℕ) → q ≤ r → r ≤ 2 → (x : Entry) (e : Draft) → Open q t c →
     addAtom (draft p t c) r x ≡ goOn e → Next e ((wholeOf t ++ opened c) ++ (atomLine r x ∷ []))
-unfolding addAtom opened atomEntry
+unfolding addAtom atomEntry
 atom-next p t c q r l m x e o h =
     let a : Atom = record { role = r; pred = x .head; part = 0; args = x .list } in
     let s : Schema = record { params = c .params; atoms = c .atoms ++ (a ∷ []) } in
@@ -97,17 +119,11 @@ atom-next p t c q r l m x e o h =
       fit = all-snoc (λ a. argsFit (t .arities) (c .params) (a .pred) (a .args)) (c .atoms) a (o .fit) k₃;
       apart = distinct-snoc (c .atoms) a (o .apart) k₄;
     } in
-    let line : Line = atomLine r x in
     next h₄ (record {
       known = known-role r m t s open′;
-      stands = soFar-role r t s ∙
-          (ap (λ (ls : List Line). wholeOf t ++ (schemaLine (c .params) ∷ ls)) (atomLines-snoc (c .atoms) a) ∙
-          sym (append-assoc (wholeOf t) (schemaLine (c .params) ∷ atomLines (c .atoms)) (line ∷ [])));
+      stands = soFar-role r t s ∙ (ap (λ (ls : List Line). wholeOf t ++ ls) (opened-atom c a) ∙
+          sym (append-assoc (wholeOf t) (opened c) (atomLine r x ∷ [])));
     })
-  where
-    atomLines-snoc : (xs : List Atom) (a : Atom) → atomLines (xs ++ (a ∷ [])) ≡ atomLines xs ++ (atomLine (a .role) (atomEntry a) ∷ [])
-    atomLines-snoc [] a = refl
-    atomLines-snoc (x ∷ xs) a = ap {B = List Line} (λ (ls : List Line). atomLine (x .role) (atomEntry x) ∷ ls) (atomLines-snoc xs a)
 
 -- ---- a schema's parts
 abbrev pub closed : Schema → List ℕ → Schema

@@ -9,11 +9,16 @@ use native.Mathlib.Omega.{arith}
 use lib.ListN.{length}
 use Rattle.task.specs.Task.{precondition, addition, deletion}
 use Rattle.text.specs.Lines.{newline, Entry, line, Taken, taken, numbers, listing}
-use Rattle.text.specs.Text.{Key, task, objects, arity, schema, pre, add, del, part, init, goal, end, keyName, Line, taskLine, objectsLine, schemaLine, endLine, arityLine, partLine, atomLine, initLine, goalLine, keyOf, bodyOf, writeLine, readBody, Phase, atTask, atObjects, atArity, between, inPre, inAdd, inDel, inInit, inGoal, keysAt, Draft, nextLine}
-use Rattle.text.proofs.NumberLists.{Small, SmallEntry, numbers-written, listing-written, entry-written, numbers-read, listing-read}
+use Rattle.text.specs.Text.{Key, task, objects, arity, schema, pre, add, del, part, init, goal, end, keyName}
+use Rattle.text.specs.Text.{Line, taskLine, objectsLine, schemaLine, endLine, arityLine, partLine, atomLine}
+use Rattle.text.specs.Text.{initLine, goalLine, keyOf, bodyOf, writeLine, readBody, Phase, atTask, atObjects}
+use Rattle.text.specs.Text.{atArity, between, inPre, inAdd, inDel, inInit, inGoal, keysAt, Draft, nextLine}
+use Rattle.text.proofs.NumberLists.{Small, SmallEntry, numbers-written, listing-written, entry-written}
+use Rattle.text.proofs.NumberLists.{numbers-read, listing-read}
 use Rattle.text.proofs.Lines.{ended-written, ended-read, apart}
 use Rattle.text.proofs.Reading.{Exact}
-use Rattle.text.proofs.Bodies.{number-ends, BodyRead, line-made, number-line, entry-line, Allows, Bodies, lines-exact}
+use Rattle.text.proofs.Bodies.{number-ends, BodyRead, line-made, number-line, entry-line, Allows, Bodies}
+use Rattle.text.proofs.Bodies.{lines-exact}
 
 pub data Says : Key → Line → Type 0 where
   says-task : {n : ℕ} → n < 100000 → Says task (taskLine n)

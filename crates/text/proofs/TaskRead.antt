@@ -3,23 +3,33 @@
 use Prim.Native.Nat.{ℕ, _+_}
 use mathlib.Core.Path.{_≡_, refl, sym, _∙_, ap, subst}
 use mathlib.Core.Bool.{Bool, true, not, _&&_}
-use mathlib.Core.List.{List, [], _∷_, _++_, append-assoc, append-nil}
+use mathlib.Core.List.{List, [], _∷_, _++_, append-assoc}
 use native.Mathlib.Omega.{arith}
 use lib.ListN.{length}
 use lib.Dec.{eqb, ltb, leb}
 use borrow.Author.Tests.{ltb-true, leb-true, eqb-true, le-leb}
 use Rattle.task.specs.Lists.{all, any, concatMap, sum}
-use Rattle.task.specs.Task.{Atom, Fact, Schema, Task, argsFit, sameAtom, rolesAscend, distinct, factsFit, ascending, allNamed, noGap, wellFormed, schemaAtoms}
+use Rattle.task.specs.Task.{Atom, Fact, Schema, Task, argsFit, sameAtom, rolesAscend, distinct, factsFit, ascending}
+use Rattle.task.specs.Task.{allNamed, noGap, wellFormed, schemaAtoms}
 use Rattle.task.proofs.Laws.{and-left, and-right, In}
 use Rattle.task.proofs.Tests.{TaskTests, tests-task}
 use Rattle.text.specs.Lines.{Entry}
 use Rattle.text.specs.Reading.{goOn, finish, need, read}
-use Rattle.text.specs.Text.{Key, end, keyOf, keysAt, Line, taskLine, objectsLine, schemaLine, endLine, arityLine, partLine, atomLine, initLine, goalLine, writeLine, taskLines, write, Phase, atObjects, atArity, between, inPre, inAdd, inDel, inInit, inGoal, Draft, TaskTurn, noSchema, started, atPhase, withObjects, withArities, withInit, withGoal, addAtom, withParts, closeSchema, follows, addFact, takeLine, nextLine, readText}
-use Rattle.text.proofs.Reading.{need-went, need-finished, comes-last, goes-on, Read, read-lines}
-use Rattle.text.proofs.TaskLines.{Says, says-task, says-objects, says-arity, says-schema, says-pre, says-add, says-del, says-part, says-init, says-goal, says-end, says-key, May, task-exact}
+use Rattle.text.specs.Text.{Key, end, keyOf, keysAt, Line, taskLine, objectsLine, schemaLine, endLine, arityLine}
+use Rattle.text.specs.Text.{partLine, atomLine, initLine, goalLine, writeLine, taskLines, write, Phase, atObjects}
+use Rattle.text.specs.Text.{atArity, between, inPre, inAdd, inDel, inInit, inGoal, Draft, TaskTurn, noSchema}
+use Rattle.text.specs.Text.{started, atPhase, withObjects, withArities, withInit, withGoal, addAtom, withParts}
+use Rattle.text.specs.Text.{closeSchema, follows, addFact, takeLine, nextLine, readText}
+use Rattle.text.proofs.Reading.{need-went, need-finished, comes-last, goes-on, read-lines}
+use Rattle.text.proofs.TaskLines.{Says, says-task, says-objects, says-arity, says-schema, says-pre, says-add}
+use Rattle.text.proofs.TaskLines.{says-del, says-part, says-init, says-goal, says-end, says-key, May, task-exact}
 use Rattle.text.proofs.Growing.{lastRole}
 use Rattle.text.proofs.TaskWritten.{draft, LeadsTo, read-written}
-use Rattle.text.proofs.TaskDraft.{header, wholeOf, opened, soFar, taskLines-whole, Empty, Known, Next, next, Allowed, atTask-task, atObjects-objects, atArity-arity, between-schema, between-init, between-goal, between-end, inPre-pre, inPre-add, inPre-del, inPre-part, inAdd-add, inAdd-del, inAdd-part, inDel-del, inDel-part, inInit-init, inInit-goal, inInit-end, inGoal-goal, inGoal-end, allowed}
+use Rattle.text.proofs.TaskDraft.{header, soFar, taskLines-whole, Empty, Known, Next, next, Allowed, atTask-task}
+use Rattle.text.proofs.TaskDraft.{atObjects-objects, atArity-arity, between-schema, between-init, between-goal}
+use Rattle.text.proofs.TaskDraft.{between-end, inPre-pre, inPre-add, inPre-del, inPre-part, inAdd-add, inAdd-del}
+use Rattle.text.proofs.TaskDraft.{inAdd-part, inDel-del, inDel-part, inInit-init, inInit-goal, inInit-end}
+use Rattle.text.proofs.TaskDraft.{inGoal-goal, inGoal-end, allowed}
 use Rattle.text.proofs.TaskGrows.{init-next, goal-next, atom-next, part-next}
 
 -- ---- lines that reading goes on behind
@@ -95,8 +105,8 @@ line-next t c between-schema (says-schema {n = n} s) g e h =
       };
       stands = refl;
     })
-line-next t c between-init (says-init {e = a} s) g e h = init-next t a e (g .tests) (g .no-goal) h
-line-next t c between-goal (says-goal {e = a} s) g e h = goal-next t a e (g .tests) h
+line-next t c between-init (says-init {e = a} s) g e h = init-next t (g .tests) (g .no-goal) a e h
+line-next t c between-goal (says-goal {e = a} s) g e h = goal-next t (g .tests) a e h
 line-next t c between-end (says-end {n = n} s) g e h = absurd (end-stops n t e h)
 line-next t c inPre-pre (says-pre {e = a} s) g e h = atom-next inPre t c 0 0 (omega arith) (omega arith) a e g h
 line-next t c inPre-add (says-add {e = a} s) g e h = atom-next inPre t c 0 1 (omega arith) (omega arith) a e g h
@@ -107,10 +117,10 @@ line-next t c inAdd-del (says-del {e = a} s) g e h = atom-next inAdd t c 1 2 (om
 line-next t c inAdd-part (says-part {ns = ps} s) g e h = part-next inAdd t c 1 ps e g h
 line-next t c inDel-del (says-del {e = a} s) g e h = atom-next inDel t c 2 2 (omega arith) (omega arith) a e g h
 line-next t c inDel-part (says-part {ns = ps} s) g e h = part-next inDel t c 2 ps e g h
-line-next t c inInit-init (says-init {e = a} s) g e h = init-next t a e (g .0) (g .1) h
-line-next t c inInit-goal (says-goal {e = a} s) g e h = goal-next t a e (g .0) h
+line-next t c inInit-init (says-init {e = a} s) g e h = init-next t (g .0) (g .1) a e h
+line-next t c inInit-goal (says-goal {e = a} s) g e h = goal-next t (g .0) a e h
 line-next t c inInit-end (says-end {n = n} s) g e h = absurd (end-stops n t e h)
-line-next t c inGoal-goal (says-goal {e = a} s) g e h = goal-next t a e g h
+line-next t c inGoal-goal (says-goal {e = a} s) g e h = goal-next t g a e h
 line-next t c inGoal-end (says-end {n = n} s) g e h = absurd (end-stops n t e h)
 
 -- ---- the last line
@@ -173,7 +183,8 @@ pub record Found (u : Task) (lines : List Line) : Type 0 where
   pub tests : TaskTests u
   pub are : taskLines u ≡ lines
 
-pub end-found : {p : Phase} (t : Task) (c : Schema) → Allowed p end → Known p t c → Found t (soFar p t c ++ (endLine 1 ∷ []))
+pub end-found : {p : Phase} (t : Task) (c : Schema) → Allowed p end → Known p t c →
+    Found t (soFar p t c ++ (endLine 1 ∷ []))
 unfolding soFar
 end-found t c between-end g = record { tests = g .tests; are = taskLines-whole t }
 end-found t c inInit-end g = record { tests = g .0; are = taskLines-whole t }
@@ -183,15 +194,18 @@ end-found t c inGoal-end g = record { tests = g; are = taskLines-whole t }
 abbrev pub standsFor : Draft → List Line
 standsFor d = soFar (d .phase) (d .task) (d .current)
 
-pub lead-found : {d : Draft} {ls : List Line} {u : Task} → LeadsTo d ls u → Known (d .phase) (d .task) (d .current) → Found u (standsFor d ++ ls)
+pub lead-found : {d : Draft} {ls : List Line} {u : Task} → LeadsTo d ls u → Known (d .phase) (d .task) (d .current) →
+    Found u (standsFor d ++ ls)
 unfolding keyOf
 lead-found {u = u} (comes-last {d = d} {l = l} m h) g = found (m .key) (m .listed) (m .says) (finish-end d l u h)
   where
-    found : (k : Key) → In k (keysAt (d .phase)) → Says k l → (l ≡ endLine 1) × (d .task ≡ u) → Found u (standsFor d ++ (l ∷ []))
+    found : (k : Key) → In k (keysAt (d .phase)) → Says k l → (l ≡ endLine 1) × (d .task ≡ u) →
+        Found u (standsFor d ++ (l ∷ []))
     found k i s (e, q) =
         let is-end : k ≡ end = sym (says-key s) ∙ ap keyOf e in
         let f = end-found (d .task) (d .current) (subst (Allowed (d .phase)) is-end (allowed (d .phase) k i)) g in
-        subst (λ (x : Line). Found u (standsFor d ++ (x ∷ []))) (sym e) (subst (λ (x : Task). Found x (standsFor d ++ (endLine 1 ∷ []))) q f)
+        subst (λ (x : Line). Found u (standsFor d ++ (x ∷ []))) (sym e)
+        (subst (λ (x : Task). Found x (standsFor d ++ (endLine 1 ∷ []))) q f)
 lead-found (goes-on {d = d} {e = e} {l = l} {ls = ls} m h w) g =
     let n = line-next (d .task) (d .current) (allowed (d .phase) (m .key) (m .listed)) (m .says) g e h in
     let f = lead-found w (n .known) in

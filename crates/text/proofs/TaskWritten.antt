@@ -3,25 +3,33 @@
 -- 'whole ≡ done ++ left' says how far reading has come in a list of it.
 use Prim.Native.Nat.{ℕ, zero, suc, _+_, _≤_, _<_}
 use mathlib.Core.Path.{_≡_, refl, sym, _∙_, ap, subst}
-use mathlib.Core.Bool.{true}
+use mathlib.Core.Bool.{Bool, true}
 use mathlib.Core.List.{List, [], _∷_, _++_, map, append-assoc, append-nil}
 use native.Mathlib.Omega.{arith}
 use lib.ListN.{length, length-append, length-map}
 use lib.Dec.{ltb, leb}
-use borrow.Author.Tests.{ltb-true, leb-true, lt-ltb, le-leb, eq-eqb}
+use borrow.Author.Tests.{ltb-true, leb-true, lt-ltb, eq-eqb}
 use Rattle.task.specs.Lists.{all, concatMap, sum}
-use Rattle.task.specs.Task.{Atom, Fact, Schema, Task, argsFit, distinct, rolesAscend, schemaFits, factsFit, ascending, allNamed, noGap, wellFormed, schemaAtoms}
+use Rattle.task.specs.Task.{Atom, Fact, Schema, Task, argsFit, distinct, rolesAscend, schemaFits, factsFit, ascending}
+use Rattle.task.specs.Task.{noGap, wellFormed, schemaAtoms}
 use Rattle.task.proofs.Laws.{and-both, In, here, there, in-right, all-in, sum-append, map-append}
 use Rattle.task.proofs.States.{argsFit-fitting}
-use Rattle.task.proofs.Tests.{hasPart, SchemaTests, schema-tests, fits, fact-tests, TaskTests, task-tests}
+use Rattle.task.proofs.Tests.{SchemaTests, schema-tests, fits, fact-tests, TaskTests, task-tests}
 use Rattle.text.specs.Lines.{Entry}
-use Rattle.text.specs.Reading.{goOn, finish, Reading, read}
-use Rattle.text.specs.Text.{Key, task, objects, arity, schema, pre, add, del, part, init, goal, end, Line, taskLine, objectsLine, schemaLine, endLine, arityLine, partLine, atomLine, initLine, goalLine, writeLine, factEntry, atomEntry, schemaLines, taskLines, write, Phase, atTask, atObjects, atArity, between, inPre, inInit, inGoal, keysAt, rolePhase, Draft, noSchema, started, atPhase, withParts, closeSchema, follows, addAtom, addFact, takeLine, nextLine, readText}
+use Rattle.text.specs.Reading.{goOn, finish, read}
+use Rattle.text.specs.Text.{task, objects, arity, schema, pre, add, del, part, init, goal, end, Line, schemaLine}
+use Rattle.text.specs.Text.{endLine, partLine, atomLine, initLine, goalLine, writeLine, factEntry, atomEntry}
+use Rattle.text.specs.Text.{schemaLines, taskLines, write, Phase, between, inInit, inGoal, keysAt, rolePhase}
+use Rattle.text.specs.Text.{Draft, noSchema, started, withParts, closeSchema, follows, takeLine, nextLine}
+use Rattle.text.specs.Text.{readText}
 use Rattle.text.proofs.NumberLists.{Small, SmallEntry}
 use Rattle.text.proofs.Reading.{need-met, Leads, comes-last, goes-on, lines-read}
-use Rattle.text.proofs.TaskLines.{says-task, says-objects, says-arity, says-schema, says-pre, says-add, says-del, says-part, says-init, says-goal, says-end, May, task-exact}
-use Rattle.text.proofs.Growing.{prefix, room-for, lastRole, lastRole-snoc, snoc-roles, snoc-distinct, snoc-ascending}
-use Rattle.text.proofs.Parts.{bare, partOf, all-map, roles-bare, distinct-bare, named-bare, parts-back, count-below}
+use Rattle.text.proofs.TaskLines.{says-task, says-objects, says-arity, says-schema, says-pre, says-add, says-del}
+use Rattle.text.proofs.TaskLines.{says-part, says-init, says-goal, says-end, May, task-exact}
+use Rattle.text.proofs.Growing.{prefix, room-for, lastRole, lastRole-snoc, snoc-roles, snoc-distinct}
+use Rattle.text.proofs.Growing.{snoc-ascending}
+use Rattle.text.proofs.Parts.{bare, partOf, all-map, roles-bare, distinct-bare, named-bare, parts-back}
+use Rattle.text.proofs.Parts.{count-below}
 
 abbrev pub draft : Phase → Task → Schema → Draft
 draft p t c = record { phase = p; task = t; current = c }
@@ -29,7 +37,8 @@ draft p t c = record { phase = p; task = t; current = c }
 abbrev pub LeadsTo : Draft → List Line → Task → Type 0
 LeadsTo d ls t = Leads takeLine May d ls t
 
-pub append-eq : {A : Type 0} {xs : List A} (ys : List A) (z : A) (zs : List A) → xs ≡ ys ++ (z ∷ zs) → xs ≡ (ys ++ (z ∷ [])) ++ zs
+pub append-eq : {A : Type 0} {xs : List A} (ys : List A) (z : A) (zs : List A) → xs ≡ ys ++ (z ∷ zs) →
+    xs ≡ (ys ++ (z ∷ [])) ++ zs
 append-eq ys z zs e = e ∙ sym (append-assoc ys (z ∷ []) zs)
 
 -- ---- initial and goal atoms
@@ -37,8 +46,8 @@ pub record NextFact (n : ℕ) (ns : List ℕ) (fs : List Fact) (f : Fact) : Type
   pub fit : argsFit ns n (f .pred) (f .args) ≡ true
   pub after : follows fs f ≡ true
 
-pub next-fact : (n : ℕ) (ns : List ℕ) (whole fs : List Fact) (f : Fact) (more : List Fact) → factsFit n ns whole ≡ true →
-    whole ≡ fs ++ (f ∷ more) → NextFact n ns fs f
+pub next-fact : (n : ℕ) (ns : List ℕ) (whole fs : List Fact) (f : Fact) (more : List Fact) →
+    factsFit n ns whole ≡ true → whole ≡ fs ++ (f ∷ more) → NextFact n ns fs f
 next-fact n ns whole fs f more h e =
     let c = fact-tests n ns whole h in
     let upto = prefix (λ xs. ascending xs ≡ true) (λ xs x k. snoc-ascending xs x k .0) (fs ++ (f ∷ [])) more in
@@ -48,7 +57,8 @@ next-fact n ns whole fs f more h e =
     }
 
 -- the numbers of an atom that fits have at most 5 digits
-pub small-entry : (n : ℕ) (ns : List ℕ) (e : Entry) → n ≤ 1000 → length ns ≤ 400 → argsFit ns n (e .head) (e .list) ≡ true → SmallEntry e
+pub small-entry : (n : ℕ) (ns : List ℕ) (e : Entry) → n ≤ 1000 → length ns ≤ 400 →
+    argsFit ns n (e .head) (e .list) ≡ true → SmallEntry e
 small-entry n ns e h k l =
     let c = argsFit-fitting n ns (e .head) (e .list) l in
     (let z = c .known in omega arith, λ x i. let z = c .small x i in omega arith)
@@ -82,12 +92,13 @@ module _ (u : Task) (c : TaskTests u) where
       small-entry (u .objects) (u .arities) (factEntry f) (leb-true (u .objects) 1000 (c .objects))
       (leb-true (length (u .arities)) 400 (c .preds)) (n .fit)
 
-  pub goals-lead : (p : Phase) (s : Schema) (fs gs : List Fact) → u .goal ≡ fs ++ gs → In goal (keysAt p) → In end (keysAt p) →
-      LeadsTo (draft p (toGoals u fs) s) (fromGoals gs) u
+  pub goals-lead : (p : Phase) (s : Schema) (fs gs : List Fact) → u .goal ≡ fs ++ gs → In goal (keysAt p) →
+      In end (keysAt p) → LeadsTo (draft p (toGoals u fs) s) (fromGoals gs) u
   unfolding takeLine factEntry keysAt
   goals-lead p s fs [] e a b =
       let z : fs ≡ u .goal = sym (append-nil fs) ∙ sym e in
-      comes-last (record { key = end; listed = b; says = says-end {n = 1} (omega arith) }) (ap (λ (gs : List Fact). finish (toGoals u gs)) z)
+      comes-last (record { key = end; listed = b; says = says-end {n = 1} (omega arith) })
+      (ap (λ (gs : List Fact). finish (toGoals u gs)) z)
   goals-lead p s fs (f ∷ gs) e a b =
       let n = next-fact (u .objects) (u .arities) (u .goal) fs f gs (c .goal) e in
       goes-on (record { key = goal; listed = a; says = says-goal (fact-small fs f n) })
@@ -95,7 +106,8 @@ module _ (u : Task) (c : TaskTests u) where
       (goals-lead inGoal noSchema (fs ++ (f ∷ [])) gs (append-eq fs f gs e) (here refl) (there (here refl)))
 
   pub inits-lead : (p : Phase) (s : Schema) (fs gs : List Fact) → u .init ≡ fs ++ gs →
-      In init (keysAt p) → In goal (keysAt p) → In end (keysAt p) → LeadsTo (draft p (toInits u fs) s) (fromInits gs (u .goal)) u
+      In init (keysAt p) → In goal (keysAt p) → In end (keysAt p) →
+      LeadsTo (draft p (toInits u fs) s) (fromInits gs (u .goal)) u
   unfolding takeLine factEntry keysAt
   inits-lead p s fs [] e a b d =
       let z : fs ≡ u .init = sym (append-nil fs) ∙ sym e in
@@ -104,10 +116,12 @@ module _ (u : Task) (c : TaskTests u) where
       let n = next-fact (u .objects) (u .arities) (u .init) fs f gs (c .init) e in
       goes-on (record { key = init; listed = a; says = says-init (fact-small fs f n) })
       (need-met 4 (room-for (u .init) fs f gs 500 (c .inits) e) (need-met 5 (n .fit) (need-met 6 (n .after) refl)))
-      (inits-lead inInit noSchema (fs ++ (f ∷ [])) gs (append-eq fs f gs e) (here refl) (there (here refl)) (there (there (here refl))))
+      (inits-lead inInit noSchema (fs ++ (f ∷ [])) gs (append-eq fs f gs e)
+      (here refl) (there (here refl)) (there (there (here refl))))
 
 -- ---- atoms of a schema
-pub role-may : (q r : ℕ) → q ≤ r → r ≤ 2 → (e : Entry) → SmallEntry e → (t : Task) (c : Schema) → May (draft (rolePhase q) t c) (atomLine r e)
+pub role-may : (q r : ℕ) → q ≤ r → r ≤ 2 → (e : Entry) → SmallEntry e → (t : Task) (c : Schema) →
+    May (draft (rolePhase q) t c) (atomLine r e)
 unfolding rolePhase keysAt
 role-may zero zero h k e s t c = record { key = pre; listed = here refl; says = says-pre s }
 role-may zero (suc zero) h k e s t c = record { key = add; listed = there (here refl); says = says-add s }
@@ -139,27 +153,31 @@ inside t n xs = draft (rolePhase (lastRole xs)) t (record { params = n; atoms = 
 abbrev pub atomLines : List Atom → List Line
 atomLines xs = map (λ a. atomLine (a .role) (atomEntry a)) xs
 
-module _ (u t : Task) (n : ℕ) (whole : List Atom) (c : AtomTests t n whole) (few : n ≤ 12) (preds : length (t .arities) ≤ 400)
-    (rest : List Line) (r : LeadsTo (inside t n whole) rest u) where
+module _ (u t : Task) (n : ℕ) (whole : List Atom) (c : AtomTests t n whole) (few : n ≤ 12)
+    (preds : length (t .arities) ≤ 400) (rest : List Line) (r : LeadsTo (inside t n whole) rest u) where
   pub atoms-lead : (xs ys : List Atom) → whole ≡ xs ++ map bare ys → LeadsTo (inside t n xs) (atomLines ys ++ rest) u
   unfolding takeLine atomEntry
   atoms-lead xs [] e = let z : xs ≡ whole = sym (append-nil xs) ∙ sym e in rw z r
   atoms-lead xs (a ∷ ys) e =
       let left = map bare ys in
       let g : whole ≡ (xs ++ (bare a ∷ [])) ++ left = append-eq xs (bare a) left e in
-      let roles = snoc-roles xs (bare a) (prefix (λ xs. rolesAscend xs ≡ true) (λ xs x h. snoc-roles xs x h .front) (xs ++ (bare a ∷ [])) left (rw g at (c .roles))) in
-      let apart = snoc-distinct xs (bare a) (prefix (λ xs. distinct xs ≡ true) (λ xs x h. snoc-distinct xs x h .0) (xs ++ (bare a ∷ [])) left (rw g at (c .apart))) .1 in
+      let upto = xs ++ (bare a ∷ []) in
+      let roles = snoc-roles xs (bare a)
+      (prefix (λ xs. rolesAscend xs ≡ true) (λ xs x h. snoc-roles xs x h .front) upto left (rw g at (c .roles))) in
+      let apart = snoc-distinct xs (bare a)
+      (prefix (λ xs. distinct xs ≡ true) (λ xs x h. snoc-distinct xs x h .0) upto left (rw g at (c .apart))) .1 in
       let fit : argsFit (t .arities) n (a .pred) (a .args) ≡ true =
       all-in (λ a. argsFit (t .arities) n (a .pred) (a .args)) (rw e at (c .fit)) (in-right xs (here refl)) in
       let room : schemaAtoms (t .schemas) + length xs < 1000 =
       let z = c .total in let y = ap length e in omega (arith, length-append xs (bare a ∷ left)) in
       let s : SmallEntry (atomEntry a) = small-entry n (t .arities) (atomEntry a) (omega arith) preds fit in
-      let i = atoms-lead (xs ++ (bare a ∷ [])) ys g in
-      goes-on (role-may (lastRole xs) (a .role) (roles .last) (roles .small) (atomEntry a) s t (record { params = n; atoms = xs }))
+      let now : Schema = record { params = n; atoms = xs } in
+      goes-on (role-may (lastRole xs) (a .role) (roles .last) (roles .small) (atomEntry a) s t now)
       (need-met 4 (room-for whole xs (bare a) left 64 (c .few) e) (need-met 4 (lt-ltb _ 1000 room)
       (need-met 5 fit (need-met 6 apart
-      (ap (λ (q : ℕ). goOn (draft (rolePhase q) t (record { params = n; atoms = xs ++ (bare a ∷ []) }))) (sym (lastRole-snoc xs (bare a))))))))
-      i
+      (ap (λ (q : ℕ). goOn (draft (rolePhase q) t (record { params = n; atoms = xs ++ (bare a ∷ []) })))
+      (sym (lastRole-snoc xs (bare a))))))))
+      (atoms-lead (xs ++ (bare a ∷ [])) ys g)
 
 -- ---- schemas
 pub schemaAtoms-part : (xs : List Schema) (s : Schema) (ys : List Schema) →
@@ -180,64 +198,81 @@ schema-closes u ss s c =
     let m : length ps ≡ length xs = length-map (s .atoms) partOf ∙ sym n in
     let some : leb 1 (length xs) ≡ true = rw n (c .some-atom) in
     let back : withParts xs ps ≡ s .atoms = parts-back (s .atoms) in
+    let closed : List Atom → Schema = λ x. record { params = s .params; atoms = x } in
     need-met 7 some (need-met 7 (named-bare (s .params) (s .atoms) ∙ c .used)
     (need-met 8 (eq-eqb (length ps) (length xs) m) (need-met 8 (count-below 16 (s .atoms) (c .parts))
     (need-met 8 (ap noGap back ∙ c .filled)
-    (ap (λ (x : List Atom). goOn (draft between (toSchemas u (ss ++ ((record { params = s .params; atoms = x }) ∷ []))) noSchema)) back)))))
+    (ap (λ (x : List Atom). goOn (draft between (toSchemas u (ss ++ (closed x ∷ []))) noSchema)) back)))))
 
 abbrev pub fromSchemas : Task → List Schema → List Line
 fromSchemas u ss = concatMap schemaLines ss ++ fromInits (u .init) (u .goal)
 
 module _ (u : Task) (c : TaskTests u) where
-  pub schema-leads : (ss : List Schema) (s : Schema) (left : List Schema) → u .schemas ≡ ss ++ (s ∷ left) → (rest : List Line) →
-      LeadsTo (draft between (toSchemas u (ss ++ (s ∷ []))) noSchema) rest u →
+  -- a schema's tests, of its atoms while they have no parts
+  pub schema-tested : (ss : List Schema) (s : Schema) (left : List Schema) → u .schemas ≡ ss ++ (s ∷ left) →
+      SchemaTests (u .arities) s
+  schema-tested ss s left e =
+      schema-tests (u .arities) s (all-in (schemaFits (u .arities)) (rw e at (c .fit)) (in-right ss (here refl)))
+
+  pub bare-tested : (ss : List Schema) (s : Schema) (left : List Schema) → u .schemas ≡ ss ++ (s ∷ left) →
+      AtomTests (toSchemas u ss) (s .params) (map bare (s .atoms))
+  bare-tested ss s left e =
+      let q = schema-tested ss s left e in
+      let n : length (map bare (s .atoms)) ≡ length (s .atoms) = length-map (s .atoms) bare in
+      let fit : Atom → Bool = λ a. argsFit (u .arities) (s .params) (a .pred) (a .args) in
+      let all-atoms = leb-true (schemaAtoms (u .schemas)) 1000 (c .atoms) in
+      let are = ap (λ (x : List Schema). schemaAtoms x) e in
+      record {
+        few = rw n (q .few);
+        total = omega (arith, schemaAtoms-part ss s left);
+        roles = roles-bare (s .atoms) ∙ q .roles;
+        fit = all-map fit bare (s .atoms) ∙ q .fit;
+        apart = distinct-bare (s .atoms) ∙ q .apart;
+      }
+
+  pub schema-leads : (ss : List Schema) (s : Schema) (left : List Schema) → u .schemas ≡ ss ++ (s ∷ left) →
+      (rest : List Line) → LeadsTo (draft between (toSchemas u (ss ++ (s ∷ []))) noSchema) rest u →
       (z : Schema) → LeadsTo (draft between (toSchemas u ss) z) (schemaLines s ++ rest) u
   unfolding takeLine schemaLines keysAt rolePhase lastRole
   schema-leads ss s left e rest r z =
-      let q : SchemaTests (u .arities) s = schema-tests (u .arities) s (all-in (schemaFits (u .arities)) (rw e at (c .fit)) (in-right ss (here refl))) in
+      let q = schema-tested ss s left e in
       let t : Task = toSchemas u ss in
       let xs : List Atom = map bare (s .atoms) in
       let ps : List ℕ = map partOf (s .atoms) in
-      let small : Small ps = λ x i. let m = ltb-true x 16 (all-in (λ p. ltb p 16) (count-below 16 (s .atoms) (q .parts)) i) in omega arith in
+      let low = count-below 16 (s .atoms) (q .parts) in
+      let small : Small ps = λ x i. let m = ltb-true x 16 (all-in (λ p. ltb p 16) low i) in omega arith in
       let few = leb-true (s .params) 12 (q .params) in
-      let n : length xs ≡ length (s .atoms) = length-map (s .atoms) bare in
-      let total : schemaAtoms ss + length xs ≤ 1000 =
-      let a = leb-true (schemaAtoms (u .schemas)) 1000 (c .atoms) in
-      let b = ap (λ (x : List Schema). schemaAtoms x) e in
-      omega (arith, schemaAtoms-part ss s left) in
-      let tests : AtomTests t (s .params) xs = record {
-        few = rw n (q .few);
-        total = total;
-        roles = roles-bare (s .atoms) ∙ q .roles;
-        fit = all-map (λ a. argsFit (u .arities) (s .params) (a .pred) (a .args)) bare (s .atoms) ∙ q .fit;
-        apart = distinct-bare (s .atoms) ∙ q .apart;
-      } in
+      let preds = leb-true (length (u .arities)) 400 (c .preds) in
+      let room = and-both _ _ (room-for (u .schemas) ss s left 200 (c .schemas) e) (q .params) in
       let closing : LeadsTo (inside t (s .params) xs) (partLine ps ∷ rest) u =
-      goes-on (record { key = part; listed = part-listed (lastRole xs); says = says-part small }) (schema-closes u ss s q) r in
-      let atoms : LeadsTo (inside t (s .params) []) (atomLines (s .atoms) ++ (partLine ps ∷ rest)) u =
-      atoms-lead u t (s .params) xs tests few (leb-true (length (u .arities)) 400 (c .preds)) (partLine ps ∷ rest) closing [] (s .atoms) refl in
-      let whole : LeadsTo (draft between t z) (schemaLine (s .params) ∷ (atomLines (s .atoms) ++ (partLine ps ∷ rest))) u =
-      goes-on (record { key = schema; listed = here refl; says = says-schema {n = s .params} (omega arith) })
-      (need-met 4 (and-both _ _ (room-for (u .schemas) ss s left 200 (c .schemas) e) (q .params)) refl) atoms in
+      goes-on (record { key = part; listed = part-listed (lastRole xs); says = says-part small })
+      (schema-closes u ss s q) r in
       subst (λ (ls : List Line). LeadsTo (draft between t z) (schemaLine (s .params) ∷ ls) u)
-      (sym (append-assoc (atomLines (s .atoms)) (partLine ps ∷ []) rest)) whole
+      (sym (append-assoc (atomLines (s .atoms)) (partLine ps ∷ []) rest))
+      (goes-on (record { key = schema; listed = here refl; says = says-schema {n = s .params} (omega arith) })
+      (need-met 4 room refl)
+      (atoms-lead u t (s .params) xs (bare-tested ss s left e) few preds (partLine ps ∷ rest) closing
+      [] (s .atoms) refl))
 
   pub schemas-lead : (ss left : List Schema) → u .schemas ≡ ss ++ left → (z : Schema) →
       LeadsTo (draft between (toSchemas u ss) z) (fromSchemas u left) u
   unfolding concatMap keysAt
   schemas-lead ss [] e z =
       let q : ss ≡ u .schemas = sym (append-nil ss) ∙ sym e in
-      rw q (inits-lead u c between z [] (u .init) refl (there (here refl)) (there (there (here refl))) (there (there (there (here refl)))))
+      rw q (inits-lead u c between z [] (u .init) refl
+      (there (here refl)) (there (there (here refl))) (there (there (there (here refl)))))
   schemas-lead ss (s ∷ left) e z =
       subst (λ (ls : List Line). LeadsTo (draft between (toSchemas u ss) z) ls u)
       (sym (append-assoc (schemaLines s) (concatMap schemaLines left) (fromInits (u .init) (u .goal))))
-      (schema-leads ss s left e (fromSchemas u left) (schemas-lead (ss ++ (s ∷ [])) left (append-eq ss s left e) noSchema) z)
+      (schema-leads ss s left e (fromSchemas u left)
+      (schemas-lead (ss ++ (s ∷ [])) left (append-eq ss s left e) noSchema) z)
 
   pub task-leads : LeadsTo started (taskLines u) u
   unfolding taskLines started takeLine keysAt
   task-leads =
       let few = leb-true (u .objects) 1000 (c .objects) in
-      let small : Small (u .arities) = λ x i. let m = leb-true x 4 (all-in (λ n. leb n 4) (c .arities) i) in omega arith in
+      let small : Small (u .arities) =
+      λ x i. let m = leb-true x 4 (all-in (λ n. leb n 4) (c .arities) i) in omega arith in
       let some = leb-true 1 (length (u .arities)) (c .some-pred) in
       goes-on (record { key = task; listed = here refl; says = says-task {n = 1} (omega arith) }) refl
       (goes-on (record { key = objects; listed = here refl; says = says-objects {n = u .objects} (omega arith) })

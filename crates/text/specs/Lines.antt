@@ -1,4 +1,5 @@
 -- 'Text form', the lines: how a line is written, and how one is read off the front of the bytes that remain.
+-- "Each line is a key, =, a body and byte 10"; a body is a number, a list of numbers, or an atom.
 use Prim.Native.Nat.{ℕ, zero, suc, _+_, _-_, _*_, _/_, _%_}
 use Prim.Native.Char.{code}
 use Prim.Native.String.{String, [] as noText, _∷_ as _then_}
@@ -134,7 +135,8 @@ unfoldable pub numbersWithin : ℕ → Reader (List ℕ)
 unfolding number andThen
 numbersWithin zero bs = none
 numbersWithin (suc turns) bs =
-    andThen (number bs) (λ n. elim (n .rest) [
+    andThen (number bs) (λ n.
+    elim (n .rest) [
       | [] ↦ taken (n .value ∷ []) []
       | c ∷ cs ↦ elim (eqb c comma) [
         | true ↦ andThen (numbersWithin turns cs) (λ ns. taken (n .value ∷ ns .value) (ns .rest))
@@ -156,13 +158,18 @@ listing (b ∷ bs) = elim (eqb b newline) [ true ↦ taken [] (b ∷ bs) | false
 unfoldable pub entry : Reader Entry
 unfolding number after listing andThen
 entry bs =
-    andThen (number bs) (λ p. andThen (after (colon ∷ []) (p .rest)) (λ rest. andThen (listing rest)
-    (λ xs. taken (record { head = p .value; list = xs .value }) (xs .rest))))
+    andThen (number bs) (λ p.
+    andThen (after (colon ∷ []) (p .rest)) (λ rest.
+    andThen (listing rest) (λ xs.
+    taken (record { head = p .value; list = xs .value }) (xs .rest))))
 
 -- a body, and the byte 10 behind it; what was read of the body is made into what the line says
 unfoldable pub ended : {A L : Type 0} → (A → L) → Option (Taken A) → Option (Taken L)
 unfolding after andThen
-ended says body = andThen body (λ a. andThen (after (newline ∷ []) (a .rest)) (λ rest. taken (says (a .value)) rest))
+ended says body =
+    andThen body (λ a.
+    andThen (after (newline ∷ []) (a .rest)) (λ rest.
+    taken (says (a .value)) rest))
 
 -- a whole line of one key; `body` reads what stands behind its =
 unfoldable pub readKey : {L : Type 0} → String → Reader L → Reader L

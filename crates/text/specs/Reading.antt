@@ -40,8 +40,9 @@ unfolding turnAt
 lineAt n takes none next = refusedAt 3 n
 lineAt n takes (some l) next = turnAt n (takes (l .value)) (l .rest) next
 
--- reading on from line n, where `line` reads the line that comes next and `takes` says what it does to the draft;
--- a line has a byte at least, so one turn more than there are bytes is enough
+-- "The reader moves through the file by a cursor of byte offset and line": what remains behind the offset, and line n.
+-- `line` reads the line that comes next, and `takes` says what it does to the draft; a line has a byte at least, so
+-- one turn more than there are bytes is enough
 module _ {L D R : Type 0} (line : D → Reader L) (takes : D → L → Turn D R) where
   unfoldable pub readWithin : ℕ → ℕ → D → List ℕ → Reading R
   unfolding lineAt

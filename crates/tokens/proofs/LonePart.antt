@@ -17,7 +17,7 @@ use Rattle.tokens.specs.Split.{has, paramsOf, firstPosition, parts, proc
 use Rattle.tokens.specs.Split.{lone, laterHere, pars, splitSchema}
 use Rattle.task.proofs.Laws.{In, in-getD, filter-in, upTo-in, length-upTo}
 use Rattle.task.proofs.Tables.{filter-all, filter-none}
-use Rattle.arcs.proofs.Laws.{part-small}
+use Rattle.arcs.proofs.OrderTaken.{part-small}
 use Rattle.tokens.proofs.Lists.{map-keeps}
 use Rattle.tokens.proofs.Places.{atom-has}
 use Rattle.tokens.proofs.RoleAtoms.{renumber, atomsHere, parAtom, here-atom}

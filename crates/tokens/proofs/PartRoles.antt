@@ -18,7 +18,8 @@ use Rattle.tokens.specs.Split.{splitTask}
 use Rattle.task.proofs.Laws.{and-right, In, here, there, in-empty, in-getD, map-in, upTo-in}
 use Rattle.task.proofs.Tests.{SchemaTests, schema-tests}
 use Rattle.task.proofs.States.{Fitting, SchemaFits, schemaFits-fits}
-use Rattle.arcs.proofs.Laws.{OrderOf, complies-apart, Once, once-upFrom, once-filter}
+use Rattle.arcs.proofs.PartLists.{Once, once-upFrom, once-filter}
+use Rattle.arcs.proofs.OrderTaken.{OrderOf}
 use Rattle.tokens.proofs.Places.{index-small, getD-index, atom-has, in-params, params-in, At, first-at}
 use Rattle.tokens.proofs.Places.{last-at}
 use Rattle.tokens.proofs.AtomLists.{SameAtom, Apart, apart-cons, distinct-apart, apart-append, apart-filter}
@@ -72,7 +73,7 @@ module _ (t : Task) (s : ℕ) (o : List ℕ) (j : ℕ) (P : PartOf t s o j) wher
   two-positions : (x i k : ℕ) → x < old .params → At old o x i → At old o x k → i < k → x < parCount t
   two-positions x i k l a b h =
       par-exists t s x (getD o k 0) (getD o i 0) (P .known) l (placed k (b .inside)) (placed i (a .inside))
-      (complies-apart (P .order .complies) i k h (b .inside)) (b .found) (a .found)
+      (P .order .once i k h (b .inside)) (b .found) (a .found)
     where
       placed : (i : ℕ) → i < length o → getD o i 0 < parts old
       placed i l = upTo-in (parts old) (getD o i 0) (P .order .from (getD o i 0) (in-getD o i 0 l))

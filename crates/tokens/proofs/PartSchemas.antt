@@ -20,7 +20,7 @@ use Rattle.tokens.specs.Split.{laterHere, splitSchema, splitTask}
 use Rattle.task.proofs.Laws.{In, in-empty, in-append, in-all, in-any, in-eq, in-getD, in-map, upTo-in, length-upTo}
 use Rattle.task.proofs.Tests.{tests-schema, hasPart}
 use Rattle.task.proofs.States.{Fitting, fitting-argsFit, in-names}
-use Rattle.arcs.proofs.Laws.{filter-le}
+use Rattle.arcs.proofs.PartLists.{filter-le}
 use Rattle.tokens.proofs.Places.{index-getD, has-atom, in-params}
 use Rattle.tokens.proofs.AtomLists.{Apart, apart-distinct, apart-append, roles-append, role-small, one-part}
 use Rattle.tokens.proofs.RoleAtoms.{renumber, an-old, the-token, to-role, part-is, preAtoms, addAtoms}

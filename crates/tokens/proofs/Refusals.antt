@@ -12,7 +12,7 @@ use Rattle.task.specs.Lists.{head, first, filter, keepIf, upTo, upFrom}
 use Rattle.task.specs.Task.{Task}
 use Rattle.task.specs.Run.{schemaAt}
 use Rattle.arcs.specs.Order.{orderOf}
-use Rattle.arcs.proofs.Laws.{some-inj, no-none}
+use Rattle.arcs.proofs.PartLists.{some-inj, no-none}
 use Rattle.tokens.specs.Split.{orderAt, orEmpty, orders, splitTask, circular, tooLarge, splitAs, isNone}
 use Rattle.tokens.specs.Split.{withinLimits, settle, split}
 use Rattle.task.proofs.Laws.{no-tf, no-ft}

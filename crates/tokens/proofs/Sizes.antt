@@ -15,7 +15,7 @@ use Rattle.tokens.specs.Split.{parts, token, own, oldAtoms, required, ha
 use Rattle.tokens.specs.Split.{laterHere, pars, orders, free, splitSchema, splitTask}
 use Rattle.task.proofs.Laws.{In, here, there, map-same, length-concatMap, length-upTo, upTo-in}
 use Rattle.task.proofs.Tests.{schema-tests}
-use Rattle.arcs.proofs.Laws.{orderOf-laws}
+use Rattle.arcs.proofs.OrderTaken.{orderOf-laws}
 use Rattle.tokens.proofs.Accepted.{Ordered}
 use Rattle.tokens.proofs.AtomLists.{role-small}
 use Rattle.tokens.proofs.RoleAtoms.{renumber, atomsHere, parAtom, roleAtoms, preAtoms, addAtoms, delAtoms}

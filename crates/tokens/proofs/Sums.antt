@@ -12,7 +12,7 @@ use borrow.Author.Tests.{eqb-true, eq-eqb, ne-eqb}
 use Rattle.task.specs.Lists.{filter, keepIf, sum, concatMap, upTo, upFrom}
 use Rattle.task.proofs.Laws.{bool-ext, In, here, there, in-eq, getD-in, map-append, map-same, sum-append}
 use Rattle.task.proofs.Tables.{tabulate}
-use Rattle.arcs.proofs.Laws.{Once, once-nil, once-cons}
+use Rattle.arcs.proofs.PartLists.{Once, once-nil, once-cons}
 use Rattle.tokens.proofs.Lists.{map-map}
 
 -- 1 for a test that is met

@@ -17,8 +17,8 @@ use Rattle.tokens.specs.Split.{has, paramsOf, positions, firstPosition, 
 use Rattle.tokens.specs.Split.{firstHere, lastHere, laterHere, orders, splitTask}
 use Rattle.task.proofs.Laws.{In, here, there, in-eq, in-upTo, upTo-in, length-upTo}
 use Rattle.task.proofs.Tables.{filter-all, filter-none}
-use Rattle.arcs.proofs.Laws.{OrderOf, orderOf-laws, complies-apart, part-small, Once, once-cons, once-upFrom}
-use Rattle.arcs.proofs.Laws.{once-filter}
+use Rattle.arcs.proofs.PartLists.{Once, once-cons, once-upFrom, once-filter}
+use Rattle.arcs.proofs.OrderTaken.{OrderOf, orderOf-laws, part-small}
 use Rattle.tokens.proofs.Places.{last-in, first-least, last-most}
 use Rattle.tokens.proofs.Sums.{one, total, total-same, total-add, total-one, length-filter, filter-filter}
 use Rattle.tokens.proofs.Sums.{exchange, by-place, once-apart, eqb-turn, pick-one, reorder}
@@ -104,7 +104,7 @@ module _ (t : Task) (s : ℕ) (o : List ℕ)
   old = schemaAt t s
 
   order-once : Once o
-  order-once = once-apart o (complies-apart (order .complies))
+  order-once = once-apart o (order .once)
 
   -- a sum over the order is one over the parts
   over-parts : (f : ℕ → ℕ) → total (λ j. f (getD o j 0)) (upTo (length o)) ≡ total f (upTo (parts old))

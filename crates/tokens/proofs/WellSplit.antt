@@ -21,7 +21,7 @@ use Rattle.task.proofs.Laws.{and-both, bool-ext, every-at, met-none, met-more, 
 use Rattle.task.proofs.Laws.{in-append, all-in, in-all, map-in, in-getD, upTo-in}
 use Rattle.task.proofs.Tests.{TaskTests, task-tests, tests-task, schema-tests}
 use Rattle.task.proofs.States.{asc-snoc, asc-ascending, Fitting, fitting-argsFit, State, factsFit-state, less-pred}
-use Rattle.arcs.proofs.Laws.{orderOf-laws}
+use Rattle.arcs.proofs.OrderTaken.{orderOf-laws}
 use Rattle.tokens.proofs.Lists.{concatMap-in, replicate-in}
 use Rattle.tokens.proofs.Accepted.{Ordered, split-is, split-within, split-orders}
 use Rattle.tokens.proofs.Predicates.{predicate-count, old-arity, bare-arity}

@@ -1,0 +1,152 @@
+-- The choice among ready parts, tried from the highest number down. A part is ready where its set and the unplaced
+-- parts have no number in common; the candidates from a number on grow at the front, as `best` takes them.
+use Prim.Native.Nat.{ℕ, suc, _-_, _^_, _≤_, _<_}
+use mathlib.Core.Path.{_≡_, refl, sym, _∙_, ap}
+use mathlib.Core.Bool.{Bool, true, false, not, _&&_}
+use mathlib.Core.List.{List, [], _∷_}
+use mathlib.Core.Option.{Option, none, some}
+use native.Mathlib.Omega.{arith}
+use native.Mathlib.Decide.{decLt}
+use lib.ListN.{getD}
+use borrow.Author.Tests.{lt-ltb, le-ltb}
+use Rattle.task.specs.Lists.{any, filter, keepIf, upFrom, upTo}
+use Rattle.task.specs.Task.{Atom}
+use Rattle.task.proofs.Laws.{and-left, and-right, and-both, bool-ext, both-ft}
+use Rattle.task.proofs.Laws.{any-in, in-any, in-filter, filter-in, in-upTo}
+use Rattle.arcs.specs.Order.{arc, preconditions, ready, better, best}
+use Rattle.arcs.specs.Code.{AreArcs, AreCounts, SetBelow, member, members}
+use Rattle.arcs.proofs.BitSets.{member-beyond}
+
+-- ---- readiness by sets
+member-small : (set k : ℕ) → set < 2 ^ 64 → member set k ≡ true → k < 64
+member-small set k f h = elim (decLt k 64) [
+  | yes l ↦ l
+  | no l ↦ absurd (both-ft h (member-beyond set 64 k f (omega arith)))
+]
+
+-- an unplaced part has an arc to p where its set and the unplaced parts have a number in common
+pub ready-apart : (atoms : List Atom) (before : List ℕ) (unplaced n p : ℕ) → unplaced < 2 ^ 64 →
+    AreArcs atoms before → SetBelow n unplaced →
+    not (any (λ k. member (getD before p 0) k && member unplaced k) (upTo 64)) ≡ ready atoms (members unplaced n) p
+unfolding ready members
+ready-apart atoms before unplaced n p f a b =
+    ap not (bool-ext (any common (upTo 64)) (any arcs (members unplaced n)) to from)
+  where
+    common : ℕ → Bool
+    common k = member (getD before p 0) k && member unplaced k
+
+    arcs : ℕ → Bool
+    arcs k = arc atoms k p
+
+    to : any common (upTo 64) ≡ true → any arcs (members unplaced n) ≡ true
+    to h =
+        let (k, i, e) = any-in common (upTo 64) h in
+        let m = and-right (member (getD before p 0) k) (member unplaced k) e in
+        in-any arcs (in-filter (member unplaced) (in-upTo n k (b k m)) m)
+        (sym (a k p) ∙ and-left (member (getD before p 0) k) (member unplaced k) e)
+
+    from : any arcs (members unplaced n) ≡ true → any common (upTo 64) ≡ true
+    from h =
+        let (k, i, e) = any-in arcs (members unplaced n) h in
+        let m = filter-in (member unplaced) (upTo n) k i .1 in
+        in-any common (in-upTo 64 k (member-small unplaced k f m)) (and-both _ _ (a k p ∙ e) m)
+
+-- ---- candidates
+-- the numbers from k to n - 1 that are in a set and pass a test
+abbrev candidates : ℕ → (ℕ → Bool) → ℕ → ℕ → List ℕ
+candidates set test n k = filter test (filter (member set) (upFrom k (n - k)))
+
+module _ (set : ℕ) (test : ℕ → Bool) (n : ℕ) where
+  candidates-none : candidates set test n n ≡ []
+  unfolding filter upFrom
+  candidates-none =
+      let z : n - n ≡ 0 = omega arith in
+      ap (λ (m : ℕ). filter test (filter (member set) (upFrom n m))) z
+
+  candidates-all : candidates set test n 0 ≡ filter test (members set n)
+  unfolding members upTo
+  candidates-all =
+      let z : n - 0 ≡ n = omega arith in
+      ap (λ (m : ℕ). filter test (filter (member set) (upFrom 0 m))) z
+
+  module _ (p : ℕ) (z : 0 < p) (l : p ≤ n) where
+    numbers : upFrom (p - 1) (n - (p - 1)) ≡ (p - 1) ∷ upFrom p (n - p)
+    unfolding upFrom
+    numbers =
+        let e : n - (p - 1) ≡ suc (n - p) = omega arith in
+        let s : suc (p - 1) ≡ p = omega arith in
+        ap (upFrom (p - 1)) e ∙ ap (λ (m : ℕ). (p - 1) ∷ upFrom m (n - p)) s
+
+    candidates-skip : member set (p - 1) && test (p - 1) ≡ false →
+        candidates set test n (p - 1) ≡ candidates set test n p
+    unfolding filter keepIf
+    candidates-skip h =
+        ap (λ (ks : List ℕ). filter test (filter (member set) ks)) numbers
+        ∙ go (member set (p - 1)) (test (p - 1)) refl h
+      where
+        go : (a b : Bool) → test (p - 1) ≡ b → a && b ≡ false →
+            filter test (keepIf a (p - 1) (filter (member set) (upFrom p (n - p)))) ≡ candidates set test n p
+        go true true e h = absurd (both-ft refl h)
+        go true false e h = rw e refl
+        go false b e h = refl
+
+    candidates-take : member set (p - 1) && test (p - 1) ≡ true →
+        candidates set test n (p - 1) ≡ (p - 1) ∷ candidates set test n p
+    unfolding filter keepIf
+    candidates-take h =
+        ap (λ (ks : List ℕ). filter test (filter (member set) ks)) numbers
+        ∙ rw (and-left (member set (p - 1)) (test (p - 1)) h, and-right (member set (p - 1)) (test (p - 1)) h) refl
+
+-- ---- the better of a part and what was found
+module _ (atoms : List Atom) (p : ℕ) {found : Option ℕ} where
+  pub better-first : found ≡ none → some p ≡ better atoms p found
+  unfolding better
+  better-first e = rw e refl
+
+  pub better-keeps : (q : ℕ) → found ≡ some q → preconditions atoms p < preconditions atoms q →
+      some q ≡ better atoms p found
+  unfolding better
+  better-keeps q e l = rw (e, lt-ltb (preconditions atoms p) (preconditions atoms q) l) refl
+
+  pub better-takes : (q : ℕ) → found ≡ some q → preconditions atoms q ≤ preconditions atoms p →
+      some p ≡ better atoms p found
+  unfolding better
+  better-takes q e l = rw (e, le-ltb (preconditions atoms p) (preconditions atoms q) l) refl
+
+pub only-below : (n p : ℕ) → p < n → (q : ℕ) → some p ≡ some q → q < n
+only-below n p l q e = let z : p ≡ q = cc in omega arith
+
+-- ---- what is found among the parts from a number on
+module _ (before counts : List ℕ) (unplaced n : ℕ) where
+  abbrev isReady : List Atom → ℕ → Bool
+  isReady atoms = ready atoms (members unplaced n)
+
+  -- the best of the candidates from p on
+  abbrev pub FoundFrom : ℕ → Option ℕ → Type 0
+  FoundFrom p found = (atoms : List Atom) → AreArcs atoms before → AreCounts atoms counts →
+      found ≡ best atoms (candidates unplaced (isReady atoms) n p)
+
+  -- whether p is unplaced and ready
+  abbrev Passes : ℕ → Bool → Type 0
+  Passes p b = (atoms : List Atom) → AreArcs atoms before → member unplaced p && isReady atoms p ≡ b
+
+  pub found-none : FoundFrom n none
+  unfolding best
+  found-none atoms a k = sym (ap (best atoms) (candidates-none unplaced (isReady atoms) n))
+
+  pub found-skip : (p : ℕ) (found : Option ℕ) → 0 < p → p ≤ n → Passes (p - 1) false →
+      FoundFrom p found → FoundFrom (p - 1) found
+  found-skip p found z l t h atoms a k =
+      h atoms a k ∙ sym (ap (best atoms) (candidates-skip unplaced (isReady atoms) n p z l (t atoms a)))
+
+  pub found-take : (p : ℕ) (found r : Option ℕ) → 0 < p → p ≤ n → Passes (p - 1) true → FoundFrom p found →
+      ((atoms : List Atom) → AreCounts atoms counts → r ≡ better atoms (p - 1) found) → FoundFrom (p - 1) r
+  unfolding best
+  found-take p found r z l t h e atoms a k =
+      e atoms k
+      ∙ (ap (better atoms (p - 1)) (h atoms a k)
+      ∙ sym (ap (best atoms) (candidates-take unplaced (isReady atoms) n p z l (t atoms a))))
+
+  pub found-all : (found : Option ℕ) → FoundFrom 0 found → (atoms : List Atom) → AreArcs atoms before →
+      AreCounts atoms counts → found ≡ best atoms (filter (ready atoms (members unplaced n)) (members unplaced n))
+  found-all found h atoms a k = h atoms a k ∙ ap (best atoms) (candidates-all unplaced (isReady atoms) n)

@@ -1,0 +1,114 @@
+-- Stretches of a table's schema atoms: where their words lie, their parts, and how a stretch grows by an atom.
+-- A schema's atoms are such a stretch.
+use Prim.Native.Nat.{ℕ, zero, suc, _+_, _-_, _≤_, _<_}
+use mathlib.Core.Path.{_≡_, refl, sym, _∙_, ap}
+use mathlib.Core.Bool.{true}
+use mathlib.Core.List.{List, [], _∷_, _++_, map}
+use native.Mathlib.Omega.{arith}
+use lib.ListN.{length, getD, take, replicate, length-map}
+use lib.Seq.{ext-getD}
+use borrow.Author.Tests.{leb-true}
+use Rattle.task.specs.Lists.{sum, upFrom}
+use Rattle.task.specs.Task.{Atom, partCount, schemaFits}
+use Rattle.task.specs.Run.{schemaAt}
+use Rattle.task.specs.Table.{atomBase, atomIn, schemaNumberIn, taskOf, isTable}
+use Rattle.task.proofs.Laws.{In, here, there, all-in, in-getD, getD-map, map-append}
+use Rattle.task.proofs.Laws.{upFrom-last, length-upFrom, getD-upFrom}
+use Rattle.task.proofs.Tests.{schema-tests, task-tests}
+use Rattle.task.proofs.Tables.{noAtom, noSchema, counts, startOf, of-table}
+use Rattle.task.proofs.TablesByIndex.{table-frame, table-long, schemas-word, atom-inside, atom-at, atom-lies}
+use Rattle.task.proofs.TablesByIndex.{start-suc, start-end}
+use Rattle.arcs.specs.Code.{IsSchemaAtom, IsStretch, atomsIn}
+
+-- what an array begins with
+pub zeros-at : (n i : ℕ) → _≡_ {A = ℕ} (getD (replicate n 0) i 0) 0
+zeros-at zero i = refl
+zeros-at (suc n) zero = refl
+zeros-at (suc n) (suc i) = zeros-at n i
+
+-- ---- an atom of a table
+-- its eight words lie in the table
+pub atom-words : (w : List ℕ) (i : ℕ) → IsSchemaAtom w i → atomBase w i + 8 ≤ length w
+atom-words w i a =
+    let l = table-long w (a .table) in
+    let h = atom-inside w (table-frame w (a .table)) i (let k = a .known in omega arith) in
+    omega arith
+
+part-in : {atoms : List Atom} {a : Atom} → In a atoms → a .part < partCount atoms
+unfolding partCount
+part-in (here e) = let q = ap (λ a. a .part) e in omega arith
+part-in (there k) = let q = part-in k in omega arith
+
+-- "It has 1 to 16 parts"
+pub part-below : (w : List ℕ) (i : ℕ) → IsSchemaAtom w i → atomIn w i .part < 16
+unfolding schemaAt
+part-below w i a =
+    let t = taskOf w in
+    let fr = table-frame w (a .table) in
+    let s = schemaNumberIn w i in
+    let lies = atom-lies w fr i (a .known) in
+    let k = i - startOf t s in
+    let g = start-suc w fr s (lies .known) in
+    let n = schemas-word w fr in
+    let l : k < length (schemaAt t s .atoms) = omega arith in
+    let e : startOf t s + k ≡ i = omega arith in
+    let q = ap (λ (x : Atom). x .part) (ap (atomIn w) (sym e) ∙ atom-at w fr s k (lies .known) l) in
+    let p = part-in (in-getD (schemaAt t s .atoms) k noAtom l) in
+    let i = in-getD (t .schemas) s noSchema (omega arith) in
+    let f = all-in (schemaFits (t .arities)) (task-tests t (of-table w (a .table) .0) .fit) i in
+    let b = leb-true (partCount (schemaAt t s .atoms)) 16 (schema-tests (t .arities) (schemaAt t s) f .parts) in
+    omega arith
+
+-- ---- stretches
+pub stretch-atom : {w : List ℕ} {from to : ℕ} → IsStretch w from to → (i : ℕ) → i < to → IsSchemaAtom w i
+stretch-atom s i l = record { table = s .table; known = let k = s .known in omega arith }
+
+pub atoms-none : (w : List ℕ) (from : ℕ) → atomsIn w from from ≡ []
+unfolding atomsIn upFrom
+atoms-none w from = ap (λ (n : ℕ). map (atomIn w) (upFrom from n)) (let z : from - from ≡ 0 = omega arith in z)
+
+pub atoms-more : (w : List ℕ) (from i : ℕ) → from ≤ i → atomsIn w from (i + 1) ≡ atomsIn w from i ++ (atomIn w i ∷ [])
+unfolding atomsIn
+atoms-more w from i l =
+    let e : i + 1 - from ≡ suc (i - from) = omega arith in
+    let q : from + (i - from) ≡ i = omega arith in
+    ap (λ (n : ℕ). map (atomIn w) (upFrom from n)) e
+    ∙ (ap (map (atomIn w)) (upFrom-last from (i - from))
+    ∙ (map-append (atomIn w) (upFrom from (i - from)) ((from + (i - from)) ∷ [])
+    ∙ ap (λ (k : ℕ). map (atomIn w) (upFrom from (i - from)) ++ (atomIn w k ∷ [])) q))
+
+-- ---- the stretch of a schema's atoms
+-- what begins later begins no earlier
+starts-ascend : (cs : List ℕ) (m n : ℕ) → m ≤ n → sum (take m cs) ≤ sum (take n cs)
+unfolding sum
+starts-ascend [] zero n h = omega arith
+starts-ascend [] (suc m) zero h = absurd (omega arith)
+starts-ascend [] (suc m) (suc n) h = omega arith
+starts-ascend (c ∷ cs) zero n h = omega arith
+starts-ascend (c ∷ cs) (suc m) zero h = absurd (omega arith)
+starts-ascend (c ∷ cs) (suc m) (suc n) h = let e = starts-ascend cs m n (omega arith) in omega arith
+
+module _ (w : List ℕ) (h : isTable w ≡ true) (s : ℕ) (l : s < getD w 2 0) where
+  pub schema-atoms : schemaAt (taskOf w) s .atoms ≡ atomsIn w (startOf (taskOf w) s) (startOf (taskOf w) (suc s))
+  unfolding atomsIn
+  schema-atoms =
+      let t = taskOf w in
+      let fr = table-frame w h in
+      let g = start-suc w fr s l in
+      let start = startOf t s in
+      let n = startOf t (suc s) - start in
+      let ks = upFrom start n in
+      let m = length-upFrom start n in
+      let k : length (map (atomIn w) ks) ≡ length ks = length-map ks (atomIn w) in
+      ext-getD noAtom (schemaAt t s .atoms) (map (atomIn w) ks) (omega arith) (λ i b.
+      sym (getD-map (atomIn w) ks i 0 noAtom (omega arith)
+      ∙ (ap (atomIn w) (getD-upFrom start n i 0 (omega arith)) ∙ atom-at w fr s i l b)))
+
+  pub schema-stretch : IsStretch w (startOf (taskOf w) s) (startOf (taskOf w) (suc s))
+  schema-stretch =
+      let t = taskOf w in
+      let fr = table-frame w h in
+      let g = start-suc w fr s l in
+      let e = start-end w fr in
+      let m = starts-ascend (counts (t .schemas)) (suc s) (getD w 2 0) l in
+      record { table = h; forward = omega arith; known = omega arith }

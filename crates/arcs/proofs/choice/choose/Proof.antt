@@ -1,0 +1,84 @@
+-- `arcs::choice::choose` meets its contract. The invariant: the choice is the best among the ready parts from p on.
+-- The measure is p.
+use Prim.Native.Nat.{ℕ, _≤_}
+use mathlib.Core.Path.{_≡_, sym, _∙_, subst}
+use native.Mathlib.Omega.{arith}
+use Rattle.arcs.specs.Code.{ChosenBelow, chosen}
+use Rattle.arcs.proofs.Choosing.{FoundFrom, found-none, found-skip, found-take, found-all}
+use Rattle.arcs.proofs.choice.choose.Statement.{statement}
+use Rattle.arcs.proofs.choice.choose.Tie as tie
+
+abbrev Inv-loop : tie.InvT-loop
+Inv-loop before counts unplaced count found₀ p₀ found p =
+    (p ≤ count) × ChosenBelow count found × FoundFrom before counts unplaced count p (chosen found)
+
+abbrev μ-loop : tie.MeasureT-loop
+μ-loop before counts unplaced count found₀ p₀ found p = p
+
+loop-holds : tie.Need-loop-holds Inv-loop μ-loop
+unfolding chosen
+loop-holds c =
+    let a = c .args in (
+      omega arith,
+      λ p e. let z : _≡_ {A = ℕ} 0 1 = cc in omega arith,
+      found-none (a .before .now) (a .counts .now) (a .unplaced) (a .count),
+    )
+
+sub-p : tie.Need-sub-p Inv-loop μ-loop
+sub-p c = omega arith
+
+is-ready-requires : tie.Need-is-ready-requires Inv-loop μ-loop
+is-ready-requires c κs = omega arith
+
+better-of-requires : tie.Need-better-of-requires Inv-loop μ-loop
+better-of-requires c κs = (omega arith, λ p e. let l = c .before .before .before .loop .inv .1 p e in omega arith)
+
+loop-less : tie.Need-loop-less Inv-loop μ-loop
+loop-less c = omega arith
+
+loop-again : tie.Need-loop-again Inv-loop μ-loop
+loop-again c =
+    let turn = c .before .before .before in
+    let h = turn .before .loop in
+    let s = turn .before .before in
+    let a = s .args in
+    let r = c .before .before .is-ready .ensures in
+    let b = c .better-of .ensures in (
+      omega arith,
+      b .1 (a .count) (omega arith) (h .inv .1),
+      found-take (a .before .now) (a .counts .now) (a .unplaced) (a .count) (h .p) (chosen (h .found))
+          (chosen (c .better-of .result)) (turn .loop-test .taken) (h .inv .0)
+          (λ atoms k. sym (r atoms (a .count) k (s .pre .1)) ∙ c .before .if1 .taken) (h .inv .2) (b .0),
+    )
+
+loop-less-2 : tie.Need-loop-less-2 Inv-loop μ-loop
+loop-less-2 c = omega arith
+
+loop-again-2 : tie.Need-loop-again-2 Inv-loop μ-loop
+loop-again-2 c =
+    let turn = c .before .before in
+    let h = turn .before .loop in
+    let s = turn .before .before in
+    let a = s .args in
+    let r = c .before .is-ready .ensures in (
+      omega arith,
+      h .inv .1,
+      found-skip (a .before .now) (a .counts .now) (a .unplaced) (a .count) (h .p) (chosen (h .found))
+          (turn .loop-test .taken) (h .inv .0)
+          (λ atoms k. sym (r atoms (a .count) k (s .pre .1)) ∙ c .if1 .left) (h .inv .2),
+    )
+
+returns : tie.Need-returns Inv-loop μ-loop
+returns c =
+    let a = c .before .before .args in
+    let h = c .before .loop in
+    let found = chosen (h .found) in
+    let Found : ℕ → Type 0 = λ k. FoundFrom (a .before .now) (a .counts .now) (a .unplaced) (a .count) k found in
+    let z : h .p ≡ 0 = omega arith in
+    let all = subst Found z (h .inv .2) in
+    (found-all (a .before .now) (a .counts .now) (a .unplaced) (a .count) found all, h .inv .1)
+
+pub choose-spec : {M : Type 1} → statement M
+choose-spec =
+    tie.close (tie.spec Inv-loop μ-loop loop-holds sub-p is-ready-requires better-of-requires loop-less loop-again
+    loop-less-2 loop-again-2 returns)

@@ -1,0 +1,41 @@
+-- `arcs::choice::is_ready` meets its contract: by the two tests, in the code's order.
+use mathlib.Core.Path.{sym, _∙_, ap}
+use mathlib.Core.Bool.{Bool, not, _&&_}
+use borrow.Author.Needs.{needs}
+use Rattle.arcs.specs.Order.{ready}
+use Rattle.arcs.specs.Code.{members}
+use Rattle.arcs.proofs.Choosing.{ready-apart}
+use Rattle.arcs.proofs.choice.is_ready.Statement.{statement}
+use Rattle.arcs.proofs.choice.is_ready.Tie as tie
+
+has-requires : tie.Need-has-requires
+has-requires c κs = search needs
+
+mul-meet : tie.Need-mul-meet
+mul-meet c = search needs
+
+element-copy-out-meet : tie.Need-element-copy-out-meet
+element-copy-out-meet c = search needs
+
+meet-requires : tie.Need-meet-requires
+meet-requires c κs = search needs
+
+returns : tie.Need-returns
+returns c = λ atoms n a b.
+    let s = c .before .before .before .before in
+    let u = s .args .unplaced in
+    let p = s .args .p in
+    let m = sym (c .before .before .before .has .ensures) ∙ c .before .before .if1 .taken in
+    ap not (c .meet .ensures)
+    ∙ (ready-apart atoms (s .args .before .now) u n p (s .fits .unplaced .fits) a b
+    ∙ ap (λ (x : Bool). x && ready atoms (members u n) p) (sym m))
+
+returns-2 : tie.Need-returns-2
+returns-2 c = λ atoms n a b.
+    let s = c .before .before in
+    let u = s .args .unplaced in
+    let m = sym (c .before .has .ensures) ∙ c .if1 .left in
+    c .if1 .left ∙ ap (λ (x : Bool). x && ready atoms (members u n) (s .args .p)) (sym m)
+
+pub is-ready-spec : {M : Type 1} → statement M
+is-ready-spec = tie.close (tie.spec has-requires mul-meet element-copy-out-meet meet-requires returns returns-2)

@@ -1,0 +1,58 @@
+// The arcs between the parts of a stretch of atoms: for each part, the set of parts that have an arc to it.
+ghost use mathlib.Core.Path.{_≡_};
+ghost use mathlib.Core.List.{[], _∷_};
+ghost use lib.ListN.{length};
+ghost use Rattle.task.specs.Limits.{mostParts};
+ghost use Rattle.task.specs.Table.{atomIn};
+ghost use Rattle.arcs.specs.Code.{AreArcs, IsSchemaAtom, IsStretch, Joins, atomsIn, arcsBetween};
+use crate::MOST_PARTS;
+use crate::PartSets;
+use crate::atoms::gives_arc;
+use crate::atoms::part_of;
+use crate::sets;
+
+// The arc from atom i to atom j joins the sets, if there is one. "Arcs inside a part don't count".
+fn add_pair(table: &[u16], i: usize, j: usize, before: &mut PartSets)
+    requires { ⌜ IsSchemaAtom (now table) i ⌝ }
+    requires { ⌜ IsSchemaAtom (now table) j ⌝ }
+    requires { ⌜ length (now before) ≡ mostParts ⌝ }
+    ensures { λ _. ⌜ length (now (before .exit)) ≡ mostParts ⌝ }
+    ensures { λ _. ⌜ Joins (arcsBetween (atomIn (now (table .entry)) i ∷ []) (atomIn (now (table .entry)) j ∷ []))
+        (now (before .entry)) (now (before .exit)) ⌝ }
+{
+    let p = part_of(table, i).0 as usize;
+    let q = part_of(table, j).0 as usize;
+    if p != q && gives_arc(table, i, j) {
+        before[q] = sets::with(before[q], p);
+    }
+}
+
+// The arcs from atom i join the sets.
+fn add_from(table: &[u16], i: usize, from: usize, to: usize, before: &mut PartSets)
+    requires { ⌜ IsSchemaAtom (now table) i ⌝ }
+    requires { ⌜ IsStretch (now table) from to ⌝ }
+    requires { ⌜ length (now before) ≡ mostParts ⌝ }
+    ensures { λ _. ⌜ length (now (before .exit)) ≡ mostParts ⌝ }
+    ensures { λ _. ⌜ Joins (arcsBetween (atomIn (now (table .entry)) i ∷ []) (atomsIn (now (table .entry)) from to))
+        (now (before .entry)) (now (before .exit)) ⌝ }
+{
+    let mut j = from;
+    while j < to {
+        add_pair(table, i, j, before);
+        j += 1;
+    }
+}
+
+// For each part the set of parts that have an arc to it.
+pub fn arcs_of(table: &[u16], from: usize, to: usize) -> PartSets
+    requires { ⌜ IsStretch (now table) from to ⌝ }
+    ensures { λ r. ⌜ AreArcs (atomsIn (now (table .entry)) from to) r ⌝ }
+{
+    let mut before = [0; MOST_PARTS];
+    let mut i = from;
+    while i < to {
+        add_from(table, i, from, to, &mut before);
+        i += 1;
+    }
+    before
+}

@@ -1,0 +1,95 @@
+-- The tests of a run of atoms, one atom further: what is left of a test at atom i is what atom i says and what is left at
+-- the next. A loop whose invariant is 'the whole test is what is left of it' goes on by `and-more`, ends by `and-fails`.
+use Prim.Native.Nat.{ℕ, suc, _+_, _-_, _≤_, _<_, max}
+use mathlib.Core.Path.{_≡_, refl, sym, _∙_, ap}
+use mathlib.Core.Bool.{Bool, true, false, not, _&&_}
+use mathlib.Core.List.{List, [], _∷_, map}
+use native.Mathlib.Nat.{max-eq-left, max-eq-right}
+use native.Mathlib.Omega.{arith}
+use native.Mathlib.Decide.{decLe}
+use lib.Dec.{leb}
+use Rattle.task.specs.Lists.{any, upFrom}
+use Rattle.task.specs.Task.{Atom, sameAtom, distinct, rolesAscend, partCount, factLess, ascending}
+use Rattle.task.specs.Table.{atomIn, factIn}
+use Rattle.task.specs.WordTests.{atomsIn, factsIn}
+use Rattle.task.proofs.Ranges.{range-step, range-done, any-map}
+
+-- a range of two or more
+two-step : (i e : ℕ) → i + 1 < e → upFrom i (e - i) ≡ i ∷ (i + 1) ∷ upFrom (i + 1 + 1) (e - (i + 1 + 1))
+two-step i e l = range-step i e (omega arith) ∙ ap {B = List ℕ} (λ (is : List ℕ). i ∷ is) (range-step (i + 1) e l)
+
+one-step : (i e : ℕ) → i + 1 ≡ e → upFrom i (e - i) ≡ i ∷ []
+one-step i e l = range-step i e (omega arith) ∙ ap {B = List ℕ} (λ (is : List ℕ). i ∷ is) (range-done (i + 1) e (omega arith))
+
+module _ (w : List ℕ) (i e : ℕ) where
+  abbrev pub rolesLeft : ℕ → Bool
+  rolesLeft k = rolesAscend (atomsIn w k (e - k))
+
+  abbrev pub ascendLeft : ℕ → Bool
+  ascendLeft k = ascending (factsIn w k (e - k))
+
+  abbrev pub distinctLeft : ℕ → Bool
+  distinctLeft k = distinct (atomsIn w k (e - k))
+
+  abbrev pub again : Bool
+  again = any (λ j. sameAtom (atomIn w i) (atomIn w j)) (upFrom (i + 1) (e - (i + 1)))
+
+  pub roles-step : i + 1 < e → rolesLeft i ≡ leb (atomIn w i .role) (atomIn w (i + 1) .role) && rolesLeft (i + 1)
+  unfolding rolesAscend
+  roles-step l =
+      ap (λ (is : List ℕ). rolesAscend (map (atomIn w) is)) (two-step i e l) ∙
+      ap (λ (is : List ℕ). leb (atomIn w i .role) (atomIn w (i + 1) .role) && rolesAscend (map (atomIn w) is)) (sym (range-step (i + 1) e l))
+
+  pub roles-last : i + 1 ≡ e → rolesLeft i ≡ leb (atomIn w i .role) 2
+  unfolding rolesAscend
+  roles-last l = ap (λ (is : List ℕ). rolesAscend (map (atomIn w) is)) (one-step i e l)
+
+  pub ascend-step : i + 1 < e → ascendLeft i ≡ factLess (factIn w i) (factIn w (i + 1)) && ascendLeft (i + 1)
+  unfolding ascending
+  ascend-step l =
+      ap (λ (is : List ℕ). ascending (map (factIn w) is)) (two-step i e l) ∙
+      ap (λ (is : List ℕ). factLess (factIn w i) (factIn w (i + 1)) && ascending (map (factIn w) is)) (sym (range-step (i + 1) e l))
+
+  pub ascend-ends : e ≤ i + 1 → ascendLeft i ≡ true
+  unfolding ascending
+  ascend-ends l = elim (decLe e i) [
+    | yes m ↦ ap (λ (is : List ℕ). ascending (map (factIn w) is)) (range-done i e m)
+    | no m ↦ ap (λ (is : List ℕ). ascending (map (factIn w) is)) (one-step i e (omega arith))
+  ]
+
+  pub distinct-step : i < e → distinctLeft i ≡ not again && distinctLeft (i + 1)
+  unfolding distinct
+  distinct-step l =
+      ap (λ (is : List ℕ). distinct (map (atomIn w) is)) (range-step i e l) ∙
+      ap (λ (b : Bool). not b && distinctLeft (i + 1)) (any-map (λ b. sameAtom (atomIn w i) b) (atomIn w) (upFrom (i + 1) (e - (i + 1))))
+
+  pub distinct-none : e ≤ i → distinctLeft i ≡ true
+  unfolding distinct
+  distinct-none l = ap (λ (is : List ℕ). distinct (map (atomIn w) is)) (range-done i e l)
+
+-- ---- the highest part, from the last atom back
+module _ (w : List ℕ) (e : ℕ) where
+  abbrev pub countLeft : ℕ → ℕ
+  countLeft k = partCount (atomsIn w k (e - k))
+
+  count-step : (i : ℕ) → i < e → countLeft i ≡ max (suc (atomIn w i .part)) (countLeft (i + 1))
+  unfolding partCount
+  count-step i l = ap (λ (is : List ℕ). partCount (map (atomIn w) is)) (range-step i e l)
+
+  pub count-none : 0 ≡ countLeft e
+  unfolding partCount
+  count-none = sym (ap (λ (is : List ℕ). partCount (map (atomIn w) is)) (range-done e e (omega arith)))
+
+  module _ (i : ℕ) (l : i - 1 < e) (k : 0 < i) {count : ℕ} (h : count ≡ countLeft i) where
+    back : countLeft (i - 1) ≡ max (suc (atomIn w (i - 1) .part)) count
+    back =
+        let z : i - 1 + 1 ≡ i = omega arith in
+        count-step (i - 1) l ∙ ap (λ (n : ℕ). max (suc (atomIn w (i - 1) .part)) n) (ap countLeft z ∙ sym h)
+
+    pub count-more : (next : ℕ) → next ≡ atomIn w (i - 1) .part + 1 → count < next → next ≡ countLeft (i - 1)
+    count-more next e g =
+        let m : next ≡ suc (atomIn w (i - 1) .part) = omega arith in
+        m ∙ sym (back ∙ max-eq-left (omega arith))
+
+    pub count-same : (next : ℕ) → next ≡ atomIn w (i - 1) .part + 1 → next ≤ count → count ≡ countLeft (i - 1)
+    count-same next e g = sym (back ∙ max-eq-right (omega arith))

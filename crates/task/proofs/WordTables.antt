@@ -1,0 +1,345 @@
+-- The tests of words together say that the words are a table: a table passes each, by `table-words` and the tests of its
+-- task; and words that pass them all fit (`WordsFit`) and are those of a well-formed task, so `words-table` applies.
+use Prim.Native.Nat.{ℕ, zero, suc, _+_, _-_, _*_, _≤_, _<_}
+use mathlib.Core.Path.{_≡_, refl, sym, _∙_, ap, subst}
+use mathlib.Core.Bool.{Bool, true, false, _&&_}
+use mathlib.Core.List.{List, [], _∷_, map}
+use native.Mathlib.Omega.{arith}
+use native.Mathlib.Decide.{decLt}
+use lib.ListN.{length, getD}
+use lib.Dec.{eqb, ltb, leb}
+use borrow.Author.Tests.{ltb-true, leb-true, eqb-true, lt-ltb, le-leb, eq-eqb}
+use Rattle.task.specs.Lists.{all, every, upTo, upFrom}
+use Rattle.task.specs.Limits.{tableWords}
+use Rattle.task.specs.Task.{Fact, Schema, argsFit, schemaFits, ascending, factsFit, wellFormed}
+use Rattle.task.specs.Table.{wordsAt, arityIn, atomBase, atomIn, schemaNumberIn, factIn, taskOf, isTable}
+use Rattle.task.specs.WordTests.{countTests, aritiesFit, zerosAt, unusedZero, aritiesIn, argWordsFit, numberFits, numbersFit, schemaWordsFit, indicesOf, factWordsFit, factsWordsFit, factsIn, atomTotal, wordsUsed, Roomy}
+use Rattle.task.proofs.Laws.{and-left, and-right, and-both, bool-ext, false-if, every-at, met-none, met-more, met-every, all-in, in-all, In, filter-in, in-filter, in-upTo, upTo-in, upFrom-in, in-map, map-in}
+use Rattle.task.proofs.Ranges.{all-from, from-all, all-below, below-all, all-map, all-and}
+use Rattle.task.proofs.Tests.{FactTests, TaskTests, schema-tests, fact-tests, tests-fact, task-tests, tests-task}
+use Rattle.task.proofs.Tables.{of-table}
+use Rattle.task.proofs.TablesByWords.{length-wordsAt, schemaIn, FactWord, WordsFit, table-words, words-table, arities-count, schemas-count, atoms-count, inits-count, goals-count}
+
+-- ---- the tests by name
+pub record Passed (w : List ℕ) : Type 0 where
+  pub counts : every (countTests w) ≡ true
+  pub arities : aritiesFit w ≡ true
+  pub numbers : numbersFit w ≡ true
+  pub schemas : all (λ s. schemaWordsFit w s (indicesOf w s)) (upTo (getD w 2 0)) ≡ true
+  pub init : factsWordsFit w 3 (getD w 3 0) (getD w 4 0) ≡ true
+  pub goal : factsWordsFit w 4 (getD w 3 0 + getD w 4 0) (getD w 5 0) ≡ true
+  pub rest : zerosAt w (wordsUsed w) (tableWords - wordsUsed w) ≡ true
+
+pub record Counted (w : List ℕ) : Type 0 where
+  pub some-object : 1 ≤ getD w 0 0
+  pub objects : getD w 0 0 ≤ 1000
+  pub some-pred : 1 ≤ getD w 1 0
+  pub preds : getD w 1 0 ≤ 400
+  pub schemas : getD w 2 0 ≤ 200
+  pub atoms : getD w 3 0 ≤ 1000
+  pub inits : getD w 4 0 ≤ 500
+  pub goals : getD w 5 0 ≤ 100
+
+pub counted : (w : List ℕ) → every (countTests w) ≡ true → Counted w
+unfolding countTests
+counted w h =
+    let at = every-at (countTests w) h in
+    record {
+      some-object = leb-true _ _ (at 0);
+      objects = leb-true _ _ (at 1);
+      some-pred = leb-true _ _ (at 2);
+      preds = leb-true _ _ (at 3);
+      schemas = leb-true _ _ (at 4);
+      atoms = leb-true _ _ (at 5);
+      inits = leb-true _ _ (at 6);
+      goals = leb-true _ _ (at 7);
+    }
+
+pub all-counted : (w : List ℕ) → Counted w → true ≡ every (countTests w)
+unfolding countTests
+all-counted w c =
+    sym (met-every {bs = countTests w}
+    (met-more (le-leb _ _ (c .some-object)) (met-more (le-leb _ _ (c .objects)) (met-more (le-leb _ _ (c .some-pred))
+    (met-more (le-leb _ _ (c .preds)) (met-more (le-leb _ _ (c .schemas)) (met-more (le-leb _ _ (c .atoms))
+    (met-more (le-leb _ _ (c .inits)) (met-more (le-leb _ _ (c .goals)) met-none)))))))))
+
+pub not-counted : (w : List ℕ) → (Counted w → ⊥) → false ≡ every (countTests w)
+not-counted w bad = sym (false-if (every (countTests w)) (λ h. bad (counted w h)))
+
+pub roomy : (w : List ℕ) → tableWords ≤ length w → every (countTests w) ≡ true → aritiesFit w ≡ true → Roomy w
+unfolding tableWords aritiesFit
+roomy w long h a =
+    let c = counted w h in
+    record {
+      inside = omega arith;
+      few = omega arith;
+      arities = λ p l. leb-true (arityIn w p) 4 (all-below (λ p. leb (arityIn w p) 4) (getD w 1 0) a p l);
+    }
+
+-- ---- the unused argument words of an atom, one by one
+abbrev Unused : List ℕ → ℕ → Type 0
+Unused w i = (k : ℕ) → arityIn w (atomIn w i .pred) ≤ k → k < 4 → getD w (atomBase w i + 4 + k) 0 ≡ 0
+
+unused-zero : (w : List ℕ) (i : ℕ) → Unused w i → unusedZero w i ≡ true
+unfolding unusedZero zerosAt
+unused-zero w i h = from-all (λ k. eqb (getD w k 0) 0) from (4 - arity) (λ k a b.
+    let e : atomBase w i + 4 + (k - (atomBase w i + 4)) ≡ k = omega arith in
+    eq-eqb (getD w k 0) 0 (rw e at (h (k - (atomBase w i + 4)) (omega arith) (omega arith))))
+  where
+    arity : ℕ
+    arity = arityIn w (atomIn w i .pred)
+
+    from : ℕ
+    from = atomBase w i + 4 + arity
+
+zero-unused : (w : List ℕ) (i : ℕ) → unusedZero w i ≡ true → Unused w i
+unfolding unusedZero zerosAt
+zero-unused w i h k a b =
+    let arity = arityIn w (atomIn w i .pred) in
+    eqb-true (getD w (atomBase w i + 4 + k) 0) 0
+    (all-from (λ k. eqb (getD w k 0) 0) (atomBase w i + 4 + arity) (4 - arity) h (atomBase w i + 4 + k) (omega arith) (omega arith))
+
+-- ---- a table passes
+module _ (w : List ℕ) (h : isTable w ≡ true) where
+  abbrev fit : WordsFit w
+  fit = table-words w h
+
+  abbrev tests : TaskTests (taskOf w)
+  tests = task-tests (taskOf w) (of-table w h .0)
+
+  counts-met : every (countTests w) ≡ true
+  unfolding countTests taskOf
+  counts-met = met-every (met-more (tests .some-object) (met-more (tests .objects)
+      (met-more (subst (λ (n : ℕ). leb 1 n ≡ true) (arities-count w fit) (tests .some-pred))
+      (met-more (subst (λ (n : ℕ). leb n 400 ≡ true) (arities-count w fit) (tests .preds))
+      (met-more (subst (λ (n : ℕ). leb n 200 ≡ true) (schemas-count w fit) (tests .schemas))
+      (met-more (subst (λ (n : ℕ). leb n 1000 ≡ true) (atoms-count w fit) (tests .atoms))
+      (met-more (subst (λ (n : ℕ). leb n 500 ≡ true) (inits-count w fit) (tests .inits))
+      (met-more (subst (λ (n : ℕ). leb n 100 ≡ true) (goals-count w fit) (tests .goals)) met-none))))))))
+
+  arities-met : aritiesFit w ≡ true
+  unfolding aritiesFit
+  arities-met = below-all (λ p. leb (arityIn w p) 4) (getD w 1 0) (λ p l. le-leb (arityIn w p) 4 (fit .arity p l))
+
+  numbers-met : numbersFit w ≡ true
+  unfolding numbersFit numberFits
+  numbers-met = below-all (numberFits w) (getD w 3 0) (λ i l. and-both _ _ (lt-ltb _ _ (fit .schema i l)) (le-leb _ _ (rises i l)))
+    where
+      rises : (i : ℕ) → i < getD w 3 0 → schemaNumberIn w (i - 1) ≤ schemaNumberIn w i
+      rises zero l = omega arith
+      rises (suc i) l = let e : suc i - 1 ≡ i = omega arith in rw e (fit .order i l)
+
+  unused-met : (i : ℕ) → i < atomTotal w → unusedZero w i ≡ true
+  unused-met i l = unused-zero w i (λ k. fit .unused i k l)
+
+  schemas-met : all (λ s. schemaWordsFit w s (indicesOf w s)) (upTo (getD w 2 0)) ≡ true
+  unfolding schemaWordsFit indicesOf taskOf
+  schemas-met = below-all (λ s. schemaWordsFit w s (indicesOf w s)) (getD w 2 0) (λ s l. and-both _ _
+      (all-in (schemaFits (aritiesIn w)) (tests .fit) (in-map (schemaIn w) (in-upTo (getD w 2 0) s l)))
+      (in-all (unusedZero w) (indicesOf w s) (λ i k.
+      let (a, b) = filter-in (λ i. eqb s (schemaNumberIn w i)) (upTo (getD w 3 0)) i k in
+      let m = upTo-in (getD w 3 0) i a in
+      unused-met i (omega arith))))
+
+  facts-met : (r i n : ℕ) → i + n ≤ atomTotal w → ((k : ℕ) → k < n → FactWord w (i + k) r) →
+      factsFit (getD w 0 0) (aritiesIn w) (factsIn w i n) ≡ true → factsWordsFit w r i n ≡ true
+  unfolding factsWordsFit factWordsFit argWordsFit factIn
+  facts-met r i n b words facts =
+      let c = fact-tests (getD w 0 0) (aritiesIn w) (factsIn w i n) facts in
+      and-both _ _ (from-all (factWordsFit w r) i n (λ k l m.
+      let e : i + (k - i) ≡ k = omega arith in
+      let f : FactWord w k r = rw e at (words (k - i) (omega arith)) in
+      and-both _ _ (eq-eqb _ _ (f .schema)) (and-both _ _ (eq-eqb _ _ (f .role)) (and-both _ _ (eq-eqb _ _ (f .part))
+      (and-both _ _ (all-from (λ j. argsFit (aritiesIn w) (getD w 0 0) (atomIn w j .pred) (atomIn w j .args)) i n
+      (sym (all-map (λ f. argsFit (aritiesIn w) (getD w 0 0) (f .pred) (f .args)) (factIn w) (upFrom i n)) ∙ c .fit) k l m)
+      (unused-met k (omega arith))))))) (c .order)
+
+  rest-met : zerosAt w (wordsUsed w) (tableWords - wordsUsed w) ≡ true
+  unfolding zerosAt
+  rest-met = from-all (λ k. eqb (getD w k 0) 0) (wordsUsed w) (tableWords - wordsUsed w) (λ k a b.
+      let c = fit .inside in
+      eq-eqb (getD w k 0) 0 (fit .rest k a (omega arith)))
+
+  pub table-passes : Passed w
+  unfolding taskOf
+  table-passes = record {
+    counts = counts-met;
+    arities = arities-met;
+    numbers = numbers-met;
+    schemas = schemas-met;
+    init = facts-met 3 (getD w 3 0) (getD w 4 0) (omega arith) (fit .init) (tests .init);
+    goal = facts-met 4 (getD w 3 0 + getD w 4 0) (getD w 5 0) (omega arith) (fit .goal) (tests .goal);
+    rest = rest-met;
+  }
+
+-- ---- what passes is a table
+-- atom i has a known predicate, and its unused words are 0
+pub record Known (w : List ℕ) (i : ℕ) : Type 0 where
+  pub known : atomIn w i .pred < getD w 1 0
+  pub unused : unusedZero w i ≡ true
+
+pub args-known : (w : List ℕ) (bound i : ℕ) → argsFit (aritiesIn w) bound (atomIn w i .pred) (atomIn w i .args) ≡ true → unusedZero w i ≡ true → Known w i
+unfolding argsFit
+args-known w bound i a u =
+    let l = ltb-true (atomIn w i .pred) (length (aritiesIn w)) (and-left (ltb (atomIn w i .pred) (length (aritiesIn w))) _ a) in
+    let e = length-wordsAt w 6 (getD w 1 0) in
+    record { known = omega arith; unused = u }
+
+-- each schema atom's number, and its neighbour's
+module _ (w : List ℕ) (h : numbersFit w ≡ true) where
+  number-fits : (i : ℕ) → i < getD w 3 0 → numberFits w i ≡ true
+  unfolding numbersFit
+  number-fits = all-below (numberFits w) (getD w 3 0) h
+
+  pub number-known : (i : ℕ) → i < getD w 3 0 → schemaNumberIn w i < getD w 2 0
+  unfolding numberFits
+  number-known i l = ltb-true _ _ (and-left (ltb (schemaNumberIn w i) (getD w 2 0)) _ (number-fits i l))
+
+  pub numbers-rise : (i : ℕ) → suc i < getD w 3 0 → schemaNumberIn w i ≤ schemaNumberIn w (suc i)
+  unfolding numberFits
+  numbers-rise i l =
+      let e : suc i - 1 ≡ i = omega arith in
+      subst (λ (k : ℕ). schemaNumberIn w k ≤ schemaNumberIn w (suc i)) e
+      (leb-true _ _ (and-right (ltb (schemaNumberIn w (suc i)) (getD w 2 0)) _ (number-fits (suc i) l)))
+
+module _ (w : List ℕ) (long : tableWords ≤ length w) (c : Passed w) where
+  abbrev limits : Counted w
+  limits = counted w (c .counts)
+
+  abbrev room : Roomy w
+  room = roomy w long (c .counts) (c .arities)
+
+  abbrev schemaOk : ℕ → Bool
+  schemaOk s = schemaFits (aritiesIn w) (schemaIn w s)
+
+  schema-ok : (s : ℕ) → s < getD w 2 0 → schemaOk s && all (unusedZero w) (indicesOf w s) ≡ true
+  unfolding schemaWordsFit indicesOf
+  schema-ok s l = all-below (λ s. schemaWordsFit w s (indicesOf w s)) (getD w 2 0) (c .schemas) s l
+
+  atom-known : (i : ℕ) → i < getD w 3 0 → Known w i
+  unfolding indicesOf
+  atom-known i l =
+      let s = schemaNumberIn w i in
+      let b = schema-ok s (number-known w (c .numbers) i l) in
+      let k : In i (indicesOf w s) = in-filter (λ i. eqb s (schemaNumberIn w i)) (in-upTo (getD w 3 0) i l) (eq-eqb s s refl) in
+      let t = schema-tests (aritiesIn w) (schemaIn w s) (and-left (schemaOk s) _ b) in
+      args-known w (schemaIn w s .params) i
+      (all-in (λ a. argsFit (aritiesIn w) (schemaIn w s .params) (a .pred) (a .args)) (t .fit) (in-map (atomIn w) k))
+      (all-in (unusedZero w) (and-right (schemaOk s) _ b) k)
+
+  -- the facts of one role
+  record FactsOk (r i n : ℕ) : Type 0 where
+    words : (k : ℕ) → k < n → FactWord w (i + k) r
+    knows : (k : ℕ) → k < n → Known w (i + k)
+    facts : factsFit (getD w 0 0) (aritiesIn w) (factsIn w i n) ≡ true
+
+  facts-ok : (r i n : ℕ) → factsWordsFit w r i n ≡ true → FactsOk r i n
+  unfolding factsWordsFit factWordsFit argWordsFit factIn
+  facts-ok r i n h = record {
+    words = λ k l.
+        let j = i + k in
+        let a = each j (omega arith) (omega arith) in
+        let b = and-right (eqb (schemaNumberIn w j) 0) _ a in
+        record {
+          schema = eqb-true _ _ (and-left (eqb (schemaNumberIn w j) 0) _ a);
+          role = eqb-true _ _ (and-left (eqb (atomIn w j .role) r) _ b);
+          part = eqb-true _ _ (and-left (eqb (atomIn w j .part) 0) _ (and-right (eqb (atomIn w j .role) r) _ b));
+        };
+    knows = λ k l.
+        let j = i + k in
+        let a = args j (each j (omega arith) (omega arith)) in
+        args-known w (getD w 0 0) j (and-left (ok j) _ a) (and-right (ok j) _ a);
+    facts = tests-fact (getD w 0 0) (aritiesIn w) (factsIn w i n) (record {
+      fit = all-map (λ f. argsFit (aritiesIn w) (getD w 0 0) (f .pred) (f .args)) (factIn w) (upFrom i n) ∙
+          from-all ok i n (λ j a b. and-left (ok j) _ (args j (each j a b)));
+      order = and-right (all (factWordsFit w r) (upFrom i n)) _ h;
+    });
+  }
+    where
+      each : (j : ℕ) → i ≤ j → j < i + n → factWordsFit w r j ≡ true
+      each j a b = all-from (factWordsFit w r) i n (and-left (all (factWordsFit w r) (upFrom i n)) _ h) j a b
+
+      args : (j : ℕ) → factWordsFit w r j ≡ true → argWordsFit w (getD w 0 0) j ≡ true
+      args j a = and-right (eqb (atomIn w j .part) 0) _ (and-right (eqb (atomIn w j .role) r) _ (and-right (eqb (schemaNumberIn w j) 0) _ a))
+
+      ok : ℕ → Bool
+      ok j = argsFit (aritiesIn w) (getD w 0 0) (atomIn w j .pred) (atomIn w j .args)
+
+  abbrev init-ok : FactsOk 3 (getD w 3 0) (getD w 4 0)
+  init-ok = facts-ok 3 (getD w 3 0) (getD w 4 0) (c .init)
+
+  abbrev goal-ok : FactsOk 4 (getD w 3 0 + getD w 4 0) (getD w 5 0)
+  goal-ok = facts-ok 4 (getD w 3 0 + getD w 4 0) (getD w 5 0) (c .goal)
+
+  each-known : (i : ℕ) → i < atomTotal w → Known w i
+  each-known i l = elim (decLt i (getD w 3 0)) [
+    | yes a ↦ atom-known i a
+    | no a ↦ elim (decLt i (getD w 3 0 + getD w 4 0)) [
+      | yes b ↦
+          let e : getD w 3 0 + (i - getD w 3 0) ≡ i = omega arith in
+          subst (Known w) e (init-ok .knows (i - getD w 3 0) (omega arith))
+      | no b ↦
+          let e : getD w 3 0 + getD w 4 0 + (i - (getD w 3 0 + getD w 4 0)) ≡ i = omega arith in
+          subst (Known w) e (goal-ok .knows (i - (getD w 3 0 + getD w 4 0)) (omega arith))
+    ]
+  ]
+
+  words-fit : WordsFit w
+  unfolding zerosAt tableWords
+  words-fit =
+      let n = limits in
+      record {
+        long = long;
+        inside = omega arith;
+        arity = room .arities;
+        known = λ i l. each-known i l .known;
+        unused = λ i k l. zero-unused w i (each-known i l .unused) k;
+        schema = number-known w (c .numbers);
+        order = numbers-rise w (c .numbers);
+        init = init-ok .words;
+        goal = goal-ok .words;
+        rest = λ k a b. eqb-true (getD w k 0) 0
+            (all-from (λ k. eqb (getD w k 0) 0) (wordsUsed w) (tableWords - wordsUsed w) (c .rest) k a (omega arith));
+      }
+
+  task-fits : TaskTests (taskOf w)
+  unfolding taskOf arityIn
+  task-fits =
+      let n = limits in
+      record {
+        some-object = le-leb _ _ (n .some-object);
+        objects = le-leb _ _ (n .objects);
+        some-pred = subst (λ (m : ℕ). leb 1 m ≡ true) (sym (arities-count w words-fit)) (le-leb _ _ (n .some-pred));
+        preds = subst (λ (m : ℕ). leb m 400 ≡ true) (sym (arities-count w words-fit)) (le-leb _ _ (n .preds));
+        arities = in-all (λ a. leb a 4) (aritiesIn w) (λ a i.
+            let (p, j, e) = map-in (λ k. getD w k 0) (upFrom 6 (getD w 1 0)) a i in
+            let (x, y) = upFrom-in 6 (getD w 1 0) p j in
+            arity-small a p e x y);
+        schemas = subst (λ (m : ℕ). leb m 200 ≡ true) (sym (schemas-count w words-fit)) (le-leb _ _ (n .schemas));
+        atoms = subst (λ (m : ℕ). leb m 1000 ≡ true) (sym (atoms-count w words-fit)) (le-leb _ _ (n .atoms));
+        inits = subst (λ (m : ℕ). leb m 500 ≡ true) (sym (inits-count w words-fit)) (le-leb _ _ (n .inits));
+        goals = subst (λ (m : ℕ). leb m 100 ≡ true) (sym (goals-count w words-fit)) (le-leb _ _ (n .goals));
+        fit = all-map (schemaFits (aritiesIn w)) (schemaIn w) (upTo (getD w 2 0)) ∙
+            below-all schemaOk (getD w 2 0) (λ s l. and-left (schemaOk s) _ (schema-ok s l));
+        init = init-ok .facts;
+        goal = goal-ok .facts;
+      }
+    where
+      arity-small : (a p : ℕ) → a ≡ getD w p 0 → 6 ≤ p → p < 6 + getD w 1 0 → leb a 4 ≡ true
+      arity-small a p e x y =
+          let q : 6 + (p - 6) ≡ p = omega arith in
+          let r : getD w p 0 ≤ 4 = rw q at (room .arities (p - 6) (omega arith)) in
+          le-leb a 4 (omega arith)
+
+-- ---- both ways
+pub passed-table : (w : List ℕ) → tableWords ≤ length w → Passed w → isTable w ≡ true
+passed-table w long c = words-table w (words-fit w long c) (tests-task (taskOf w) (task-fits w long c))
+
+pub not-passed : (w : List ℕ) → (Passed w → ⊥) → false ≡ isTable w
+not-passed w bad = sym (false-if (isTable w) (λ h. bad (table-passes w h)))
+
+-- where the other tests are passed, the rest decides
+pub rest-decides : (w : List ℕ) → tableWords ≤ length w →
+    (zerosAt w (wordsUsed w) (tableWords - wordsUsed w) ≡ true → Passed w) → zerosAt w (wordsUsed w) (tableWords - wordsUsed w) ≡ isTable w
+rest-decides w long others = bool-ext (zerosAt w (wordsUsed w) (tableWords - wordsUsed w)) (isTable w)
+    (λ h. passed-table w long (others h)) (λ h. table-passes w h .rest)

@@ -1,0 +1,49 @@
+use native.Mathlib.Omega.{arith}
+use borrow.Author.Needs.{needs}
+use Rattle.task.specs.Table.{atomBase}
+use Rattle.task.proofs.table.atom_base.Statement.{statement}
+use Rattle.task.proofs.table.atom_base.Tie as tie
+use Rattle.task.proofs.table.atom_base.Reads as reads
+use Rattle.task.proofs.table.atom_base.Lts as lts
+use Rattle.task.proofs.table.word.Reads as word-reads
+
+-- src/table.rt:26:9
+word-requires : tie.Need-word-requires
+word-requires c κs = search needs
+
+-- src/table.rt:26:5
+add-result : tie.Need-add-result
+add-result c = search needs
+
+-- src/table.rt:26:26
+word-requires-2 : tie.Need-word-requires-2
+word-requires-2 c κs = search needs
+
+-- src/table.rt:26:5
+add-result-2 : tie.Need-add-result-2
+add-result-2 c = search needs
+
+-- src/table.rt:26:43
+mul-result : tie.Need-mul-result
+mul-result c = search needs
+
+-- src/table.rt:26:5
+add-result-3 : tie.Need-add-result-3
+add-result-3 c = search needs
+
+-- src/table.rt:21:1
+returns : tie.Need-returns
+unfolding atomBase
+returns c = omega arith
+
+pub atom-base-spec : {M : Type 1} → statement M
+atom-base-spec =
+    tie.close
+    (tie.spec
+    word-requires
+    add-result
+    word-requires-2
+    add-result-2
+    mul-result
+    add-result-3
+    returns)

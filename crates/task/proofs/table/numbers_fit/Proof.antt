@@ -1,0 +1,114 @@
+use Prim.Native.Nat.{ℕ, _-_}
+use mathlib.Core.Path.{_≡_, ap}
+use native.Mathlib.Omega.{arith}
+use lib.ListN.{getD}
+use lib.Dec.{leb}
+use Rattle.task.specs.Lists.{all, upTo, upFrom}
+use Rattle.task.specs.Table.{schemaNumberIn}
+use Rattle.task.specs.WordTests.{numberFits, numbersFit}
+use Rattle.task.proofs.Ranges.{all-more, all-fails, all-ends}
+use Rattle.task.proofs.AtomWords.{number-low, number-high, number-right, number-first, number-next}
+use Rattle.task.proofs.table.numbers_fit.Statement.{statement}
+use Rattle.task.proofs.table.numbers_fit.Tie as tie
+use Rattle.task.proofs.table.numbers_fit.Reads as reads
+use Rattle.task.proofs.table.numbers_fit.Lts as lts
+use Rattle.task.proofs.table.schema_number.Reads as schema-number-reads
+use Rattle.task.proofs.table.word.Reads as word-reads
+
+abbrev Inv-loop : tie.InvT-loop
+Inv-loop table schemas atoms before₀ i₀ before i =
+    (numbersFit table ≡ all (numberFits table) (upFrom i (atoms - i))) ×
+    (leb before (schemaNumberIn table i) ≡ leb (schemaNumberIn table (i - 1)) (schemaNumberIn table i))
+
+abbrev μ-loop : tie.MeasureT-loop
+μ-loop table schemas atoms before₀ i₀ before i = atoms - i
+
+-- src/table.rt:356:9
+word-requires : tie.Need-word-requires Inv-loop μ-loop
+word-requires c κs = let r = c .before .pre in omega arith
+
+-- src/table.rt:357:9
+word-requires-2 : tie.Need-word-requires-2 Inv-loop μ-loop
+word-requires-2 c κs = let r = c .before .before .pre in omega arith
+
+-- src/table.rt:360:5
+loop-holds : tie.Need-loop-holds Inv-loop μ-loop
+unfolding numbersFit upTo
+loop-holds c =
+    let w = c .before .before .before .args .table .now in
+    let e = c .word2 .ensures .0 in
+    let n : getD w 3 0 ≡ c .word2 .result - 0 = omega arith in
+    (ap (λ (n : ℕ). all (numberFits w) (upFrom 0 n)) n, number-first w)
+
+-- src/table.rt:361:13
+schema-number-requires : tie.Need-schema-number-requires Inv-loop μ-loop
+schema-number-requires c κs =
+    let start = c .before .before .before .before .before in
+    (start .pre, omega (arith, c .before .before .word2 .ensures .0))
+
+-- src/table.rt:363:13
+returns : tie.Need-returns Inv-loop μ-loop
+returns c =
+    let k = c .before in
+    let at = k .before .before in
+    let w = at .before .before .before .before .args .table .now in
+    let i = at .loop .i in
+    let e = k .schema-number .ensures in
+    all-fails (numberFits w) i (at .before .word2 .result) (at .loop .inv .0) (k .before .loop-test .taken)
+    (number-low w i (at .loop .before) (at .loop .inv .1) (omega arith))
+
+-- src/table.rt:366:13
+returns-2 : tie.Need-returns-2 Inv-loop μ-loop
+returns-2 c =
+    let k = c .before .before in
+    let at = k .before .before in
+    let w = at .before .before .before .before .args .table .now in
+    let i = at .loop .i in
+    let e = k .schema-number .ensures in
+    all-fails (numberFits w) i (at .before .word2 .result) (at .loop .inv .0) (k .before .loop-test .taken)
+    (number-high w i (at .loop .before) (at .loop .inv .1) (omega (arith, at .before .before .word .ensures .0)))
+
+-- src/table.rt:369:9
+add-i : tie.Need-add-i Inv-loop μ-loop
+add-i c = omega arith
+
+-- src/table.rt:360:5
+loop-less : tie.Need-loop-less Inv-loop μ-loop
+loop-less c = omega arith
+
+-- src/table.rt:360:5
+loop-again : tie.Need-loop-again Inv-loop μ-loop
+loop-again c =
+    let k = c .before .before in
+    let at = k .before .before in
+    let w = at .before .before .before .before .args .table .now in
+    let i = at .loop .i in
+    let e = k .schema-number .ensures in (
+      all-more (numberFits w) i (at .before .word2 .result) (at .loop .inv .0) (k .before .loop-test .taken)
+          (number-right w i (at .loop .before) (at .loop .inv .1) (omega arith) (omega (arith, at .before .before .word .ensures .0))),
+      number-next w i (k .schema-number .result) e,
+    )
+
+-- src/table.rt:352:1
+returns-3 : tie.Need-returns-3 Inv-loop μ-loop
+returns-3 c =
+    let at = c .before in
+    let w = at .before .before .before .before .args .table .now in
+    all-ends (numberFits w) (at .loop .i) (at .before .word2 .result) (at .loop .inv .0) (c .loop-test .left)
+
+pub numbers-fit-spec : {M : Type 1} → statement M
+numbers-fit-spec =
+    tie.close
+    (tie.spec
+    Inv-loop
+    μ-loop
+    word-requires
+    word-requires-2
+    loop-holds
+    schema-number-requires
+    returns
+    returns-2
+    add-i
+    loop-less
+    loop-again
+    returns-3)

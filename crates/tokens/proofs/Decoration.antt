@@ -1,0 +1,73 @@
+-- Where the pars of a parameter stand in the split: "a parameter in several parts has its par added in the first of
+-- them, required in each later one, deleted in the last". Each law says it of the split's own atoms, by the positions
+-- of the parameter.
+use Prim.Native.Nat.{ℕ, _≤_, _<_}
+use mathlib.Core.Path.{_≡_, refl}
+use mathlib.Core.Bool.{false}
+use mathlib.Core.List.{List}
+use native.Mathlib.Omega.{arith}
+use lib.ListN.{length, getD}
+use borrow.Author.Tests.{lt-ltb, eq-eqb, ne-eqb}
+use Rattle.task.specs.Task.{Task, precondition, addition, deletion}
+use Rattle.task.specs.Run.{schemaAt}
+use Rattle.tokens.specs.Split.{firstPosition, lastPosition, own, required, handedOn, lone, firstHere, lastHere}
+use Rattle.tokens.specs.Split.{laterHere, splitSchema}
+use Rattle.task.proofs.Laws.{and-both, In}
+use Rattle.tokens.proofs.Places.{At, at-first, at-last, first-at, last-at, params-in}
+use Rattle.tokens.proofs.RoleAtoms.{parAtom, of-parameter, to-role, of-pre, of-add, of-del, in-schema}
+
+-- the parameter x stands in the part at position j
+module _ (t : Task) (s : ℕ) (o : List ℕ) (j x : ℕ) (small : x < schemaAt t s .params)
+    (here : At (schemaAt t s) o x j) where
+  abbrev position : ℕ → Type 0
+  position i = At (schemaAt t s) o x i
+
+  abbrev first : ℕ
+  first = firstPosition (schemaAt t s) o x
+
+  abbrev last : ℕ
+  last = lastPosition (schemaAt t s) o x
+
+  owned : In x (own t s o j)
+  unfolding own
+  owned = params-in (schemaAt t s) x (getD o j 0) small (here .found)
+
+  not-lone : 2 ≤ length o → lone t s o j ≡ false
+  unfolding lone
+  not-lone h = ne-eqb (length o) 1 (λ e. omega arith)
+
+  -- "required in each later one"
+  pub par-required : (i : ℕ) → position i → i < j → In (parAtom t s o j precondition x) (splitSchema t s o j .atoms)
+  unfolding laterHere
+  par-required i a l =
+      in-schema t s o j (parAtom t s o j precondition x) (of-pre
+      (to-role t s o j precondition false (required t s o j) (laterHere t s o j) (parAtom t s o j precondition x)
+      (of-parameter refl x owned (lt-ltb first j (omega (arith, at-first (schemaAt t s) o x i a))) refl)))
+
+  -- "added in the first of them"
+  pub par-added : ((i : ℕ) → position i → j ≤ i) → (k : ℕ) → position k → j < k →
+      In (parAtom t s o j addition x) (splitSchema t s o j .atoms)
+  unfolding firstHere
+  par-added none-before k a l =
+      let one = at-first (schemaAt t s) o x j here in
+      let least = none-before first (first-at (schemaAt t s) o x j here) in
+      let more = at-last (schemaAt t s) o x k a in
+      let end = a .inside in
+      in-schema t s o j (parAtom t s o j addition x) (of-add
+      (to-role t s o j addition (lone t s o j) (handedOn t s o j) (firstHere t s o j) (parAtom t s o j addition x)
+      (of-parameter (not-lone (omega arith)) x owned
+      (and-both _ _ (eq-eqb first j (omega arith)) (lt-ltb j last (omega arith))) refl)))
+
+  -- "deleted in the last"
+  pub par-deleted : (i : ℕ) → position i → i < j → ((k : ℕ) → position k → k ≤ j) →
+      In (parAtom t s o j deletion x) (splitSchema t s o j .atoms)
+  unfolding lastHere
+  par-deleted i a l none-after =
+      let one = at-last (schemaAt t s) o x j here in
+      let most = none-after last (last-at (schemaAt t s) o x j here) in
+      let before = at-first (schemaAt t s) o x i a in
+      let end = here .inside in
+      in-schema t s o j (parAtom t s o j deletion x) (of-del
+      (to-role t s o j deletion (lone t s o j) (required t s o j) (lastHere t s o j) (parAtom t s o j deletion x)
+      (of-parameter (not-lone (omega arith)) x owned
+      (and-both _ _ (eq-eqb last j (omega arith)) (lt-ltb first j (omega arith))) refl)))
