@@ -1,17 +1,20 @@
--- The tests of a run of atoms, one atom further: what is left of a test at atom i is what atom i says and what is left at
--- the next. A loop whose invariant is 'the whole test is what is left of it' goes on by `and-more`, ends by `and-fails`.
-use Prim.Native.Nat.{ℕ, suc, _+_, _-_, _≤_, _<_, max}
-use mathlib.Core.Path.{_≡_, refl, sym, _∙_, ap}
-use mathlib.Core.Bool.{Bool, true, false, not, _&&_}
+-- The tests of a run of atoms, one atom further: what is left of a test at atom i is what atom i says and what is left
+-- at the next. A loop whose invariant is 'the whole test is what is left of it' goes on by `and-more` and ends by
+-- `and-fails`.
+use Prim.Native.Nat.{ℕ, zero, suc, _+_, _-_, _≤_, _<_, max}
+use mathlib.Core.Path.{_≡_, sym, _∙_, ap, subst}
+use mathlib.Core.Bool.{Bool, true, not, _&&_}
 use mathlib.Core.List.{List, [], _∷_, map}
 use native.Mathlib.Nat.{max-eq-left, max-eq-right}
 use native.Mathlib.Omega.{arith}
 use native.Mathlib.Decide.{decLe}
 use lib.Dec.{leb}
+use borrow.Author.Tests.{leb-true}
 use Rattle.task.specs.Lists.{any, upFrom}
-use Rattle.task.specs.Task.{Atom, sameAtom, distinct, rolesAscend, partCount, factLess, ascending}
+use Rattle.task.specs.Task.{sameAtom, distinct, rolesAscend, partCount, factLess, ascending}
 use Rattle.task.specs.Table.{atomIn, factIn}
-use Rattle.task.specs.WordTests.{atomsIn, factsIn}
+use Rattle.task.specs.WordTests.{atomsIn, factsIn, standsAgain, RolesRise}
+use Rattle.task.proofs.Laws.{and-left, and-right}
 use Rattle.task.proofs.Ranges.{range-step, range-done, any-map}
 
 -- a range of two or more
@@ -19,7 +22,8 @@ two-step : (i e : ℕ) → i + 1 < e → upFrom i (e - i) ≡ i ∷ (i + 1) ∷ 
 two-step i e l = range-step i e (omega arith) ∙ ap {B = List ℕ} (λ (is : List ℕ). i ∷ is) (range-step (i + 1) e l)
 
 one-step : (i e : ℕ) → i + 1 ≡ e → upFrom i (e - i) ≡ i ∷ []
-one-step i e l = range-step i e (omega arith) ∙ ap {B = List ℕ} (λ (is : List ℕ). i ∷ is) (range-done (i + 1) e (omega arith))
+one-step i e l =
+    range-step i e (omega arith) ∙ ap {B = List ℕ} (λ (is : List ℕ). i ∷ is) (range-done (i + 1) e (omega arith))
 
 module _ (w : List ℕ) (i e : ℕ) where
   abbrev pub rolesLeft : ℕ → Bool
@@ -31,14 +35,12 @@ module _ (w : List ℕ) (i e : ℕ) where
   abbrev pub distinctLeft : ℕ → Bool
   distinctLeft k = distinct (atomsIn w k (e - k))
 
-  abbrev pub again : Bool
-  again = any (λ j. sameAtom (atomIn w i) (atomIn w j)) (upFrom (i + 1) (e - (i + 1)))
-
   pub roles-step : i + 1 < e → rolesLeft i ≡ leb (atomIn w i .role) (atomIn w (i + 1) .role) && rolesLeft (i + 1)
   unfolding rolesAscend
   roles-step l =
       ap (λ (is : List ℕ). rolesAscend (map (atomIn w) is)) (two-step i e l) ∙
-      ap (λ (is : List ℕ). leb (atomIn w i .role) (atomIn w (i + 1) .role) && rolesAscend (map (atomIn w) is)) (sym (range-step (i + 1) e l))
+      ap (λ (is : List ℕ). leb (atomIn w i .role) (atomIn w (i + 1) .role) && rolesAscend (map (atomIn w) is))
+      (sym (range-step (i + 1) e l))
 
   pub roles-last : i + 1 ≡ e → rolesLeft i ≡ leb (atomIn w i .role) 2
   unfolding rolesAscend
@@ -48,7 +50,8 @@ module _ (w : List ℕ) (i e : ℕ) where
   unfolding ascending
   ascend-step l =
       ap (λ (is : List ℕ). ascending (map (factIn w) is)) (two-step i e l) ∙
-      ap (λ (is : List ℕ). factLess (factIn w i) (factIn w (i + 1)) && ascending (map (factIn w) is)) (sym (range-step (i + 1) e l))
+      ap (λ (is : List ℕ). factLess (factIn w i) (factIn w (i + 1)) && ascending (map (factIn w) is))
+      (sym (range-step (i + 1) e l))
 
   pub ascend-ends : e ≤ i + 1 → ascendLeft i ≡ true
   unfolding ascending
@@ -57,15 +60,46 @@ module _ (w : List ℕ) (i e : ℕ) where
     | no m ↦ ap (λ (is : List ℕ). ascending (map (factIn w) is)) (one-step i e (omega arith))
   ]
 
-  pub distinct-step : i < e → distinctLeft i ≡ not again && distinctLeft (i + 1)
-  unfolding distinct
+  pub distinct-step : i < e → distinctLeft i ≡ not (standsAgain w i e) && distinctLeft (i + 1)
+  unfolding distinct standsAgain
   distinct-step l =
       ap (λ (is : List ℕ). distinct (map (atomIn w) is)) (range-step i e l) ∙
-      ap (λ (b : Bool). not b && distinctLeft (i + 1)) (any-map (λ b. sameAtom (atomIn w i) b) (atomIn w) (upFrom (i + 1) (e - (i + 1))))
+      ap (λ (b : Bool). not b && distinctLeft (i + 1))
+      (any-map (λ b. sameAtom (atomIn w i) b) (atomIn w) (upFrom (i + 1) (e - (i + 1))))
 
   pub distinct-none : e ≤ i → distinctLeft i ≡ true
   unfolding distinct
   distinct-none l = ap (λ (is : List ℕ). distinct (map (atomIn w) is)) (range-done i e l)
+
+-- ---- roles that ascend rise from any atom to any later one
+module _ (w : List ℕ) (first e : ℕ) (h : rolesLeft w first e first ≡ true) where
+  ascend-from : (k : ℕ) → first + k < e → rolesLeft w first e (first + k) ≡ true
+  ascend-from zero l = let z : first + 0 ≡ first = omega arith in ap (rolesLeft w first e) z ∙ h
+  ascend-from (suc k) l =
+      let i = first + k in
+      let z : first + suc k ≡ i + 1 = omega arith in
+      ap (rolesLeft w first e) z ∙
+      and-right (leb (atomIn w i .role) (atomIn w (i + 1) .role)) _
+      (sym (roles-step w i e (omega arith)) ∙ ascend-from k (omega arith))
+
+  next-role : (i : ℕ) → first ≤ i → i + 1 < e → atomIn w i .role ≤ atomIn w (i + 1) .role
+  next-role i l m =
+      let z : first + (i - first) ≡ i = omega arith in
+      leb-true _ _ (and-left (leb (atomIn w i .role) (atomIn w (i + 1) .role)) (rolesLeft w first e (i + 1))
+      (sym (roles-step w i e m) ∙ (ap (rolesLeft w first e) (sym z) ∙ ascend-from (i - first) (omega arith))))
+
+  later-role : (i k : ℕ) → first ≤ i → i + k < e → atomIn w i .role ≤ atomIn w (i + k) .role
+  later-role i zero l m = let z : i + 0 ≡ i = omega arith in rw z (omega arith)
+  later-role i (suc k) l m =
+      let z : i + suc k ≡ i + k + 1 = omega arith in
+      let a = later-role i k l (omega arith) in
+      let b = next-role (i + k) (omega arith) (omega arith) in
+      rw z (omega arith)
+
+  pub roles-rise : RolesRise w first e
+  roles-rise i j l m n =
+      let z : i + (j - i) ≡ j = omega arith in
+      subst (λ (k : ℕ). atomIn w i .role ≤ atomIn w k .role) z (later-role i (j - i) l (omega arith))
 
 -- ---- the highest part, from the last atom back
 module _ (w : List ℕ) (e : ℕ) where

@@ -1,18 +1,19 @@
 -- What the tests of one atom, and of two, say of their words: the equations that the code of each test shows.
-use Prim.Native.Nat.{ℕ, suc, _+_, _-_, _≤_, _<_}
+use Prim.Native.Nat.{ℕ, _+_, _-_, _≤_, _<_}
 use mathlib.Core.Path.{_≡_, refl, sym, _∙_, ap, ap₂}
 use mathlib.Core.Bool.{Bool, true, false, _&&_, _||_}
-use mathlib.Core.List.{List, [], _∷_}
+use mathlib.Core.List.{List}
 use native.Mathlib.Omega.{arith}
 use lib.ListN.{length, getD}
 use lib.Dec.{eqb, ltb, leb}
-use borrow.Author.Tests.{eqb-true, lt-ltb, le-ltb, le-leb, lt-leb, eq-eqb, ne-eqb}
+use borrow.Author.Tests.{ltb-true, eqb-true, lt-ltb, le-ltb, le-leb, lt-leb, eq-eqb, ne-eqb}
 use Rattle.task.specs.Lists.{all, upFrom, eqList, lessList}
 use Rattle.task.specs.Task.{argsFit, sameAtom, factLess, ascending}
 use Rattle.task.specs.Table.{wordsAt, arityIn, atomBase, atomIn, schemaNumberIn, factIn}
-use Rattle.task.specs.WordTests.{aritiesIn, unusedZero, argWordsFit, zerosAt, numberFits, factWordsFit, factsWordsFit, factsIn}
+use Rattle.task.specs.WordTests.{aritiesIn, unusedZero, argWordsFit, zerosAt, numberFits, factWordsFit}
+use Rattle.task.specs.WordTests.{factsWordsFit, factsIn}
 use Rattle.task.proofs.Laws.{and-left, and-right, and-both, both-ft, false-if}
-use Rattle.task.proofs.Ranges.{or-false}
+use Rattle.task.proofs.Ranges.{or-false, all-map, all-from}
 use Rattle.task.proofs.TablesByWords.{length-wordsAt, at-wordsAt}
 use Rattle.task.proofs.WordTables.{args-known}
 
@@ -28,7 +29,8 @@ module _ (w : List ℕ) (bound i : ℕ) where
   args-unknown l = sym (false-if (argWordsFit w bound i) (λ h. let k = args-fit-known h in omega arith))
 
   -- from where the arguments begin to where they end, and from there to where an atom ends
-  pub args-words : (from to : ℕ) → from ≡ atomBase w i + 4 → to ≡ from + arityIn w (atomIn w i .pred) → atomIn w i .pred < getD w 1 0 →
+  pub args-words : (from to : ℕ) → from ≡ atomBase w i + 4 → to ≡ from + arityIn w (atomIn w i .pred) →
+      atomIn w i .pred < getD w 1 0 →
       argWordsFit w bound i ≡ all (λ a. ltb a bound) (wordsAt w from (to - from)) && zerosAt w to (from + 4 - to)
   unfolding argWordsFit argsFit unusedZero atomIn arityIn
   args-words from to f t l =
@@ -38,11 +40,23 @@ module _ (w : List ℕ) (bound i : ℕ) where
       let a = at-wordsAt w 6 (getD w 1 0) p (omega arith) in
       let args : Bool = all (λ a. ltb a bound) (atomIn w i .args) in
       ap₂ (λ (x y : Bool). (x && (y && args)) && unusedZero w i)
-      (lt-ltb p (length (aritiesIn w)) (omega arith)) (eq-eqb (length (atomIn w i .args)) (getD (aritiesIn w) p 0) (m ∙ a)) ∙
+      (lt-ltb p (length (aritiesIn w)) (omega arith))
+      (eq-eqb (length (atomIn w i .args)) (getD (aritiesIn w) p 0) (m ∙ a)) ∙
       let many : arityIn w p ≡ to - from = omega arith in
       let begin : atomBase w i + 4 + arityIn w p ≡ to = omega arith in
       let unused : 4 - arityIn w p ≡ from + 4 - to = omega arith in
-      ap₂ (λ (x y : Bool). x && y) (ap₂ (λ (x y : ℕ). all (λ a. ltb a bound) (wordsAt w x y)) (sym f) many) (ap₂ (zerosAt w) begin unused)
+      ap₂ (λ (x y : Bool). x && y) (ap₂ (λ (x y : ℕ). all (λ a. ltb a bound) (wordsAt w x y)) (sym f) many)
+      (ap₂ (zerosAt w) begin unused)
+
+  pub args-below : argWordsFit w bound i ≡ true → (from to : ℕ) → from ≡ atomBase w i + 4 → to ≡
+      from + arityIn w (atomIn w i .pred) →
+      (k : ℕ) → from ≤ k → k < to → getD w k 0 < bound
+  unfolding wordsAt
+  args-below h from to f t k l m =
+      ltb-true (getD w k 0) bound (all-from (λ k. ltb (getD w k 0) bound) from (to - from)
+      (sym (all-map (λ a. ltb a bound) (λ k. getD w k 0) (upFrom from (to - from))) ∙
+      and-left (all (λ a. ltb a bound) (wordsAt w from (to - from))) _
+      (sym (args-words from to f t (args-fit-known h)) ∙ h)) k l (omega arith))
 
 -- ---- two atoms
 module _ (w : List ℕ) (i j : ℕ) where
@@ -62,13 +76,15 @@ module _ (w : List ℕ) (i j : ℕ) where
       let role : Bool = eqb (atomIn w i .role) (atomIn w j .role) in
       h (eqb-true _ _ (and-left (eqb (atomIn w i .pred) (atomIn w j .pred)) _ (and-right role _ k)))))
 
-  pub less-predicate : (atomIn w i .pred ≡ atomIn w j .pred → ⊥) → ltb (atomIn w i .pred) (atomIn w j .pred) ≡ factLess (factIn w i) (factIn w j)
+  pub less-predicate : (atomIn w i .pred ≡ atomIn w j .pred → ⊥) → ltb (atomIn w i .pred) (atomIn w j .pred) ≡
+      factLess (factIn w i) (factIn w j)
   unfolding factLess factIn lessList
-  less-predicate h = sym (ap (λ (b : Bool). ltb (atomIn w i .pred) (atomIn w j .pred) || (b && lessArgs)) (ne-eqb _ _ h) ∙ or-false _)
+  less-predicate h =
+      sym (ap (λ (b : Bool). ltb (atomIn w i .pred) (atomIn w j .pred) || (b && lessArgs)) (ne-eqb _ _ h) ∙ or-false _)
 
   -- the words of their arguments, where the predicates are equal
-  module _ (left right n : ℕ) (l : left ≡ atomBase w i + 4) (r : right ≡ atomBase w j + 4) (e : n ≡ arityIn w (atomIn w i .pred))
-      (p : atomIn w i .pred ≡ atomIn w j .pred) where
+  module _ (left right n : ℕ) (l : left ≡ atomBase w i + 4) (r : right ≡ atomBase w j + 4)
+      (e : n ≡ arityIn w (atomIn w i .pred)) (p : atomIn w i .pred ≡ atomIn w j .pred) where
     left-args : wordsAt w left n ≡ atomIn w i .args
     unfolding atomIn
     left-args = ap₂ (wordsAt w) l e
@@ -77,36 +93,71 @@ module _ (w : List ℕ) (i j : ℕ) where
     unfolding atomIn
     right-args = ap₂ (wordsAt w) r (e ∙ ap (arityIn w) p)
 
-    pub same-args : atomIn w i .role ≡ atomIn w j .role → eqList (wordsAt w left n) (wordsAt w right n) ≡ sameAtom (atomIn w i) (atomIn w j)
+    pub same-args : atomIn w i .role ≡ atomIn w j .role → eqList (wordsAt w left n) (wordsAt w right n) ≡
+        sameAtom (atomIn w i) (atomIn w j)
     unfolding sameAtom
-    same-args q = ap₂ eqList left-args right-args ∙ sym (ap₂ (λ (x y : Bool). x && (y && sameArgs)) (eq-eqb _ _ q) (eq-eqb _ _ p))
+    same-args q =
+        ap₂ eqList left-args right-args ∙ sym (ap₂ (λ (x y : Bool). x && (y && sameArgs)) (eq-eqb _ _ q) (eq-eqb _ _ p))
 
     pub less-args : lessList (wordsAt w left n) (wordsAt w right n) ≡ factLess (factIn w i) (factIn w j)
     unfolding factLess factIn lessList
     less-args =
         ap₂ lessList left-args right-args ∙
-        sym (ap₂ (λ (x y : Bool). x || (y && lessArgs)) (le-ltb (atomIn w i .pred) (atomIn w j .pred) (omega arith)) (eq-eqb _ _ p))
+        sym (ap₂ (λ (x y : Bool). x || (y && lessArgs)) (le-ltb (atomIn w i .pred) (atomIn w j .pred) (omega arith))
+        (eq-eqb _ _ p))
 
 -- ---- ground atoms
 module _ (w : List ℕ) (r i : ℕ) where
-  pub fact-words : factWordsFit w r i ≡
-      eqb (schemaNumberIn w i) 0 && (eqb (atomIn w i .role) r && (eqb (atomIn w i .part) 0 && argWordsFit w (getD w 0 0) i))
+  abbrev numbered : Bool
+  numbered = eqb (schemaNumberIn w i) 0
+
+  abbrev roled : Bool
+  roled = eqb (atomIn w i .role) r
+
+  abbrev parted : Bool
+  parted = eqb (atomIn w i .part) 0
+
+  pub fact-number : (schemaNumberIn w i ≡ 0 → ⊥) → false ≡ factWordsFit w r i
   unfolding factWordsFit
-  fact-words = refl
+  fact-number bad = sym (false-if (factWordsFit w r i) (λ h. bad (eqb-true _ _ (and-left numbered _ h))))
+
+  pub fact-role : (atomIn w i .role ≡ r → ⊥) → false ≡ factWordsFit w r i
+  unfolding factWordsFit
+  fact-role bad =
+      sym (false-if (factWordsFit w r i) (λ h. bad (eqb-true _ _ (and-left roled _ (and-right numbered _ h)))))
+
+  pub fact-part : (atomIn w i .part ≡ 0 → ⊥) → false ≡ factWordsFit w r i
+  unfolding factWordsFit
+  fact-part bad =
+      sym (false-if (factWordsFit w r i)
+      (λ h. bad (eqb-true _ _ (and-left parted _ (and-right roled _ (and-right numbered _ h))))))
+
+  pub fact-args : schemaNumberIn w i ≡ 0 → atomIn w i .role ≡ r → atomIn w i .part ≡ 0 →
+      argWordsFit w (getD w 0 0) i ≡ factWordsFit w r i
+  unfolding factWordsFit
+  fact-args n m p =
+      let fit = argWordsFit w (getD w 0 0) i in
+      sym (ap₂ (λ (x y : Bool). x && (y && (parted && fit))) (eq-eqb _ _ n) (eq-eqb _ _ m) ∙
+      ap (λ (x : Bool). x && fit) (eq-eqb _ _ p))
 
   pub fact-known : factWordsFit w r i ≡ true → atomIn w i .pred < getD w 1 0
-  fact-known h = args-fit-known w (getD w 0 0) i
-      (and-right (eqb (atomIn w i .part) 0) _ (and-right (eqb (atomIn w i .role) r) _ (and-right (eqb (schemaNumberIn w i) 0) _ (sym fact-words ∙ h))))
+  unfolding factWordsFit
+  fact-known h =
+      args-fit-known w (getD w 0 0) i (and-right parted _ (and-right roled _ (and-right numbered _ h)))
 
-pub facts-words : (w : List ℕ) (r i n : ℕ) → factsWordsFit w r i n ≡ all (factWordsFit w r) (upFrom i n) && ascending (factsIn w i n)
+pub facts-words : (w : List ℕ) (r i n : ℕ) → factsWordsFit w r i n ≡ all (factWordsFit w r) (upFrom i n) &&
+    ascending (factsIn w i n)
 unfolding factsWordsFit
 facts-words w r i n = refl
 
 -- ---- schema numbers, by one that compares as that of the atom before
-module _ (w : List ℕ) (i before : ℕ) (h : leb before (schemaNumberIn w i) ≡ leb (schemaNumberIn w (i - 1)) (schemaNumberIn w i)) where
+module _ (w : List ℕ) (i before : ℕ)
+    (h : leb before (schemaNumberIn w i) ≡ leb (schemaNumberIn w (i - 1)) (schemaNumberIn w i)) where
   pub number-low : schemaNumberIn w i < before → numberFits w i ≡ false
   unfolding numberFits
-  number-low l = false-if (numberFits w i) (λ k. both-ft (and-right (ltb (schemaNumberIn w i) (getD w 2 0)) _ k) (sym h ∙ lt-leb _ _ l))
+  number-low l =
+      false-if (numberFits w i) (λ k. both-ft (and-right (ltb (schemaNumberIn w i) (getD w 2 0)) _ k)
+      (sym h ∙ lt-leb _ _ l))
 
   pub number-high : getD w 2 0 ≤ schemaNumberIn w i → numberFits w i ≡ false
   unfolding numberFits
@@ -117,9 +168,11 @@ module _ (w : List ℕ) (i before : ℕ) (h : leb before (schemaNumberIn w i) �
   number-right l k = and-both _ _ (lt-ltb _ _ k) (sym h ∙ le-leb _ _ l)
 
 pub number-first : (w : List ℕ) → leb 0 (schemaNumberIn w 0) ≡ leb (schemaNumberIn w (0 - 1)) (schemaNumberIn w 0)
-number-first w = le-leb 0 (schemaNumberIn w 0) (omega arith) ∙ sym (le-leb (schemaNumberIn w 0) (schemaNumberIn w 0) (omega arith))
+number-first w =
+    le-leb 0 (schemaNumberIn w 0) (omega arith) ∙ sym (le-leb (schemaNumberIn w 0) (schemaNumberIn w 0) (omega arith))
 
-pub number-next : (w : List ℕ) (i before : ℕ) → before ≡ schemaNumberIn w i → leb before (schemaNumberIn w (i + 1)) ≡ leb (schemaNumberIn w (i + 1 - 1)) (schemaNumberIn w (i + 1))
+pub number-next : (w : List ℕ) (i before : ℕ) → before ≡ schemaNumberIn w i → leb before (schemaNumberIn w (i + 1)) ≡
+    leb (schemaNumberIn w (i + 1 - 1)) (schemaNumberIn w (i + 1))
 number-next w i before e =
     let z : i ≡ i + 1 - 1 = omega arith in
     ap (λ (n : ℕ). leb n (schemaNumberIn w (i + 1))) (e ∙ ap (schemaNumberIn w) z)

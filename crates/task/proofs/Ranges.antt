@@ -1,18 +1,23 @@
--- Tests over a range of indices, as a loop makes them: the whole test is what is left of it at the loop's index, so that a
--- turn goes one element further, a failed element ends it, and an empty rest is met.
+-- Tests over a range of indices, as a loop makes them: the whole test is what is left of it at the loop's index, so
+-- that a turn goes one element further, a failed element ends it, and an empty rest is met.
 use Prim.Native.Nat.{ℕ, suc, _+_, _-_, _≤_, _<_}
-use mathlib.Core.Path.{_≡_, refl, sym, _∙_, ap}
+use mathlib.Core.Path.{_≡_, refl, sym, _∙_, ap, ap₂}
 use mathlib.Core.Bool.{Bool, true, false, _&&_, _||_}
 use mathlib.Core.List.{List, [], _∷_, _++_, map}
 use native.Mathlib.Omega.{arith}
 use native.Mathlib.Numerals.{add-one}
 use lib.ListN.{getD}
 use Rattle.task.specs.Lists.{all, any, every, upTo, upFrom}
-use Rattle.task.proofs.Laws.{and-left, and-right, and-both, both-ft, bool-ext, false-if, every-at, Met, met-none, met-more, all-in, in-all, in-upFrom, upFrom-in, in-upTo, upTo-in}
+use Rattle.task.proofs.Laws.{and-left, and-right, and-both, both-ft, bool-ext, false-if, every-at, Met, met-none}
+use Rattle.task.proofs.Laws.{met-more, all-in, in-all, any-in, in-upFrom, upFrom-in, in-upTo, upTo-in}
 
 pub or-false : (b : Bool) → b || false ≡ b
 or-false true = refl
 or-false false = refl
+
+pub or-assoc : (a b c : Bool) → (a || b) || c ≡ a || (b || c)
+or-assoc true b c = refl
+or-assoc false b c = refl
 
 pub and-more : {t rest whole : Bool} → whole ≡ t && rest → t ≡ true → whole ≡ rest
 and-more {rest = rest} h e = h ∙ ap (λ (b : Bool). b && rest) e
@@ -74,6 +79,23 @@ module _ (p : ℕ → Bool) (i e : ℕ) where
   unfolding any
   any-ends h l = sym (h ∙ ap (any p) (range-done i e l))
 
+  pub none-left : ((k : ℕ) → i ≤ k → k < e → p k ≡ false) → anyLeft i ≡ false
+  none-left h = false-if (anyLeft i) (λ t.
+      let (k, m, y) = any-in p (upFrom i (e - i)) t in
+      let (a, b) = upFrom-in i (e - i) k m in
+      both-ft y (h k a (omega arith)))
+
+  -- what is found so far joins what is left
+  pub any-joins : {whole m′ : Bool} (m : Bool) → whole ≡ m || anyLeft i → i < e → m′ ≡ m || p i → whole ≡ m′ ||
+      anyLeft (i + 1)
+  any-joins m h l t =
+      h ∙ (ap (λ (b : Bool). m || b) (any-step l) ∙
+      (sym (or-assoc m (p i) (anyLeft (i + 1))) ∙ ap (λ (b : Bool). b || anyLeft (i + 1)) (sym t)))
+
+  pub any-joined : {whole : Bool} (m : Bool) → whole ≡ m || anyLeft i → e ≤ i → m ≡ whole
+  unfolding any
+  any-joined m h l = sym (h ∙ (ap (λ (is : List ℕ). m || any p is) (range-done i e l) ∙ or-false m))
+
 -- ---- every index of a range
 module _ (p : ℕ → Bool) where
   pub all-from : (s n : ℕ) → all p (upFrom s n) ≡ true → (i : ℕ) → s ≤ i → i < s + n → p i ≡ true
@@ -100,8 +122,15 @@ module _ {A : Type 0} where
   any-map p f [] = refl
   any-map p f (x ∷ xs) = ap (λ (b : Bool). p (f x) || b) (any-map p f xs)
 
+  pub all-same : (p q : A → Bool) (xs : List A) → ((x : A) → p x ≡ q x) → all p xs ≡ all q xs
+  unfolding all
+  all-same p q [] h = refl
+  all-same p q (x ∷ xs) h = ap₂ (λ (a b : Bool). a && b) (h x) (all-same p q xs h)
+
   pub all-and : (p q : A → Bool) (xs : List A) → all (λ x. p x && q x) xs ≡ all p xs && all q xs
   all-and p q xs = bool-ext (all (λ x. p x && q x) xs) (all p xs && all q xs)
       (λ h. and-both _ _ (in-all p xs (λ x i. and-left (p x) (q x) (all-in (λ x. p x && q x) h i)))
       (in-all q xs (λ x i. and-right (p x) (q x) (all-in (λ x. p x && q x) h i))))
-      (λ h. in-all (λ x. p x && q x) xs (λ x i. and-both _ _ (all-in p (and-left (all p xs) (all q xs) h) i) (all-in q (and-right (all p xs) (all q xs) h) i)))
+      (λ h. in-all (λ x. p x && q x) xs
+      (λ x i. and-both _ _ (all-in p (and-left (all p xs) (all q xs) h) i)
+      (all-in q (and-right (all p xs) (all q xs) h) i)))

@@ -1,21 +1,24 @@
 -- A schema in words: the tests of its atoms in the order of the code, and which indices its atoms have where the schema
 -- numbers ascend.
 use Prim.Native.Nat.{ℕ, zero, suc, _+_, _-_, _≤_, _<_}
-use mathlib.Core.Path.{_≡_, refl, sym, _∙_, ap, ap₂, subst}
+use mathlib.Core.Path.{_≡_, sym, _∙_, ap, ap₂, subst}
 use mathlib.Core.Bool.{Bool, true, false, _&&_}
-use mathlib.Core.List.{List, [], _∷_, _++_, map, append-nil}
+use mathlib.Core.List.{List, [], _∷_, _++_, append-nil}
+use native.Mathlib.Nat.{le-max-left, le-max-right}
 use native.Mathlib.Omega.{arith}
 use native.Mathlib.Decide.{decLt}
 use lib.ListN.{length, getD, length-map}
-use lib.Dec.{eqb, ltb, leb}
+use lib.Dec.{eqb, leb}
 use borrow.Author.Tests.{le-leb, lt-leb, eq-eqb, ne-eqb}
 use Rattle.task.specs.Lists.{all, any, every, filter, upTo, upFrom}
 use Rattle.task.specs.Task.{Atom, Schema, argsFit, distinct, rolesAscend, names, partCount, noGap, schemaFits}
-use Rattle.task.specs.Table.{wordsAt, atomIn, schemaNumberIn}
-use Rattle.task.specs.WordTests.{unusedZero, aritiesIn, argWordsFit, numbersFit, partsFit, paramsIn, atomsIn, schemaWordsFit, indicesOf, RunOf}
-use Rattle.task.proofs.Laws.{and-left, and-right, and-both, bool-ext, every-at, met-none, met-more, met-every, upFrom-in, length-upFrom}
+use Rattle.task.specs.Table.{atomIn, schemaNumberIn}
+use Rattle.task.specs.WordTests.{unusedZero, aritiesIn, argWordsFit, numbersFit, partsFit, paramsIn, atomsIn}
+use Rattle.task.specs.WordTests.{schemaWordsFit, indicesOf, RunOf}
+use Rattle.task.proofs.Laws.{and-left, and-right, and-both, bool-ext, every-at, met-none, met-more, met-every}
+use Rattle.task.proofs.Laws.{In, here, there, in-map, in-upFrom, upFrom-in, length-upFrom}
 use Rattle.task.proofs.Ranges.{all-map, all-and}
-use Rattle.task.proofs.Tests.{hasPart, SchemaTests, schema-tests, tests-schema}
+use Rattle.task.proofs.Tests.{hasPart, schema-tests, tests-schema}
 use Rattle.task.proofs.Tables.{upFrom-append, filter-append, filter-all, filter-none}
 use Rattle.task.proofs.WordTables.{numbers-rise}
 
@@ -24,11 +27,28 @@ pub parts-many : (atoms : List Atom) (n : ℕ) → n ≡ partCount atoms → 16 
 unfolding partsFit
 parts-many atoms n e l = sym (ap (λ (b : Bool). b && noGap atoms) (lt-leb (partCount atoms) 16 (omega arith)))
 
-pub parts-few : (atoms : List Atom) (n : ℕ) → n ≡ partCount atoms → n ≤ 16 → partsFit atoms ≡ all (hasPart atoms) (upFrom 0 (n - 0))
-unfolding partsFit noGap upTo
+pub parts-few : (atoms : List Atom) (n : ℕ) → n ≡ partCount atoms → n ≤ 16 → partsFit atoms ≡
+    all (hasPart atoms) (upTo n)
+unfolding partsFit noGap
 parts-few atoms n e l =
-    let z : partCount atoms ≡ n - 0 = omega arith in
-    ap (λ (b : Bool). b && noGap atoms) (le-leb (partCount atoms) 16 (omega arith)) ∙ ap (λ (m : ℕ). all (hasPart atoms) (upFrom 0 m)) z
+    ap (λ (b : Bool). b && noGap atoms) (le-leb (partCount atoms) 16 (omega arith)) ∙
+    ap (λ (m : ℕ). all (hasPart atoms) (upTo m)) (sym e)
+
+-- every part is below the count
+in-parts : {a : Atom} {atoms : List Atom} → In a atoms → a .part < partCount atoms
+unfolding partCount
+in-parts (here {y = b} {ys = bs} e) =
+    let l = le-max-left (suc (b .part)) (partCount bs) in
+    let p = ap (λ (a : Atom). a .part) e in
+    omega arith
+in-parts (there {y = b} {ys = bs} k) =
+    let l = le-max-right (suc (b .part)) (partCount bs) in
+    let p = in-parts k in
+    omega arith
+
+pub part-below : (w : List ℕ) (i first end : ℕ) → first ≤ i → i < end →
+    atomIn w i .part < partCount (atomsIn w first (end - first))
+part-below w i first end l m = in-parts (in-map (atomIn w) (in-upFrom first (end - first) i l (omega arith)))
 
 -- ---- a schema
 module _ (w : List ℕ) (s first n : ℕ) where
@@ -76,7 +96,8 @@ module _ (w : List ℕ) (s first n : ℕ) where
       (met-more (args-all ∙ and-both _ _ (c .fit) (and-right (schemaFits (aritiesIn w) schema) _ h))
       (met-more (c .apart) (met-more (c .used) (met-more (and-both _ _ (c .parts) (c .filled)) met-none))))))))
 
-  fits-in-order : every orderTests ≡ true → schemaFits (aritiesIn w) schema && all (unusedZero w) (upFrom first n) ≡ true
+  fits-in-order : every orderTests ≡ true → schemaFits (aritiesIn w) schema && all (unusedZero w) (upFrom first n) ≡
+      true
   unfolding partsFit noGap
   fits-in-order h =
       let at = every-at orderTests h in
@@ -96,11 +117,14 @@ module _ (w : List ℕ) (s first n : ℕ) where
 
   pub schema-words : schemaWordsFit w s (upFrom first n) ≡ every orderTests
   unfolding schemaWordsFit
-  schema-words = bool-ext (schemaFits (aritiesIn w) schema && all (unusedZero w) (upFrom first n)) (every orderTests) in-order fits-in-order
+  schema-words =
+      bool-ext (schemaFits (aritiesIn w) schema && all (unusedZero w) (upFrom first n)) (every orderTests) in-order
+      fits-in-order
 
 -- ---- the atoms between two indices, where a test holds just there
 pub filter-between : (p : ℕ → Bool) (a b n : ℕ) → a ≤ b → b ≤ n → ((i : ℕ) → i < a → p i ≡ false) →
-    ((i : ℕ) → a ≤ i → i < b → p i ≡ true) → ((i : ℕ) → b ≤ i → i < n → p i ≡ false) → filter p (upTo n) ≡ upFrom a (b - a)
+    ((i : ℕ) → a ≤ i → i < b → p i ≡ true) → ((i : ℕ) → b ≤ i → i < n → p i ≡ false) → filter p (upTo n) ≡
+    upFrom a (b - a)
 unfolding upTo
 filter-between p a b n l m before inside behind =
     let q : n ≡ a + ((b - a) + (n - b)) = omega arith in
@@ -111,10 +135,13 @@ filter-between p a b n l m before inside behind =
     (ap (λ (k : ℕ). upFrom k ((b - a) + (n - b))) x ∙ (upFrom-append a (b - a) (n - b) ∙
     ap (λ (k : ℕ). upFrom a (b - a) ++ upFrom k (n - b)) y))) in
     ap (filter p) parts ∙ (filter-append p (upFrom 0 a) (upFrom a (b - a) ++ upFrom b (n - b)) ∙
-    (ap₂ (λ (x y : List ℕ). x ++ y) (filter-none p (upFrom 0 a) (λ i k. let (u, v) = upFrom-in 0 a i k in before i (omega arith)))
+    (ap₂ (λ (x y : List ℕ). x ++ y)
+    (filter-none p (upFrom 0 a) (λ i k. let (u, v) = upFrom-in 0 a i k in before i (omega arith)))
     (filter-append p (upFrom a (b - a)) (upFrom b (n - b)) ∙
-    ap₂ (λ (x y : List ℕ). x ++ y) (filter-all p (upFrom a (b - a)) (λ i k. let (u, v) = upFrom-in a (b - a) i k in inside i u (omega arith)))
-    (filter-none p (upFrom b (n - b)) (λ i k. let (u, v) = upFrom-in b (n - b) i k in behind i u (omega arith)))) ∙ append-nil (upFrom a (b - a))))
+    ap₂ (λ (x y : List ℕ). x ++ y) (filter-all p (upFrom a (b - a))
+    (λ i k. let (u, v) = upFrom-in a (b - a) i k in inside i u (omega arith)))
+    (filter-none p (upFrom b (n - b)) (λ i k. let (u, v) = upFrom-in b (n - b) i k in behind i u (omega arith)))) ∙
+    append-nil (upFrom a (b - a))))
 
 -- ---- where the atoms of schema s begin: those before are of lower schemas, those from there on of no lower one
 pub record Cut (w : List ℕ) (first s : ℕ) : Type 0 where
@@ -140,8 +167,10 @@ module _ (w : List ℕ) (numbers : numbersFit w ≡ true) where
         let z : end + (i - end) ≡ i = omega arith in
         let a = run .from in
         let b = cut .behind end (run .from) (omega arith) in
-        let c : schemaNumberIn w end ≤ schemaNumberIn w i = subst (λ (j : ℕ). schemaNumberIn w end ≤ schemaNumberIn w j) z (rises end (i - end) (omega arith)) in
-        elim (decLt s (schemaNumberIn w end)) [ yes k ↦ omega arith | no k ↦ absurd (run .beyond (omega arith) (omega arith)) ]
+        let c : schemaNumberIn w end ≤ schemaNumberIn w i = subst
+        (λ (j : ℕ). schemaNumberIn w end ≤ schemaNumberIn w j) z (rises end (i - end) (omega arith)) in
+        elim (decLt s (schemaNumberIn w end))
+        [ yes k ↦ omega arith | no k ↦ absurd (run .beyond (omega arith) (omega arith)) ]
 
     pub cut-next : Cut w end (s + 1)
     cut-next = record {

@@ -11,7 +11,8 @@ use Rattle.task.specs.Lists.{upFrom, eqList, lessList}
 use Rattle.task.specs.Table.{wordsAt}
 use Rattle.task.proofs.Ranges.{or-false}
 
-pub words-step : (w : List ℕ) (i n k : ℕ) → k < n → wordsAt w (i + k) (n - k) ≡ getD w (i + k) 0 ∷ wordsAt w (i + (k + 1)) (n - (k + 1))
+pub words-step : (w : List ℕ) (i n k : ℕ) → k < n → wordsAt w (i + k) (n - k) ≡
+    getD w (i + k) 0 ∷ wordsAt w (i + (k + 1)) (n - (k + 1))
 unfolding wordsAt upFrom
 words-step w i n k l =
     let q : n - k ≡ suc (n - (k + 1)) = omega arith in
@@ -62,7 +63,8 @@ module _ (w : List ℕ) (i j n k : ℕ) where
 
   pub less-decides : {whole : Bool} → whole ≡ lessLeft k → k < n → (x ≡ y → ⊥) → ltb x y ≡ whole
   less-decides h l e =
-      sym (h ∙ (less-step l ∙ (ap (λ (b : Bool). ltb x y || (b && lessLeft (k + 1))) (ne-eqb x y e) ∙ or-false (ltb x y))))
+      sym (h ∙ (less-step l ∙ (ap (λ (b : Bool). ltb x y || (b && lessLeft (k + 1))) (ne-eqb x y e) ∙
+      or-false (ltb x y))))
 
   pub less-ends : {whole : Bool} → whole ≡ lessLeft k → n ≤ k → false ≡ whole
   unfolding lessList

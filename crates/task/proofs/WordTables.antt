@@ -1,9 +1,9 @@
--- The tests of words together say that the words are a table: a table passes each, by `table-words` and the tests of its
--- task; and words that pass them all fit (`WordsFit`) and are those of a well-formed task, so `words-table` applies.
-use Prim.Native.Nat.{ℕ, zero, suc, _+_, _-_, _*_, _≤_, _<_}
-use mathlib.Core.Path.{_≡_, refl, sym, _∙_, ap, subst}
+-- The tests of words together say that the words are a table: a table passes each, by `table-words` and the tests of
+-- its task; words that pass them all fit (`WordsFit`) and are those of a well-formed task, so `words-table` applies.
+use Prim.Native.Nat.{ℕ, zero, suc, _+_, _-_, _≤_, _<_}
+use mathlib.Core.Path.{_≡_, refl, sym, _∙_, subst}
 use mathlib.Core.Bool.{Bool, true, false, _&&_}
-use mathlib.Core.List.{List, [], _∷_, map}
+use mathlib.Core.List.{List}
 use native.Mathlib.Omega.{arith}
 use native.Mathlib.Decide.{decLt}
 use lib.ListN.{length, getD}
@@ -11,70 +11,30 @@ use lib.Dec.{eqb, ltb, leb}
 use borrow.Author.Tests.{ltb-true, leb-true, eqb-true, lt-ltb, le-leb, eq-eqb}
 use Rattle.task.specs.Lists.{all, every, upTo, upFrom}
 use Rattle.task.specs.Limits.{tableWords}
-use Rattle.task.specs.Task.{Fact, Schema, argsFit, schemaFits, ascending, factsFit, wellFormed}
-use Rattle.task.specs.Table.{wordsAt, arityIn, atomBase, atomIn, schemaNumberIn, factIn, taskOf, isTable}
-use Rattle.task.specs.WordTests.{countTests, aritiesFit, zerosAt, unusedZero, aritiesIn, argWordsFit, numberFits, numbersFit, schemaWordsFit, indicesOf, factWordsFit, factsWordsFit, factsIn, atomTotal, wordsUsed, Roomy}
-use Rattle.task.proofs.Laws.{and-left, and-right, and-both, bool-ext, false-if, every-at, met-none, met-more, met-every, all-in, in-all, In, filter-in, in-filter, in-upTo, upTo-in, upFrom-in, in-map, map-in}
-use Rattle.task.proofs.Ranges.{all-from, from-all, all-below, below-all, all-map, all-and}
-use Rattle.task.proofs.Tests.{FactTests, TaskTests, schema-tests, fact-tests, tests-fact, task-tests, tests-task}
+use Rattle.task.specs.Task.{argsFit, schemaFits, factsFit}
+use Rattle.task.specs.Table.{arityIn, atomBase, atomIn, schemaNumberIn, factIn, taskOf, isTable}
+use Rattle.task.specs.WordTests.{countTests, aritiesFit, zerosAt, unusedZero, aritiesIn, argWordsFit, numberFits}
+use Rattle.task.specs.WordTests.{numbersFit, schemaWordsFit, indicesOf, schemasFit, factWordsFit, factsWordsFit}
+use Rattle.task.specs.WordTests.{factsIn, atomTotal, wordsUsed, Roomy}
+use Rattle.task.proofs.Laws.{and-left, and-right, and-both, bool-ext, false-if, met-none, met-more, met-every}
+use Rattle.task.proofs.Laws.{all-in, in-all, In, filter-in, in-filter, in-upTo, upTo-in, upFrom-in, in-map}
+use Rattle.task.proofs.Laws.{map-in}
+use Rattle.task.proofs.Ranges.{all-from, from-all, all-below, below-all, all-map}
+use Rattle.task.proofs.Counts.{Counted, counted, roomy}
+use Rattle.task.proofs.Tests.{TaskTests, schema-tests, fact-tests, tests-fact, task-tests, tests-task}
 use Rattle.task.proofs.Tables.{of-table}
-use Rattle.task.proofs.TablesByWords.{length-wordsAt, schemaIn, FactWord, WordsFit, table-words, words-table, arities-count, schemas-count, atoms-count, inits-count, goals-count}
+use Rattle.task.proofs.TablesByWords.{length-wordsAt, schemaIn, FactWord, WordsFit, table-words, words-table}
+use Rattle.task.proofs.TablesByWords.{arities-count, schemas-count, atoms-count, inits-count, goals-count}
 
 -- ---- the tests by name
 pub record Passed (w : List ℕ) : Type 0 where
   pub counts : every (countTests w) ≡ true
   pub arities : aritiesFit w ≡ true
   pub numbers : numbersFit w ≡ true
-  pub schemas : all (λ s. schemaWordsFit w s (indicesOf w s)) (upTo (getD w 2 0)) ≡ true
+  pub schemas : schemasFit w ≡ true
   pub init : factsWordsFit w 3 (getD w 3 0) (getD w 4 0) ≡ true
   pub goal : factsWordsFit w 4 (getD w 3 0 + getD w 4 0) (getD w 5 0) ≡ true
   pub rest : zerosAt w (wordsUsed w) (tableWords - wordsUsed w) ≡ true
-
-pub record Counted (w : List ℕ) : Type 0 where
-  pub some-object : 1 ≤ getD w 0 0
-  pub objects : getD w 0 0 ≤ 1000
-  pub some-pred : 1 ≤ getD w 1 0
-  pub preds : getD w 1 0 ≤ 400
-  pub schemas : getD w 2 0 ≤ 200
-  pub atoms : getD w 3 0 ≤ 1000
-  pub inits : getD w 4 0 ≤ 500
-  pub goals : getD w 5 0 ≤ 100
-
-pub counted : (w : List ℕ) → every (countTests w) ≡ true → Counted w
-unfolding countTests
-counted w h =
-    let at = every-at (countTests w) h in
-    record {
-      some-object = leb-true _ _ (at 0);
-      objects = leb-true _ _ (at 1);
-      some-pred = leb-true _ _ (at 2);
-      preds = leb-true _ _ (at 3);
-      schemas = leb-true _ _ (at 4);
-      atoms = leb-true _ _ (at 5);
-      inits = leb-true _ _ (at 6);
-      goals = leb-true _ _ (at 7);
-    }
-
-pub all-counted : (w : List ℕ) → Counted w → true ≡ every (countTests w)
-unfolding countTests
-all-counted w c =
-    sym (met-every {bs = countTests w}
-    (met-more (le-leb _ _ (c .some-object)) (met-more (le-leb _ _ (c .objects)) (met-more (le-leb _ _ (c .some-pred))
-    (met-more (le-leb _ _ (c .preds)) (met-more (le-leb _ _ (c .schemas)) (met-more (le-leb _ _ (c .atoms))
-    (met-more (le-leb _ _ (c .inits)) (met-more (le-leb _ _ (c .goals)) met-none)))))))))
-
-pub not-counted : (w : List ℕ) → (Counted w → ⊥) → false ≡ every (countTests w)
-not-counted w bad = sym (false-if (every (countTests w)) (λ h. bad (counted w h)))
-
-pub roomy : (w : List ℕ) → tableWords ≤ length w → every (countTests w) ≡ true → aritiesFit w ≡ true → Roomy w
-unfolding tableWords aritiesFit
-roomy w long h a =
-    let c = counted w h in
-    record {
-      inside = omega arith;
-      few = omega arith;
-      arities = λ p l. leb-true (arityIn w p) 4 (all-below (λ p. leb (arityIn w p) 4) (getD w 1 0) a p l);
-    }
 
 -- ---- the unused argument words of an atom, one by one
 abbrev Unused : List ℕ → ℕ → Type 0
@@ -97,7 +57,8 @@ unfolding unusedZero zerosAt
 zero-unused w i h k a b =
     let arity = arityIn w (atomIn w i .pred) in
     eqb-true (getD w (atomBase w i + 4 + k) 0) 0
-    (all-from (λ k. eqb (getD w k 0) 0) (atomBase w i + 4 + arity) (4 - arity) h (atomBase w i + 4 + k) (omega arith) (omega arith))
+    (all-from (λ k. eqb (getD w k 0) 0) (atomBase w i + 4 + arity) (4 - arity) h (atomBase w i + 4 + k) (omega arith)
+    (omega arith))
 
 -- ---- a table passes
 module _ (w : List ℕ) (h : isTable w ≡ true) where
@@ -123,7 +84,9 @@ module _ (w : List ℕ) (h : isTable w ≡ true) where
 
   numbers-met : numbersFit w ≡ true
   unfolding numbersFit numberFits
-  numbers-met = below-all (numberFits w) (getD w 3 0) (λ i l. and-both _ _ (lt-ltb _ _ (fit .schema i l)) (le-leb _ _ (rises i l)))
+  numbers-met =
+      below-all (numberFits w) (getD w 3 0)
+      (λ i l. and-both _ _ (lt-ltb _ _ (fit .schema i l)) (le-leb _ _ (rises i l)))
     where
       rises : (i : ℕ) → i < getD w 3 0 → schemaNumberIn w (i - 1) ≤ schemaNumberIn w i
       rises zero l = omega arith
@@ -132,8 +95,8 @@ module _ (w : List ℕ) (h : isTable w ≡ true) where
   unused-met : (i : ℕ) → i < atomTotal w → unusedZero w i ≡ true
   unused-met i l = unused-zero w i (λ k. fit .unused i k l)
 
-  schemas-met : all (λ s. schemaWordsFit w s (indicesOf w s)) (upTo (getD w 2 0)) ≡ true
-  unfolding schemaWordsFit indicesOf taskOf
+  schemas-met : schemasFit w ≡ true
+  unfolding schemasFit schemaWordsFit indicesOf taskOf
   schemas-met = below-all (λ s. schemaWordsFit w s (indicesOf w s)) (getD w 2 0) (λ s l. and-both _ _
       (all-in (schemaFits (aritiesIn w)) (tests .fit) (in-map (schemaIn w) (in-upTo (getD w 2 0) s l)))
       (in-all (unusedZero w) (indicesOf w s) (λ i k.
@@ -151,7 +114,8 @@ module _ (w : List ℕ) (h : isTable w ≡ true) where
       let f : FactWord w k r = rw e at (words (k - i) (omega arith)) in
       and-both _ _ (eq-eqb _ _ (f .schema)) (and-both _ _ (eq-eqb _ _ (f .role)) (and-both _ _ (eq-eqb _ _ (f .part))
       (and-both _ _ (all-from (λ j. argsFit (aritiesIn w) (getD w 0 0) (atomIn w j .pred) (atomIn w j .args)) i n
-      (sym (all-map (λ f. argsFit (aritiesIn w) (getD w 0 0) (f .pred) (f .args)) (factIn w) (upFrom i n)) ∙ c .fit) k l m)
+      (sym (all-map (λ f. argsFit (aritiesIn w) (getD w 0 0) (f .pred) (f .args)) (factIn w) (upFrom i n)) ∙ c .fit) k
+      l m)
       (unused-met k (omega arith))))))) (c .order)
 
   rest-met : zerosAt w (wordsUsed w) (tableWords - wordsUsed w) ≡ true
@@ -178,10 +142,12 @@ pub record Known (w : List ℕ) (i : ℕ) : Type 0 where
   pub known : atomIn w i .pred < getD w 1 0
   pub unused : unusedZero w i ≡ true
 
-pub args-known : (w : List ℕ) (bound i : ℕ) → argsFit (aritiesIn w) bound (atomIn w i .pred) (atomIn w i .args) ≡ true → unusedZero w i ≡ true → Known w i
+pub args-known : (w : List ℕ) (bound i : ℕ) → argsFit (aritiesIn w) bound (atomIn w i .pred) (atomIn w i .args) ≡
+    true → unusedZero w i ≡ true → Known w i
 unfolding argsFit
 args-known w bound i a u =
-    let l = ltb-true (atomIn w i .pred) (length (aritiesIn w)) (and-left (ltb (atomIn w i .pred) (length (aritiesIn w))) _ a) in
+    let l = ltb-true (atomIn w i .pred) (length (aritiesIn w))
+    (and-left (ltb (atomIn w i .pred) (length (aritiesIn w))) _ a) in
     let e = length-wordsAt w 6 (getD w 1 0) in
     record { known = omega arith; unused = u }
 
@@ -213,7 +179,7 @@ module _ (w : List ℕ) (long : tableWords ≤ length w) (c : Passed w) where
   schemaOk s = schemaFits (aritiesIn w) (schemaIn w s)
 
   schema-ok : (s : ℕ) → s < getD w 2 0 → schemaOk s && all (unusedZero w) (indicesOf w s) ≡ true
-  unfolding schemaWordsFit indicesOf
+  unfolding schemasFit schemaWordsFit indicesOf
   schema-ok s l = all-below (λ s. schemaWordsFit w s (indicesOf w s)) (getD w 2 0) (c .schemas) s l
 
   atom-known : (i : ℕ) → i < getD w 3 0 → Known w i
@@ -221,7 +187,8 @@ module _ (w : List ℕ) (long : tableWords ≤ length w) (c : Passed w) where
   atom-known i l =
       let s = schemaNumberIn w i in
       let b = schema-ok s (number-known w (c .numbers) i l) in
-      let k : In i (indicesOf w s) = in-filter (λ i. eqb s (schemaNumberIn w i)) (in-upTo (getD w 3 0) i l) (eq-eqb s s refl) in
+      let k : In i (indicesOf w s) = in-filter (λ i. eqb s (schemaNumberIn w i)) (in-upTo (getD w 3 0) i l)
+      (eq-eqb s s refl) in
       let t = schema-tests (aritiesIn w) (schemaIn w s) (and-left (schemaOk s) _ b) in
       args-known w (schemaIn w s .params) i
       (all-in (λ a. argsFit (aritiesIn w) (schemaIn w s .params) (a .pred) (a .args)) (t .fit) (in-map (atomIn w) k))
@@ -260,7 +227,9 @@ module _ (w : List ℕ) (long : tableWords ≤ length w) (c : Passed w) where
       each j a b = all-from (factWordsFit w r) i n (and-left (all (factWordsFit w r) (upFrom i n)) _ h) j a b
 
       args : (j : ℕ) → factWordsFit w r j ≡ true → argWordsFit w (getD w 0 0) j ≡ true
-      args j a = and-right (eqb (atomIn w j .part) 0) _ (and-right (eqb (atomIn w j .role) r) _ (and-right (eqb (schemaNumberIn w j) 0) _ a))
+      args j a =
+          and-right (eqb (atomIn w j .part) 0) _
+          (and-right (eqb (atomIn w j .role) r) _ (and-right (eqb (schemaNumberIn w j) 0) _ a))
 
       ok : ℕ → Bool
       ok j = argsFit (aritiesIn w) (getD w 0 0) (atomIn w j .pred) (atomIn w j .args)
@@ -340,6 +309,7 @@ not-passed w bad = sym (false-if (isTable w) (λ h. bad (table-passes w h)))
 
 -- where the other tests are passed, the rest decides
 pub rest-decides : (w : List ℕ) → tableWords ≤ length w →
-    (zerosAt w (wordsUsed w) (tableWords - wordsUsed w) ≡ true → Passed w) → zerosAt w (wordsUsed w) (tableWords - wordsUsed w) ≡ isTable w
+    (zerosAt w (wordsUsed w) (tableWords - wordsUsed w) ≡ true → Passed w) →
+    zerosAt w (wordsUsed w) (tableWords - wordsUsed w) ≡ isTable w
 rest-decides w long others = bool-ext (zerosAt w (wordsUsed w) (tableWords - wordsUsed w)) (isTable w)
     (λ h. passed-table w long (others h)) (λ h. table-passes w h .rest)

@@ -1,14 +1,15 @@
 -- Being a table, tested word by word: the tests of 'Task table' that inner functions make, one for each of them.
 -- proofs/WordTables.antt shows that together they say `isTable`.
-use Prim.Native.Nat.{ℕ, suc, _+_, _-_, _*_, _≤_, _<_}
+use Prim.Native.Nat.{ℕ, _+_, _-_, _*_, _/_, _%_, _^_, _≤_, _<_}
 use mathlib.Core.Path.{_≡_}
 use mathlib.Core.Bool.{Bool, _&&_}
 use mathlib.Core.List.{List, [], _∷_, map}
 use lib.ListN.{length, getD}
 use lib.Dec.{eqb, ltb, leb}
-use Rattle.task.specs.Lists.{all, filter, upTo, upFrom}
-use Rattle.task.specs.Limits.{mostObjects, mostPredicates, mostSchemas, mostSchemaAtoms, mostInitial, mostGoal, mostArity, mostParts, headWords, atomSize}
-use Rattle.task.specs.Task.{Atom, Fact, Schema, argsFit, partCount, noGap, schemaFits, ascending}
+use Rattle.task.specs.Lists.{all, any, filter, upTo, upFrom}
+use Rattle.task.specs.Limits.{mostObjects, mostPredicates, mostSchemas, mostSchemaAtoms, mostInitial, mostGoal}
+use Rattle.task.specs.Limits.{mostArity, mostParts, headWords, atomSize}
+use Rattle.task.specs.Task.{Atom, Fact, argsFit, sameAtom, partCount, noGap, schemaFits, ascending}
 use Rattle.task.specs.Table.{wordsAt, arityIn, atomBase, atomIn, schemaNumberIn, factIn}
 
 -- "objects N (1 to 1000), predicates P (1 to 400), schemas (0 to 200), schema atoms (at most 1000), initial atoms (at
@@ -28,6 +29,10 @@ countTests w =
 unfoldable pub aritiesFit : List ℕ → Bool
 unfolding all upTo arityIn
 aritiesFit w = all (λ p. leb (arityIn w p) mostArity) (upTo (getD w 1 0))
+
+-- bit x of a set of numbers kept in one word
+unfoldable pub bit : ℕ → ℕ → Bool
+bit mask x = eqb (mask / 2 ^ x % 2) 1
 
 -- n words from i on are 0
 unfoldable pub zerosAt : List ℕ → ℕ → ℕ → Bool
@@ -60,6 +65,11 @@ unfoldable pub numbersFit : List ℕ → Bool
 unfolding all upTo numberFits
 numbersFit w = all (numberFits w) (upTo (getD w 3 0))
 
+-- "no atom twice in one role": atom i stands again behind it, before an end
+unfoldable pub standsAgain : List ℕ → ℕ → ℕ → Bool
+unfolding any upFrom sameAtom atomIn
+standsAgain w i end = any (λ j. sameAtom (atomIn w i) (atomIn w j)) (upFrom (i + 1) (end - (i + 1)))
+
 -- the n atoms from atom i on
 abbrev pub atomsIn : List ℕ → ℕ → ℕ → List Atom
 atomsIn w i n = map (atomIn w) (upFrom i n)
@@ -86,18 +96,24 @@ unfoldable pub indicesOf : List ℕ → ℕ → List ℕ
 unfolding filter upTo schemaNumberIn
 indicesOf w s = filter (λ i. eqb s (schemaNumberIn w i)) (upTo (getD w 3 0))
 
+-- the atoms that name each schema are one
+unfoldable pub schemasFit : List ℕ → Bool
+unfolding all upTo schemaWordsFit indicesOf
+schemasFit w = all (λ s. schemaWordsFit w s (indicesOf w s)) (upTo (getD w 2 0))
+
 -- "schema and part of roles 3 and 4, are 0"
 unfoldable pub factWordsFit : List ℕ → ℕ → ℕ → Bool
 unfolding argWordsFit schemaNumberIn atomIn
 factWordsFit w r i =
-    eqb (schemaNumberIn w i) 0 && (eqb (atomIn w i .role) r && (eqb (atomIn w i .part) 0 && argWordsFit w (getD w 0 0) i))
+    eqb (schemaNumberIn w i) 0 && (eqb (atomIn w i .role) r &&
+    (eqb (atomIn w i .part) 0 && argWordsFit w (getD w 0 0) i))
 
 -- the n atoms from i on are ground atoms of role r, strictly ascending
 unfoldable pub factsWordsFit : List ℕ → ℕ → ℕ → ℕ → Bool
 unfolding all upFrom factWordsFit ascending factIn
 factsWordsFit w r i n = all (factWordsFit w r) (upFrom i n) && ascending (factsIn w i n)
 
--- the number of words before "Zeros fill the rest"
+-- the number of atoms, and of the words before "Zeros fill the rest"
 abbrev pub atomTotal : List ℕ → ℕ
 atomTotal w = getD w 3 0 + getD w 4 0 + getD w 5 0
 
@@ -113,6 +129,10 @@ pub record Roomy (w : List ℕ) : Type 0 where
 -- each atom from one index to another has a known predicate
 abbrev pub KnownIn : List ℕ → ℕ → ℕ → Type 0
 KnownIn w from to = (i : ℕ) → from ≤ i → i < to → atomIn w i .pred < getD w 1 0
+
+-- the roles of the atoms from one index to another never fall
+abbrev pub RolesRise : List ℕ → ℕ → ℕ → Type 0
+RolesRise w from to = (i j : ℕ) → from ≤ i → i ≤ j → j < to → atomIn w i .role ≤ atomIn w j .role
 
 -- `end` is where the atoms of schema s, which begin at `start`, end
 pub record RunOf (w : List ℕ) (s start end : ℕ) : Type 0 where

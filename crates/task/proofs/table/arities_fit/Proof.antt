@@ -1,3 +1,5 @@
+-- `task::table::arities_fit` meets its contract.
+-- The invariant: the whole test is what is left of it from p on. The measure is how many predicates are left.
 use Prim.Native.Nat.{ℕ, _-_}
 use mathlib.Core.Path.{_≡_, ap}
 use native.Mathlib.Omega.{arith}
@@ -10,9 +12,6 @@ use Rattle.task.specs.WordTests.{aritiesFit}
 use Rattle.task.proofs.Ranges.{all-more, all-fails, all-ends}
 use Rattle.task.proofs.table.arities_fit.Statement.{statement}
 use Rattle.task.proofs.table.arities_fit.Tie as tie
-use Rattle.task.proofs.table.arities_fit.Reads as reads
-use Rattle.task.proofs.table.arities_fit.Lts as lts
-use Rattle.task.proofs.table.word.Reads as word-reads
 
 abbrev Inv-loop : tie.InvT-loop
 Inv-loop table predicates p₀ p = aritiesFit table ≡ all (λ p. leb (arityIn table p) 4) (upFrom p (predicates - p))
@@ -20,11 +19,9 @@ Inv-loop table predicates p₀ p = aritiesFit table ≡ all (λ p. leb (arityIn 
 abbrev μ-loop : tie.MeasureT-loop
 μ-loop table predicates p₀ p = predicates - p
 
--- src/table.rt:119:9
 word-requires : tie.Need-word-requires Inv-loop μ-loop
 word-requires c κs = omega arith
 
--- src/table.rt:121:5
 loop-holds : tie.Need-loop-holds Inv-loop μ-loop
 unfolding aritiesFit upTo
 loop-holds c =
@@ -33,47 +30,43 @@ loop-holds c =
     let h : getD w 1 0 ≡ c .word .result - 0 = omega arith in
     ap (λ (n : ℕ). all (λ p. leb (arityIn w p) 4) (upFrom 0 n)) h
 
--- src/table.rt:122:28
 add-word : tie.Need-add-word Inv-loop μ-loop
 add-word c = omega arith
 
--- src/table.rt:122:16
 word-requires-2 : tie.Need-word-requires-2 Inv-loop μ-loop
 word-requires-2 c κs = omega arith
 
--- src/table.rt:123:13
 returns : tie.Need-returns Inv-loop μ-loop
 unfolding arityIn
 returns c =
     let at = c .before .before .before in
     let w = at .before .before .before .args .table .now in
     let e = c .before .word2 .ensures .0 in
-    all-fails (λ p. leb (arityIn w p) 4) (at .loop .p) (at .before .word .result) (at .loop .inv) (c .before .before .loop-test .taken)
+    all-fails (λ p. leb (arityIn w p) 4) (at .loop .p) (at .before .word .result) (at .loop .inv)
+    (c .before .before .loop-test .taken)
     (lt-leb (arityIn w (at .loop .p)) 4 (omega arith))
 
--- src/table.rt:125:9
 add-p : tie.Need-add-p Inv-loop μ-loop
 add-p c = omega arith
 
--- src/table.rt:121:5
 loop-less : tie.Need-loop-less Inv-loop μ-loop
 loop-less c = omega arith
 
--- src/table.rt:121:5
 loop-again : tie.Need-loop-again Inv-loop μ-loop
 unfolding arityIn
 loop-again c =
     let at = c .before .before .before in
     let w = at .before .before .before .args .table .now in
     let e = c .before .word2 .ensures .0 in
-    all-more (λ p. leb (arityIn w p) 4) (at .loop .p) (at .before .word .result) (at .loop .inv) (c .before .before .loop-test .taken)
+    all-more (λ p. leb (arityIn w p) 4) (at .loop .p) (at .before .word .result) (at .loop .inv)
+    (c .before .before .loop-test .taken)
     (le-leb (arityIn w (at .loop .p)) 4 (omega arith))
 
--- src/table.rt:115:1
 returns-2 : tie.Need-returns-2 Inv-loop μ-loop
 returns-2 c =
     let w = c .before .before .before .before .args .table .now in
-    all-ends (λ p. leb (arityIn w p) 4) (c .before .loop .p) (c .before .before .word .result) (c .before .loop .inv) (c .loop-test .left)
+    all-ends (λ p. leb (arityIn w p) 4) (c .before .loop .p) (c .before .before .word .result) (c .before .loop .inv)
+    (c .loop-test .left)
 
 pub arities-fit-spec : {M : Type 1} → statement M
 arities-fit-spec =

@@ -1,57 +1,50 @@
+-- `task::table::counts_fit` meets its contract.
+-- A count outside its limits fails; within them all, the tests are met.
 use mathlib.Core.Logic.{⊎-elim}
 use native.Mathlib.Omega.{arith}
 use borrow.Author.Tests.{ltb-true, ltb-false}
-use Rattle.task.proofs.WordTables.{Counted, all-counted, not-counted}
+use Rattle.task.proofs.Counts.{all-counted, not-counted}
 use borrow.Author.Needs.{needs}
 use Rattle.task.proofs.table.counts_fit.Statement.{statement}
 use Rattle.task.proofs.table.counts_fit.Tie as tie
-use Rattle.task.proofs.table.counts_fit.Reads as reads
-use Rattle.task.proofs.table.counts_fit.Lts as lts
-use Rattle.task.proofs.table.word.Reads as word-reads
 
--- src/table.rt:98:9
+abbrev start : tie.After-word6 → tie.Start
+start c = c .before .before .before .before .before .before .before .before .before .before .before
+
 word-requires : tie.Need-word-requires
 word-requires c κs = search needs
 
--- src/table.rt:99:9
 word-requires-2 : tie.Need-word-requires-2
 word-requires-2 c κs = search needs
 
--- src/table.rt:101:9
 returns : tie.Need-returns
 returns c =
     let w = c .before .before .before .before .args .table .now in
     ⊎-elim (λ a. not-counted w (λ k. omega arith)) (⊎-elim (λ a. not-counted w (λ k. omega (arith, ltb-true)))
-    (⊎-elim (λ a. not-counted w (λ k. omega (arith, ltb-true))) (λ a. not-counted w (λ k. omega (arith, ltb-true))))) (c .if1 .came)
+    (⊎-elim (λ a. not-counted w (λ k. omega (arith, ltb-true))) (λ a. not-counted w (λ k. omega (arith, ltb-true)))))
+    (c .if1 .came)
 
--- src/table.rt:103:9
 word-requires-3 : tie.Need-word-requires-3
 word-requires-3 c κs = search needs
 
--- src/table.rt:104:9
 word-requires-4 : tie.Need-word-requires-4
 word-requires-4 c κs = search needs
 
--- src/table.rt:105:9
 word-requires-5 : tie.Need-word-requires-5
 word-requires-5 c κs = search needs
 
--- src/table.rt:106:9
 word-requires-6 : tie.Need-word-requires-6
 word-requires-6 c κs = search needs
 
--- src/table.rt:108:9
 returns-2 : tie.Need-returns-2
 returns-2 c =
-    let w = c .before .before .before .before .before .before .before .before .before .before .before .before .args .table .now in
+    let w = start (c .before) .args .table .now in
     ⊎-elim (λ a. not-counted w (λ k. omega arith)) (⊎-elim (λ a. not-counted w (λ k. omega (arith, ltb-true)))
-    (⊎-elim (λ a. not-counted w (λ k. omega (arith, ltb-true))) (λ a. not-counted w (λ k. omega (arith, ltb-true))))) (c .if5 .came)
-
-abbrev start : tie.Else8 → tie.Start
-start c = c .before .before .before .before .before .before .before .before .before .before .before .before .before .before .before
+    (⊎-elim (λ a. not-counted w (λ k. omega (arith, ltb-true))) (λ a. not-counted w (λ k. omega (arith, ltb-true)))))
+    (c .if5 .came)
 
 returns-3 : tie.Need-returns-3
-returns-3 c = all-counted (start c .args .table .now) (record {
+returns-3 c = all-counted (start (c .before .before .before .before) .args .table .now) (record {
   some-object = omega (arith, ltb-false);
   objects = omega (arith, ltb-false);
   some-pred = omega (arith, ltb-false);

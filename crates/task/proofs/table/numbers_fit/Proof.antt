@@ -1,3 +1,6 @@
+-- `task::table::numbers_fit` meets its contract.
+-- The invariant: the whole test is what is left of it from i on, and `before` compares with atom i's number as that of
+-- the atom before it does. The measure is how many atoms are left.
 use Prim.Native.Nat.{ℕ, _-_}
 use mathlib.Core.Path.{_≡_, ap}
 use native.Mathlib.Omega.{arith}
@@ -10,10 +13,6 @@ use Rattle.task.proofs.Ranges.{all-more, all-fails, all-ends}
 use Rattle.task.proofs.AtomWords.{number-low, number-high, number-right, number-first, number-next}
 use Rattle.task.proofs.table.numbers_fit.Statement.{statement}
 use Rattle.task.proofs.table.numbers_fit.Tie as tie
-use Rattle.task.proofs.table.numbers_fit.Reads as reads
-use Rattle.task.proofs.table.numbers_fit.Lts as lts
-use Rattle.task.proofs.table.schema_number.Reads as schema-number-reads
-use Rattle.task.proofs.table.word.Reads as word-reads
 
 abbrev Inv-loop : tie.InvT-loop
 Inv-loop table schemas atoms before₀ i₀ before i =
@@ -23,15 +22,12 @@ Inv-loop table schemas atoms before₀ i₀ before i =
 abbrev μ-loop : tie.MeasureT-loop
 μ-loop table schemas atoms before₀ i₀ before i = atoms - i
 
--- src/table.rt:356:9
 word-requires : tie.Need-word-requires Inv-loop μ-loop
 word-requires c κs = let r = c .before .pre in omega arith
 
--- src/table.rt:357:9
 word-requires-2 : tie.Need-word-requires-2 Inv-loop μ-loop
 word-requires-2 c κs = let r = c .before .before .pre in omega arith
 
--- src/table.rt:360:5
 loop-holds : tie.Need-loop-holds Inv-loop μ-loop
 unfolding numbersFit upTo
 loop-holds c =
@@ -40,13 +36,11 @@ loop-holds c =
     let n : getD w 3 0 ≡ c .word2 .result - 0 = omega arith in
     (ap (λ (n : ℕ). all (numberFits w) (upFrom 0 n)) n, number-first w)
 
--- src/table.rt:361:13
 schema-number-requires : tie.Need-schema-number-requires Inv-loop μ-loop
 schema-number-requires c κs =
     let start = c .before .before .before .before .before in
     (start .pre, omega (arith, c .before .before .word2 .ensures .0))
 
--- src/table.rt:363:13
 returns : tie.Need-returns Inv-loop μ-loop
 returns c =
     let k = c .before in
@@ -57,7 +51,6 @@ returns c =
     all-fails (numberFits w) i (at .before .word2 .result) (at .loop .inv .0) (k .before .loop-test .taken)
     (number-low w i (at .loop .before) (at .loop .inv .1) (omega arith))
 
--- src/table.rt:366:13
 returns-2 : tie.Need-returns-2 Inv-loop μ-loop
 returns-2 c =
     let k = c .before .before in
@@ -68,15 +61,12 @@ returns-2 c =
     all-fails (numberFits w) i (at .before .word2 .result) (at .loop .inv .0) (k .before .loop-test .taken)
     (number-high w i (at .loop .before) (at .loop .inv .1) (omega (arith, at .before .before .word .ensures .0)))
 
--- src/table.rt:369:9
 add-i : tie.Need-add-i Inv-loop μ-loop
 add-i c = omega arith
 
--- src/table.rt:360:5
 loop-less : tie.Need-loop-less Inv-loop μ-loop
 loop-less c = omega arith
 
--- src/table.rt:360:5
 loop-again : tie.Need-loop-again Inv-loop μ-loop
 loop-again c =
     let k = c .before .before in
@@ -85,11 +75,11 @@ loop-again c =
     let i = at .loop .i in
     let e = k .schema-number .ensures in (
       all-more (numberFits w) i (at .before .word2 .result) (at .loop .inv .0) (k .before .loop-test .taken)
-          (number-right w i (at .loop .before) (at .loop .inv .1) (omega arith) (omega (arith, at .before .before .word .ensures .0))),
+          (number-right w i (at .loop .before) (at .loop .inv .1) (omega arith)
+          (omega (arith, at .before .before .word .ensures .0))),
       number-next w i (k .schema-number .result) e,
     )
 
--- src/table.rt:352:1
 returns-3 : tie.Need-returns-3 Inv-loop μ-loop
 returns-3 c =
     let at = c .before in

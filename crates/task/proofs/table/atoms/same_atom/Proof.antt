@@ -1,0 +1,75 @@
+-- `task::table::atoms::same_atom` meets its contract.
+-- Role, predicate and arguments in turn; where the predicates are equal, the arities are.
+use mathlib.Core.Path.{sym, _∙_, ap}
+use Rattle.task.specs.Table.{arityIn}
+use Rattle.task.proofs.AtomWords.{other-role, other-predicate, same-args}
+use borrow.Author.Needs.{needs}
+use Rattle.task.proofs.table.atoms.same_atom.Statement.{statement}
+use Rattle.task.proofs.table.atoms.same_atom.Tie as tie
+
+role-requires : tie.Need-role-requires
+role-requires c κs = search needs
+
+role-requires-2 : tie.Need-role-requires-2
+role-requires-2 c κs = search needs
+
+returns : tie.Need-returns
+returns c =
+    let given = c .before .before .before .before .args in
+    other-role (given .table .now) (given .i) (given .j)
+    (λ e. c .if1 .taken (c .before .before .role .ensures ∙ (e ∙ sym (c .before .role2 .ensures))))
+
+predicate-requires : tie.Need-predicate-requires
+predicate-requires c κs = search needs
+
+predicate-requires-2 : tie.Need-predicate-requires-2
+predicate-requires-2 c κs = search needs
+
+returns-2 : tie.Need-returns-2
+returns-2 c =
+    let given = c .before .before .before .before .before .before .before .args in
+    other-predicate (given .table .now) (given .i) (given .j)
+    (λ e. c .if2 .taken (c .before .before .predicate .ensures ∙ (e ∙ sym (c .before .predicate2 .ensures))))
+
+arguments-requires : tie.Need-arguments-requires
+arguments-requires c κs = search needs
+
+arguments-requires-2 : tie.Need-arguments-requires-2
+arguments-requires-2 c κs = search needs
+
+arity-requires : tie.Need-arity-requires
+arity-requires c κs = search needs
+
+same-words-requires : tie.Need-same-words-requires
+same-words-requires c κs = search needs
+
+returns-3 : tie.Need-returns-3
+returns-3 c =
+    let given = c .before .before .before .before .before .before .before .before .before .before .before .args in
+    let w = given .table .now in
+    let k = c .before .before .before .before in
+    let p = k .before .before .predicate .ensures in
+    c .same-words .ensures ∙
+    same-args w (given .i) (given .j) (c .before .before .before .arguments .result)
+    (c .before .before .arguments2 .result) (c .before .arity .result)
+    (c .before .before .before .arguments .ensures .0) (c .before .before .arguments2 .ensures .0)
+    (c .before .arity .ensures .0 ∙ ap (arityIn w) p)
+    (sym p ∙ (k .if2 .left ∙ k .before .predicate2 .ensures))
+    (sym (k .before .before .before .before .before .role .ensures) ∙
+    (k .before .before .before .if1 .left ∙ k .before .before .before .before .role2 .ensures))
+
+pub same-atom-spec : {M : Type 1} → statement M
+same-atom-spec =
+    tie.close
+    (tie.spec
+    role-requires
+    role-requires-2
+    returns
+    predicate-requires
+    predicate-requires-2
+    returns-2
+    arguments-requires
+    arguments-requires-2
+    arity-requires
+    same-words-requires
+    returns-3)

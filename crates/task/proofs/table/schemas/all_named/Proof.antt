@@ -1,0 +1,27 @@
+-- `task::table::schemas::all_named` meets its contract.
+-- The set of parameters that stand in some atom has all of them.
+use Prim.Native.Nat.{_-_}
+use mathlib.Core.Path.{_∙_}
+use Rattle.task.specs.Lists.{any, upTo}
+use Rattle.task.specs.Task.{names}
+use Rattle.task.specs.WordTests.{bit, atomsIn}
+use Rattle.task.proofs.Ranges.{all-same}
+use borrow.Author.Needs.{needs}
+use Rattle.task.proofs.table.schemas.all_named.Statement.{statement}
+use Rattle.task.proofs.table.schemas.all_named.Tie as tie
+
+parameters-requires : tie.Need-parameters-requires
+parameters-requires c κs = search needs
+
+has-all-requires : tie.Need-has-all-requires
+has-all-requires c κs = search needs
+
+returns : tie.Need-returns
+returns c =
+    let given = c .before .before .before .args in
+    c .has-all .ensures ∙ all-same (bit (c .before .parameters .result))
+    (λ x. any (names x) (atomsIn (given .table .now) (given .first) (given .end - given .first)))
+    (upTo (given .params)) (c .before .parameters .ensures)
+
+pub all-named-spec : {M : Type 1} → statement M
+all-named-spec = tie.close (tie.spec parameters-requires has-all-requires returns)

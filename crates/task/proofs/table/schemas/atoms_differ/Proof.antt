@@ -1,0 +1,75 @@
+-- `task::table::schemas::atoms_differ` meets its contract.
+-- The invariant: the whole test is what is left of it from i on. The measure is how many atoms are left.
+use Prim.Native.Nat.{_-_, _≤_}
+use mathlib.Core.Path.{_≡_, refl, sym, _∙_, ap}
+use mathlib.Core.Bool.{not}
+use native.Mathlib.Omega.{arith}
+use Rattle.task.proofs.Ranges.{and-more, and-fails}
+use Rattle.task.proofs.AtomRuns.{distinctLeft, distinct-step, distinct-none}
+use Rattle.task.proofs.table.schemas.atoms_differ.Statement.{statement}
+use Rattle.task.proofs.table.schemas.atoms_differ.Tie as tie
+
+abbrev Inv-loop : tie.InvT-loop
+Inv-loop table first end i₀ i = (first ≤ i) × (distinctLeft table first end first ≡ distinctLeft table i end i)
+
+abbrev μ-loop : tie.MeasureT-loop
+μ-loop table first end i₀ i = end - i
+
+loop-holds : tie.Need-loop-holds Inv-loop μ-loop
+loop-holds c = (omega arith, refl)
+
+stands-again-requires : tie.Need-stands-again-requires Inv-loop μ-loop
+stands-again-requires c κs =
+    let at = c .before in
+    let start = at .before .before in (
+      start .pre .0,
+      (
+        (omega arith, omega arith),
+        (
+          start .pre .1 .1 .0 (at .loop .i) (omega arith) (c .loop-test .taken),
+          λ j k l m n. start .pre .1 .1 .1 j k (omega arith) m n,
+        ),
+      ),
+    )
+
+returns : tie.Need-returns Inv-loop μ-loop
+returns c =
+    let at = c .before .before .before in
+    let given = at .before .before .args in
+    let step = at .loop .inv .1 ∙ distinct-step (given .table .now) (at .loop .i) (given .end)
+    (c .before .before .loop-test .taken) in
+    and-fails _ step (ap not (sym (c .before .stands-again .ensures) ∙ c .if1 .taken))
+
+add-i : tie.Need-add-i Inv-loop μ-loop
+add-i c = omega arith
+
+loop-less : tie.Need-loop-less Inv-loop μ-loop
+loop-less c = omega arith
+
+loop-again : tie.Need-loop-again Inv-loop μ-loop
+loop-again c =
+    let at = c .before .before .before in
+    let given = at .before .before .args in
+    let step = at .loop .inv .1 ∙ distinct-step (given .table .now) (at .loop .i) (given .end)
+    (c .before .before .loop-test .taken) in
+    (omega arith, and-more step (ap not (sym (c .before .stands-again .ensures) ∙ c .if1 .left)))
+
+returns-2 : tie.Need-returns-2 Inv-loop μ-loop
+returns-2 c =
+    let at = c .before in
+    let given = at .before .before .args in
+    sym (at .loop .inv .1 ∙ distinct-none (given .table .now) (at .loop .i) (given .end) (c .loop-test .left))
+
+pub atoms-differ-spec : {M : Type 1} → statement M
+atoms-differ-spec =
+    tie.close
+    (tie.spec
+    Inv-loop
+    μ-loop
+    loop-holds
+    stands-again-requires
+    returns
+    add-i
+    loop-less
+    loop-again
+    returns-2)

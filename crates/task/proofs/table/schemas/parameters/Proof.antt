@@ -1,0 +1,130 @@
+-- `task::table::schemas::parameters` meets its contract.
+-- The invariant, for every number: it stands in an atom if it is in the set so far or stands in one of the atoms left.
+-- The measure is how many atoms are left.
+use Prim.Native.Nat.{ℕ, _+_, _-_, _≤_}
+use mathlib.Core.Path.{_≡_, sym, _∙_, ap, ap₂}
+use mathlib.Core.Bool.{Bool, true, _||_}
+use mathlib.Core.List.{List}
+use native.Mathlib.Omega.{arith}
+use lib.Dec.{eqb}
+use Rattle.task.specs.Lists.{any, upFrom}
+use Rattle.task.specs.Task.{names}
+use Rattle.task.specs.Table.{wordsAt, arityIn, atomIn}
+use Rattle.task.specs.WordTests.{bit, argWordsFit, atomsIn}
+use Rattle.task.proofs.Bits.{bit-none}
+use Rattle.task.proofs.Ranges.{any-map, any-joins, any-joined, all-from}
+use Rattle.task.proofs.AtomWords.{args-fit-known, args-below}
+use Rattle.task.proofs.table.schemas.parameters.Statement.{statement}
+use Rattle.task.proofs.table.schemas.parameters.Tie as tie
+
+abbrev named : List ℕ → ℕ → ℕ → Bool
+named w x i = names x (atomIn w i)
+
+abbrev Inv-loop : tie.InvT-loop
+Inv-loop table bound first end set₀ i₀ set i =
+    (first ≤ i) × ((x : ℕ) → any (names x) (atomsIn table first (end - first)) ≡ bit set x ||
+    any (named table x) (upFrom i (end - i)))
+
+abbrev μ-loop : tie.MeasureT-loop
+μ-loop table bound first end set₀ i₀ set i = end - i
+
+abbrev start : tie.In-loop Inv-loop μ-loop → tie.Start Inv-loop μ-loop
+start c = c .before .before .before
+
+abbrev words : tie.In-loop Inv-loop μ-loop → List ℕ
+words c = start c .args .table .now
+
+abbrev i : tie.In-loop Inv-loop μ-loop → ℕ
+i c = c .before .loop .i
+
+-- the arguments of the atom at hand fit
+fit : (c : tie.In-loop Inv-loop μ-loop) → argWordsFit (words c) (start c .args .bound) (i c) ≡ true
+fit c =
+    let given = start c .args in
+    all-from (argWordsFit (words c) (given .bound)) (given .first) (given .end - given .first) (start c .pre .1 .1)
+    (i c)
+    (c .before .loop .inv .0) (omega arith)
+
+-- how many arguments it has
+many : (c : tie.After-arity Inv-loop μ-loop) →
+    c .arity .result ≡ arityIn (words (c .before .before .before))
+    (atomIn (words (c .before .before .before)) (i (c .before .before .before)) .pred)
+many c = c .arity .ensures .0 ∙ ap (arityIn (words (c .before .before .before))) (c .before .predicate .ensures)
+
+loop-holds : tie.Need-loop-holds Inv-loop μ-loop
+loop-holds c =
+    let given = c .before .args in (
+      omega arith,
+      λ x. any-map (names x) (atomIn (given .table .now)) (upFrom (given .first) (given .end - given .first)) ∙
+          ap (λ (b : Bool). b || any (named (given .table .now) x)
+          (upFrom (given .first) (given .end - given .first))) (sym (bit-none x)),
+    )
+
+arguments-requires : tie.Need-arguments-requires Inv-loop μ-loop
+arguments-requires c κs = let start = c .before .before .before in (start .pre .0, omega arith)
+
+predicate-requires : tie.Need-predicate-requires Inv-loop μ-loop
+predicate-requires c κs = let start = c .before .before .before .before in (start .pre .0, omega arith)
+
+arity-requires : tie.Need-arity-requires Inv-loop μ-loop
+arity-requires c κs =
+    let k = c .before .before in
+    let known = args-fit-known (words k) (start k .args .bound) (i k) (fit k) in
+    (start k .pre .0, omega (arith, c .predicate .ensures, known))
+
+add-joined-words : tie.Need-add-joined-words Inv-loop μ-loop
+add-joined-words c = omega (arith, c .arity .ensures .1, c .before .before .arguments .ensures .1)
+
+joined-words-requires : tie.Need-joined-words-requires Inv-loop μ-loop
+joined-words-requires c κs =
+    let k = c .before .before .before in
+    let from = c .before .before .arguments .result in
+    let below = args-below (words k) (start k .args .bound) (i k) (fit k) from (from + c .arity .result) in
+    let small = below (c .before .before .arguments .ensures .0) (ap (λ (n : ℕ). from + n) (many c)) in
+    (omega (arith, c .arity .ensures .1, c .before .before .arguments .ensures .1), λ j l m. omega (arith, small j l m))
+
+add-i : tie.Need-add-i Inv-loop μ-loop
+add-i c = omega arith
+
+loop-less : tie.Need-loop-less Inv-loop μ-loop
+loop-less c = omega arith
+
+loop-again : tie.Need-loop-again Inv-loop μ-loop
+unfolding names atomIn
+loop-again c =
+    let k = c .before in
+    let at = k .before .before .before .before in
+    let given = at .before .before .args in
+    let w = given .table .now in
+    let from = k .before .before .arguments .result in
+    let n : from + k .arity .result - from ≡ k .arity .result = omega arith in (
+      omega arith,
+      λ x. any-joins (named w x) (at .loop .i) (given .end) (bit (at .loop .set) x) (at .loop .inv .1 x)
+          (k .before .before .before .loop-test .taken) (c .joined-words .ensures x ∙
+          ap (λ (ys : List ℕ). bit (at .loop .set) x || any (λ y. eqb x y) ys)
+          (ap₂ (wordsAt w) (k .before .before .arguments .ensures .0) (n ∙ many k))),
+    )
+
+returns : tie.Need-returns Inv-loop μ-loop
+returns c =
+    let at = c .before in
+    let given = at .before .before .args in
+    λ x. any-joined (named (given .table .now) x) (at .loop .i) (given .end) (bit (at .loop .set) x)
+    (at .loop .inv .1 x) (c .loop-test .left)
+
+pub parameters-spec : {M : Type 1} → statement M
+parameters-spec =
+    tie.close
+    (tie.spec
+    Inv-loop
+    μ-loop
+    loop-holds
+    arguments-requires
+    predicate-requires
+    arity-requires
+    add-joined-words
+    joined-words-requires
+    add-i
+    loop-less
+    loop-again
+    returns)

@@ -1,0 +1,108 @@
+-- `task::table::schemas::stands_again` meets its contract.
+-- The invariant: the whole test is what is left of it from j on. At an atom of another role nothing is left to find,
+-- since roles rise. The measure is how many atoms are left.
+use Prim.Native.Nat.{ℕ, _-_, _<_}
+use mathlib.Core.Path.{_≡_, refl, sym, _∙_}
+use mathlib.Core.Bool.{Bool}
+use mathlib.Core.List.{List}
+use native.Mathlib.Omega.{arith}
+use Rattle.task.specs.Lists.{any, upFrom}
+use Rattle.task.specs.Task.{sameAtom}
+use Rattle.task.specs.Table.{atomIn}
+use Rattle.task.specs.WordTests.{standsAgain}
+use Rattle.task.proofs.Ranges.{any-more, any-found, any-ends, none-left}
+use Rattle.task.proofs.AtomWords.{other-role}
+use Rattle.task.proofs.table.schemas.stands_again.Statement.{statement}
+use Rattle.task.proofs.table.schemas.stands_again.Tie as tie
+
+abbrev sameAs : List ℕ → ℕ → ℕ → Bool
+sameAs w i j = sameAtom (atomIn w i) (atomIn w j)
+
+abbrev Inv-loop : tie.InvT-loop
+Inv-loop table i end j₀ j = (i < j) × (standsAgain table i end ≡ any (sameAs table i) (upFrom j (end - j)))
+
+abbrev μ-loop : tie.MeasureT-loop
+μ-loop table i end j₀ j = end - j
+
+add-j : tie.Need-add-j Inv-loop μ-loop
+add-j c = omega arith
+
+loop-holds : tie.Need-loop-holds Inv-loop μ-loop
+unfolding standsAgain
+loop-holds c = (omega arith, refl)
+
+role-requires : tie.Need-role-requires Inv-loop μ-loop
+role-requires c κs = let start = c .before .before .before in (start .pre .0, omega arith)
+
+role-requires-2 : tie.Need-role-requires-2 Inv-loop μ-loop
+role-requires-2 c κs = let start = c .before .before .before .before in (start .pre .0, omega arith)
+
+returns : tie.Need-returns Inv-loop μ-loop
+returns c =
+    let k = c .before .before in
+    let at = k .before .before in
+    let start = at .before .before in
+    let given = start .args in
+    let w = given .table .now in
+    let j = at .loop .j in
+    let rise = start .pre .1 .1 .1 in
+    sym (at .loop .inv .1 ∙ none-left (sameAs w (given .i)) j (given .end)
+    (λ m a b. sym (other-role w (given .i) m (λ e.
+    let up = rise (given .i) j (omega arith) (omega arith) (k .before .loop-test .taken) in
+    let on = rise j m (omega arith) a b in
+    c .if1 .taken (omega (arith, k .role .ensures, c .before .role2 .ensures))))))
+
+same-atom-requires : tie.Need-same-atom-requires Inv-loop μ-loop
+same-atom-requires c κs =
+    let start = c .before .before .before .before .before .before in
+    (start .pre .0, ((omega arith, omega arith), start .pre .1 .1 .0))
+
+returns-2 : tie.Need-returns-2 Inv-loop μ-loop
+returns-2 c =
+    let k = c .before .before .before .before in
+    let at = k .before .before in
+    let given = at .before .before .args in
+    any-found (sameAs (given .table .now) (given .i)) (at .loop .j) (given .end) (at .loop .inv .1)
+    (k .before .loop-test .taken)
+    (sym (c .before .same-atom .ensures) ∙ c .if2 .taken)
+
+add-j-2 : tie.Need-add-j-2 Inv-loop μ-loop
+add-j-2 c = omega arith
+
+loop-less : tie.Need-loop-less Inv-loop μ-loop
+loop-less c = omega arith
+
+loop-again : tie.Need-loop-again Inv-loop μ-loop
+loop-again c =
+    let k = c .before .before .before .before in
+    let at = k .before .before in
+    let given = at .before .before .args in (
+      omega arith,
+      any-more (sameAs (given .table .now) (given .i)) (at .loop .j) (given .end) (at .loop .inv .1)
+          (k .before .loop-test .taken)
+          (sym (c .before .same-atom .ensures) ∙ c .if2 .left),
+    )
+
+returns-3 : tie.Need-returns-3 Inv-loop μ-loop
+returns-3 c =
+    let at = c .before in
+    let given = at .before .before .args in
+    any-ends (sameAs (given .table .now) (given .i)) (at .loop .j) (given .end) (at .loop .inv .1) (c .loop-test .left)
+
+pub stands-again-spec : {M : Type 1} → statement M
+stands-again-spec =
+    tie.close
+    (tie.spec
+    Inv-loop
+    μ-loop
+    add-j
+    loop-holds
+    role-requires
+    role-requires-2
+    returns
+    same-atom-requires
+    returns-2
+    add-j-2
+    loop-less
+    loop-again
+    returns-3)

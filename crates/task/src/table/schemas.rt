@@ -1,0 +1,239 @@
+// The schemas of a table: the atoms that name one follow one another, and together are what document 01 asks of it.
+use super::atoms::arguments;
+use super::atoms::arity;
+use super::atoms::atom_fits;
+use super::atoms::part;
+use super::atoms::predicate;
+use super::atoms::role;
+use super::atoms::same_atom;
+use super::atoms::schema_number;
+use super::limits;
+use super::sets::has_all;
+use super::sets::joined;
+use super::sets::joined_words;
+use super::words::word;
+ghost use mathlib.Core.Path.{_≡_};
+ghost use mathlib.Core.Bool.{true};
+ghost use Prim.Native.Nat.{ℕ, _-_, _<_, _≤_};
+ghost use lib.ListN.{getD};
+ghost use lib.Dec.{eqb};
+ghost use Rattle.task.specs.Lists.{all, any, upTo, upFrom};
+ghost use Rattle.task.specs.Task.{distinct, rolesAscend, names, partCount};
+ghost use Rattle.task.specs.Table.{atomIn};
+ghost use Rattle.task.specs.WordTests.{bit, argWordsFit, numbersFit, schemaWordsFit, schemasFit, partsFit};
+ghost use Rattle.task.specs.WordTests.{standsAgain, atomsIn, atomTotal, Roomy, KnownIn, RolesRise, RunOf};
+
+// "preconditions first, then adds, then deletes", of the atoms from one index to another.
+fn roles_ascend(table: &[u16], first: usize, end: usize) -> bool
+    requires { ⌜ Roomy (now table) ⌝ }
+    requires { ⌜ (first < end) × (end ≤ atomTotal (now table)) ⌝ }
+    ensures { λ r. ⌜ r ≡ rolesAscend (atomsIn (now (table .entry)) first (end - first)) ⌝ }
+{
+    let mut i = first;
+    while i + 1 < end {
+        if role(table, i + 1) < role(table, i) {
+            return false;
+        }
+        i += 1;
+    }
+    role(table, i) <= limits::DELETION
+}
+
+// Whether each atom from one index to another has a known predicate, arguments below a bound, and unused words 0.
+fn atoms_fit(table: &[u16], bound: usize, first: usize, end: usize) -> bool
+    requires { ⌜ Roomy (now table) ⌝ }
+    requires { ⌜ end ≤ atomTotal (now table) ⌝ }
+    ensures { λ r. ⌜ r ≡ all (argWordsFit (now (table .entry)) bound) (upFrom first (end - first)) ⌝ }
+{
+    let mut i = first;
+    while i < end {
+        if !atom_fits(table, i, bound) {
+            return false;
+        }
+        i += 1;
+    }
+    true
+}
+
+// Whether atom i stands again among the atoms behind it, up to an end; those of its role come first.
+fn stands_again(table: &[u16], i: usize, end: usize) -> bool
+    requires { ⌜ Roomy (now table) ⌝ }
+    requires { ⌜ (i < end) × (end ≤ atomTotal (now table)) ⌝ }
+    requires { ⌜ atomIn (now table) i .pred < getD (now table) 1 0 ⌝ }
+    requires { ⌜ RolesRise (now table) i end ⌝ }
+    ensures { λ r. ⌜ r ≡ standsAgain (now (table .entry)) i end ⌝ }
+{
+    let mut j = i + 1;
+    while j < end {
+        if role(table, j) != role(table, i) {
+            return false;
+        }
+        if same_atom(table, i, j) {
+            return true;
+        }
+        j += 1;
+    }
+    false
+}
+
+// "no atom twice in one role", of the atoms from one index to another.
+fn atoms_differ(table: &[u16], first: usize, end: usize) -> bool
+    requires { ⌜ Roomy (now table) ⌝ }
+    requires { ⌜ end ≤ atomTotal (now table) ⌝ }
+    requires { ⌜ KnownIn (now table) first end ⌝ }
+    requires { ⌜ RolesRise (now table) first end ⌝ }
+    ensures { λ r. ⌜ r ≡ distinct (atomsIn (now (table .entry)) first (end - first)) ⌝ }
+{
+    let mut i = first;
+    while i < end {
+        if stands_again(table, i, end) {
+            return false;
+        }
+        i += 1;
+    }
+    true
+}
+
+// The parameters that stand in the atoms from one index to another, whose arguments are below a bound.
+fn parameters(table: &[u16], bound: usize, first: usize, end: usize) -> u64
+    requires { ⌜ Roomy (now table) ⌝ }
+    requires { ⌜ (bound ≤ 64) × (end ≤ atomTotal (now table)) ⌝ }
+    requires { ⌜ all (argWordsFit (now table) bound) (upFrom first (end - first)) ≡ true ⌝ }
+    ensures { λ r. ⌜ ((x : ℕ) → bit r x ≡ any (names x) (atomsIn (now (table .entry)) first (end - first))) ⌝ }
+{
+    let mut set = 0;
+    let mut i = first;
+    while i < end {
+        let from = arguments(table, i);
+        set = joined_words(table, set, from, from + arity(table, predicate(table, i)));
+        i += 1;
+    }
+    set
+}
+
+// "every parameter stands in some atom", of the atoms from one index to another.
+fn all_named(table: &[u16], params: usize, first: usize, end: usize) -> bool
+    requires { ⌜ Roomy (now table) ⌝ }
+    requires { ⌜ (params ≤ 64) × (end ≤ atomTotal (now table)) ⌝ }
+    requires { ⌜ all (argWordsFit (now table) params) (upFrom first (end - first)) ≡ true ⌝ }
+    ensures { λ r. ⌜ r ≡ all (λ x. any (names x) (atomsIn (now (table .entry)) first (end - first))) (upTo params) ⌝ }
+{
+    has_all(parameters(table, params, first, end), params)
+}
+
+// One more than the highest part number of the atoms from one index to another.
+fn part_count(table: &[u16], first: usize, end: usize) -> usize
+    requires { ⌜ Roomy (now table) ⌝ }
+    requires { ⌜ (first ≤ end) × (end ≤ atomTotal (now table)) ⌝ }
+    ensures { λ r. ⌜ r ≡ partCount (atomsIn (now (table .entry)) first (end - first)) ⌝ }
+{
+    let mut count = 0;
+    let mut i = end;
+    while first < i {
+        i -= 1;
+        let next = part(table, i) + 1;
+        if count < next {
+            count = next;
+        }
+    }
+    count
+}
+
+// The parts of the atoms from one index to another.
+fn parts(table: &[u16], first: usize, end: usize) -> u64
+    requires { ⌜ Roomy (now table) ⌝ }
+    requires { ⌜ end ≤ atomTotal (now table) ⌝ }
+    requires { ⌜ partCount (atomsIn (now table) first (end - first)) ≤ 64 ⌝ }
+    ensures { λ r. ⌜ ((p : ℕ) →
+        bit r p ≡ any (λ a. eqb p (a .part)) (atomsIn (now (table .entry)) first (end - first))) ⌝ }
+{
+    let mut set = 0;
+    let mut i = first;
+    while i < end {
+        set = joined(set, part(table, i));
+        i += 1;
+    }
+    set
+}
+
+// "1 to 16 parts, numbered without a gap", of the atoms from one index to another.
+fn parts_fit(table: &[u16], first: usize, end: usize) -> bool
+    requires { ⌜ Roomy (now table) ⌝ }
+    requires { ⌜ (first ≤ end) × (end ≤ atomTotal (now table)) ⌝ }
+    ensures { λ r. ⌜ r ≡ partsFit (atomsIn (now (table .entry)) first (end - first)) ⌝ }
+{
+    let count = part_count(table, first, end);
+    if limits::MOST_PARTS < count {
+        return false;
+    }
+    has_all(parts(table, first, end), count)
+}
+
+// Whether the atoms from one index to another, with the parameter count of schema s, are a schema.
+fn schema_fits(table: &[u16], s: usize, first: usize, end: usize) -> bool
+    requires { ⌜ Roomy (now table) ⌝ }
+    requires { ⌜ s < getD (now table) 2 0 ⌝ }
+    requires { ⌜ (first ≤ end) × (end ≤ getD (now table) 3 0) ⌝ }
+    ensures { λ r. ⌜ r ≡ schemaWordsFit (now (table .entry)) s (upFrom first (end - first)) ⌝ }
+{
+    let params = word(table, limits::HEAD_WORDS + word(table, 1) + s);
+    if limits::MOST_PARAMETERS < params {
+        return false;
+    }
+    if end - first < 1 {
+        return false;
+    }
+    if limits::MOST_ATOMS < end - first {
+        return false;
+    }
+    if !roles_ascend(table, first, end) {
+        return false;
+    }
+    if !atoms_fit(table, params, first, end) {
+        return false;
+    }
+    if !atoms_differ(table, first, end) {
+        return false;
+    }
+    if !all_named(table, params, first, end) {
+        return false;
+    }
+    parts_fit(table, first, end)
+}
+
+// Where the atoms of schema s end, which begin at `start`.
+fn run_end(table: &[u16], s: usize, start: usize) -> usize
+    requires { ⌜ Roomy (now table) ⌝ }
+    requires { ⌜ start ≤ getD (now table) 3 0 ⌝ }
+    ensures { λ r. ⌜ RunOf (now (table .entry)) s start r ⌝ }
+{
+    let atoms = word(table, 3);
+    let mut i = start;
+    while i < atoms {
+        if schema_number(table, i) != s {
+            return i;
+        }
+        i += 1;
+    }
+    i
+}
+
+// Whether each schema, with the atoms that name it, is one; they follow one another.
+pub(crate) fn schemas_fit(table: &[u16]) -> bool
+    requires { ⌜ Roomy (now table) ⌝ }
+    requires { ⌜ numbersFit (now table) ≡ true ⌝ }
+    ensures { λ r. ⌜ r ≡ schemasFit (now (table .entry)) ⌝ }
+{
+    let schemas = word(table, 2);
+    let mut first = 0;
+    let mut s = 0;
+    while s < schemas {
+        let end = run_end(table, s, first);
+        if !schema_fits(table, s, first, end) {
+            return false;
+        }
+        first = end;
+        s += 1;
+    }
+    true
+}

@@ -1,0 +1,81 @@
+// Words of a table: one as a number, runs of them tested and compared.
+ghost use mathlib.Core.Path.{_≡_};
+ghost use Prim.Native.Nat.{_+_, _-_, _<_, _≤_};
+ghost use lib.ListN.{length, getD};
+ghost use lib.Dec.{ltb};
+ghost use Rattle.task.specs.Lists.{all, eqList, lessList};
+ghost use Rattle.task.specs.Table.{wordsAt};
+ghost use Rattle.task.specs.WordTests.{zerosAt};
+
+// The word at an index, as a number.
+pub(crate) fn word(table: &[u16], i: usize) -> usize
+    requires { ⌜ i < length (now table) ⌝ }
+    ensures { λ r. ⌜ r ≡ getD (now (table .entry)) i 0 ⌝ }
+    ensures { λ r. ⌜ r < 65536 ⌝ }
+{
+    table[i] as usize
+}
+
+// Whether the words from an index to another are all 0.
+pub(crate) fn zeros(table: &[u16], from: usize, to: usize) -> bool
+    requires { ⌜ to ≤ length (now table) ⌝ }
+    ensures { λ r. ⌜ r ≡ zerosAt (now (table .entry)) from (to - from) ⌝ }
+{
+    let mut i = from;
+    while i < to {
+        if word(table, i) != 0 {
+            return false;
+        }
+        i += 1;
+    }
+    true
+}
+
+// Whether the words from an index to another are all below a bound.
+pub(crate) fn all_below(table: &[u16], from: usize, to: usize, bound: usize) -> bool
+    requires { ⌜ to ≤ length (now table) ⌝ }
+    ensures { λ r. ⌜ r ≡ all (λ a. ltb a bound) (wordsAt (now (table .entry)) from (to - from)) ⌝ }
+{
+    let mut i = from;
+    while i < to {
+        if bound <= word(table, i) {
+            return false;
+        }
+        i += 1;
+    }
+    true
+}
+
+// Whether n words at one place equal those at another.
+pub(crate) fn same_words(table: &[u16], left: usize, right: usize, n: usize) -> bool
+    requires { ⌜ left + n ≤ length (now table) ⌝ }
+    requires { ⌜ right + n ≤ length (now table) ⌝ }
+    ensures { λ r. ⌜ r ≡ eqList (wordsAt (now (table .entry)) left n) (wordsAt (now (table .entry)) right n) ⌝ }
+{
+    let mut k = 0;
+    while k < n {
+        if word(table, left + k) != word(table, right + k) {
+            return false;
+        }
+        k += 1;
+    }
+    true
+}
+
+// Whether n words at one place come before those at another, word by word.
+pub(crate) fn less_words(table: &[u16], left: usize, right: usize, n: usize) -> bool
+    requires { ⌜ left + n ≤ length (now table) ⌝ }
+    requires { ⌜ right + n ≤ length (now table) ⌝ }
+    ensures { λ r. ⌜ r ≡ lessList (wordsAt (now (table .entry)) left n) (wordsAt (now (table .entry)) right n) ⌝ }
+{
+    let mut k = 0;
+    while k < n {
+        let x = word(table, left + k);
+        let y = word(table, right + k);
+        if x != y {
+            return x < y;
+        }
+        k += 1;
+    }
+    false
+}
