@@ -1,6 +1,7 @@
 //! What the tests share: the claim of shared runs, the subjects it is put to,
 //! and small helpers.
 
+pub mod answers;
 pub mod inputs;
 pub mod rows;
 pub mod shared_runs;

@@ -1,8 +1,7 @@
 //! Every entry point on sound and damaged input: it always answers, and leaves
 //! each lent word as document 01 says.
 
-use std::collections::BTreeMap;
-
+use checks::answers::each_answer;
 use checks::inputs::{junk, lent_table, step_words, task_and_table};
 use checks::{read_table, report};
 use generate::split_lists::split_list;
@@ -10,34 +9,16 @@ use generate::tasks::any_task;
 use generate::{limits, states, steps, texts, Random};
 use reference::run::{RECORD_WORDS, STEP_WORDS};
 use reference::table::{Task, TABLE_WORDS};
-use reference::{tokens, Answer, Refusal};
+use reference::{tokens, Answer};
 
 const CASES: usize = 5000;
 
-/// Puts an entry point to many cases, each of which gives its answer's number,
-/// and requires that exactly the expected numbers were given.
-fn each_answer(
-    entry: &str,
-    seed: u64,
-    cases: usize,
-    expected: &[u32],
-    case: impl Fn(&mut Random) -> u32,
-) {
-    let mut random = Random::new(seed);
-    let mut given: BTreeMap<u32, usize> = BTreeMap::new();
-    for _ in 0..cases {
-        *given.entry(case(&mut random)).or_default() += 1;
-    }
-    let numbers: Vec<u32> = given.keys().copied().collect();
-    assert_eq!(numbers, expected, "{entry}");
-    for (number, count) in given {
-        report(&format!("{entry}, answer {number}"), count);
-    }
-}
-
 /// The refusal's number, or 0 for a result.
-fn number<Value>(answer: &Answer<Value>) -> u32 {
-    answer.as_ref().err().map_or(0, Refusal::number)
+fn number<Value>(answer: &Answer<Value>) -> u64 {
+    answer
+        .as_ref()
+        .err()
+        .map_or(0, |refusal| refusal.number().into())
 }
 
 #[test]
