@@ -1,8 +1,8 @@
 //! Words to lend, sound and damaged.
 
 use generate::tasks::any_task;
-use generate::{steps, tables, Random};
-use reference::run::Step;
+use generate::{states, steps, tables, LentState, Random};
+use reference::run::{State, Step};
 use reference::table::{Task, TABLE_WORDS};
 
 /// Words of any value.
@@ -37,5 +37,15 @@ pub fn step_words(random: &mut Random, list: &[Step]) -> Vec<u16> {
         steps::damaged(random, list)
     } else {
         steps::words(list)
+    }
+}
+
+/// A state with some words to spare, or a damaged one.
+pub fn lent_state(random: &mut Random, state: &State) -> LentState {
+    let spare = random.below(40);
+    if random.chance(1, 8) {
+        states::damaged(random, state, spare)
+    } else {
+        states::lent(random, state, spare)
     }
 }

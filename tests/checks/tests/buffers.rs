@@ -2,11 +2,11 @@
 //! each lent word as document 01 says.
 
 use checks::answers::each_answer;
-use checks::inputs::{junk, lent_table, step_words, task_and_table};
+use checks::inputs::{junk, lent_state, lent_table, step_words, task_and_table};
 use checks::{read_table, report};
 use generate::split_lists::split_list;
 use generate::tasks::any_task;
-use generate::{limits, states, steps, texts, Random};
+use generate::{limits, steps, texts, Random};
 use reference::run::{RECORD_WORDS, STEP_WORDS};
 use reference::table::{Task, TABLE_WORDS};
 use reference::{tokens, Answer};
@@ -98,12 +98,7 @@ fn running() {
         let (task, table) = task_and_table(random);
         let (state, list) = generate::cases::run(random, &task);
         let steps = step_words(random, &list);
-        let spare = random.below(40);
-        let found = if random.chance(1, 8) {
-            states::damaged(random, &state, spare)
-        } else {
-            states::lent(random, &state, spare)
-        };
+        let found = lent_state(random, &state);
         let mut lent = found.words.clone();
         let answer = reference::run(&table, &steps, &mut lent, found.records);
         match answer {

@@ -4,6 +4,7 @@ use checks::answers::each_answer;
 use checks::inputs::{step_words, task_and_table};
 use checks::rows::fold_row;
 use checks::vectors::list_cases;
+use differential::beside::{compare, lent_words, short_or_long, shown};
 use differential::folding::fold;
 use generate::split_lists::split_list;
 use generate::{steps, Random};
@@ -11,8 +12,6 @@ use reference::blocks;
 use reference::run::STEP_WORDS;
 use reference::table::Task;
 use reference::tokens::{self, Split};
-
-use crate::beside::{compare, lent_words, short_or_long, shown};
 
 fn compared(table: &[u16], list: &[u16], lent: &[u16]) -> u64 {
     compare(

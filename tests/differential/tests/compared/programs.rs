@@ -42,21 +42,32 @@ fn split_texts() {
     assert!(!compared(MOVE.as_bytes()));
 }
 
-/// "A program takes the first 65,536 bytes of an input": up to there the line
-/// is whole or not.
+/// A line of so many bytes in all, its list in form but too long.
+fn long_text(beginning: &str, bytes: usize) -> Vec<u8> {
+    let mut text = format!("{beginning}{}", ",0".repeat(INPUT_BYTES));
+    text.truncate(bytes - 1);
+    text.push('\n');
+    text.into_bytes()
+}
+
+/// "A program takes the first 65,536 bytes of an input": the line that ends
+/// there is whole, the one that ends behind is not.
 #[test]
-fn split_takes_so_many_bytes() {
-    let program = Program::named("split");
-    for (objects, commas, bytes) in [(10, 32_755, INPUT_BYTES), (1, 32_756, INPUT_BYTES + 1)] {
-        let text = format!(
-            "task=1\nobjects={objects}\narity={}0\n",
-            "0,".repeat(commas)
-        );
-        assert_eq!(text.len(), bytes);
-        assert!(refused(
-            program.printed_for(text.as_bytes()),
-            split_program(text.as_bytes())
-        ));
+fn programs_take_so_many_bytes() {
+    let [split, unfolding] = ["split", "unfold"].map(Program::named);
+    for (bytes, refusals) in [
+        (INPUT_BYTES, ["4:3", "5:1"]),
+        (INPUT_BYTES + 2, ["3:3", "3:1"]),
+    ] {
+        let task = long_text("task=1\nobjects=10\narity=0", bytes);
+        let plan = long_text("step=10:0", bytes);
+        let found = [
+            split.printed_for(&task),
+            unfold(&unfolding, Some(&task), Some(&plan)),
+            unfold(&unfolding, Some(MOVE.as_bytes()), Some(&plan)),
+        ];
+        let [task, plan] = refusals.map(|refusal| format!("refused={refusal}\n").into_bytes());
+        assert_eq!(found, [task.clone(), task, plan]);
     }
 }
 

@@ -3,14 +3,13 @@
 use checks::answers::each_answer;
 use checks::rows::plain_row;
 use checks::{report, MOVE};
+use differential::beside::{compare, table_to_write};
 use differential::reading::read;
 use differential::writing::write;
 use generate::tasks::any_task;
 use generate::texts::any_text;
 use generate::{limits, tables, Random};
 use reference::table::TABLE_WORDS;
-
-use crate::beside::{compare, table_to_write};
 
 fn compared(text: &[u8], lent: &[u16]) -> u64 {
     compare(

@@ -1,18 +1,17 @@
 //! Running.
 
 use checks::answers::each_answer;
-use checks::inputs::{step_words, task_and_table};
+use checks::inputs::{lent_state, step_words, task_and_table};
 use checks::report;
 use checks::rows::run_row;
 use checks::vectors::{run_cases, table_cases};
+use differential::beside::{compare, short_or_long, shown};
 use differential::running::run;
-use generate::{limits, states, steps, tables, Random};
-use reference::run::{Step, RECORD_WORDS};
+use generate::{limits, steps, tables, Random};
+use reference::run::Step;
 use reference::table::{ObjectNumber, Task};
 use reference::text::read_task;
 use reference::tokens;
-
-use crate::beside::{compare, short_or_long, shown};
 
 fn compared(table: &[u16], steps: &[u16], lent: &[u16], records: u64) -> u64 {
     compare(
@@ -48,12 +47,7 @@ fn sound_and_damaged_input() {
         let table = short_or_long(random, table);
         let (state, list) = generate::cases::run(random, &task);
         let steps = step_words(random, &list);
-        let spare = random.below(40);
-        let lent = if random.chance(1, 8) {
-            states::damaged(random, &state, spare)
-        } else {
-            states::lent(random, &state, spare)
-        };
+        let lent = lent_state(random, &state);
         compared(&table, &steps, &lent.words, lent.records)
     });
 }
@@ -77,35 +71,42 @@ fn tables_at_their_limits() {
 const MOVES: &str = "task=1\nobjects=1000\narity=2,1\nschema=3\npre=0:0,1\npre=1:2\nadd=0:0,2\n\
                      add=1:1\ndel=0:0,1\ndel=1:2\npart=0,1,1,0,0,1\nend=1\n";
 
-/// Loggers at even piers, the odd ones free: long lists in states of hundreds
-/// of records, of which the last step sometimes cannot run.
+/// Each logger at an even pier, and the odd piers free.
+fn piers(loggers: u16) -> Vec<u16> {
+    let at_piers = (0..loggers).flat_map(|logger| [0, logger, 2 * logger, 0, 0]);
+    let free = (0..loggers).flat_map(|logger| [1, 2 * logger + 1, 0, 0, 0]);
+    at_piers.chain(free).collect()
+}
+
+/// Moves that run from there, one after another.
+fn moves(random: &mut Random, loggers: u16, length: usize) -> Vec<Step> {
+    let mut at: Vec<u16> = (0..loggers).map(|logger| 2 * logger).collect();
+    let mut free: Vec<u16> = (0..loggers).map(|logger| 2 * logger + 1).collect();
+    (0..length)
+        .map(|_| {
+            let [logger, to] = [(); 2].map(|()| random.below(loggers.into()));
+            let objects = [logger as u16, at[logger], free[to]].map(ObjectNumber);
+            std::mem::swap(&mut at[logger], &mut free[to]);
+            Step::new(0, &objects)
+        })
+        .collect()
+}
+
+/// Long lists in states of hundreds of records, some with a last step that
+/// cannot run.
 #[test]
 fn long_lists_in_large_states() {
     let task = read_task(MOVES.as_bytes()).expect("a task");
     let table = tables::table(&task);
-    each_answer("long runs compared", 175, 100, &[0, 16], |random| {
-        let loggers = random.within(&(1..=500));
-        let mut piers: Vec<usize> = (0..loggers).map(|logger| 2 * logger).collect();
-        let mut state: Vec<u16> = (0..loggers)
-            .flat_map(|k| [0, k as u16, 2 * k as u16, 0, 0])
-            .collect();
-        state.extend((0..loggers).flat_map(|k| [1, 2 * k as u16 + 1, 0, 0, 0]));
-        let mut free: Vec<usize> = (0..loggers).map(|logger| 2 * logger + 1).collect();
-        let list: Vec<Step> = (0..random.below(500))
-            .map(|_| {
-                let (logger, to) = (random.below(loggers), random.below(loggers));
-                let step =
-                    [logger, piers[logger], free[to]].map(|object| ObjectNumber(object as u16));
-                std::mem::swap(&mut piers[logger], &mut free[to]);
-                Step::new(0, &step)
-            })
-            .collect();
-        let mut words = steps::words(&list);
+    each_answer("long runs compared", 175, 200, &[0, 16], |random| {
+        let loggers = random.within(&(1..=500)) as u16;
+        let length = random.below(500);
+        let mut list = moves(random, loggers, length);
         if random.chance(1, 4) {
-            words.extend(Step::new(0, &[0, 999, 999].map(ObjectNumber)).words());
+            list.push(Step::new(0, &[0, 999, 999].map(ObjectNumber)));
         }
-        let records = (state.len() / RECORD_WORDS) as u64;
-        compared(&table, &words, &state, records)
+        let records = 2 * u64::from(loggers);
+        compared(&table, &steps::words(&list), &piers(loggers), records)
     });
 }
 

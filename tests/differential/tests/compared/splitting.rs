@@ -5,14 +5,13 @@ use checks::inputs::task_and_table;
 use checks::report;
 use checks::rows::plain_row;
 use checks::vectors::split_program_cases;
+use differential::beside::{compare, short_or_long, shown, table_to_write};
 use differential::reading::read;
 use differential::splitting::split;
 use differential::writing::write;
 use generate::{limits, tables};
 use reference::programs::INPUT_BYTES;
 use reference::table::{Task, TABLE_WORDS};
-
-use crate::beside::{compare, short_or_long, shown, table_to_write};
 
 fn compared(table: &[u16], lent: &[u16]) -> u64 {
     compare(

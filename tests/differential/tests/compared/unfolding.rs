@@ -4,12 +4,11 @@ use checks::answers::each_answer;
 use checks::inputs::{step_words, task_and_table};
 use checks::rows::unfold_row;
 use checks::vectors::list_cases;
+use differential::beside::{compare, lent_words, short_or_long, shown};
 use differential::unfolding::unfold;
 use generate::steps;
 use reference::run::STEP_WORDS;
 use reference::table::Task;
-
-use crate::beside::{compare, lent_words, short_or_long, shown};
 
 fn compared(table: &[u16], steps: &[u16], lent: &[u16]) -> u64 {
     compare(

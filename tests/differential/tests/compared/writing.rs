@@ -5,11 +5,10 @@ use checks::inputs::task_and_table;
 use checks::report;
 use checks::rows::write_row;
 use checks::vectors::table_cases;
+use differential::beside::{compare, short_or_long, shown};
 use differential::writing::write;
 use generate::{limits, tables};
 use reference::table::Task;
-
-use crate::beside::{compare, short_or_long, shown};
 
 fn compared(table: &[u16], lent: &[u8]) -> u64 {
     compare(
