@@ -40,7 +40,7 @@ pub fn role_before(r: u16, q: u16) -> bool
 }
 
 // Word k of atom i.
-fn word_of(table: &[u16], i: usize, k: usize) -> u16
+pub fn word_of(table: &[u16], i: usize, k: usize) -> u16
     requires { ⌜ IsSchemaAtom (now table) i ⌝ }
     requires { ⌜ k < atomSize ⌝ }
     ensures { λ r. ⌜ r ≡ getD (now (table .entry)) (atomBase (now (table .entry)) i + k) 0 ⌝ }

@@ -1,6 +1,6 @@
 // The entry points for a C host, on slices and numbers; include/splitter.h declares them.
-use task::{Place, RunAnswer};
-
+use task::Place;
+use task::RunAnswer;
 ghost use mathlib.Core.Path.{_≡_};
 ghost use Rattle.task.specs.Answers.{placeNumber, toldNumber, toldPlace, toldValue};
 ghost use Rattle.task.specs.Run.{runOutcome};
@@ -28,18 +28,26 @@ pub extern "C" fn splitter_run(
     left: &mut u64,
     goal: &mut u64,
 ) -> u32
-    ensures { λ r. ⌜ r ≡ toldNumber (runOutcome (now (table .entry)) (now (steps .entry)) (now (state .entry)) records .told) ⌝ }
-    ensures { λ r. ⌜ now (state .exit) ≡ runOutcome (now (table .entry)) (now (steps .entry)) (now (state .entry)) records .buffer ⌝ }
-    ensures { λ r. ⌜ now (place .exit) ≡ toldPlace (runOutcome (now (table .entry)) (now (steps .entry)) (now (state .entry)) records .told) ⌝ }
-    ensures { λ r. ⌜ now (left .exit) ≡ toldValue 0 (runOutcome (now (table .entry)) (now (steps .entry)) (now (state .entry)) records .told) ⌝ }
-    ensures { λ r. ⌜ now (goal .exit) ≡ toldValue 1 (runOutcome (now (table .entry)) (now (steps .entry)) (now (state .entry)) records .told) ⌝ }
+    ensures { λ r. ⌜ r ≡
+        toldNumber (runOutcome (now (table .entry)) (now (steps .entry)) (now (state .entry)) records .told) ⌝ }
+    ensures { λ r. ⌜ now (state .exit) ≡
+        runOutcome (now (table .entry)) (now (steps .entry)) (now (state .entry)) records .buffer ⌝ }
+    ensures { λ r. ⌜ now (place .exit) ≡
+        toldPlace (runOutcome (now (table .entry)) (now (steps .entry)) (now (state .entry)) records .told) ⌝ }
+    ensures { λ r. ⌜ now (left .exit) ≡
+        toldValue 0 (runOutcome (now (table .entry)) (now (steps .entry)) (now (state .entry)) records .told) ⌝ }
+    ensures { λ r. ⌜ now (goal .exit) ≡
+        toldValue 1 (runOutcome (now (table .entry)) (now (steps .entry)) (now (state .entry)) records .told) ⌝ }
 {
     *place = 0;
     *left = 0;
     *goal = 0;
     let answer = task::run(table, steps, state, records);
     match answer {
-        RunAnswer::Ran { left: kept, goal: met } => {
+        RunAnswer::Ran {
+            left: kept,
+            goal: met,
+        } => {
             *left = kept;
             if met {
                 *goal = 1;
@@ -50,7 +58,11 @@ pub extern "C" fn splitter_run(
             *place = place_number(at);
             number
         }
-        RunAnswer::Stopped { number, place: at, left: kept } => {
+        RunAnswer::Stopped {
+            number,
+            place: at,
+            left: kept,
+        } => {
             *place = place_number(at);
             *left = kept;
             number

@@ -1,11 +1,11 @@
 // Whether words are a table of document 01, 'Task table': each function makes one test of specs/WordTests.antt.
 mod atoms;
 mod facts;
-mod limits;
 mod schemas;
 mod sets;
 mod words;
 
+use crate::limits;
 use atoms::atom_base;
 use atoms::schema_number;
 use facts::facts_fit;

@@ -1,7 +1,7 @@
 -- Sums over lists: how they are added, exchanged and counted, and that a sum over a list that holds each of some
 -- numbers once does not depend on their order. The last by writing each term as a sum that picks it out, and
 -- exchanging.
-use Prim.Native.Nat.{ℕ, suc, _+_, _<_}
+use Prim.Native.Nat.{ℕ, suc, _+_, _≤_, _<_}
 use mathlib.Core.Path.{_≡_, refl, sym, _∙_, ap}
 use mathlib.Core.Bool.{Bool, true, false, cond, _&&_}
 use mathlib.Core.List.{List, [], _∷_, map}
@@ -18,6 +18,10 @@ use Rattle.tokens.proofs.Lists.{map-map}
 -- 1 for a test that is met
 abbrev pub one : Bool → ℕ
 one b = cond b 1 0
+
+pub one-most : (b : Bool) → one b ≤ 1
+one-most true = omega arith
+one-most false = omega arith
 
 -- the sum of f over a list
 abbrev pub total : {A : Type 0} → (A → ℕ) → List A → ℕ

@@ -146,7 +146,7 @@ module _ (t : Task) (s : ℕ) (o : List ℕ)
       sym (ap length (filter-filter (λ j. test j x) (λ j. has old x (getD o j 0)) (upTo (length o))) ∙
       length-filter (λ j. has old x (getD o j 0) && test j x) (upTo (length o))))
 
-  positions-found : (x : ℕ) → length (positions old o x) ≡ found old x
+  pub positions-found : (x : ℕ) → length (positions old o x) ≡ found old x
   unfolding positions
   positions-found x =
       length-filter (λ j. has old x (getD o j 0)) (upTo (length o)) ∙ over-parts (λ p. one (has old x p)) ∙

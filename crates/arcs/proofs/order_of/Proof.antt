@@ -75,16 +75,19 @@ enum-told c = search needs
 -- no part is ready
 returns : tie.Need-returns Inv-loop μ-loop
 unfolding chosen orderTold
-returns c = λ s e.
-    let turn = c .before .before .before .before .before in
-    let l = turn .before in
-    let n = l .before .before .part-count in
-    let h = l .loop in
-    let none = sym (ap chosen (c .enum-told .given .1)) in
-    let best = none ∙ c .before .before .choose .ensures .0 (all l) (arcs l) (tests l) in
-    let t = turn .loop-test .taken in
-    sym (placed-stuck (all l) (n .result) (h .parts) (h .unplaced) (h .placed) t best (h .inv .3))
-    ∙ order-is s (all l) (n .result) e (n .ensures .0)
+returns c = (
+  λ s e.
+      let turn = c .before .before .before .before .before in
+      let l = turn .before in
+      let n = l .before .before .part-count in
+      let h = l .loop in
+      let none = sym (ap chosen (c .enum-told .given .1)) in
+      let best = none ∙ c .before .before .choose .ensures .0 (all l) (arcs l) (tests l) in
+      let t = turn .loop-test .taken in
+      sym (placed-stuck (all l) (n .result) (h .parts) (h .unplaced) (h .placed) t best (h .inv .3))
+      ∙ order-is s (all l) (n .result) e (n .ensures .0),
+  (omega arith, c .before .before .before .before .before .before .loop .inv .1),
+)
 
 mul-parts : tie.Need-mul-parts Inv-loop μ-loop
 mul-parts c = omega arith
@@ -135,14 +138,17 @@ loop-again c =
 -- ---- after the loop
 returns-2 : tie.Need-returns-2 Inv-loop μ-loop
 unfolding orderTold
-returns-2 c = λ s e.
-    let l = c .before in
-    let n = l .before .before .part-count in
-    let h = l .loop in
-    let z : h .placed ≡ n .result = omega arith in
-    let done = subst (λ (k : ℕ). Placed (all l) (n .result) (h .parts) (h .unplaced) k) z (h .inv .3) in
-    sym (placed-all (all l) (n .result) (h .parts) (h .unplaced) done)
-    ∙ order-is s (all l) (n .result) e (n .ensures .0)
+returns-2 c = (
+  λ s e.
+      let l = c .before in
+      let n = l .before .before .part-count in
+      let h = l .loop in
+      let z : h .placed ≡ n .result = omega arith in
+      let done = subst (λ (k : ℕ). Placed (all l) (n .result) (h .parts) (h .unplaced) k) z (h .inv .3) in
+      sym (placed-all (all l) (n .result) (h .parts) (h .unplaced) done)
+      ∙ order-is s (all l) (n .result) e (n .ensures .0),
+  (omega (arith, c .before .before .before .part-count .ensures .1), c .before .loop .inv .1),
+)
 
 pub order-of-spec : {M : Type 1} → statement M
 order-of-spec =

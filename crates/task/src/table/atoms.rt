@@ -1,10 +1,10 @@
 // An atom of a table: its words, whether its arguments fit, and two atoms compared.
-use super::limits;
 use super::words::all_below;
 use super::words::less_words;
 use super::words::same_words;
 use super::words::word;
 use super::words::zeros;
+use crate::limits;
 ghost use mathlib.Core.Path.{_≡_};
 ghost use Prim.Native.Nat.{_+_, _<_, _≤_};
 ghost use lib.ListN.{length, getD};

@@ -1,0 +1,43 @@
+-- Goal atoms by their places in the table: each is a ground atom of the task, and all of them are its goal.
+use Prim.Native.Nat.{ℕ, _+_, _-_, _≤_, _<_}
+use mathlib.Core.Path.{_≡_, refl, sym, _∙_, ap, ap₂, subst}
+use mathlib.Core.Bool.{Bool, true}
+use mathlib.Core.List.{List, map}
+use native.Mathlib.Omega.{arith}
+use lib.ListN.{length, getD}
+use Rattle.task.specs.Lists.{all, upFrom}
+use Rattle.task.specs.Task.{Fact, Task}
+use Rattle.task.specs.Table.{factIn, taskOf, isTable}
+use Rattle.task.specs.Run.{holds, isState, goalMet}
+use Rattle.task.specs.Records.{recordNumber, Known}
+use Rattle.task.proofs.Laws.{In, in-eq, in-getD}
+use Rattle.task.proofs.States.{fitting-argsFit, wellFormed-is}
+use Rattle.task.proofs.Tables.{noFact, of-table}
+use Rattle.task.proofs.TablesByIndex.{table-frame, goal-word, goal-at}
+
+pub goal-known : (w state : List ℕ) (n k number : ℕ) → isTable w ≡ true → isState (taskOf w) state n ≡ true →
+    getD w 3 0 + getD w 4 0 ≤ k → k < getD w 3 0 + getD w 4 0 + getD w 5 0 → number ≡ recordNumber (factIn w k) →
+    Known (taskOf w) state n (factIn w k) number
+goal-known w state n k number h s l m e =
+    let t = taskOf w in
+    let f = factIn w k in
+    let fr = table-frame w h in
+    let len = goal-word w fr in
+    let wf = of-table w h .0 in
+    let j : ℕ = k - (getD w 3 0 + getD w 4 0) in
+    let z : getD w 3 0 + getD w 4 0 + j ≡ k = omega arith in
+    let q : f ≡ getD (t .goal) j noFact = ap (factIn w) (sym z) ∙ goal-at w fr j (omega arith) in
+    let i : In f (t .goal) = in-eq q (in-getD (t .goal) j noFact (omega arith)) in
+    record {
+      task = wf;
+      state = s;
+      fits = fitting-argsFit (t .objects) (t .arities) (f .pred) (f .args) (wellFormed-is t wf .goal .fit f i);
+      is = sym e;
+    }
+
+pub goal-so : (w : List ℕ) (s : List Fact) (from to : ℕ) {r : Bool} → from ≡ getD w 3 0 + getD w 4 0 → to ≡ from + getD w 5 0 →
+    r ≡ all (holds s) (map (factIn w) (upFrom from (to - from))) → r ≡ goalMet (taskOf w) s
+unfolding goalMet taskOf
+goal-so w s from to a b e =
+    let z : to - from ≡ getD w 5 0 = omega arith in
+    e ∙ ap₂ (λ (x y : ℕ). all (holds s) (map (factIn w) (upFrom x y))) a z

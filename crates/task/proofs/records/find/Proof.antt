@@ -1,0 +1,72 @@
+-- `records::find` meets its contract. The invariant: lo and hi bracket the answer. The measure is hi - lo, which falls
+-- in either arm, since the middle is at least lo and below hi.
+use Prim.Native.Nat.{ℕ, _+_, _-_, _/_}
+use native.Mathlib.Omega.{arith}
+use Rattle.task.proofs.Bracket.{Bracket, bracket-all, bracket-up, bracket-down, bracket-met}
+use borrow.Author.Needs.{needs}
+use Rattle.task.proofs.records.find.Statement.{statement}
+use Rattle.task.proofs.records.find.Tie as tie
+
+abbrev Inv-loop : tie.InvT-loop
+Inv-loop state n number lo₀ hi₀ lo hi = Bracket state n number lo hi
+
+abbrev μ-loop : tie.MeasureT-loop
+μ-loop state n number lo₀ hi₀ lo hi = hi - lo
+
+abbrev middle : tie.In-loop Inv-loop μ-loop → ℕ
+middle c = c .before .loop .lo + (c .before .loop .hi - c .before .loop .lo) / 2
+
+loop-holds : tie.Need-loop-holds Inv-loop μ-loop
+loop-holds c = bracket-all _ _ _
+
+sub-mid : tie.Need-sub-mid Inv-loop μ-loop
+sub-mid c = omega arith
+
+add-mid : tie.Need-add-mid Inv-loop μ-loop
+add-mid c = omega arith
+
+mul-number-at : tie.Need-mul-number-at Inv-loop μ-loop
+mul-number-at c = omega arith
+
+number-at-requires : tie.Need-number-at-requires Inv-loop μ-loop
+number-at-requires c κs = omega arith
+
+add-lo : tie.Need-add-lo Inv-loop μ-loop
+add-lo c = omega arith
+
+loop-less : tie.Need-loop-less Inv-loop μ-loop
+loop-less c = omega arith
+
+loop-again : tie.Need-loop-again Inv-loop μ-loop
+loop-again c =
+    bracket-up (c .before .before .before .before .before .pre .1) (c .before .before .before .loop .inv) (middle (c .before .before))
+    (omega arith) (omega arith) (let e = c .before .number-at .ensures in let l = c .if1 .taken in omega arith)
+
+loop-less-2 : tie.Need-loop-less-2 Inv-loop μ-loop
+loop-less-2 c = omega arith
+
+loop-again-2 : tie.Need-loop-again-2 Inv-loop μ-loop
+loop-again-2 c =
+    bracket-down (c .before .before .before .before .before .pre .1) (c .before .before .before .loop .inv) (middle (c .before .before))
+    (omega arith) (omega arith) (let e = c .before .number-at .ensures in let l = c .if1 .left in omega arith)
+
+returns : tie.Need-returns Inv-loop μ-loop
+returns c = bracket-met (c .loop-test .left) (c .before .loop .inv)
+
+pub find-spec : {M : Type 1} → statement M
+find-spec =
+    tie.close
+    (tie.spec
+    Inv-loop
+    μ-loop
+    loop-holds
+    sub-mid
+    add-mid
+    mul-number-at
+    number-at-requires
+    add-lo
+    loop-less
+    loop-again
+    loop-less-2
+    loop-again-2
+    returns)

@@ -1,0 +1,28 @@
+-- `records::is_row` meets its contract: the test is that of the row's number, behind the end it is false.
+use mathlib.Core.Path.{sym, _∙_}
+use native.Mathlib.Omega.{arith}
+use borrow.Author.Tests.{eqb-true, eqb-false}
+use Rattle.task.proofs.Laws.{no-ft}
+use borrow.Author.Needs.{needs}
+use Rattle.task.proofs.records.is_row.Statement.{statement}
+use Rattle.task.proofs.records.is_row.Tie as tie
+
+mul-number-at : tie.Need-mul-number-at
+mul-number-at c = search needs
+
+number-at-requires : tie.Need-number-at-requires
+number-at-requires c κs = search needs
+
+returns : tie.Need-returns
+returns c = record {
+  found = λ e. (c .before .if1 .taken, sym (c .number-at .ensures) ∙ eqb-true _ _ e);
+  missed = λ e l q. eqb-false _ _ e (c .number-at .ensures ∙ q);
+}
+
+returns-2 : tie.Need-returns-2
+returns-2 c =
+    let out = c .if1 .left in
+    record { found = λ e. absurd (no-ft e); missed = λ e l q. absurd (omega arith) }
+
+pub is-row-spec : {M : Type 1} → statement M
+is-row-spec = tie.close (tie.spec mul-number-at number-at-requires returns returns-2)

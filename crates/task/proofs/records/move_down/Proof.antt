@@ -1,0 +1,71 @@
+-- `records::move_down` meets its contract. Between the turns the words from `from` to `i` have come down and those
+-- from `i` on stand as found; the measure is what is left up to `to`.
+use Prim.Native.Nat.{_≤_, _-_}
+use native.Mathlib.Omega.{arith}
+use Rattle.task.proofs.Moves.{Down, down-none, down-more}
+use borrow.Author.Needs.{needs}
+use Rattle.task.proofs.records.move_down.Statement.{statement}
+use Rattle.task.proofs.records.move_down.Tie as tie
+
+abbrev Inv-loop : tie.InvT-loop
+Inv-loop state₀ from to i₀ state i = (from ≤ i) × (i ≤ to) × Down state₀ from i state
+
+abbrev μ-loop : tie.MeasureT-loop
+μ-loop state₀ from to i₀ state i = to - i
+
+loop-holds : tie.Need-loop-holds Inv-loop μ-loop
+loop-holds c = (omega arith, omega arith, down-none _ _)
+
+add-state : tie.Need-add-state Inv-loop μ-loop
+add-state c = omega arith
+
+mul-state : tie.Need-mul-state Inv-loop μ-loop
+mul-state c = omega arith
+
+slice-read-state : tie.Need-slice-read-state Inv-loop μ-loop
+slice-read-state c = let z = c .before .before .loop .inv .2 .size in omega arith
+
+mul-state-2 : tie.Need-mul-state-2 Inv-loop μ-loop
+mul-state-2 c = omega arith
+
+slice-write-state : tie.Need-slice-write-state Inv-loop μ-loop
+slice-write-state c = let z = c .before .before .loop .inv .2 .size in omega arith
+
+add-i : tie.Need-add-i Inv-loop μ-loop
+add-i c = omega arith
+
+loop-less : tie.Need-loop-less Inv-loop μ-loop
+loop-less c = omega arith
+
+loop-again : tie.Need-loop-again Inv-loop μ-loop
+loop-again c = (
+  omega arith,
+  omega arith,
+  down-more _ _ _ _ (c .before .before .loop .inv .0) (omega arith) (c .before .before .loop .inv .2),
+)
+
+same-length : tie.Need-same-length Inv-loop μ-loop
+same-length c = c .before .loop .inv .2 .size
+
+returns : tie.Need-returns Inv-loop μ-loop
+returns c =
+    let d = c .before .loop .inv .2 in
+    record { before = d .before; moved = λ i l m. d .moved i l (omega arith) }
+
+pub move-down-spec : {M : Type 1} → statement M
+move-down-spec =
+    tie.close
+    (tie.spec
+    Inv-loop
+    μ-loop
+    loop-holds
+    add-state
+    mul-state
+    slice-read-state
+    mul-state-2
+    slice-write-state
+    add-i
+    loop-less
+    loop-again
+    same-length
+    returns)

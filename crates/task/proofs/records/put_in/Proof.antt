@@ -1,0 +1,80 @@
+-- `records::put_in` meets its contract: the fact is there; or no row has its number, so that there is room for a row.
+use Prim.Native.Nat.{ℕ, _+_, _*_, _≤_, _<_}
+use mathlib.Core.Path.{_≡_, _∙_}
+use mathlib.Core.Bool.{Bool, false}
+use mathlib.Core.List.{List}
+use native.Mathlib.Omega.{arith}
+use lib.ListN.{length}
+use Rattle.task.specs.Records.{rowNumber, RowsAscend, LowerBound, RowIs}
+use Rattle.task.proofs.RowsFound.{row-is, no-row, row-there, row-came}
+use borrow.Author.Needs.{needs}
+use Rattle.task.proofs.records.put_in.Statement.{statement}
+use Rattle.task.proofs.records.put_in.Tie as tie
+
+abbrev Room : List ℕ → ℕ → ℕ → Type 0
+Room w n number = (((i : ℕ) → i < n → rowNumber w i ≡ number → ⊥) → 5 * n + 5 ≤ length w) × (number < 72057594037927936)
+
+room : {w : List ℕ} {n number k : ℕ} {r : Bool} → (5 * n ≤ length w) × (RowsAscend w n × Room w n number) →
+    LowerBound w n number k → RowIs w n k number r → r ≡ false → 5 * n + 5 ≤ length w
+room p b h e = p .1 .1 .0 (no-row (p .1 .0) b (row-is h e))
+
+find-requires : tie.Need-find-requires
+find-requires c κs = search needs
+
+is-row-requires : tie.Need-is-row-requires
+is-row-requires c κs = search needs
+
+mul-move-up : tie.Need-mul-move-up
+mul-move-up c = search needs
+
+mul-move-up-2 : tie.Need-mul-move-up-2
+mul-move-up-2 c = search needs
+
+move-up-requires : tie.Need-move-up-requires
+move-up-requires c κs = (let z = c .before .before .before .before .find .ensures .within in omega arith, room (c .before .before .before .before .before .before .before .pre) (c .before .before .before .before .find .ensures) (c .before .before .is-row .ensures) (c .before .if1 .left))
+
+mul-write-at : tie.Need-mul-write-at
+mul-write-at c = search needs
+
+write-at-requires : tie.Need-write-at-requires
+write-at-requires c κs = (
+  let y = room (c .before .before .before .before .before .before .before .before .before .before .before .pre) (c .before .before .before .before .before .before .before .before .find .ensures) (c .before .before .before .before .before .before .is-row .ensures) (c .before .before .before .before .before .if1 .left) in
+      let z = c .before .before .before .before .before .before .before .before .find .ensures .within in
+      let k = c .before .before .before .move-up .kept .0 in
+      omega arith,
+  c .before .before .before .before .before .before .before .before .before .before .before .pre .1 .1 .1,
+)
+
+add-result : tie.Need-add-result
+add-result c = search needs
+
+same-length : tie.Need-same-length
+same-length c = search needs
+
+returns : tie.Need-returns
+returns c = λ t f d. row-there d (row-is (c .before .is-row .ensures) (c .if1 .taken))
+
+same-length-2 : tie.Need-same-length-2
+same-length-2 c = search needs
+
+returns-2 : tie.Need-returns-2
+returns-2 c = λ t f d.
+    row-came d (c .before .before .before .before .before .before .before .before .before .before .before .find .ensures) (row-is (c .before .before .before .before .before .before .before .before .before .is-row .ensures) (c .before .before .before .before .before .before .before .before .if1 .left)) (c .before .before .before .before .before .before .move-up .ensures) (c .before .before .write-at .ensures)
+    (c .before .before .write-at .kept .0 ∙ c .before .before .before .before .before .before .move-up .kept .0) (room (c .before .before .before .before .before .before .before .before .before .before .before .before .before .before .pre) (c .before .before .before .before .before .before .before .before .before .before .before .find .ensures) (c .before .before .before .before .before .before .before .before .before .is-row .ensures) (c .before .before .before .before .before .before .before .before .if1 .left))
+
+pub put-in-spec : {M : Type 1} → statement M
+put-in-spec =
+    tie.close
+    (tie.spec
+    find-requires
+    is-row-requires
+    mul-move-up
+    mul-move-up-2
+    move-up-requires
+    mul-write-at
+    write-at-requires
+    add-result
+    same-length
+    returns
+    same-length-2
+    returns-2)

@@ -1,0 +1,153 @@
+-- `running::run_list` meets its contract. Between the steps, running those left from the state kept gives what running all
+-- was to give; the measure is how many are left.
+use Prim.Native.Nat.{_+_, _-_, _*_, _<_}
+use mathlib.Core.Path.{_≡_, _∙_}
+use mathlib.Core.Bool.{true}
+use native.Mathlib.Omega.{arith}
+use lib.ListN.{getD}
+use Rattle.task.specs.Table.{taskOf}
+use Rattle.task.specs.Run.{isStepAt}
+use Rattle.task.specs.Turns.{endedAs, recordsLeft}
+use Rattle.task.proofs.RunLaws.{good-step, schema-below, start-found, end-found, RunSo, run-start, run-turn, run-missing, run-outgrown, run-ended}
+use borrow.Author.Needs.{needs}
+use Rattle.task.proofs.running.run_list.Statement.{statement}
+use Rattle.task.proofs.running.run_list.Tie as tie
+
+abbrev Inv-loop : tie.InvT-loop
+Inv-loop table starts steps state₀ n count left₀ i₀ state left i =
+    RunSo (taskOf table) steps state₀ n count state left i
+
+abbrev μ-loop : tie.MeasureT-loop
+μ-loop table starts steps state₀ n count left₀ i₀ state left i = count - i
+
+abbrev start : tie.In-loop Inv-loop μ-loop → tie.Start Inv-loop μ-loop
+start c = c .before .before .before .before .before .before
+
+-- in a turn step i is one of the task's, and its schema is one of 200
+step : (c : tie.In-loop Inv-loop μ-loop) →
+    isStepAt (taskOf (start c .args .table .now)) (start c .args .steps .now) (c .before .loop .i) ≡ true
+step c = good-step _ _ (start c .pre .1 .1 .0) _ (c .loop-test .taken)
+
+below : (c : tie.In-loop Inv-loop μ-loop) → getD (start c .args .steps .now) (13 * c .before .loop .i) 0 < 200
+below c = schema-below _ (start c .args .starts .now) _ _ (start c .pre .0) (start c .pre .1 .0 .1) (step c)
+
+loop-holds : tie.Need-loop-holds Inv-loop μ-loop
+loop-holds c = run-start _ _ _ _ (c .before .before .before .before .pre .1 .1 .1)
+
+mul-schema : tie.Need-mul-schema Inv-loop μ-loop
+mul-schema c = omega arith
+
+mul-schema-2 : tie.Need-mul-schema-2 Inv-loop μ-loop
+mul-schema-2 c = omega arith
+
+shared-slice-read-schema : tie.Need-shared-slice-read-schema Inv-loop μ-loop
+shared-slice-read-schema c = omega arith
+
+cast-schema : tie.Need-cast-schema Inv-loop μ-loop
+cast-schema c = omega (arith, c .shared-slice-known4 .given (13 * c .before .before .loop .i))
+
+mul-start : tie.Need-mul-start Inv-loop μ-loop
+mul-start c = let l = below (c .before) in omega arith
+
+shared-slice-read-start : tie.Need-shared-slice-read-start Inv-loop μ-loop
+shared-slice-read-start c = let l = below (c .before .before) in let z = c .before .before .before .before .before .before .before .before .pre .1 .0 .0 in omega arith
+
+cast-start : tie.Need-cast-start Inv-loop μ-loop
+cast-start c = omega (arith, c .shared-slice-known5 .given (getD (c .before .before .before .before .before .before .before .before .args .steps .now) (13 * c .before .before .before .loop .i) 0))
+
+add-end : tie.Need-add-end Inv-loop μ-loop
+add-end c = let l = below (c .before .before) in omega arith
+
+mul-end : tie.Need-mul-end Inv-loop μ-loop
+mul-end c = let l = below (c .before .before) in omega arith
+
+shared-slice-read-end : tie.Need-shared-slice-read-end Inv-loop μ-loop
+shared-slice-read-end c = let l = below (c .before .before .before) in let z = c .before .before .before .before .before .before .before .before .before .pre .1 .0 .0 in omega arith
+
+cast-end : tie.Need-cast-end Inv-loop μ-loop
+cast-end c = omega (arith, c .shared-slice-known6 .given (getD (c .before .before .before .before .before .before .before .before .before .args .steps .now) (13 * c .before .before .before .before .loop .i) 0 + 1))
+
+run-step-requires : tie.Need-run-step-requires Inv-loop μ-loop
+run-step-requires c κs =
+    let start = c .before .before .before .before .before .before .before .before .before .before in
+    let good = step (c .before .before .before .before) in (
+      start .pre .0,
+      (
+        good,
+        (
+          start-found _ (start .args .starts .now) _ _ (start .pre .0) (start .pre .1 .0 .1) good,
+          (end-found _ (start .args .starts .now) _ _ (start .pre .0) (start .pre .1 .0 .1) good, c .before .before .before .before .before .loop .inv .is-state),
+        ),
+      ),
+    )
+
+enum-known-turn : tie.Need-enum-known-turn Inv-loop μ-loop
+enum-known-turn c = search needs
+
+add-i : tie.Need-add-i Inv-loop μ-loop
+add-i c = omega arith
+
+loop-less : tie.Need-loop-less Inv-loop μ-loop
+loop-less c = omega arith
+
+loop-again : tie.Need-loop-again Inv-loop μ-loop
+loop-again c = run-turn (c .before .before .before .before .before .before .before .before .before .before .before .loop .inv) _ _ (c .before .before .before .before .before .before .before .before .before .before .loop-test .taken) (c .before .before .before .before .before .run-step .kept .1 .1 .1 .1 .1 .0) (c .before .before .before .before .before .run-step .ensures) (c .before .turn .given .1)
+
+enum-told : tie.Need-enum-told Inv-loop μ-loop
+enum-told c = search needs
+
+same-length : tie.Need-same-length Inv-loop μ-loop
+same-length c = c .before .before .before .before .run-step .kept .1 .1 .1 .1 .1 .0 ∙ c .before .before .before .before .before .before .before .before .before .before .loop .inv .size
+
+returns : tie.Need-returns Inv-loop μ-loop
+unfolding recordsLeft endedAs
+returns c = run-missing (c .before .before .before .before .before .before .before .before .before .before .loop .inv) _ (c .before .before .before .before .before .before .before .before .before .loop-test .taken) (c .before .before .before .before .run-step .ensures) (c .enum-told .given .1)
+
+enum-told-2 : tie.Need-enum-told-2 Inv-loop μ-loop
+enum-told-2 c = search needs
+
+same-length-2 : tie.Need-same-length-2 Inv-loop μ-loop
+same-length-2 c = c .before .before .before .before .run-step .kept .1 .1 .1 .1 .1 .0 ∙ c .before .before .before .before .before .before .before .before .before .before .loop .inv .size
+
+returns-2 : tie.Need-returns-2 Inv-loop μ-loop
+unfolding recordsLeft endedAs
+returns-2 c = run-outgrown (c .before .before .before .before .before .before .before .before .before .before .loop .inv) _ (c .before .before .before .before .before .before .before .before .before .loop-test .taken) (c .before .before .before .before .run-step .ensures) (c .enum-told2 .given .1)
+
+same-length-3 : tie.Need-same-length-3 Inv-loop μ-loop
+same-length-3 c = c .before .loop .inv .size
+
+returns-3 : tie.Need-returns-3 Inv-loop μ-loop
+unfolding recordsLeft endedAs
+returns-3 c = (c .before .loop .inv .is-state, run-ended (c .before .loop .inv) (c .loop-test .left))
+
+pub run-list-spec : {M : Type 1} → statement M
+run-list-spec =
+    tie.close
+    (tie.spec
+    Inv-loop
+    μ-loop
+    loop-holds
+    mul-schema
+    mul-schema-2
+    shared-slice-read-schema
+    cast-schema
+    mul-start
+    shared-slice-read-start
+    cast-start
+    add-end
+    mul-end
+    shared-slice-read-end
+    cast-end
+    run-step-requires
+    enum-known-turn
+    add-i
+    loop-less
+    loop-again
+    enum-told
+    same-length
+    returns
+    enum-told-2
+    same-length-2
+    returns-2
+    same-length-3
+    returns-3)

@@ -1,0 +1,22 @@
+-- `sizes::comes` meets its contract: an atom is new where it is none of those that came and does not stay.
+use mathlib.Core.Path.{sym, _∙_}
+use Rattle.task.proofs.SizeLaws.{span-absent, comes-new, comes-again}
+use borrow.Author.Needs.{needs}
+use Rattle.task.proofs.sizes.comes.Statement.{statement}
+use Rattle.task.proofs.sizes.comes.Tie as tie
+
+absent-requires : tie.Need-absent-requires
+absent-requires c κs = search needs
+
+stays-requires : tie.Need-stays-requires
+stays-requires c κs = search needs
+
+returns : tie.Need-returns
+returns c = λ f d.
+    comes-new _ _ f _ (sym (c .before .before .absent .ensures ∙ span-absent (c .before .before .before .before .before .before .pre .0) d) ∙ c .before .if1 .taken) (c .stays .ensures f d)
+
+returns-2 : tie.Need-returns-2
+returns-2 c = λ f d. comes-again _ _ f (sym (c .before .absent .ensures ∙ span-absent (c .before .before .before .before .before .pre .0) d) ∙ c .if1 .left)
+
+pub comes-spec : {M : Type 1} → statement M
+comes-spec = tie.close (tie.spec absent-requires stays-requires returns returns-2)

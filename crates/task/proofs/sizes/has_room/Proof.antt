@@ -1,0 +1,33 @@
+-- `sizes::has_room` meets its contract: there is room for every atom that comes in, or the size is counted.
+use Prim.Native.Nat.{ℕ}
+use mathlib.Core.Path.{ap}
+use lib.Dec.{leb}
+use Rattle.task.specs.Run.{roomIn}
+use Rattle.task.proofs.SizeLaws.{state-room, all-fit}
+use borrow.Author.Needs.{needs}
+use Rattle.task.proofs.sizes.has_room.Statement.{statement}
+use Rattle.task.proofs.sizes.has_room.Tie as tie
+
+sub-if1 : tie.Need-sub-if1
+sub-if1 c = search needs
+
+sub-if1-2 : tie.Need-sub-if1-2
+sub-if1-2 c = state-room _ _ _ (c .before .before .before .pre .1 .1)
+
+returns : tie.Need-returns
+returns c = all-fit _ _ _ _ _ _ _ _ (c .before .before .before .before .pre .0 .tabled) (c .before .before .before .before .pre .1 .1) (c .if1 .taken)
+
+size-without-requires : tie.Need-size-without-requires
+size-without-requires c κs = search needs
+
+size-with-requires : tie.Need-size-with-requires
+size-with-requires c κs = search needs
+
+returns-2 : tie.Need-returns-2
+unfolding roomIn
+returns-2 c = ap (λ (m : ℕ). leb m (roomIn (c .before .before .before .before .before .before .args .state .now))) (c .size-with .ensures)
+
+pub has-room-spec : {M : Type 1} → statement M
+has-room-spec =
+    tie.close
+    (tie.spec sub-if1 sub-if1-2 returns size-without-requires size-with-requires returns-2)

@@ -1,0 +1,23 @@
+-- `sizes::stays` meets its contract: an atom stays where it holds and is none of those that go out.
+use mathlib.Core.Path.{sym, _∙_}
+use Rattle.task.proofs.SpanLaws.{state-long, state-ascends}
+use Rattle.task.proofs.SizeLaws.{span-absent, stays-held, stays-missing}
+use borrow.Author.Needs.{needs}
+use Rattle.task.proofs.sizes.stays.Statement.{statement}
+use Rattle.task.proofs.sizes.stays.Tie as tie
+
+held-requires : tie.Need-held-requires
+held-requires c κs = (state-long _ _ _ (c .before .before .before .pre .0 .tabled) (c .before .before .before .pre .1), state-ascends _ _ _ (c .before .before .before .pre .0 .tabled) (c .before .before .before .pre .1))
+
+absent-requires : tie.Need-absent-requires
+absent-requires c κs = search needs
+
+returns : tie.Need-returns
+returns c = λ f d.
+    stays-held _ _ f _ (sym (c .before .before .held .ensures _ f d) ∙ c .before .if1 .taken) (c .absent .ensures ∙ span-absent (c .before .before .before .before .before .before .pre .0) d)
+
+returns-2 : tie.Need-returns-2
+returns-2 c = λ f d. stays-missing _ _ f (sym (c .before .held .ensures _ f d) ∙ c .if1 .left)
+
+pub stays-spec : {M : Type 1} → statement M
+stays-spec = tie.close (tie.spec held-requires absent-requires returns returns-2)

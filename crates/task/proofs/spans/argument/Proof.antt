@@ -1,0 +1,41 @@
+-- `spans::argument` meets its contract: an argument that the predicate has is a parameter of the step.
+use Prim.Native.Nat.{ℕ}
+use mathlib.Core.Path.{sym, _∙_, ap}
+use mathlib.Core.Bool.{Bool, cond}
+use lib.ListN.{getD}
+use native.Mathlib.Omega.{arith}
+use borrow.Author.Needs.{needs}
+use Rattle.task.specs.Spans.{objectIn, argumentIn}
+use Rattle.task.proofs.spans.argument.Statement.{statement}
+use Rattle.task.proofs.spans.argument.Tie as tie
+
+abbrev argument : tie.Start → ℕ
+argument c = objectIn (c .args .steps .now) (c .args .i) (getD (c .args .table .now) (c .args .at) 0)
+
+mul-t9 : tie.Need-mul-t9
+mul-t9 c = search needs
+
+shared-slice-read-t11 : tie.Need-shared-slice-read-t11
+shared-slice-read-t11 c = search needs
+
+object-of-requires : tie.Need-object-of-requires
+object-of-requires c κs = c .before .before .before .before .pre .1 (c .before .if1 .taken)
+
+cast-result : tie.Need-cast-result
+cast-result c = search needs
+
+returns : tie.Need-returns
+unfolding argumentIn
+returns c = (
+  c .before .object-of .ensures ∙ ap (λ (u : Bool). cond u (argument (c .before .before .before .before .before .before)) 0) (sym (c .before .before .before .if1 .taken)),
+  omega (arith, c .struct-known .given),
+)
+
+returns-2 : tie.Need-returns-2
+unfolding argumentIn
+returns-2 c = (ap (λ (u : Bool). cond u (argument (c .before .before .before)) 0) (sym (c .if1 .left)), omega arith)
+
+pub argument-spec : {M : Type 1} → statement M
+argument-spec =
+    tie.close
+    (tie.spec mul-t9 shared-slice-read-t11 object-of-requires cast-result returns returns-2)

@@ -1,0 +1,70 @@
+-- `spans::fact_number` meets its contract: an initial or goal atom's words are its record's, unused ones being 0.
+use Rattle.task.proofs.GroundWords.{fact-read}
+use borrow.Author.Needs.{needs}
+use Rattle.task.proofs.spans.fact_number.Statement.{statement}
+use Rattle.task.proofs.spans.fact_number.Tie as tie
+
+atom-at-requires : tie.Need-atom-at-requires
+atom-at-requires c κs = search needs
+
+add-word : tie.Need-add-word
+add-word c = search needs
+
+word-requires : tie.Need-word-requires
+word-requires c κs = search needs
+
+add-word-2 : tie.Need-add-word-2
+add-word-2 c = search needs
+
+word-requires-2 : tie.Need-word-requires-2
+word-requires-2 c κs = search needs
+
+add-word-3 : tie.Need-add-word-3
+add-word-3 c = search needs
+
+word-requires-3 : tie.Need-word-requires-3
+word-requires-3 c κs = search needs
+
+add-word-4 : tie.Need-add-word-4
+add-word-4 c = search needs
+
+word-requires-4 : tie.Need-word-requires-4
+word-requires-4 c κs = search needs
+
+add-word-5 : tie.Need-add-word-5
+add-word-5 c = search needs
+
+word-requires-5 : tie.Need-word-requires-5
+word-requires-5 c κs = search needs
+
+number-of-requires : tie.Need-number-of-requires
+number-of-requires c κs = search needs
+
+returns : tie.Need-returns
+returns c =
+    let e = fact-read _ (c .before .before .before .before .before .before .before .before .pre .0) _ (c .before .before .before .before .before .before .before .before .pre .1) (c .before .before .before .before .before .before .atom-at .result) (c .before .before .before .before .before .before .atom-at .ensures .0) in
+    let e₀ = c .before .before .before .before .before .word .ensures .0 in
+    let e₁ = c .before .before .before .before .word2 .ensures .0 in
+    let e₂ = c .before .before .before .word3 .ensures .0 in
+    let e₃ = c .before .before .word4 .ensures .0 in
+    let e₄ = c .before .word5 .ensures .0 in
+    let n = c .number-of .ensures in
+    cc
+
+pub fact-number-spec : {M : Type 1} → statement M
+fact-number-spec =
+    tie.close
+    (tie.spec
+    atom-at-requires
+    add-word
+    word-requires
+    add-word-2
+    word-requires-2
+    add-word-3
+    word-requires-3
+    add-word-4
+    word-requires-4
+    add-word-5
+    word-requires-5
+    number-of-requires
+    returns)

@@ -1,0 +1,57 @@
+-- `spans::remove_span` meets its contract. Between the turns, removing the atoms left gives what removing all was to give;
+-- the measure is how many are left.
+use Prim.Native.Nat.{_-_}
+use native.Mathlib.Omega.{arith}
+use Rattle.task.proofs.GroundWords.{span-atom}
+use Rattle.task.proofs.SpanLaws.{state-long, state-ascends, atom-known, RemovedSo, change-start, change-turn, change-end}
+use borrow.Author.Needs.{needs}
+use Rattle.task.proofs.spans.remove_span.Statement.{statement}
+use Rattle.task.proofs.spans.remove_span.Tie as tie
+
+abbrev Inv-loop : tie.InvT-loop
+Inv-loop table from to steps i state₀ n left₀ k₀ state left k =
+    RemovedSo table steps i from to state₀ n state left k
+
+abbrev μ-loop : tie.MeasureT-loop
+μ-loop table from to steps i state₀ n left₀ k₀ state left k = to - k
+
+loop-holds : tie.Need-loop-holds Inv-loop μ-loop
+loop-holds c = change-start _ _ _ _ _ _ _ _ _ _ _ (c .before .before .before .pre .0 .ordered) (c .before .before .before .pre .1)
+
+ground-requires : tie.Need-ground-requires Inv-loop μ-loop
+ground-requires c κs = span-atom _ _ _ _ _ (c .before .before .before .before .before .before .pre .0) _ (c .before .before .loop .inv .from-first) (c .before .loop-test .taken)
+
+take-out-requires : tie.Need-take-out-requires Inv-loop μ-loop
+take-out-requires c κs = (state-long _ _ _ (c .before .before .before .before .before .before .before .pre .0 .tabled) (c .before .before .before .loop .inv .is-state), state-ascends _ _ _ (c .before .before .before .before .before .before .before .pre .0 .tabled) (c .before .before .before .loop .inv .is-state))
+
+add-k : tie.Need-add-k Inv-loop μ-loop
+add-k c = omega arith
+
+loop-less : tie.Need-loop-less Inv-loop μ-loop
+loop-less c = omega arith
+
+loop-again : tie.Need-loop-again Inv-loop μ-loop
+loop-again c =
+    let known = atom-known (span-atom _ _ _ _ _ (c .before .before .before .before .before .before .before .before .before .before .pre .0) _ (c .before .before .before .before .before .before .loop .inv .from-first) (c .before .before .before .before .before .loop-test .taken)) (c .before .before .before .before .before .before .loop .inv .is-state) (c .before .before .before .ground .ensures) in
+    change-turn _ _ _ _ _ _ _ (c .before .before .before .before .before .before .loop .inv) (c .before .before .before .before .before .loop-test .taken) (c .before .before .take-out .kept .0) (c .before .before .take-out .ensures _ _ known)
+
+same-length : tie.Need-same-length Inv-loop μ-loop
+same-length c = c .before .loop .inv .size
+
+returns : tie.Need-returns Inv-loop μ-loop
+returns c = change-end _ _ _ _ _ _ _ (c .before .loop .inv) (c .loop-test .left)
+
+pub remove-span-spec : {M : Type 1} → statement M
+remove-span-spec =
+    tie.close
+    (tie.spec
+    Inv-loop
+    μ-loop
+    loop-holds
+    ground-requires
+    take-out-requires
+    add-k
+    loop-less
+    loop-again
+    same-length
+    returns)

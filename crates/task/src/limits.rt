@@ -1,0 +1,39 @@
+// The limits of document 01, 'Task table', each under the name that specs/Limits.antt gives it.
+
+// "objects N (1 to 1000), predicates P (1 to 400), schemas (0 to 200), schema atoms (at most 1000), initial atoms (at
+// most 500), goal atoms (at most 100)"
+pub const MOST_OBJECTS: usize = 1000;
+
+pub const MOST_PREDICATES: usize = 400;
+
+pub const MOST_SCHEMAS: usize = 200;
+
+pub const MOST_SCHEMA_ATOMS: usize = 1000;
+
+pub const MOST_INITIAL: usize = 500;
+
+pub const MOST_GOAL: usize = 100;
+
+// "P arities (0 to 4), then each schema's parameter count (0 to 12)"
+pub const MOST_ARITY: usize = 4;
+
+pub const MOST_PARAMETERS: usize = 12;
+
+// "A schema has 1 to 64 atoms .. It has 1 to 16 parts"
+pub const MOST_ATOMS: usize = 64;
+
+pub const MOST_PARTS: usize = 16;
+
+// "A table takes 13,406 words", of which six counts stand first and each atom takes eight
+pub const TABLE_WORDS: usize = 13406;
+
+pub const HEAD_WORDS: usize = 6;
+
+pub const ATOM_SIZE: usize = 8;
+
+// "role (0 precondition, 1 add, 2 delete, 3 initial, 4 goal)"
+pub const DELETION: usize = 2;
+
+pub const INITIAL: usize = 3;
+
+pub const GOAL: usize = 4;

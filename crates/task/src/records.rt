@@ -1,0 +1,162 @@
+// Records in lent words: a row of five words as one number, and finding, taking out and putting in a row.
+ghost use mathlib.Core.Path.{_≡_};
+ghost use mathlib.Core.List.{[], _∷_};
+ghost use Prim.Native.Nat.{ℕ, _+_, _*_, _≤_, _<_};
+ghost use lib.ListN.{length, getD, take};
+ghost use Rattle.task.specs.Lists.{padded};
+ghost use Rattle.task.specs.Task.{Task, Fact};
+ghost use Rattle.task.specs.Run.{holds, insert, removeAll, stateIn};
+ghost use Rattle.task.specs.Records.{inBase, numberAt, rowNumber, RowsAscend, LowerBound, RowIs, MovedDown, MovedUp, Written, Known, Keeps};
+
+// A word of lent words as a wider number.
+pub(crate) fn word(w: &[u16], at: usize) -> u64
+    requires { ⌜ at < length (now w) ⌝ }
+    ensures { λ r. ⌜ (r ≡ getD (now (w .entry)) at 0) × (r < 65536) ⌝ }
+{
+    w[at] as u64
+}
+
+// A predicate and four arguments as one number.
+pub(crate) fn number_of(p: u64, a: u64, b: u64, c: u64, d: u64) -> u64
+    requires { ⌜ (p < 65536) × (a < 65536) × (b < 65536) × (c < 65536) × (d < 65536) ⌝ }
+    ensures { λ r. ⌜ r ≡ inBase p (a ∷ b ∷ c ∷ d ∷ []) ⌝ }
+{
+    (((p * 1024 + a) * 1024 + b) * 1024 + c) * 1024 + d
+}
+
+// The number of the row that begins at word `at`.
+fn number_at(state: &[u16], at: usize) -> u64
+    requires { ⌜ at + 5 ≤ length (now state) ⌝ }
+    ensures { λ r. ⌜ r ≡ numberAt (now (state .entry)) at ⌝ }
+{
+    number_of(
+        word(state, at),
+        word(state, at + 1),
+        word(state, at + 2),
+        word(state, at + 3),
+        word(state, at + 4),
+    )
+}
+
+// The first of n ascending rows whose number is not below `number`: lo and hi bracket it.
+fn find(state: &[u16], n: usize, number: u64) -> usize
+    requires { ⌜ 5 * n ≤ length (now state) ⌝ }
+    requires { ⌜ RowsAscend (now state) n ⌝ }
+    ensures { λ r. ⌜ LowerBound (now (state .entry)) n number r ⌝ }
+{
+    let mut lo = 0;
+    let mut hi = n;
+    while lo < hi {
+        let mid = lo + (hi - lo) / 2;
+        if number_at(state, 5 * mid) < number {
+            lo = mid + 1;
+        } else {
+            hi = mid;
+        }
+    }
+    lo
+}
+
+// Moves the words behind `from` down by a row, so that words from `from` to `to` are new.
+fn move_down(state: &mut [u16], from: usize, to: usize)
+    requires { ⌜ (from ≤ to) × (to + 5 ≤ length (now state)) ⌝ }
+    ensures { λ _. ⌜ MovedDown (now (state .entry)) from to (now (state .exit)) ⌝ }
+{
+    let mut i = from;
+    while i < to {
+        state[i] = state[i + 5];
+        i += 1;
+    }
+}
+
+// Moves the words from `from` to `to` up by a row, the last first.
+fn move_up(state: &mut [u16], from: usize, to: usize)
+    requires { ⌜ (from ≤ to) × (to + 5 ≤ length (now state)) ⌝ }
+    ensures { λ _. ⌜ MovedUp (now (state .entry)) from to (now (state .exit)) ⌝ }
+{
+    let mut i = to;
+    while from < i {
+        i -= 1;
+        state[i + 5] = state[i];
+    }
+}
+
+// Writes the five digits of a number from word `at` on.
+fn write_at(state: &mut [u16], at: usize, number: u64)
+    requires { ⌜ (at + 5 ≤ length (now state)) × (number < 72057594037927936) ⌝ }
+    ensures { λ _. ⌜ Written (now (state .entry)) at number (now (state .exit)) ⌝ }
+{
+    state[at] = (number / 1099511627776) as u16;
+    state[at + 1] = (number / 1073741824 % 1024) as u16;
+    state[at + 2] = (number / 1048576 % 1024) as u16;
+    state[at + 3] = (number / 1024 % 1024) as u16;
+    state[at + 4] = (number % 1024) as u16;
+}
+
+// Zeros from word `from` to the end.
+pub(crate) fn clear_from(state: &mut [u16], from: usize)
+    requires { ⌜ from ≤ length (now state) ⌝ }
+    ensures { λ _. ⌜ now (state .exit) ≡ padded (length (now (state .entry))) (take from (now (state .entry))) ⌝ }
+{
+    let mut i = from;
+    while i < state.len() {
+        state[i] = 0;
+        i += 1;
+    }
+}
+
+// Whether row k is one of n rows and has this number.
+fn is_row(state: &[u16], n: usize, k: usize, number: u64) -> bool
+    requires { ⌜ 5 * n ≤ length (now state) ⌝ }
+    ensures { λ r. ⌜ RowIs (now (state .entry)) n k number r ⌝ }
+{
+    if k < n {
+        number_at(state, 5 * k) == number
+    } else {
+        false
+    }
+}
+
+// Whether one of n ascending rows has this number.
+pub(crate) fn held(state: &[u16], n: usize, number: u64) -> bool
+    requires { ⌜ 5 * n ≤ length (now state) ⌝ }
+    requires { ⌜ RowsAscend (now state) n ⌝ }
+    ensures { λ r. ⌜ ((t : Task) (f : Fact) → Known t (now (state .entry)) n f number → r ≡ holds (stateIn t (now (state .entry)) n) f) ⌝ }
+{
+    let k = find(state, n, number);
+    is_row(state, n, k, number)
+}
+
+// Takes the row with this number out of n ascending rows, where it is there, and returns how many are left.
+pub(crate) fn take_out(state: &mut [u16], n: usize, number: u64) -> usize
+    requires { ⌜ 5 * n ≤ length (now state) ⌝ }
+    requires { ⌜ RowsAscend (now state) n ⌝ }
+    ensures { λ r. ⌜ ((t : Task) (f : Fact) → Known t (now (state .entry)) n f number →
+        Keeps t (now (state .exit)) r (removeAll (f ∷ []) (stateIn t (now (state .entry)) n))) ⌝ }
+{
+    let k = find(state, n, number);
+    if is_row(state, n, k, number) {
+        move_down(state, 5 * k, 5 * (n - 1));
+        n - 1
+    } else {
+        n
+    }
+}
+
+// Puts a row with this number among n ascending rows, unless it is there, and returns how many there are then.
+pub(crate) fn put_in(state: &mut [u16], n: usize, number: u64) -> usize
+    requires { ⌜ 5 * n ≤ length (now state) ⌝ }
+    requires { ⌜ RowsAscend (now state) n ⌝ }
+    requires { ⌜ (((i : ℕ) → i < n → rowNumber (now state) i ≡ number → ⊥) → 5 * n + 5 ≤ length (now state)) × (number < 72057594037927936) ⌝ }
+    ensures { λ r. ⌜ ((t : Task) (f : Fact) → Known t (now (state .entry)) n f number →
+        Keeps t (now (state .exit)) r (insert f (stateIn t (now (state .entry)) n))) ⌝ }
+{
+    let k = find(state, n, number);
+    if is_row(state, n, k, number) {
+        n
+    } else {
+        move_up(state, 5 * k, 5 * n);
+        write_at(state, 5 * k, number);
+        n + 1
+    }
+}

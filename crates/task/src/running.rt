@@ -1,0 +1,201 @@
+// Running a step list over a state in lent words.
+use crate::Place;
+use crate::RunAnswer;
+use crate::records::clear_from;
+use crate::records::held;
+use crate::records::word;
+use crate::sizes::has_room;
+use crate::spans::all_hold;
+use crate::spans::atom_at;
+use crate::spans::fact_number;
+use crate::spans::insert_span;
+use crate::spans::remove_span;
+ghost use mathlib.Core.Path.{_≡_};
+ghost use mathlib.Core.Bool.{true};
+ghost use mathlib.Core.Option.{none};
+ghost use Prim.Native.Nat.{ℕ, suc, _+_, _*_, _≤_, _<_};
+ghost use lib.ListN.{length, getD};
+ghost use Rattle.task.specs.Table.{taskOf, isTable};
+ghost use Rattle.task.specs.Run.{
+  stepAt,
+  isStepAt,
+  badStep,
+  stepsIn,
+  stateIn,
+  roomIn,
+  isState,
+  goalMet,
+  runWithin,
+  runDone,
+  runAnswerTold,
+};
+ghost use Rattle.task.specs.Turns.{firstAtom, Starts, RoleEnds, Turned, endedAs, recordsLeft};
+
+// What a step does: it runs and leaves so many records, a precondition is missing, or the next state is outgrown.
+pub enum Turn {
+    Ran(usize),
+    Missing,
+    Outgrown,
+}
+
+// How a list ends: it ran to the end, or stopped at a step; each with the records left.
+pub enum Ended {
+    Ran(usize),
+    Missing(usize, usize),
+    Outgrown(usize, usize),
+}
+
+// Writes where the atoms of each schema begin, and behind the last schema where they end.
+fn schema_starts(table: &[u16], starts: &mut [u16; 201])
+    requires { ⌜ isTable (now table) ≡ true ⌝ }
+    requires { ⌜ (length (now starts) ≡ 201) × (getD (now starts) 0 0 ≡ 0) ⌝ }
+    ensures { λ _. ⌜ (length (now (starts .exit)) ≡ 201) × Starts (taskOf (now (table .entry))) (now (starts .exit)) ⌝ }
+{
+    let count = word(table, 3) as usize;
+    let mut k = 0;
+    while k < count {
+        let at = atom_at(table, k);
+        let schema = table[at] as usize;
+        k += 1;
+        starts[schema + 1] = k as u16;
+    }
+}
+
+// The first atom from `from` on that has another role, or `to`.
+fn role_end(table: &[u16], from: usize, to: usize, role: u16) -> usize
+    requires { ⌜ isTable (now table) ≡ true ⌝ }
+    requires { ⌜ (from ≤ to) × (to ≤ getD (now table) 3 0) ⌝ }
+    ensures { λ r. ⌜ RoleEnds (now (table .entry)) from to role r ⌝ }
+{
+    let mut k = from;
+    while k < to {
+        let at = atom_at(table, k);
+        if table[at + 1] != role {
+            return k;
+        }
+        k += 1;
+    }
+    k
+}
+
+// Runs step i, whose schema has the atoms from `start` to `end`: deletes go out, then adds come in.
+fn run_step(
+    table: &[u16],
+    start: usize,
+    end: usize,
+    steps: &[u16],
+    i: usize,
+    state: &mut [u16],
+    n: usize,
+) -> Turn
+    requires { ⌜ isTable (now table) ≡ true ⌝ }
+    requires { ⌜ isStepAt (taskOf (now table)) (now steps) i ≡ true ⌝ }
+    requires { ⌜ start ≡ firstAtom (taskOf (now table)) (getD (now steps) (13 * i) 0) ⌝ }
+    requires { ⌜ end ≡ firstAtom (taskOf (now table)) (suc (getD (now steps) (13 * i) 0)) ⌝ }
+    requires { ⌜ isState (taskOf (now table)) (now state) n ≡ true ⌝ }
+    ensures { λ r. ⌜ Turned (taskOf (now (table .entry))) (stepAt (taskOf (now (table .entry))) (now (steps .entry)) i)
+        (now (state .entry)) n r (now (state .exit)) ⌝ }
+{
+    let add = role_end(table, start, end, 0);
+    let del = role_end(table, add, end, 1);
+    if !all_hold(table, start, add, steps, i, state, n) {
+        return Turn::Missing;
+    }
+    if !has_room(table, add, del, end, steps, i, state, n) {
+        return Turn::Outgrown;
+    }
+    let left = remove_span(table, del, end, steps, i, state, n);
+    Turn::Ran(insert_span(table, add, del, steps, i, state, left))
+}
+
+// Whether all goal atoms hold.
+fn goal_met(table: &[u16], state: &[u16], n: usize) -> bool
+    requires { ⌜ isTable (now table) ≡ true ⌝ }
+    requires { ⌜ isState (taskOf (now table)) (now state) n ≡ true ⌝ }
+    ensures { λ r. ⌜ r ≡ goalMet (taskOf (now (table .entry))) (stateIn (taskOf (now (table .entry))) (now (state .entry)) n) ⌝ }
+{
+    let from = word(table, 3) as usize + word(table, 4) as usize;
+    let to = from + word(table, 5) as usize;
+    let mut k = from;
+    while k < to {
+        if !held(state, n, fact_number(table, k)) {
+            return false;
+        }
+        k += 1;
+    }
+    true
+}
+
+// Runs the steps one after another, up to the first that doesn't run or whose next state is outgrown.
+fn run_list(table: &[u16], starts: &[u16], steps: &[u16], state: &mut [u16], n: usize) -> Ended
+    requires { ⌜ isTable (now table) ≡ true ⌝ }
+    requires { ⌜ (length (now starts) ≡ 201) × Starts (taskOf (now table)) (now starts) ⌝ }
+    requires { ⌜ badStep (taskOf (now table)) (now steps) ≡ none ⌝ }
+    requires { ⌜ isState (taskOf (now table)) (now state) n ≡ true ⌝ }
+    ensures { λ r. ⌜ isState (taskOf (now (table .entry))) (now (state .exit)) (recordsLeft r) ≡ true ⌝ }
+    ensures { λ r. ⌜ runWithin (roomIn (now (state .entry))) (taskOf (now (table .entry))) (stepsIn (taskOf (now (table .entry))) (now (steps .entry)))
+        (stateIn (taskOf (now (table .entry))) (now (state .entry)) n) ≡
+        endedAs r (stateIn (taskOf (now (table .entry))) (now (state .exit)) (recordsLeft r)) ⌝ }
+{
+    let count = steps.len() / 13;
+    let mut left = n;
+    let mut i = 0;
+    while i < count {
+        let schema = steps[13 * i] as usize;
+        let start = starts[schema] as usize;
+        let end = starts[schema + 1] as usize;
+        let turn = run_step(table, start, end, steps, i, state, left);
+        match turn {
+            Turn::Ran(m) => {
+                left = m;
+                i += 1;
+            }
+            Turn::Missing => return Ended::Missing(i, left),
+            Turn::Outgrown => return Ended::Outgrown(i, left),
+        }
+    }
+    Ended::Ran(left)
+}
+
+// Runs a checked step list over a checked state in place, and puts zeros behind the records left.
+pub(crate) fn run_steps(table: &[u16], steps: &[u16], state: &mut [u16], records: u64) -> RunAnswer
+    requires { ⌜ isTable (now table) ≡ true ⌝ }
+    requires { ⌜ badStep (taskOf (now table)) (now steps) ≡ none ⌝ }
+    requires { ⌜ isState (taskOf (now table)) (now state) records ≡ true ⌝ }
+    ensures { λ r. ⌜ runAnswerTold r ≡ runDone (taskOf (now (table .entry))) (length (now (state .entry)))
+        (runWithin (roomIn (now (state .entry))) (taskOf (now (table .entry))) (stepsIn (taskOf (now (table .entry))) (now (steps .entry)))
+        (stateIn (taskOf (now (table .entry))) (now (state .entry)) records)) .told ⌝ }
+    ensures { λ _. ⌜ now (state .exit) ≡ runDone (taskOf (now (table .entry))) (length (now (state .entry)))
+        (runWithin (roomIn (now (state .entry))) (taskOf (now (table .entry))) (stepsIn (taskOf (now (table .entry))) (now (steps .entry)))
+        (stateIn (taskOf (now (table .entry))) (now (state .entry)) records)) .buffer ⌝ }
+{
+    let mut starts = [0u16; 201];
+    schema_starts(table, &mut starts);
+    let ended = run_list(table, &starts, steps, state, records as usize);
+    match ended {
+        Ended::Ran(left) => {
+            let goal = goal_met(table, state, left);
+            clear_from(state, 5 * left);
+            RunAnswer::Ran {
+                left: left as u64,
+                goal,
+            }
+        }
+        Ended::Missing(i, left) => {
+            clear_from(state, 5 * left);
+            RunAnswer::Stopped {
+                number: 16,
+                place: Place::Step(i as u64),
+                left: left as u64,
+            }
+        }
+        Ended::Outgrown(i, left) => {
+            clear_from(state, 5 * left);
+            RunAnswer::Stopped {
+                number: 17,
+                place: Place::Step(i as u64),
+                left: left as u64,
+            }
+        }
+    }
+}

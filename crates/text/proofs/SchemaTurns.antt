@@ -1,0 +1,119 @@
+-- The schemas of a table, one turn of a loop each: where a turn stands, that all it reads lies in the table, that
+-- what it writes is the lines of its schema, and where the next one stands.
+use Prim.Native.Nat.{ℕ, suc, _+_, _-_, _*_, _≤_, _<_}
+use mathlib.Core.Path.{_≡_, sym, _∙_, ap, ap₂, subst}
+use mathlib.Core.Bool.{true}
+use mathlib.Core.List.{List}
+use native.Mathlib.Omega.{arith}
+use lib.ListN.{length, getD}
+use Rattle.task.specs.Lists.{sum}
+use Rattle.task.specs.Run.{schemaAt}
+use Rattle.task.specs.Table.{atomBase, taskOf, isTable}
+use Rattle.task.proofs.Tables.{startOf, length-content, tableWords-is}
+use Rattle.task.proofs.TablesByIndex.{table-long, arities-word, schemas-word, atoms-word, init-word, goal-word}
+use Rattle.task.proofs.TablesByIndex.{start-suc}
+use Rattle.text.specs.Code.{AtomInside, SchemaRun, schemaText}
+use Rattle.text.proofs.TableAtoms.{frame, each-inside, start-most, run-long}
+use Rattle.text.proofs.TableText.{schemaLinesIn, schema-lines}
+
+-- the head of a table: six counts
+pub head-inside : (w : List ℕ) → isTable w ≡ true → 6 ≤ length w
+head-inside w table = let l = table-long w table in let e = tableWords-is in omega arith
+
+-- the arities, the parameter counts and the atoms lie in the table
+pub content-inside : (w : List ℕ) → isTable w ≡ true →
+    6 + getD w 1 0 + getD w 2 0 + 8 * (getD w 3 0 + getD w 4 0 + getD w 5 0) ≤ length w
+content-inside w table =
+    let f = frame w table in
+    let b = length-content (taskOf w) (f .sizes) in
+    let c = f .inside in
+    let l = table-long w table in
+    let e₁ = arities-word w f in
+    let e₂ = schemas-word w f in
+    let e₃ = atoms-word w f in
+    let e₄ = init-word w f in
+    let e₅ = goal-word w f in
+    omega arith
+
+-- a turn at schema s: its atoms begin at `at`, and `left` atoms of schemas are from there on
+pub record Turn (w : List ℕ) (schemas counts at left s : ℕ) : Type 0 where
+  pub schemas-are : schemas ≡ getD w 2 0
+  pub counts-begin : counts ≡ 6 + getD w 1 0
+  pub atoms-begin : at ≡ atomBase w (startOf (taskOf w) s)
+  pub atoms-left : startOf (taskOf w) s + left ≡ getD w 3 0
+
+module _ {w : List ℕ} (table : isTable w ≡ true) where
+  pub turn-first : (schemas counts left : ℕ) → schemas ≡ getD w 2 0 → counts ≡ 6 + getD w 1 0 → left ≡ getD w 3 0 →
+      Turn w schemas counts (counts + schemas) left 0
+  unfolding sum atomBase
+  turn-first schemas counts left e f g = record {
+    schemas-are = e;
+    counts-begin = f;
+    atoms-begin = omega arith;
+    atoms-left = omega arith;
+  }
+
+  module _ {schemas counts at left s : ℕ} (turn : Turn w schemas counts at left s) where
+    pub begin-inside : at + 8 * left ≤ length w
+    unfolding atomBase
+    begin-inside =
+        let c = content-inside w table in
+        let b = turn .atoms-begin in
+        let l = turn .atoms-left in
+        omega arith
+
+    pub read-inside : (k : ℕ) → k < left → at + 8 * k < length w
+    read-inside k h = let b = begin-inside in omega arith
+
+    pub count-inside : s < schemas → counts + s < length w
+    count-inside h =
+        let c = content-inside w table in
+        let e = turn .schemas-are in
+        let f = turn .counts-begin in
+        omega arith
+
+    module _ {n : ℕ} (h : s < schemas) (run : SchemaRun w at left s n) where
+      run-is : n ≡ length (schemaAt (taskOf w) s .atoms)
+      run-is =
+          let e = turn .schemas-are in
+          run-long w table s at left n (omega arith) (turn .atoms-begin) (turn .atoms-left) run
+
+      pub run-inside : at + 8 * n ≤ length w
+      run-inside = let l = begin-inside in let r = run .within in omega arith
+
+      pub atoms-inside : (k : ℕ) → k < n → AtomInside w (at + 8 * k)
+      unfolding atomBase
+      atoms-inside k l =
+          let b = turn .atoms-begin in
+          let e : atomBase w (startOf (taskOf w) s + k) ≡ at + 8 * k = omega arith in
+          let r = run .within in
+          let m = turn .atoms-left in
+          subst (AtomInside w) e (each-inside w table (startOf (taskOf w) s + k) (omega arith))
+
+      pub turn-lines : schemaLinesIn w s ≡ schemaText w (getD w (counts + s) 0) at n
+      turn-lines =
+          let e = turn .schemas-are in
+          let c = turn .counts-begin in
+          let b = turn .atoms-begin in
+          let q : 6 + getD w 1 0 + s ≡ counts + s = omega arith in
+          schema-lines w table s (omega arith) ∙
+          (ap₂ (λ (i a : ℕ). schemaText w (getD w i 0) a (length (schemaAt (taskOf w) s .atoms))) q (sym b) ∙
+          ap (schemaText w (getD w (counts + s) 0) at) (sym run-is))
+
+      pub turn-next : Turn w schemas counts (at + 8 * n) (left - n) (s + 1)
+      unfolding atomBase
+      turn-next =
+          let e = turn .schemas-are in
+          let r = run-is in
+          let q = start-suc w (frame w table) s (omega arith) in
+          let z : startOf (taskOf w) (suc s) ≡ startOf (taskOf w) (s + 1) =
+          let y : suc s ≡ s + 1 = omega arith in ap (startOf (taskOf w)) y in
+          let m = start-most w table (suc s) in
+          let b = turn .atoms-begin in
+          let l = turn .atoms-left in
+          record {
+            schemas-are = e;
+            counts-begin = turn .counts-begin;
+            atoms-begin = omega arith;
+            atoms-left = omega arith;
+          }

@@ -1,0 +1,164 @@
+-- The atoms of a table, for code that writes them: each lies in the table with its arity, its role says which line it
+-- has, and the atoms of a schema are a run of those that name it.
+use Prim.Native.Nat.{ℕ, zero, suc, _+_, _-_, _*_, _≤_, _<_}
+use mathlib.Core.Path.{_≡_, sym, _∙_, ap, subst}
+use mathlib.Core.Bool.{true}
+use mathlib.Core.List.{List, [], _∷_}
+use native.Mathlib.Omega.{arith}
+use native.Mathlib.Decide.{decLt}
+use lib.ListN.{length, getD, take}
+use lib.Dec.{leb}
+use borrow.Author.Tests.{leb-true}
+use Rattle.task.specs.Lists.{sum}
+use Rattle.task.specs.Task.{Atom, Task, rolesAscend, schemaFits}
+use Rattle.task.specs.Run.{schemaAt}
+use Rattle.task.specs.Table.{arityIn, atomBase, atomIn, factIn, schemaNumberIn, taskOf, isTable}
+use Rattle.task.proofs.Laws.{and-left, and-right, In, here, there, all-in, in-getD}
+use Rattle.task.proofs.Tests.{schema-tests, task-tests}
+use Rattle.task.proofs.Tables.{Sized, noAtom, noFact, noSchema, counts, startOf, of-table, init-stands, goal-stands}
+use Rattle.task.proofs.TablesByIndex.{Frame, table-frame, table-long, arities-word, schemas-word, atoms-word}
+use Rattle.task.proofs.TablesByIndex.{init-word, goal-word, arity-at, atom-inside, start-suc, atom-at, schema-of-atom}
+use Rattle.task.proofs.TablesByIndex.{atom-lies, init-at, goal-at}
+use Rattle.text.specs.Code.{AtomInside, SchemaRun}
+
+-- "preconditions first, then adds, then deletes": no role of a schema's atom is above 2
+first-role : (a : Atom) (rest : List Atom) → rolesAscend (a ∷ rest) ≡ true → a .role ≤ 2
+unfolding rolesAscend
+first-role a [] h = leb-true (a .role) 2 h
+first-role a (b ∷ rest) h =
+    let l = leb-true (a .role) (b .role) (and-left (leb (a .role) (b .role)) (rolesAscend (b ∷ rest)) h) in
+    let m = first-role b rest (and-right (leb (a .role) (b .role)) (rolesAscend (b ∷ rest)) h) in
+    omega arith
+
+each-role : {x : Atom} {xs : List Atom} → In x xs → rolesAscend xs ≡ true → x .role ≤ 2
+unfolding rolesAscend
+each-role (here {y = a} {ys = rest} e) h = subst (λ (x : Atom). x .role ≤ 2) (sym e) (first-role a rest h)
+each-role (there {y = a} {ys = []} i) h = elim i [ ]
+each-role (there {y = a} {ys = b ∷ rest} i) h =
+    each-role i (and-right (leb (a .role) (b .role)) (rolesAscend (b ∷ rest)) h)
+
+module _ (w : List ℕ) (table : isTable w ≡ true) where
+  abbrev t : Task
+  t = taskOf w
+
+  pub frame : Frame w
+  frame = table-frame w table
+
+  -- ---- an atom and its arity lie in the table
+  abbrev total : ℕ
+  total = getD w 3 0 + getD w 4 0 + getD w 5 0
+
+  sized-inside : (i : ℕ) → i < total → (p : ℕ) (args : List ℕ) → p ≡ getD w (atomBase w i + 2) 0 →
+      Sized (t .arities) p args →
+      AtomInside w (atomBase w i)
+  unfolding atomBase
+  sized-inside i h p args e s =
+      let b = atom-inside w frame i h in
+      let l = table-long w table in
+      let n = arities-word w frame in
+      let k = s .known in
+      let a = arity-at w frame p (omega arith) in
+      let c = s .count in
+      let m = s .short in
+      record {
+        inside = omega arith;
+        known = omega arith;
+        short = subst (λ (q : ℕ). arityIn w q ≤ 4) e (omega arith);
+      }
+
+  pub each-inside : (i : ℕ) → i < total → AtomInside w (atomBase w i)
+  unfolding atomIn factIn schemaAt
+  each-inside i h = elim (decLt i (getD w 3 0)) [
+    | yes l ↦
+        let s : ℕ = schemaNumberIn w i in
+        let q = atom-lies w frame i l in
+        let n = schemas-word w frame in
+        let k : ℕ = i - startOf t s in
+        let z : startOf t s + k ≡ i = let f = q .from-start in omega arith in
+        let lies : k < length (schemaAt t s .atoms) =
+        let r = start-suc w frame s (q .known) in let f = q .from-start in let g = q .before-next in omega arith in
+        let a = getD (schemaAt t s .atoms) k noAtom in
+        let e : a .pred ≡ getD w (atomBase w i + 2) 0 =
+        sym (ap (λ (b : Atom). b .pred) (ap (atomIn w) (sym z) ∙ atom-at w frame s k (q .known) lies)) in
+        let known = q .known in
+        sized-inside i h (a .pred) (a .args) e
+        (frame .sizes .schema (schemaAt t s) (in-getD (t .schemas) s noSchema (omega arith)) a
+        (in-getD (schemaAt t s .atoms) k noAtom lies))
+    | no l ↦ elim (decLt i (getD w 3 0 + getD w 4 0)) [
+      | yes m ↦
+          let k : ℕ = i - getD w 3 0 in
+          let z : getD w 3 0 + k ≡ i = omega arith in
+          let n = init-word w frame in
+          let f = getD (t .init) k noFact in
+          let e = sym (ap (λ (j : ℕ). factIn w j .pred) (sym z) ∙
+          ap (λ g. g .pred) (init-at w frame k (omega arith))) in
+          sized-inside i h (f .pred) (f .args) e (frame .sizes .init f (in-getD (t .init) k noFact (omega arith)))
+      | no m ↦
+          let k : ℕ = i - (getD w 3 0 + getD w 4 0) in
+          let z : getD w 3 0 + getD w 4 0 + k ≡ i = omega arith in
+          let n = goal-word w frame in
+          let f = getD (t .goal) k noFact in
+          let e = sym (ap (λ (j : ℕ). factIn w j .pred) (sym z) ∙
+          ap (λ g. g .pred) (goal-at w frame k (omega arith))) in
+          sized-inside i h (f .pred) (f .args) e (frame .sizes .goal f (in-getD (t .goal) k noFact (omega arith)))
+    ]
+  ]
+
+  -- ---- the roles of atoms
+  pub schema-role : (s k : ℕ) → s < getD w 2 0 → k < length (schemaAt t s .atoms) → atomIn w (startOf t s + k) .role ≤ 2
+  unfolding schemaAt
+  schema-role s k l h =
+      let n = schemas-word w frame in
+      let tests = task-tests t (of-table w table .0) in
+      let is = in-getD (t .schemas) s noSchema (omega arith) in
+      let c = schema-tests (t .arities) (schemaAt t s) (all-in (schemaFits (t .arities)) (tests .fit) is) in
+      subst (λ (a : Atom). a .role ≤ 2) (sym (atom-at w frame s k l h))
+      (each-role (in-getD (schemaAt t s .atoms) k noAtom h) (c .roles))
+
+  pub init-role : (i : ℕ) → i < getD w 4 0 → getD w (atomBase w (getD w 3 0 + i) + 1) 0 ≡ 3
+  unfolding atomIn
+  init-role i h =
+      let n = init-word w frame in
+      ap (λ (a : Atom). a .role) (init-stands w t (frame .sizes) (frame .tabled) i (omega arith) .atom)
+
+  pub goal-role : (i : ℕ) → i < getD w 5 0 → getD w (atomBase w (getD w 3 0 + getD w 4 0 + i) + 1) 0 ≡ 4
+  unfolding atomIn
+  goal-role i h =
+      let n = goal-word w frame in
+      ap (λ (a : Atom). a .role) (goal-stands w t (frame .sizes) (frame .tabled) i (omega arith) .atom)
+
+  -- ---- where a schema's atoms end
+  take-most : (cs : List ℕ) (m : ℕ) → sum (take m cs) ≤ sum cs
+  unfolding sum
+  take-most [] zero = omega arith
+  take-most [] (suc m) = omega arith
+  take-most (c ∷ cs) zero = omega arith
+  take-most (c ∷ cs) (suc m) = let r = take-most cs m in omega arith
+
+  pub start-most : (s : ℕ) → startOf t s ≤ getD w 3 0
+  start-most s = let r = take-most (counts (t .schemas)) s in let e = atoms-word w frame in omega arith
+
+  -- ---- a run of atoms that name a schema is the schema's
+  pub run-long : (s b left n : ℕ) → s < getD w 2 0 → b ≡ atomBase w (startOf t s) → startOf t s + left ≡ getD w 3 0 →
+      SchemaRun w b left s n → n ≡ length (schemaAt t s .atoms)
+  unfolding schemaNumberIn atomBase
+  run-long s b left n l e f r = elim (decLt n (length (schemaAt t s .atoms))) [
+    | yes m ↦ absurd
+        (let q : atomBase w (startOf t s + n) ≡ b + 8 * n = omega arith in
+        let a = start-suc w frame s l in
+        let inside = start-most (suc s) in
+        r .stops (omega arith) (ap (λ (j : ℕ). getD w j 0) (sym q) ∙ schema-of-atom w frame s n l m))
+    | no m ↦ elim (decLt (length (schemaAt t s .atoms)) n) [
+      | yes k ↦ absurd
+          (let j : ℕ = length (schemaAt t s .atoms) in
+          let q : atomBase w (startOf t s + j) ≡ b + 8 * j = omega arith in
+          let named : schemaNumberIn w (startOf t s + j) ≡ s = ap (λ (x : ℕ). getD w x 0) q ∙ r .same j k in
+          let a = start-suc w frame s l in
+          let within = r .within in
+          let next = atom-lies w frame (startOf t s + j) (omega arith) .before-next in
+          let stop : startOf t s + j < startOf t (suc s) =
+          subst (λ (x : ℕ). startOf t s + j < startOf t (suc x)) named next in
+          omega arith)
+      | no k ↦ omega arith
+    ]
+  ]

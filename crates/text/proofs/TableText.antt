@@ -1,0 +1,233 @@
+-- The text of a table's task by the words of the table: the head, the lines of each schema where its atoms begin, and
+-- the lines of the initial and the goal atoms, which follow one another.
+use Prim.Native.Nat.{ℕ, zero, suc, _+_, _-_, _*_, _≤_, _<_}
+use mathlib.Core.Path.{_≡_, refl, sym, _∙_, ap, ap₂, subst}
+use mathlib.Core.Bool.{true}
+use mathlib.Core.List.{List, [], _∷_, _++_, map, append-assoc, append-nil}
+use native.Mathlib.Omega.{arith}
+use lib.ListN.{length, getD}
+use lib.Dec.{eqb}
+use Rattle.task.specs.Lists.{filter, upTo, upFrom, concatMap}
+use Rattle.task.specs.Task.{Atom, Fact, Schema, Task}
+use Rattle.task.specs.Run.{schemaAt}
+use Rattle.task.specs.Table.{wordsAt, atomBase, atomIn, factIn, schemaNumberIn, taskOf, isTable}
+use Rattle.task.proofs.Laws.{append-concatMap, upFrom-in}
+use Rattle.task.proofs.Tables.{startOf, upFrom-append, indices}
+use Rattle.task.proofs.TablesByIndex.{schemas-word}
+use Rattle.text.specs.Lines.{digits, commaed, entryBytes, line}
+use Rattle.text.specs.Text.{Key, Line, taskLine, objectsLine, schemaLine, endLine, arityLine, partLine}
+use Rattle.text.specs.Text.{atomLine, initLine, goalLine, keyName, keyOf, roleKey, writeLine, factEntry}
+use Rattle.text.specs.Text.{atomEntry, schemaLines, taskLines, write}
+use Rattle.text.specs.Code.{spaced, entryAt, atomKey, atomText, atomsText, schemaText, schemasText, headText}
+use Rattle.text.proofs.Onwards.{onwards, onwards-all}
+use Rattle.text.proofs.AtomLines.{spaced-words}
+use Rattle.text.proofs.SchemaLines.{partsAt, schemaText-is}
+use Rattle.text.proofs.Pieces.{pieces-map, pieces-pieces, pieces-same, pieces-from, map-from}
+use Rattle.text.proofs.TableAtoms.{frame, schema-role, init-role, goal-role}
+
+-- ---- the text of a task, part by part
+abbrev pub schemaPiece : Schema → List ℕ
+schemaPiece s = concatMap writeLine (schemaLines s)
+
+abbrev pub initPiece : Fact → List ℕ
+initPiece f = writeLine (initLine (factEntry f))
+
+abbrev pub goalPiece : Fact → List ℕ
+goalPiece f = writeLine (goalLine (factEntry f))
+
+pub write-is : (t : Task) → write t ≡
+    writeLine (taskLine 1) ++ (writeLine (objectsLine (t .objects)) ++ (writeLine (arityLine (t .arities)) ++
+    (concatMap schemaPiece (t .schemas) ++
+    (concatMap initPiece (t .init) ++ (concatMap goalPiece (t .goal) ++ writeLine (endLine 1))))))
+unfolding write taskLines concatMap
+write-is t =
+    let ss = concatMap schemaLines (t .schemas) in
+    let is : List Line = map (λ f. initLine (factEntry f)) (t .init) in
+    let gs : List Line = map (λ f. goalLine (factEntry f)) (t .goal) in
+    let end : List Line = endLine 1 ∷ [] in
+    let goals : concatMap writeLine (gs ++ end) ≡ concatMap goalPiece (t .goal) ++ writeLine (endLine 1) =
+    append-concatMap writeLine gs end ∙
+    ap₂ (λ (x y : List ℕ). x ++ y) (pieces-map writeLine (λ f. goalLine (factEntry f)) (t .goal))
+    (append-nil (writeLine (endLine 1))) in
+    let inits : concatMap writeLine (is ++ (gs ++ end)) ≡
+    concatMap initPiece (t .init) ++ (concatMap goalPiece (t .goal) ++ writeLine (endLine 1)) =
+    append-concatMap writeLine is (gs ++ end) ∙
+    ap₂ (λ (x y : List ℕ). x ++ y) (pieces-map writeLine (λ f. initLine (factEntry f)) (t .init)) goals in
+    let schemas : concatMap writeLine (ss ++ (is ++ (gs ++ end))) ≡
+    concatMap schemaPiece (t .schemas) ++ (concatMap initPiece (t .init) ++
+    (concatMap goalPiece (t .goal) ++ writeLine (endLine 1))) =
+    append-concatMap writeLine ss (is ++ (gs ++ end)) ∙
+    ap₂ (λ (x y : List ℕ). x ++ y) (pieces-pieces writeLine schemaLines (t .schemas)) inits in
+    ap (λ (x : List ℕ). writeLine (taskLine 1) ++
+    (writeLine (objectsLine (t .objects)) ++ (writeLine (arityLine (t .arities)) ++ x))) schemas
+
+-- ---- lines of atoms
+-- a role of a schema's atom has one key, whether its line is said by the atom or by the table
+role-key : (r : ℕ) → r ≤ 2 → roleKey r ≡ atomKey r
+unfolding roleKey atomKey
+role-key zero h = refl
+role-key (suc zero) h = refl
+role-key (suc (suc zero)) h = refl
+role-key (suc (suc (suc r))) h = absurd (omega arith)
+
+module _ (w : List ℕ) where
+  -- the line of atom i
+  abbrev pub lineIn : ℕ → List ℕ
+  lineIn i = atomText w (atomBase w i)
+
+  pub atomsText-from : (i n : ℕ) → concatMap lineIn (upFrom i n) ≡ atomsText w (atomBase w i) n
+  unfolding atomsText atomBase upTo
+  atomsText-from i n =
+      let z : i ≡ i + 0 = omega arith in
+      ap (λ (j : ℕ). concatMap lineIn (upFrom j n)) z ∙
+      pieces-from lineIn (λ k. atomText w (atomBase w i + 8 * k)) i 0 n
+      (λ j. let e : atomBase w (i + j) ≡ atomBase w i + 8 * j = omega arith in ap (atomText w) e)
+
+  pub parts-from : (i n : ℕ) → map (λ a. a .part) (map (atomIn w) (upFrom i n)) ≡ spaced w (atomBase w i + 3) 8 n
+  unfolding spaced atomBase atomIn upTo
+  parts-from i n =
+      let z : i ≡ i + 0 = omega arith in
+      map-map (upFrom i n) ∙
+      (ap (λ (j : ℕ). map (λ i. atomIn w i .part) (upFrom j n)) z ∙
+      map-from (λ i. atomIn w i .part) (λ k. getD w (atomBase w i + 3 + 8 * k) 0) i 0 n
+      (λ j. let e : atomBase w (i + j) + 3 ≡ atomBase w i + 3 + 8 * j = omega arith in ap (λ (k : ℕ). getD w k 0) e))
+    where
+      map-map : (js : List ℕ) → map (λ a. a .part) (map (atomIn w) js) ≡ map (λ i. atomIn w i .part) js
+      map-map [] = refl
+      map-map (j ∷ js) = ap {B = List ℕ} (λ (xs : List ℕ). atomIn w j .part ∷ xs) (map-map js)
+
+  -- atom i of a schema says its line as the table does
+  schema-line : (i : ℕ) → atomIn w i .role ≤ 2 →
+      writeLine (atomLine (atomIn w i .role) (atomEntry (atomIn w i))) ≡ lineIn i
+  unfolding writeLine keyOf atomText entryAt atomIn atomEntry
+  schema-line i h =
+      ap (λ (k : Key). line (keyName k) (entryBytes (atomEntry (atomIn w i)))) (role-key (atomIn w i .role) h)
+
+  init-line : (i : ℕ) → getD w (atomBase w i + 1) 0 ≡ 3 → initPiece (factIn w i) ≡ lineIn i
+  unfolding writeLine keyOf atomText atomKey entryAt atomIn factIn factEntry
+  init-line i e = ap (λ (r : ℕ). line (keyName (atomKey r)) (entryBytes (entryAt w (atomBase w i)))) (sym e)
+
+  goal-line : (i : ℕ) → getD w (atomBase w i + 1) 0 ≡ 4 → goalPiece (factIn w i) ≡ lineIn i
+  unfolding writeLine keyOf atomText atomKey entryAt atomIn factIn factEntry
+  goal-line i e = ap (λ (r : ℕ). line (keyName (atomKey r)) (entryBytes (entryAt w (atomBase w i)))) (sym e)
+
+-- ---- a table's schemas
+-- schema s of a table's task, as it is read
+abbrev pub schemaIn : List ℕ → ℕ → Schema
+schemaIn w s = record {
+  params = getD w (6 + getD w 1 0 + s) 0;
+  atoms = map (atomIn w) (filter (λ i. eqb s (schemaNumberIn w i)) (upTo (getD w 3 0)));
+}
+
+-- the lines of schema s of a table
+abbrev pub schemaLinesIn : List ℕ → ℕ → List ℕ
+schemaLinesIn w s = schemaPiece (schemaIn w s)
+
+pub schemas-onwards : (w : List ℕ) → onwards (schemaLinesIn w) 0 (getD w 2 0) ≡ schemasText w
+unfolding schemasText taskOf
+schemas-onwards w =
+    onwards-all (schemaLinesIn w) (getD w 2 0) ∙ sym (pieces-map schemaPiece (schemaIn w) (upTo (getD w 2 0)))
+
+schema-said : (n : ℕ) → writeLine (schemaLine n) ≡ line "schema" (digits n)
+unfolding writeLine
+schema-said n = refl
+
+part-said : (ns : List ℕ) → writeLine (partLine ns) ≡ line "part" (commaed ns)
+unfolding writeLine
+part-said ns = refl
+
+-- the lines of a schema whose atoms are n from atom i on
+lines-of : (w : List ℕ) (params i n : ℕ) → ((j : ℕ) → i ≤ j → j < i + n → atomIn w j .role ≤ 2) →
+    schemaPiece (record { params = params; atoms = map (atomIn w) (upFrom i n) }) ≡ schemaText w params (atomBase w i) n
+unfolding schemaLines concatMap
+lines-of w params i n roles =
+    let said : Atom → Line = λ a. atomLine (a .role) (atomEntry a) in
+    let atoms : List Atom = map (atomIn w) (upFrom i n) in
+    let last : List Line = partLine (map (λ a. a .part) atoms) ∷ [] in
+    let each : concatMap writeLine (map said atoms) ≡ atomsText w (atomBase w i) n =
+    pieces-map writeLine said atoms ∙
+    (pieces-map (λ a. writeLine (said a)) (atomIn w) (upFrom i n) ∙
+    (pieces-same (λ j. writeLine (said (atomIn w j))) (lineIn w) (upFrom i n)
+    (λ j k. let (a, b) = upFrom-in i n j k in schema-line w j (roles j a b)) ∙
+    atomsText-from w i n)) in
+    let parts : concatMap writeLine last ≡ line "part" (commaed (spaced w (atomBase w i + 3) 8 n)) =
+    append-nil (writeLine (partLine (map (λ a. a .part) atoms))) ∙
+    (part-said (map (λ a. a .part) atoms) ∙ ap (λ (ns : List ℕ). line "part" (commaed ns)) (parts-from w i n)) in
+    ap (λ (bs : List ℕ). writeLine (schemaLine params) ++ bs)
+    (append-concatMap writeLine (map said atoms) last ∙ ap₂ (λ (x y : List ℕ). x ++ y) each parts) ∙
+    (ap (λ (bs : List ℕ). bs ++ (atomsText w (atomBase w i) n ++ line "part" (partsAt w params (atomBase w i) n)))
+    (schema-said params) ∙
+    sym (schemaText-is w params (atomBase w i) n))
+
+-- the lines of schema s: its atoms begin where those of the schemas before it end
+pub schema-lines : (w : List ℕ) → isTable w ≡ true → (s : ℕ) → s < getD w 2 0 →
+    schemaLinesIn w s ≡
+    schemaText w (getD w (6 + getD w 1 0 + s) 0) (atomBase w (startOf (taskOf w) s))
+    (length (schemaAt (taskOf w) s .atoms))
+unfolding schemaAt
+schema-lines w table s l =
+    let t = taskOf w in
+    let f = frame w table in
+    let n = schemas-word w f in
+    let params : ℕ = getD w (6 + getD w 1 0 + s) 0 in
+    ap (λ (js : List ℕ). schemaPiece (record { params = params; atoms = map (atomIn w) js }))
+    (indices w t (f .sizes) (f .tabled) s (omega arith)) ∙
+    lines-of w params (startOf t s) (length (schemaAt t s .atoms)) (λ j a b.
+    let k : ℕ = j - startOf t s in
+    let e : startOf t s + k ≡ j = omega arith in
+    subst (λ (x : ℕ). atomIn w x .role ≤ 2) e (schema-role w table s k l (omega arith)))
+
+-- ---- a table's initial and goal atoms
+pub facts-lines : (w : List ℕ) → isTable w ≡ true →
+    concatMap initPiece (taskOf w .init) ++ concatMap goalPiece (taskOf w .goal) ≡
+    atomsText w (atomBase w (getD w 3 0)) (getD w 4 0 + getD w 5 0)
+unfolding taskOf
+facts-lines w table =
+    let i : ℕ = getD w 3 0 in
+    let n : ℕ = getD w 4 0 in
+    let m : ℕ = getD w 5 0 in
+    let inits : concatMap initPiece (map (factIn w) (upFrom i n)) ≡ concatMap (lineIn w) (upFrom i n) =
+    pieces-map initPiece (factIn w) (upFrom i n) ∙
+    pieces-same (λ j. initPiece (factIn w j)) (lineIn w) (upFrom i n) (λ j k.
+    let (a, b) = upFrom-in i n j k in
+    let e : i + (j - i) ≡ j = omega arith in
+    init-line w j (subst (λ (x : ℕ). getD w (atomBase w x + 1) 0 ≡ 3) e (init-role w table (j - i) (omega arith)))) in
+    let goals : concatMap goalPiece (map (factIn w) (upFrom (i + n) m)) ≡ concatMap (lineIn w) (upFrom (i + n) m) =
+    pieces-map goalPiece (factIn w) (upFrom (i + n) m) ∙
+    pieces-same (λ j. goalPiece (factIn w j)) (lineIn w) (upFrom (i + n) m) (λ j k.
+    let (a, b) = upFrom-in (i + n) m j k in
+    let e : i + n + (j - (i + n)) ≡ j = omega arith in
+    goal-line w j (subst (λ (x : ℕ). getD w (atomBase w x + 1) 0 ≡ 4) e
+    (goal-role w table (j - (i + n)) (omega arith)))) in
+    ap₂ (λ (x y : List ℕ). x ++ y) inits goals ∙
+    (sym (append-concatMap (lineIn w) (upFrom i n) (upFrom (i + n) m)) ∙
+    (ap (concatMap (lineIn w)) (sym (upFrom-append i n m)) ∙ atomsText-from w i (n + m)))
+
+-- ---- the whole text of a table
+head-is : (w bs : List ℕ) →
+    writeLine (taskLine 1) ++ (writeLine (objectsLine (getD w 0 0)) ++
+    (writeLine (arityLine (wordsAt w 6 (getD w 1 0))) ++ bs)) ≡
+    headText w ++ bs
+unfolding headText writeLine
+head-is w bs =
+    let task = line "task" (digits 1) in
+    let objects = line "objects" (digits (getD w 0 0)) in
+    let arities = line "arity" (commaed (spaced w 6 1 (getD w 1 0))) in
+    ap (λ (ns : List ℕ). task ++ (objects ++ (line "arity" (commaed ns) ++ bs))) (sym (spaced-words w 6 (getD w 1 0))) ∙
+    (ap (λ (x : List ℕ). task ++ x) (sym (append-assoc objects arities bs)) ∙
+    sym (append-assoc task (objects ++ arities) bs))
+
+pub write-table : (w : List ℕ) → isTable w ≡ true → write (taskOf w) ≡
+    headText w ++ (schemasText w ++
+    (atomsText w (atomBase w (getD w 3 0)) (getD w 4 0 + getD w 5 0) ++ writeLine (endLine 1)))
+unfolding taskOf schemasText
+write-table w table =
+    let t = taskOf w in
+    let rest : concatMap initPiece (t .init) ++ (concatMap goalPiece (t .goal) ++ writeLine (endLine 1)) ≡
+    atomsText w (atomBase w (getD w 3 0)) (getD w 4 0 + getD w 5 0) ++ writeLine (endLine 1) =
+    sym (append-assoc (concatMap initPiece (t .init)) (concatMap goalPiece (t .goal)) (writeLine (endLine 1))) ∙
+    ap (λ (x : List ℕ). x ++ writeLine (endLine 1)) (facts-lines w table) in
+    write-is t ∙
+    (head-is w (schemasText w ++ (concatMap initPiece (t .init) ++
+    (concatMap goalPiece (t .goal) ++ writeLine (endLine 1)))) ∙
+    ap (λ (x : List ℕ). headText w ++ (schemasText w ++ x)) rest)

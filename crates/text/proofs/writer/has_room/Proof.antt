@@ -1,0 +1,30 @@
+-- `text::writer::has_room` meets its contract: no text is longer than the longest, and any other is counted.
+use native.Mathlib.Omega.{arith}
+use Prim.Native.Nat.{ℕ}
+use mathlib.Core.Path.{sym, ap}
+use lib.ListN.{length}
+use lib.Dec.{leb}
+use borrow.Author.Tests.{le-leb}
+use Rattle.task.specs.Table.{taskOf}
+use Rattle.text.specs.Text.{write}
+use Rattle.text.specs.Code.{longestText}
+use Rattle.text.proofs.LongestText.{text-most}
+use borrow.Author.Needs.{needs}
+use Rattle.text.proofs.writer.has_room.Statement.{statement}
+use Rattle.text.proofs.writer.has_room.Tie as tie
+
+returns : tie.Need-returns
+unfolding longestText
+returns c =
+    let start = c .before .before in
+    let m = text-most (start .args .table .now) (start .pre) in
+    sym (le-leb (length (write (taskOf (start .args .table .now)))) (start .args .bytes) (omega arith))
+
+text-size-requires : tie.Need-text-size-requires
+text-size-requires c κs = search needs
+
+returns-2 : tie.Need-returns-2
+returns-2 c = ap (λ (n : ℕ). leb n (c .before .before .before .args .bytes)) (c .text-size .ensures)
+
+pub has-room-spec : {M : Type 1} → statement M
+has-room-spec = tie.close (tie.spec returns text-size-requires returns-2)

@@ -1,0 +1,90 @@
+-- `text::writer::head_size` meets its contract: the sizes of its lines add up.
+use native.Mathlib.Omega.{arith}
+use Prim.Native.Nat.{ℕ, _+_, _≤_}
+use mathlib.Core.Path.{_≡_, _∙_, ap}
+use mathlib.Core.List.{List}
+use lib.ListN.{length}
+use Rattle.text.specs.Lines.{commaed}
+use Rattle.text.specs.Code.{spaced, headText}
+use Rattle.text.proofs.SchemaTurns.{head-inside}
+use Rattle.text.proofs.WholeText.{length-headText, arities-inside, head-most}
+use borrow.Author.Needs.{needs}
+use Rattle.text.proofs.writer.head_size.Statement.{statement}
+use Rattle.text.proofs.writer.head_size.Tie as tie
+
+count-requires : tie.Need-count-requires
+count-requires c κs = search needs
+
+list-size-requires : tie.Need-list-size-requires
+list-size-requires c κs =
+    let w = c .before .before .args .table .now in
+    let table = c .before .before .pre in
+    let e = c .count .ensures in
+    let l = length-headText w in
+    let m = head-most w table in
+    let a = ap (λ (n : ℕ). length (commaed (spaced w 6 1 n))) e in
+    (λ k h. arities-inside w table k (omega arith), omega arith)
+
+add-result : tie.Need-add-result
+add-result c = search needs
+
+shared-slice-read-number-size : tie.Need-shared-slice-read-number-size
+shared-slice-read-number-size c =
+    let start = c .before .before .before .before .before .before in
+    let l = head-inside (start .args .table .now) (start .pre) in
+    omega arith
+
+number-size-requires : tie.Need-number-size-requires
+number-size-requires c κs = search needs
+
+-- the sizes found make the whole, which is small
+abbrev listed : tie.After-number-size → tie.After-list-size
+listed c = c .before .before .before .before
+
+abbrev words : tie.After-list-size → List ℕ
+words c = c .before .before .before .args .table .now
+
+sizes : (c : tie.After-number-size) →
+    (length (headText (words (listed c))) ≡ 23 + c .number-size .result + listed c .list-size .result) ×
+    (length (headText (words (listed c))) ≤ 68834)
+sizes c =
+    let w = words (listed c) in
+    let l = length-headText w in
+    let n = c .number-size .ensures in
+    let predicates = listed c .before .count .ensures in
+    let a = listed c .list-size .ensures ∙ ap (λ (n : ℕ). length (commaed (spaced w 6 1 n))) predicates in
+    (omega arith, head-most w (listed c .before .before .before .pre))
+
+add-result-2 : tie.Need-add-result-2
+add-result-2 c = let l = sizes c in omega arith
+
+add-result-3 : tie.Need-add-result-3
+add-result-3 c = let l = sizes c in omega arith
+
+add-result-4 : tie.Need-add-result-4
+add-result-4 c = let l = sizes (c .before) in omega arith
+
+add-result-5 : tie.Need-add-result-5
+add-result-5 c = let l = sizes (c .before) in omega arith
+
+add-result-6 : tie.Need-add-result-6
+add-result-6 c = let l = sizes (c .before) in omega arith
+
+returns : tie.Need-returns
+returns c = let l = sizes (c .before) in omega arith
+
+pub head-size-spec : {M : Type 1} → statement M
+head-size-spec =
+    tie.close
+    (tie.spec
+    count-requires
+    list-size-requires
+    add-result
+    shared-slice-read-number-size
+    number-size-requires
+    add-result-2
+    add-result-3
+    add-result-4
+    add-result-5
+    add-result-6
+    returns)

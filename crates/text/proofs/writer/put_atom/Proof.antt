@@ -1,0 +1,184 @@
+-- `text::writer::put_atom` meets its contract: key, predicate, colon, arguments and byte 10 are put one behind
+-- another. A lemma for each says what is still to come behind it.
+use native.Mathlib.Omega.{arith}
+use Prim.Native.Nat.{ℕ, _+_, _≤_}
+use mathlib.Core.Path.{_≡_, sym, _∙_, ap, subst}
+use mathlib.Core.List.{List, [], _∷_, _++_}
+use lib.ListN.{length, getD}
+use Rattle.task.specs.Table.{arityIn}
+use Rattle.text.specs.Lines.{colon, newline, digits, commaed}
+use Rattle.text.specs.Code.{spaced, keyBytes}
+use Rattle.text.proofs.Puts.{puts-same, Going, first-room, going-start, going-room, going-on, going-last}
+use Rattle.text.proofs.Puts.{byte-room}
+use Rattle.text.proofs.AtomLines.{argsAt, atomText-is, args-inside}
+use borrow.Author.Needs.{needs}
+use Rattle.text.proofs.writer.put_atom.Statement.{statement}
+use Rattle.text.proofs.writer.put_atom.Tie as tie
+
+abbrev key : tie.Start → List ℕ
+key c = keyBytes (getD (c .args .table .now) (c .args .base + 1) 0)
+
+abbrev predicate : tie.Start → List ℕ
+predicate c = digits (getD (c .args .table .now) (c .args .base + 2) 0)
+
+abbrev arguments : tie.Start → List ℕ
+arguments c = argsAt (c .args .table .now) (c .args .base)
+
+-- what is still to come of the line, in a text and from a place on
+abbrev Left : tie.Start → List ℕ → List ℕ → ℕ → Type 0
+Left c left text next =
+    Going (c .args .text .now) (c .args .at)
+    (key c ++ (predicate c ++ (colon ∷ (arguments c ++ (newline ∷ []))))) left text next
+
+room : (c : tie.Start) →
+    c .args .at + length (key c ++ (predicate c ++ (colon ∷ (arguments c ++ (newline ∷ []))))) ≤
+    length (c .args .text .now)
+room c =
+    subst (λ (bs : List ℕ). c .args .at + length bs ≤ length (c .args .text .now))
+    (atomText-is (c .args .table .now) (c .args .base)) (c .pre .1)
+
+-- the number of arguments is the arity of the atom's predicate
+abbrev start : tie.After-wide2 → tie.Start
+start c = c .before .before .before .before .before .before
+
+arity-read : (c : tie.After-wide2) →
+    let w = start c .args .table .now in
+    c .wide2 .result ≡ arityIn w (getD w (start c .args .base + 2) 0)
+unfolding arityIn
+arity-read c =
+    c .wide2 .ensures ∙ ap (λ (p : ℕ). getD (start c .args .table .now) (6 + p) 0) (c .before .before .wide .ensures)
+
+abbrev arity : tie.After-slice-known2 → tie.After-wide2
+arity c = c .before .before .before .before .before
+
+behind-key : (c : tie.After-slice-known2) →
+    Left (start (arity c)) (predicate (start (arity c)) ++ (colon ∷ (arguments (start (arity c)) ++ (newline ∷ []))))
+    (c .before .before .put-key .last .0) (c .before .before .put-key .result)
+behind-key c = going-on (going-start (room (start (arity c)))) (c .before .before .put-key .ensures)
+
+abbrev keyed : tie.After-slice-known3 → tie.After-slice-known2
+keyed c = c .before .before .before .before
+
+behind-predicate : (c : tie.After-slice-known3) →
+    Left (start (arity (keyed c))) (colon ∷ (arguments (start (arity (keyed c))) ++ (newline ∷ [])))
+    (c .before .before .put-number .last .0) (c .before .before .put-number .result)
+behind-predicate c = going-on (behind-key (keyed c)) (c .before .before .put-number .ensures)
+
+abbrev numbered : tie.After-slice-known4 → tie.After-slice-known3
+numbered c = c .before .before .before .before
+
+behind-colon : (c : tie.After-slice-known4) →
+    Left (start (arity (keyed (numbered c)))) (arguments (start (arity (keyed (numbered c)))) ++ (newline ∷ []))
+    (c .before .before .put-byte .last .0) (c .before .before .put-byte .result)
+behind-colon c = going-on {ys = colon ∷ []} (behind-predicate (numbered c)) (c .before .before .put-byte .ensures)
+
+abbrev begun : tie.After-slice-known5 → tie.After-slice-known4
+begun c = c .before .before .before .before
+
+behind-arguments : (c : tie.After-slice-known5) →
+    Left (start (arity (keyed (numbered (begun c))))) (newline ∷ [])
+    (c .before .before .put-list .last .0) (c .before .before .put-list .result)
+behind-arguments c =
+    let at-arity = arity (keyed (numbered (begun c))) in
+    let w = start at-arity .args .table .now in
+    let b = start at-arity .args .base in
+    going-on (behind-colon (begun c))
+    (puts-same (ap (λ (n : ℕ). commaed (spaced w (b + 4) 1 n)) (arity-read at-arity))
+    (c .before .before .put-list .ensures))
+
+add-predicate : tie.Need-add-predicate
+add-predicate c = search needs
+
+mul-predicate : tie.Need-mul-predicate
+mul-predicate c = search needs
+
+shared-slice-read-predicate : tie.Need-shared-slice-read-predicate
+shared-slice-read-predicate c = search needs
+
+wide-requires : tie.Need-wide-requires
+wide-requires c κs = search needs
+
+add-wide : tie.Need-add-wide
+add-wide c = search needs
+
+mul-wide : tie.Need-mul-wide
+mul-wide c = search needs
+
+shared-slice-read-wide : tie.Need-shared-slice-read-wide
+shared-slice-read-wide c = search needs
+
+wide-requires-2 : tie.Need-wide-requires-2
+wide-requires-2 c κs = search needs
+
+add-put-key : tie.Need-add-put-key
+add-put-key c = search needs
+
+mul-put-key : tie.Need-mul-put-key
+mul-put-key c = search needs
+
+shared-slice-read-put-key : tie.Need-shared-slice-read-put-key
+shared-slice-read-put-key c = search needs
+
+put-key-requires : tie.Need-put-key-requires
+put-key-requires c κs =
+    let start = c .before .before .before .before .before .before .before .before in
+    first-room (start .args .at) (key start) (predicate start ++ (colon ∷ (arguments start ++ (newline ∷ []))))
+    (room start)
+
+put-number-requires : tie.Need-put-number-requires
+put-number-requires c κs =
+    let start = start (arity (c .before)) in
+    going-room (predicate start) (colon ∷ (arguments start ++ (newline ∷ []))) (behind-key (c .before))
+
+put-byte-requires : tie.Need-put-byte-requires
+put-byte-requires c κs =
+    byte-room colon (arguments (start (arity (keyed (c .before)))) ++ (newline ∷ [])) (behind-predicate (c .before))
+
+add-put-list : tie.Need-add-put-list
+add-put-list c = search needs
+
+put-list-requires : tie.Need-put-list-requires
+put-list-requires c κs =
+    let at-arity = arity (keyed (numbered (c .before))) in
+    let w = start at-arity .args .table .now in
+    let b = start at-arity .args .base in
+    let e = arity-read at-arity in
+    let r = going-room (arguments (start at-arity)) (newline ∷ []) (behind-colon (c .before)) in
+    let l = ap (λ (n : ℕ). length (commaed (spaced w (b + 4) 1 n))) e in
+    (λ k h. args-inside w b (start at-arity .pre .0) k (omega arith), omega arith)
+
+put-byte-requires-2 : tie.Need-put-byte-requires-2
+put-byte-requires-2 c κs = byte-room newline [] (behind-arguments (c .before))
+
+same-length : tie.Need-same-length
+same-length c = search needs
+
+returns : tie.Need-returns
+returns c =
+    let start = start (arity (keyed (numbered (begun (c .before .before .before .before))))) in
+    puts-same (sym (atomText-is (start .args .table .now) (start .args .base)))
+    (going-last (behind-arguments (c .before .before .before .before)) (c .before .before .put-byte2 .ensures))
+
+pub put-atom-spec : {M : Type 1} → statement M
+put-atom-spec =
+    tie.close
+    (tie.spec
+    add-predicate
+    mul-predicate
+    shared-slice-read-predicate
+    wide-requires
+    add-wide
+    mul-wide
+    shared-slice-read-wide
+    wide-requires-2
+    add-put-key
+    mul-put-key
+    shared-slice-read-put-key
+    put-key-requires
+    put-number-requires
+    put-byte-requires
+    add-put-list
+    put-list-requires
+    put-byte-requires-2
+    same-length
+    returns)

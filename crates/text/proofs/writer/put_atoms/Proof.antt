@@ -1,0 +1,99 @@
+-- `text::writer::put_atoms` meets its contract. The invariant of its loop: what is still to come is the lines from
+-- atom k on. The measure is n less k.
+use native.Mathlib.Omega.{arith}
+use Prim.Native.Nat.{_+_, _-_, _*_, _≤_}
+use mathlib.Core.Path.{sym}
+use mathlib.Core.List.{_++_}
+use Rattle.text.specs.Code.{AtomInside, atomsText}
+use Rattle.text.proofs.Puts.{Going, going-start, going-long, going-left, going-room, going-on, going-end}
+use Rattle.text.proofs.Onwards.{onwards, onwards-next, onwards-none}
+use Rattle.text.proofs.AtomLines.{atomLine, atoms-onwards}
+use Rattle.text.proofs.writer.put_atoms.Statement.{statement}
+use Rattle.text.proofs.writer.put_atoms.Tie as tie
+
+abbrev Inv-loop : tie.InvT-loop
+Inv-loop text₀ at table base n next₀ k₀ text next k =
+    (k ≤ n) × Going text₀ next₀ (atomsText table base n) (onwards (atomLine table base) k n) text next
+
+abbrev μ-loop : tie.MeasureT-loop
+μ-loop text₀ at table base n next₀ k₀ text next k = n - k
+
+loop-holds : tie.Need-loop-holds Inv-loop μ-loop
+loop-holds c =
+    let args = c .before .before .args in (
+      omega arith,
+      going-left (sym (atoms-onwards (args .table .now) (args .base) (args .n)))
+          (going-start (c .before .before .pre .1)),
+    )
+
+-- the function's entry, from the loop's head
+abbrev start : tie.At-loop Inv-loop μ-loop → tie.Start Inv-loop μ-loop
+start c = c .before .before .before
+
+atom-inside : (c : tie.In-loop Inv-loop μ-loop) →
+    let args = start (c .before) .args in
+    AtomInside (args .table .now) (args .base + 8 * c .before .loop .k)
+atom-inside c = start (c .before) .pre .0 (c .before .loop .k) (c .loop-test .taken)
+
+-- what is to come is the line of atom k, and then those from k + 1 on
+to-come : (c : tie.In-loop Inv-loop μ-loop) →
+    let args = start (c .before) .args in
+    let lines = atomLine (args .table .now) (args .base) in
+    let k = c .before .loop .k in
+    Going (args .text .now) (args .at) (atomsText (args .table .now) (args .base) (args .n))
+    (lines k ++ onwards lines (k + 1) (args .n)) (c .before .loop .text) (c .before .loop .next)
+to-come c =
+    let args = start (c .before) .args in
+    going-left (onwards-next (atomLine (args .table .now) (args .base)) (c .before .loop .k) (args .n)
+    (c .loop-test .taken))
+    (c .before .loop .inv .1)
+
+mul-put-atom : tie.Need-mul-put-atom Inv-loop μ-loop
+mul-put-atom c = let h = atom-inside (c .before) in omega arith
+
+add-put-atom : tie.Need-add-put-atom Inv-loop μ-loop
+add-put-atom c = let h = atom-inside (c .before) in omega arith
+
+put-atom-requires : tie.Need-put-atom-requires Inv-loop μ-loop
+put-atom-requires c κs =
+    let at-loop = c .before .before in
+    let args = start at-loop .args in
+    let lines = atomLine (args .table .now) (args .base) in (
+      atom-inside (c .before),
+      going-room (lines (at-loop .loop .k)) (onwards lines (at-loop .loop .k + 1) (args .n)) (to-come (c .before)),
+    )
+
+add-k : tie.Need-add-k Inv-loop μ-loop
+add-k c = omega arith
+
+loop-less : tie.Need-loop-less Inv-loop μ-loop
+loop-less c = omega arith
+
+loop-again : tie.Need-loop-again Inv-loop μ-loop
+loop-again c =
+    (omega arith, going-on (to-come (c .before .before .before .before)) (c .before .before .put-atom .ensures))
+
+same-length : tie.Need-same-length Inv-loop μ-loop
+same-length c = going-long (c .before .loop .inv .1)
+
+returns : tie.Need-returns Inv-loop μ-loop
+returns c =
+    let args = start (c .before) .args in
+    let none = onwards-none (atomLine (args .table .now) (args .base)) (c .before .loop .k) (args .n) (omega arith) in
+    going-end (going-left none (c .before .loop .inv .1))
+
+pub put-atoms-spec : {M : Type 1} → statement M
+put-atoms-spec =
+    tie.close
+    (tie.spec
+    Inv-loop
+    μ-loop
+    loop-holds
+    mul-put-atom
+    add-put-atom
+    put-atom-requires
+    add-k
+    loop-less
+    loop-again
+    same-length
+    returns)

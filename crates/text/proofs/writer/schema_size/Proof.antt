@@ -1,0 +1,72 @@
+-- `text::writer::schema_size` meets its contract: the sizes of its lines add up, and none of the sums passes the whole.
+use native.Mathlib.Omega.{arith}
+use Prim.Native.Nat.{_+_}
+use mathlib.Core.Path.{_≡_}
+use lib.ListN.{length}
+use Rattle.text.specs.Lines.{digits}
+use Rattle.text.specs.Code.{atomsText, schemaText}
+use Rattle.text.proofs.SchemaLines.{partsAt, length-schemaText, parts-inside}
+use borrow.Author.Needs.{needs}
+use Rattle.text.proofs.writer.schema_size.Statement.{statement}
+use Rattle.text.proofs.writer.schema_size.Tie as tie
+
+whole : (c : tie.Start) →
+    length (schemaText (c .args .table .now) (c .args .params) (c .args .base) (c .args .n)) ≡
+    8 + length (digits (c .args .params)) + (length (atomsText (c .args .table .now) (c .args .base) (c .args .n)) +
+    (6 + length (partsAt (c .args .table .now) (c .args .params) (c .args .base) (c .args .n))))
+whole c = length-schemaText (c .args .table .now) (c .args .params) (c .args .base) (c .args .n)
+
+atoms-size-requires : tie.Need-atoms-size-requires
+atoms-size-requires c κs = let l = whole (c .before) in (c .before .pre .0, omega arith)
+
+add-list-size : tie.Need-add-list-size
+add-list-size c = omega arith
+
+list-size-requires : tie.Need-list-size-requires
+list-size-requires c κs =
+    let start = c .before .before in
+    let l = whole start in (
+      parts-inside (start .args .table .now) (start .args .params) (start .args .base) (start .args .n)
+          (start .pre .0),
+      omega arith,
+    )
+
+number-size-requires : tie.Need-number-size-requires
+number-size-requires c κs = search needs
+
+add-result : tie.Need-add-result
+add-result c = let l = whole (c .before .before .before .before .before) in omega arith
+
+add-result-2 : tie.Need-add-result-2
+add-result-2 c = let l = whole (c .before .before .before .before .before) in omega arith
+
+add-result-3 : tie.Need-add-result-3
+add-result-3 c = let l = whole (c .before .before .before .before .before) in omega arith
+
+add-result-4 : tie.Need-add-result-4
+add-result-4 c = let l = whole (c .before .before .before .before .before .before) in omega arith
+
+add-result-5 : tie.Need-add-result-5
+add-result-5 c = let l = whole (c .before .before .before .before .before .before) in omega arith
+
+add-result-6 : tie.Need-add-result-6
+add-result-6 c = let l = whole (c .before .before .before .before .before .before) in omega arith
+
+returns : tie.Need-returns
+returns c = let l = whole (c .before .before .before .before .before .before) in omega arith
+
+pub schema-size-spec : {M : Type 1} → statement M
+schema-size-spec =
+    tie.close
+    (tie.spec
+    atoms-size-requires
+    add-list-size
+    list-size-requires
+    number-size-requires
+    add-result
+    add-result-2
+    add-result-3
+    add-result-4
+    add-result-5
+    add-result-6
+    returns)

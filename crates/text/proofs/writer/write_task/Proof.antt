@@ -1,0 +1,62 @@
+-- `text::writer::write_task` meets its contract: without room it refuses and stores nothing; with room it puts the text
+-- at the front, which lies over what was lent.
+use native.Mathlib.Omega.{arith}
+use Prim.Native.Nat.{ℕ}
+use mathlib.Core.Path.{_≡_, sym, _∙_, ap}
+use mathlib.Core.Bool.{true}
+use mathlib.Core.List.{[], _∷_}
+use lib.ListN.{length}
+use lib.Dec.{leb}
+use borrow.Author.Tests.{leb-true, not-true, not-false}
+use Rattle.task.specs.Answers.{Outcome, result}
+use Rattle.task.specs.Table.{taskOf}
+use Rattle.task.proofs.Put.{put-over}
+use Rattle.text.specs.Text.{write}
+use Rattle.text.specs.Outcomes.{writeAnswerTold}
+use Rattle.text.proofs.WholeText.{outcome-room, outcome-none}
+use borrow.Author.Needs.{needs}
+use Rattle.text.proofs.writer.write_task.Statement.{statement}
+use Rattle.text.proofs.writer.write_task.Tie as tie
+
+has-room-requires : tie.Need-has-room-requires
+has-room-requires c κs = search needs
+
+returns : tie.Need-returns
+unfolding writeAnswerTold
+returns c =
+    let start = c .before .before .before .before in
+    let none = outcome-none (start .args .table .now) (start .args .text .now) (start .pre)
+    (sym (c .before .has-room .ensures) ∙ not-true _ (c .if1 .taken)) in
+    (sym (ap (λ (o : Outcome). o .told) none), sym (ap (λ (o : Outcome). o .buffer) none))
+
+room : (c : tie.Else1) →
+    leb (length (write (taskOf (c .before .before .before .before .args .table .now))))
+    (length (c .before .before .before .before .args .text .now)) ≡ true
+room c = sym (c .before .has-room .ensures) ∙ not-false _ (c .if1 .left)
+
+put-text-requires : tie.Need-put-text-requires
+put-text-requires c κs =
+    let start = c .before .before .before .before .before in
+    (start .pre, leb-true _ _ (room (c .before)))
+
+same-length : tie.Need-same-length
+same-length c = search needs
+
+returns-2 : tie.Need-returns-2
+unfolding writeAnswerTold
+returns-2 c =
+    let start = c .before .before .before .before .before .before .before .before in
+    let w = start .args .table .now in
+    let text = start .args .text .now in
+    let fits = room (c .before .before .before .before) in
+    let o = outcome-room w text (start .pre) fits in
+    let put = c .before .before .put-text .ensures in
+    let long = put .place in
+    let e : c .before .before .put-text .result ≡ length (write (taskOf w)) = omega arith in (
+      ap (λ (n : ℕ). result (n ∷ [])) e ∙ sym (ap (λ (o : Outcome). o .told) o),
+      put .stored ∙ (put-over (write (taskOf w)) text (leb-true _ _ fits) ∙ sym (ap (λ (o : Outcome). o .buffer) o)),
+    )
+
+pub write-task-spec : {M : Type 1} → statement M
+write-task-spec =
+    tie.close (tie.spec has-room-requires returns put-text-requires same-length returns-2)

@@ -1,0 +1,92 @@
+-- What the contracts of this crate's code name: bytes put into a lent text, and the lines of a table by its words.
+use Prim.Native.Nat.{ℕ, zero, suc, _+_, _*_, _≤_, _<_}
+use mathlib.Core.Path.{_≡_}
+use mathlib.Core.List.{List, [], _∷_, _++_, map}
+use lib.ListN.{length, getD}
+use Rattle.task.specs.Lists.{upTo, concatMap, put}
+use Rattle.task.specs.Limits.{headWords, atomSize, mostArity}
+use Rattle.task.specs.Table.{wordsAt, arityIn, taskOf}
+use Rattle.text.specs.Lines.{bytes, equals, Entry, digits, commaed, entryBytes, line}
+use Rattle.text.specs.Text.{Key, pre, add, del, init, goal, keyName, writeLine, schemaLines}
+
+-- a text after bytes were put into it from a place on, and the place behind them
+pub record Puts (text : List ℕ) (at : ℕ) (bytes : List ℕ) (after : List ℕ) (next : ℕ) : Type 0 where
+  pub stored : after ≡ put text at bytes
+  pub place : next ≡ at + length bytes
+
+-- n words of a table, each `step` words behind the one before
+unfoldable pub spaced : List ℕ → ℕ → ℕ → ℕ → List ℕ
+unfolding upTo
+spaced w from step n = map (λ k. getD w (from + step * k) 0) (upTo n)
+
+-- the atom whose words begin at b lies in the table, and so does its predicate's arity, which keeps its limit
+pub record AtomInside (w : List ℕ) (b : ℕ) : Type 0 where
+  pub inside : b + atomSize ≤ length w
+  pub known : headWords + getD w (b + 2) 0 < length w
+  pub short : arityIn w (getD w (b + 2) 0) ≤ mostArity
+
+-- "An atom is predicate, colon, arguments", of the atom whose words begin at b
+unfoldable pub entryAt : List ℕ → ℕ → Entry
+unfolding wordsAt arityIn
+entryAt w b = record { head = getD w (b + 2) 0; list = wordsAt w (b + 4) (arityIn w (getD w (b + 2) 0)) }
+
+-- "role (0 precondition, 1 add, 2 delete, 3 initial, 4 goal)"
+unfoldable pub atomKey : ℕ → Key
+atomKey zero = pre
+atomKey (suc zero) = add
+atomKey (suc (suc zero)) = del
+atomKey (suc (suc (suc zero))) = init
+atomKey (suc (suc (suc (suc r)))) = goal
+
+-- the key of an atom's line by the atom's role, and its =
+unfoldable pub keyBytes : ℕ → List ℕ
+unfolding bytes keyName atomKey
+keyBytes role = bytes (keyName (atomKey role)) ++ (equals ∷ [])
+
+-- the line of the atom whose words begin at b
+unfoldable pub atomText : List ℕ → ℕ → List ℕ
+unfolding line keyName atomKey entryBytes entryAt
+atomText w b = line (keyName (atomKey (getD w (b + 1) 0))) (entryBytes (entryAt w b))
+
+-- the lines of n atoms, whose words begin at b
+unfoldable pub atomsText : List ℕ → ℕ → ℕ → List ℕ
+unfolding concatMap atomText upTo
+atomsText w b n = concatMap (λ k. atomText w (b + atomSize * k)) (upTo n)
+
+-- "`schema` (parameter count), `pre`, `add`, `del` lines, `part` (a part for each atom)", of a schema with n atoms,
+-- whose words begin at b
+unfoldable pub schemaText : List ℕ → ℕ → ℕ → ℕ → List ℕ
+unfolding line digits commaed atomsText spaced
+schemaText w params b n =
+    line "schema" (digits params) ++ (atomsText w b n ++ line "part" (commaed (spaced w (b + 3) atomSize n)))
+
+-- "`task=1`, `objects`, `arity` (list)"
+unfoldable pub headText : List ℕ → List ℕ
+unfolding line digits commaed spaced
+headText w =
+    line "task" (digits 1) ++
+    (line "objects" (digits (getD w 0 0)) ++ line "arity" (commaed (spaced w headWords 1 (getD w 1 0))))
+
+-- the lines of all schemas of a table
+unfoldable pub schemasText : List ℕ → List ℕ
+unfolding concatMap writeLine schemaLines taskOf
+schemasText w = concatMap (λ s. concatMap writeLine (schemaLines s)) (taskOf w .schemas)
+
+-- of `left` atoms, whose words begin at b, the first n are those of a schema
+pub record SchemaRun (w : List ℕ) (b left schema n : ℕ) : Type 0 where
+  pub within : n ≤ left
+  pub same : (k : ℕ) → k < n → getD w (b + atomSize * k) 0 ≡ schema
+  pub stops : n < left → getD w (b + atomSize * n) 0 ≡ schema → ⊥
+
+-- where the initial and goal atoms of a table begin, and how many they are
+unfoldable pub factsBase : List ℕ → ℕ
+factsBase w = headWords + getD w 1 0 + getD w 2 0 + atomSize * getD w 3 0
+
+unfoldable pub factCount : List ℕ → ℕ
+factCount w = getD w 4 0 + getD w 5 0
+
+-- no text of a table is longer, with five digits for each number: 7 and 14 bytes for `task` and `objects`, 7 and 6 for
+-- each of 400 arities, 19 for each of 200 schemas, 35 for each of 1,000 atoms and 6 for its part, 36 for each of 600
+-- initial and goal atoms, 6 for `end`; shut, since a list function would count a numeral down
+unfoldable pub longestText : ℕ
+longestText = 68834

@@ -1,0 +1,282 @@
+// The writer of a task's text: its size is counted first, since refusal 11 leaves "all as found"; then each byte is
+// stored once. A function `x_size` gives the number of bytes that `put_x` puts.
+use crate::WriteAnswer;
+use crate::put::list_size;
+use crate::put::number_size;
+use crate::put::put_byte;
+use crate::put::put_bytes;
+use crate::put::put_list;
+use crate::put::put_list_line;
+use crate::put::put_number;
+use crate::put::put_number_line;
+use crate::put::wide;
+use task::Place;
+ghost use mathlib.Core.Path.{_≡_};
+ghost use mathlib.Core.Bool.{true};
+ghost use Prim.Native.Nat.{ℕ, _+_, _*_, _^_, _≤_, _<_};
+ghost use lib.ListN.{length, getD};
+ghost use lib.Dec.{leb};
+ghost use Rattle.task.specs.Table.{taskOf, isTable};
+ghost use Rattle.text.specs.Text.{write};
+ghost use Rattle.text.specs.Outcomes.{writeOutcome, writeAnswerTold};
+ghost use Rattle.text.specs.Code.{Puts, AtomInside, keyBytes, atomText, atomsText, schemaText};
+ghost use Rattle.text.specs.Code.{headText, schemasText, SchemaRun, factsBase, factCount};
+
+// The six counts stand first; an atom takes 8 words.
+const HEAD_WORDS: usize = 6;
+
+const ATOM_SIZE: usize = 8;
+
+// No text of a table is longer.
+const LONGEST_TEXT: usize = 68834;
+
+// "role (0 precondition, 1 add, 2 delete, 3 initial, 4 goal)": the key of an atom's line, and its =.
+fn key_size(role: u16) -> usize
+    ensures { λ r. ⌜ r ≡ length (keyBytes role) ⌝ }
+{
+    if role < 3 { 4 } else { 5 }
+}
+
+fn put_key(text: &mut [u8], at: usize, role: u16) -> usize
+    requires { ⌜ at + length (keyBytes role) ≤ length (now text) ⌝ }
+    ensures { λ r. ⌜ Puts (now (text .entry)) at (keyBytes role) (now (text .exit)) r ⌝ }
+{
+    match role {
+        0 => put_bytes(text, at, b"pre="),
+        1 => put_bytes(text, at, b"add="),
+        2 => put_bytes(text, at, b"del="),
+        3 => put_bytes(text, at, b"init="),
+        _ => put_bytes(text, at, b"goal="),
+    }
+}
+
+// "An atom is predicate, colon, arguments": the line of the atom whose words begin at `base`.
+fn atom_size(table: &[u16], base: usize) -> usize
+    requires { ⌜ AtomInside (now table) base ⌝ }
+    ensures { λ r. ⌜ r ≡ length (atomText (now (table .entry)) base) ⌝ }
+{
+    let predicate = table[base + 2];
+    let arity = wide(table[HEAD_WORDS + wide(predicate)]);
+    key_size(table[base + 1])
+        + number_size(predicate)
+        + 1
+        + list_size(table, base + 4, 1, arity)
+        + 1
+}
+
+fn put_atom(text: &mut [u8], at: usize, table: &[u16], base: usize) -> usize
+    requires { ⌜ AtomInside (now table) base ⌝ }
+    requires { ⌜ at + length (atomText (now table) base) ≤ length (now text) ⌝ }
+    ensures { λ r. ⌜ Puts (now (text .entry)) at (atomText (now (table .entry)) base) (now (text .exit)) r ⌝ }
+{
+    let predicate = table[base + 2];
+    let arity = wide(table[HEAD_WORDS + wide(predicate)]);
+    let at_predicate = put_key(text, at, table[base + 1]);
+    let at_colon = put_number(text, at_predicate, predicate);
+    let at_arguments = put_byte(text, at_colon, b':');
+    let at_end = put_list(text, at_arguments, table, base + 4, 1, arity);
+    put_byte(text, at_end, b'\n')
+}
+
+// The lines of n atoms, whose words begin at `base`.
+fn atoms_size(table: &[u16], base: usize, n: usize) -> usize
+    requires { ⌜ ((k : ℕ) → k < n → AtomInside (now table) (base + 8 * k)) ⌝ }
+    requires { ⌜ length (atomsText (now table) base n) < 2 ^ 64 ⌝ }
+    ensures { λ r. ⌜ r ≡ length (atomsText (now (table .entry)) base n) ⌝ }
+{
+    let mut size = 0;
+    for k in 0..n {
+        size = size + atom_size(table, base + ATOM_SIZE * k);
+    }
+    size
+}
+
+fn put_atoms(text: &mut [u8], at: usize, table: &[u16], base: usize, n: usize) -> usize
+    requires { ⌜ ((k : ℕ) → k < n → AtomInside (now table) (base + 8 * k)) ⌝ }
+    requires { ⌜ at + length (atomsText (now table) base n) ≤ length (now text) ⌝ }
+    ensures { λ r. ⌜ Puts (now (text .entry)) at (atomsText (now (table .entry)) base n) (now (text .exit)) r ⌝ }
+{
+    let mut next = at;
+    for k in 0..n {
+        next = put_atom(text, next, table, base + ATOM_SIZE * k);
+    }
+    next
+}
+
+// How many of the `left` atoms, whose words begin at `base`, stand before one of another schema.
+fn atoms_of(table: &[u16], base: usize, left: usize, schema: usize) -> usize
+    requires { ⌜ ((k : ℕ) → k < left → base + 8 * k < length (now table)) ⌝ }
+    ensures { λ r. ⌜ SchemaRun (now (table .entry)) base left schema r ⌝ }
+{
+    for n in 0..left {
+        if wide(table[base + ATOM_SIZE * n]) != schema {
+            return n;
+        }
+    }
+    left
+}
+
+// "`schema` (parameter count), `pre`, `add`, `del` lines, `part` (a part for each atom)".
+fn schema_size(table: &[u16], params: u16, base: usize, n: usize) -> usize
+    requires { ⌜ ((k : ℕ) → k < n → AtomInside (now table) (base + 8 * k)) ⌝ }
+    requires { ⌜ base ≤ length (now table) ⌝ }
+    requires { ⌜ length (schemaText (now table) params base n) < 2 ^ 64 ⌝ }
+    ensures { λ r. ⌜ r ≡ length (schemaText (now (table .entry)) params base n) ⌝ }
+{
+    let atoms = atoms_size(table, base, n);
+    let parts = list_size(table, base + 3, ATOM_SIZE, n);
+    b"schema=".len() + number_size(params) + 1 + atoms + b"part=".len() + parts + 1
+}
+
+fn put_schema(
+    text: &mut [u8],
+    at: usize,
+    table: &[u16],
+    params: u16,
+    base: usize,
+    n: usize,
+) -> usize
+    requires { ⌜ ((k : ℕ) → k < n → AtomInside (now table) (base + 8 * k)) ⌝ }
+    requires { ⌜ base ≤ length (now table) ⌝ }
+    requires { ⌜ at + length (schemaText (now table) params base n) ≤ length (now text) ⌝ }
+    ensures { λ r. ⌜ Puts (now (text .entry)) at
+        (schemaText (now (table .entry)) params base n) (now (text .exit)) r ⌝ }
+{
+    let at_atoms = put_number_line(text, at, b"schema=", params);
+    let at_parts = put_atoms(text, at_atoms, table, base, n);
+    put_list_line(text, at_parts, b"part=", table, base + 3, ATOM_SIZE, n)
+}
+
+// One of a table's six counts.
+fn count(table: &[u16], i: usize) -> usize
+    requires { ⌜ isTable (now table) ≡ true ⌝ }
+    requires { ⌜ i < 6 ⌝ }
+    ensures { λ r. ⌜ r ≡ getD (now (table .entry)) i 0 ⌝ }
+{
+    wide(table[i])
+}
+
+// The lines of all schemas. Their atoms stand one schema behind another, so each schema begins where the one before it
+// ends.
+fn schemas_size(table: &[u16]) -> usize
+    requires { ⌜ isTable (now table) ≡ true ⌝ }
+    requires { ⌜ length (schemasText (now table)) < 2 ^ 64 ⌝ }
+    ensures { λ r. ⌜ r ≡ length (schemasText (now (table .entry))) ⌝ }
+{
+    let schemas = count(table, 2);
+    let counts = HEAD_WORDS + count(table, 1);
+    let mut base = counts + schemas;
+    let mut left = count(table, 3);
+    let mut size = 0;
+    for s in 0..schemas {
+        let n = atoms_of(table, base, left, s);
+        size = size + schema_size(table, table[counts + s], base, n);
+        base = base + ATOM_SIZE * n;
+        left = left - n;
+    }
+    size
+}
+
+fn put_schemas(text: &mut [u8], at: usize, table: &[u16]) -> usize
+    requires { ⌜ isTable (now table) ≡ true ⌝ }
+    requires { ⌜ at + length (schemasText (now table)) ≤ length (now text) ⌝ }
+    ensures { λ r. ⌜ Puts (now (text .entry)) at (schemasText (now (table .entry))) (now (text .exit)) r ⌝ }
+{
+    let schemas = count(table, 2);
+    let counts = HEAD_WORDS + count(table, 1);
+    let mut base = counts + schemas;
+    let mut left = count(table, 3);
+    let mut next = at;
+    for s in 0..schemas {
+        let n = atoms_of(table, base, left, s);
+        next = put_schema(text, next, table, table[counts + s], base, n);
+        base = base + ATOM_SIZE * n;
+        left = left - n;
+    }
+    next
+}
+
+// "Fixed order: `task=1`, `objects`, `arity` (list), for each schema .., then `init`, `goal`, `end=1`".
+fn head_size(table: &[u16]) -> usize
+    requires { ⌜ isTable (now table) ≡ true ⌝ }
+    ensures { λ r. ⌜ r ≡ length (headText (now (table .entry))) ⌝ }
+{
+    let arities = list_size(table, HEAD_WORDS, 1, count(table, 1));
+    b"task=1\n".len()
+        + b"objects=".len()
+        + number_size(table[0])
+        + 1
+        + b"arity=".len()
+        + arities
+        + 1
+}
+
+fn put_head(text: &mut [u8], table: &[u16]) -> usize
+    requires { ⌜ isTable (now table) ≡ true ⌝ }
+    requires { ⌜ length (headText (now table)) ≤ length (now text) ⌝ }
+    ensures { λ r. ⌜ Puts (now (text .entry)) 0 (headText (now (table .entry))) (now (text .exit)) r ⌝ }
+{
+    let predicates = count(table, 1);
+    let at_objects = put_bytes(text, 0, b"task=1\n");
+    let at_arity = put_number_line(text, at_objects, b"objects=", table[0]);
+    put_list_line(text, at_arity, b"arity=", table, HEAD_WORDS, 1, predicates)
+}
+
+// Initial and goal atoms follow the schemas' own, and their roles say which they are.
+fn facts_base(table: &[u16]) -> usize
+    requires { ⌜ isTable (now table) ≡ true ⌝ }
+    ensures { λ r. ⌜ r ≡ factsBase (now (table .entry)) ⌝ }
+{
+    HEAD_WORDS + count(table, 1) + count(table, 2) + ATOM_SIZE * count(table, 3)
+}
+
+fn fact_count(table: &[u16]) -> usize
+    requires { ⌜ isTable (now table) ≡ true ⌝ }
+    ensures { λ r. ⌜ r ≡ factCount (now (table .entry)) ⌝ }
+{
+    count(table, 4) + count(table, 5)
+}
+
+fn text_size(table: &[u16]) -> usize
+    requires { ⌜ isTable (now table) ≡ true ⌝ }
+    ensures { λ r. ⌜ r ≡ length (write (taskOf (now (table .entry)))) ⌝ }
+{
+    let facts = atoms_size(table, facts_base(table), fact_count(table));
+    head_size(table) + schemas_size(table) + facts + b"end=1\n".len()
+}
+
+fn put_text(text: &mut [u8], table: &[u16]) -> usize
+    requires { ⌜ isTable (now table) ≡ true ⌝ }
+    requires { ⌜ length (write (taskOf (now table))) ≤ length (now text) ⌝ }
+    ensures { λ r. ⌜ Puts (now (text .entry)) 0 (write (taskOf (now (table .entry)))) (now (text .exit)) r ⌝ }
+{
+    let base = facts_base(table);
+    let n = fact_count(table);
+    let at_schemas = put_head(text, table);
+    let at_facts = put_schemas(text, at_schemas, table);
+    let at_end = put_atoms(text, at_facts, table, base, n);
+    put_bytes(text, at_end, b"end=1\n")
+}
+
+// Whether the text of a table's task is no longer than the lent bytes. No count is needed for bytes that hold any text.
+fn has_room(table: &[u16], bytes: usize) -> bool
+    requires { ⌜ isTable (now table) ≡ true ⌝ }
+    ensures { λ r. ⌜ r ≡ leb (length (write (taskOf (now (table .entry))))) bytes ⌝ }
+{
+    if LONGEST_TEXT <= bytes {
+        return true;
+    }
+    text_size(table) <= bytes
+}
+
+// Writes the text of a table's task, or refuses with 11: "the text is longer than the lent bytes".
+pub fn write_task(table: &[u16], text: &mut [u8]) -> WriteAnswer
+    requires { ⌜ isTable (now table) ≡ true ⌝ }
+    ensures { λ r. ⌜ writeAnswerTold r ≡ writeOutcome (now (table .entry)) (now (text .entry)) .told ⌝ }
+    ensures { λ _. ⌜ now (text .exit) ≡ writeOutcome (now (table .entry)) (now (text .entry)) .buffer ⌝ }
+{
+    if !has_room(table, text.len()) {
+        return WriteAnswer::Refused(11, Place::Nowhere);
+    }
+    WriteAnswer::Written(put_text(text, table) as u64)
+}

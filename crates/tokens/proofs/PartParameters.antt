@@ -1,0 +1,130 @@
+-- How the parameters that are found of a part grow, an argument and then an atom at a time, and where a schema's atoms
+-- end. Parameters are tests over lists that grow at their end.
+use Prim.Native.Nat.{ℕ, suc, _+_, _-_, _≤_, _<_}
+use mathlib.Core.Path.{_≡_, sym, _∙_, ap, subst}
+use mathlib.Core.Bool.{Bool, true, false, _&&_, _||_}
+use mathlib.Core.List.{List}
+use native.Mathlib.Omega.{arith}
+use native.Mathlib.Decide.{decLt}
+use native.Mathlib.Numerals.{add-one}
+use lib.ListN.{length, getD, take}
+use lib.Seq.{take-suc, take-length}
+use lib.Dec.{eqb}
+use borrow.Author.Tests.{eq-eqb, ne-eqb}
+use Rattle.task.specs.Lists.{any, upFrom}
+use Rattle.task.specs.Task.{Atom, names}
+use Rattle.task.specs.Table.{atomIn, schemaNumberIn, taskOf, isTable}
+use Rattle.task.proofs.Laws.{and-right, any-in, map-in, upFrom-in}
+use Rattle.task.proofs.States.{names-in}
+use Rattle.task.proofs.TablesByIndex.{table-frame, schemas-word, start-suc, schema-of-atom, atom-lies}
+use Rattle.arcs.specs.Code.{member, IsStretch, atomsIn}
+use Rattle.arcs.proofs.ArcSets.{or-false, or-assoc, any-more}
+use Rattle.arcs.proofs.Stretches.{stretch-atom, atoms-none, atoms-more}
+use Rattle.tokens.specs.Code.{startOf}
+use Rattle.tokens.proofs.Sums.{eqb-turn}
+use Rattle.tokens.proofs.AtomWords.{argument-small}
+
+-- ---- an atom's arguments
+-- x is in the set, or among the first k arguments
+abbrev pub namedIn : ℕ → List ℕ → ℕ → ℕ → Bool
+namedIn set args k x = member set x || any (λ y. eqb x y) (take k args)
+
+pub named-none : (set : ℕ) (args : List ℕ) (x : ℕ) → member set x ≡ namedIn set args 0 x
+unfolding any
+named-none set args x = sym (or-false (member set x))
+
+pub named-more : (set named r : ℕ) (args : List ℕ) (k y : ℕ) → k < length args → y ≡ getD args k 0 →
+    ((x : ℕ) → member named x ≡ namedIn set args k x) → ((x : ℕ) → member r x ≡ member named x || eqb y x) →
+    (x : ℕ) → member r x ≡ namedIn set args (k + 1) x
+named-more set named r args k y l e h g x =
+    g x ∙ ap (λ (b : Bool). b || eqb y x) (h x) ∙
+    or-assoc (member set x) (any (λ z. eqb x z) (take k args)) (eqb y x) ∙
+    ap (λ (b : Bool). member set x || b) (sym grown)
+  where
+    grown : any (λ z. eqb x z) (take (k + 1) args) ≡ any (λ z. eqb x z) (take k args) || eqb y x
+    grown =
+        ap (λ (n : ℕ). any (λ z. eqb x z) (take n args)) (add-one k) ∙
+        ap (any (λ z. eqb x z)) (take-suc args k 0 l) ∙
+        any-more (λ z. eqb x z) (take k args) (getD args k 0) ∙
+        ap (λ (b : Bool). any (λ z. eqb x z) (take k args) || b)
+        (eqb-turn x (getD args k 0) ∙ ap (λ (z : ℕ). eqb z x) (sym e))
+
+pub named-all : (set : ℕ) (a : Atom) (n x : ℕ) → n ≡ length (a .args) →
+    namedIn set (a .args) n x ≡ member set x || names x a
+unfolding names
+named-all set a n x e =
+    ap (λ (xs : List ℕ). member set x || any (λ y. eqb x y) xs)
+    (ap (λ (k : ℕ). take k (a .args)) e ∙ take-length (a .args))
+
+-- ---- a part's atoms
+-- whether an atom in part p among these names x
+abbrev pub inPart : ℕ → ℕ → List Atom → Bool
+inPart p x atoms = any (λ a. eqb p (a .part) && names x a) atoms
+
+module _ (w : List ℕ) (from p : ℕ) where
+  pub part-none : (x : ℕ) → member 0 x ≡ false → member 0 x ≡ inPart p x (atomsIn w from from)
+  unfolding any
+  part-none x e = e ∙ sym (ap (inPart p x) (atoms-none w from))
+
+  grown : (i x : ℕ) → from ≤ i →
+      inPart p x (atomsIn w from (i + 1)) ≡
+      inPart p x (atomsIn w from i) || (eqb p (atomIn w i .part) && names x (atomIn w i))
+  grown i x l =
+      ap (inPart p x) (atoms-more w from i l) ∙
+      any-more (λ a. eqb p (a .part) && names x a) (atomsIn w from i) (atomIn w i)
+
+  -- an atom in the part
+  pub part-more : (named r i q : ℕ) → from ≤ i → q ≡ atomIn w i .part → q ≡ p →
+      ((x : ℕ) → member named x ≡ inPart p x (atomsIn w from i)) →
+      ((x : ℕ) → member r x ≡ member named x || names x (atomIn w i)) →
+      (x : ℕ) → member r x ≡ inPart p x (atomsIn w from (i + 1))
+  part-more named r i q l e f h g x =
+      g x ∙ ap (λ (b : Bool). b || names x (atomIn w i)) (h x) ∙
+      ap (λ (b : Bool). inPart p x (atomsIn w from i) || (b && names x (atomIn w i)))
+      (sym (eq-eqb p (atomIn w i .part) (sym f ∙ e))) ∙
+      sym (grown i x l)
+
+  -- an atom in another part
+  pub part-same : (named i q : ℕ) → from ≤ i → q ≡ atomIn w i .part → (q ≡ p → ⊥) →
+      ((x : ℕ) → member named x ≡ inPart p x (atomsIn w from i)) →
+      (x : ℕ) → member named x ≡ inPart p x (atomsIn w from (i + 1))
+  part-same named i q l e f h x =
+      h x ∙ sym (or-false (inPart p x (atomsIn w from i))) ∙
+      ap (λ (b : Bool). inPart p x (atomsIn w from i) || (b && names x (atomIn w i)))
+      (sym (ne-eqb p (atomIn w i .part) (λ z. f (e ∙ sym z)))) ∙
+      sym (grown i x l)
+
+  -- parameters are below 12
+  pub part-small : (to x : ℕ) → IsStretch w from to → inPart p x (atomsIn w from to) ≡ true → x < 12
+  unfolding atomsIn
+  part-small to x s h =
+      let (a, i, e) = any-in (λ a. eqb p (a .part) && names x a) (atomsIn w from to) h in
+      let (k, m, q) = map-in (atomIn w) (upFrom from (to - from)) a i in
+      let l = upFrom-in from (to - from) k m .1 in
+      let f = s .forward in
+      let n : names x (atomIn w k) ≡ true =
+      subst (λ (b : Atom). names x b ≡ true) q (and-right (eqb p (a .part)) _ e) in
+      argument-small w k (stretch-atom s k (omega arith)) x (names-in x (atomIn w k) n)
+
+-- ---- where a schema's atoms end
+module _ (w : List ℕ) (h : isTable w ≡ true) (s : ℕ) (l : s < length (taskOf w .schemas)) where
+  pub schema-known : s < getD w 2 0
+  schema-known = let e = schemas-word w (table-frame w h) in omega arith
+
+  -- an atom of another schema stands at the end
+  pub ends-here : (i : ℕ) → startOf (taskOf w) s ≤ i → i ≤ startOf (taskOf w) (suc s) → (schemaNumberIn w i ≡ s → ⊥) →
+      i ≡ startOf (taskOf w) (suc s)
+  ends-here i a b n = elim (decLt i (startOf (taskOf w) (suc s))) [
+    | yes k ↦
+        let t = taskOf w in
+        let fr = table-frame w h in
+        let g = start-suc w fr s schema-known in
+        let e : startOf t s + (i - startOf t s) ≡ i = omega arith in
+        absurd (n (ap (schemaNumberIn w) (sym e) ∙ schema-of-atom w fr s (i - startOf t s) schema-known (omega arith)))
+    | no k ↦ omega arith
+  ]
+
+  -- an atom of the schema stands before it
+  pub goes-on : (i : ℕ) → i < getD w 3 0 → schemaNumberIn w i ≡ s → i < startOf (taskOf w) (suc s)
+  goes-on i k e =
+      subst (λ (x : ℕ). i < startOf (taskOf w) (suc x)) e (atom-lies w (table-frame w h) i k .before-next)

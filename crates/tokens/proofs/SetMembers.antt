@@ -1,0 +1,70 @@
+-- The numbers of sets of bits: of a difference, how they are listed and counted one number after another, and that a
+-- set of small numbers is a small word. A set from n on is its word divided by 2 ^ n, and is 0 where it has no number.
+use Prim.Native.Nat.{ℕ, _+_, _-_, _*_, _/_, _%_, _^_, _≤_, _<_}
+use mathlib.Core.Path.{_≡_, refl, _∙_, ap}
+use mathlib.Core.Bool.{Bool, true, false, not, _&&_}
+use mathlib.Core.List.{List, [], _∷_, _++_, append-nil}
+use native.Mathlib.Omega.{arith}
+use native.Mathlib.Decide.{decLt}
+use native.Mathlib.Numerals.{add-one}
+use native.Mathlib.Nat.{div-lt-iff-lt-mul, lt-of-le-of-lt}
+use lib.ListN.{length, length-append}
+use lib.Bits.{bitAnd}
+use lib.Dec.{eqb}
+use lib.Pow.{pow-pos, shr-shr, shr-le}
+use Rattle.task.specs.Lists.{filter, keepIf, upTo, upFrom}
+use Rattle.task.proofs.Laws.{In, false-if, upTo-suc, upFrom-in}
+use Rattle.task.proofs.Tables.{filter-append, filter-none, upFrom-append}
+use Rattle.arcs.specs.Code.{member, members}
+use Rattle.arcs.proofs.BitSets.{member-and, member-not, member-beyond, member-none}
+use Rattle.tokens.proofs.Sums.{one, length-keep}
+
+-- the code's `a & !b`
+pub member-minus : (a b k : ℕ) → a < 2 ^ 64 → b < 2 ^ 64 →
+    member (bitAnd a ((2 ^ 64 - 1) - b)) k ≡ member a k && not (member b k)
+member-minus a b k f g = member-and a ((2 ^ 64 - 1) - b) k ∙ elim (decLt k 64) [
+  | yes l ↦ ap (λ (x : Bool). member a k && x) (member-not 64 b k g l)
+  | no l ↦ rw (member-beyond a 64 k f (omega arith)) refl
+]
+
+-- ---- the numbers of a set, listed
+pub members-more : (set n : ℕ) → members set (n + 1) ≡ members set n ++ keepIf (member set n) n []
+unfolding members filter
+members-more set n =
+    ap (λ (m : ℕ). filter (member set) (upTo m)) (add-one n) ∙ ap (filter (member set)) (upTo-suc n) ∙
+    filter-append (member set) (upTo n) (n ∷ [])
+
+pub size-none : (set : ℕ) → length (members set 0) ≡ 0
+unfolding members filter upTo upFrom
+size-none set = refl
+
+pub size-more : (set n : ℕ) → length (members set (n + 1)) ≡ length (members set n) + one (member set n)
+size-more set n =
+    let e = ap length (members-more set n) in
+    let f = length-append (members set n) (keepIf (member set n) n []) in
+    let g = length-keep (member set n) n [] in
+    omega arith
+
+-- a test that takes no number from m on
+pub filter-below : (p : ℕ → Bool) (m n : ℕ) → m ≤ n → ((x : ℕ) → p x ≡ true → x < m) →
+    filter p (upTo n) ≡ filter p (upTo m)
+unfolding upTo
+filter-below p m n l h =
+    let e : n ≡ m + (n - m) = omega arith in
+    ap (λ (k : ℕ). filter p (upFrom 0 k)) e ∙ ap (filter p) (upFrom-append 0 m (n - m)) ∙
+    filter-append p (upFrom 0 m) (upFrom (0 + m) (n - m)) ∙
+    ap (λ (xs : List ℕ). filter p (upFrom 0 m) ++ xs) (filter-none p (upFrom (0 + m) (n - m)) beyond) ∙
+    append-nil (filter p (upFrom 0 m))
+  where
+    beyond : (x : ℕ) → In x (upFrom (0 + m) (n - m)) → p x ≡ false
+    beyond x i = false-if (p x) (λ e. let z = upFrom-in (0 + m) (n - m) x i .0 in omega (arith, h x e))
+
+-- ---- the word of a set of small numbers
+pub set-small : (n x : ℕ) → x < 2 ^ 64 → ((k : ℕ) → member x k ≡ true → k < n) → x < 2 ^ n
+unfolding member
+set-small n x f h =
+    let e : x / 2 ^ n ≡ 0 = member-none 64 (x / 2 ^ n) (lt-of-le-of-lt (shr-le x n) f) (λ k l.
+    ap (λ (y : ℕ). eqb (y % 2) 1) (shr-shr x n k) ∙
+    false-if (member x (n + k)) (λ m. omega (arith, h (n + k) m))) in
+    let y : x < 1 * 2 ^ n = div-lt-iff-lt-mul (pow-pos n) .0 (omega arith) in
+    omega arith

@@ -1,0 +1,59 @@
+-- `tokens::atoms::argument_count` meets its contract: word 2 of an atom is its predicate, and a table's arities
+-- follow its first six words.
+use Prim.Native.Nat.{_+_}
+use mathlib.Core.Path.{_≡_, sym, _∙_, ap}
+use native.Mathlib.Omega.{arith}
+use borrow.Author.Needs.{needs}
+use Rattle.task.specs.Table.{atomBase, arityIn, atomIn}
+use Rattle.arcs.proofs.Stretches.{atom-words}
+use Rattle.tokens.proofs.AtomWords.{predicate-known, few-arguments, argument-count}
+use Rattle.tokens.proofs.atoms.argument_count.Statement.{statement}
+use Rattle.tokens.proofs.atoms.argument_count.Tie as tie
+
+-- the predicate, which is known, as the code has it
+predicate-is : (c : tie.After-word-of) →
+    c .word-of .result ≡ atomIn (c .before .before .args .table .now) (c .before .before .args .i) .pred
+unfolding atomIn
+predicate-is c = c .word-of .ensures
+
+word-of-requires : tie.Need-word-of-requires
+word-of-requires c κs = search needs
+
+cast-predicate : tie.Need-cast-predicate
+cast-predicate c = search needs
+
+add-result : tie.Need-add-result
+add-result c = search needs
+
+mul-result : tie.Need-mul-result
+mul-result c = search needs
+
+shared-slice-read-result : tie.Need-shared-slice-read-result
+unfolding atomBase
+shared-slice-read-result c =
+    let s = c .before .before .before in
+    let w = s .args .table .now in
+    omega (arith, predicate-is (c .before), predicate-known w (s .args .i) (s .pre), atom-words w (s .args .i) (s .pre))
+
+cast-result : tie.Need-cast-result
+cast-result c = omega (arith, c .shared-slice-known2 .given (6 + c .before .word-of .result))
+
+returns : tie.Need-returns
+unfolding arityIn
+returns c =
+    let s = c .before .before .before in
+    let w = s .args .table .now in
+    let e = ap (arityIn w) (predicate-is (c .before)) ∙ sym (argument-count w (s .args .i) (s .pre)) in
+    (e, omega (arith, few-arguments w (s .args .i) (s .pre)))
+
+pub argument-count-spec : {M : Type 1} → statement M
+argument-count-spec =
+    tie.close
+    (tie.spec
+    word-of-requires
+    cast-predicate
+    add-result
+    mul-result
+    shared-slice-read-result
+    cast-result
+    returns)

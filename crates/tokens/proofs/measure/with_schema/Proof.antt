@@ -1,0 +1,37 @@
+-- `tokens::measure::with_schema` meets its contract, by the larger of the two bounds.
+use borrow.Author.Needs.{needs}
+use Prim.Native.Nat.{max}
+use mathlib.Core.Path.{_≡_, refl, sym, _∙_, ap}
+use mathlib.Core.Bool.{_&&_}
+use mathlib.Core.Logic.{⊎-elim}
+use native.Mathlib.Omega.{arith}
+use Rattle.tokens.proofs.measure.with_schema.Statement.{statement}
+use Rattle.tokens.proofs.measure.with_schema.Tie as tie
+
+sub-t10 : tie.Need-sub-t10
+sub-t10 c = search needs
+
+add-t11 : tie.Need-add-t11
+add-t11 c = search needs
+
+add-t15 : tie.Need-add-t15
+add-t15 c = search needs
+
+add-t18 : tie.Need-add-t18
+add-t18 c = search needs
+
+larger : (c : tie.Joined1) → c .if1 .pars ≡ max (c .before .args .sizes .pars) (c .before .args .one .shared)
+larger c = ⊎-elim (λ x. omega arith) (λ x. omega arith) (c .if1 .came)
+
+returns : tie.Need-returns
+returns c =
+    let a = c .before .before .args in
+    (refl, (larger (c .before), (refl, (refl, ap (λ b. b && a .one .few) (sym (c .if2 .taken))))))
+
+returns-2 : tie.Need-returns-2
+returns-2 c =
+    let a = c .before .before .args in
+    (refl, (larger (c .before), (refl, (refl, c .if2 .left ∙ ap (λ b. b && a .one .few) (sym (c .if2 .left))))))
+
+pub with-schema-spec : {M : Type 1} → statement M
+with-schema-spec = tie.close (tie.spec sub-t10 add-t11 add-t15 add-t18 returns returns-2)
