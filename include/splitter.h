@@ -1,10 +1,10 @@
 /* The splitter for a C host. Every function is proved, in Rattle, to do what document 01 says, for every input.
  *
- * Each returns 0 for a result, else the number of its refusal (1 to 17). Every number lent by pointer is written: `place`
- * is the refusal's line (from 1), schema or step (from 0), and 0 with a result or where there is no place; values that
- * have no meaning are 0. A slice is lent as a pointer and the number of its elements; none may overlap another that is
- * written. A pointer is never NULL, also where its length is 0.
- */
+ * Each returns 0 for a result, else the number of its refusal (1 to 17). Every number lent by pointer is written:
+ * `place` is the refusal's line (from 1), schema or step (from 0), and 0 with a result or where there is no place;
+ * values that have no meaning are 0. A slice is lent as a pointer and the number of its elements, words of 16 bits
+ * or bytes; none may overlap another that is written. A pointer is never NULL, also where its length is 0. A table
+ * is 13,406 words; words lent behind them are neither judged nor touched. */
 #ifndef SPLITTER_H
 #define SPLITTER_H
 
@@ -20,13 +20,16 @@ extern "C" {
 #define SPLITTER_STEP_WORDS 13
 #define SPLITTER_RECORD_WORDS 5
 
-/* Runs a list of steps of the table's task, 13 words each, in a state of `records` ascending 5-word records, which lie at
- * the front of the words lent; there is room for state_len / 5 records.
+/* Runs a list of steps of the table's task, 13 words each, in a state of `records` ascending 5-word records, which
+ * lie at the front of the words lent; there is room for state_len / 5 records. A step runs if all its preconditions
+ * hold; then its deletes go out, then its adds come in.
  *
- * `left` is the number of records afterwards, `goal` 1 if all goal atoms hold then. Refusals: 1 a short table, 2 no table,
- * 12 no step of the task (place: its number), 15 no state, 16 a precondition is missing at a step, 17 the next state would
- * outgrow the room; 16 and 17 leave the state before that step, with `left` its records. With a result, 16 and 17 the words
- * behind the records are 0; else nothing is changed. */
+ * `left` is the number of records afterwards, `goal` 1 if all goal atoms hold then. Refusals: 1 a short table, 2
+ * no table, 12 no step of the task or an incomplete one (place: its number), 15 the records are not ascending ones
+ * of the task, or more than lent, 16 a precondition of a step is missing (place: its number), 17 the next state
+ * would outgrow the room (place: the step's number). 16 and 17 leave the state before that step, with `left` its
+ * records and `goal` 0. With a result, 16 and 17 the words behind the records are 0, to the end of the words lent;
+ * else nothing is changed. */
 uint32_t splitter_run(const uint16_t *table, size_t table_len, const uint16_t *steps, size_t steps_len,
                       uint16_t *state, size_t state_len, uint64_t records,
                       uint64_t *place, uint64_t *left, uint64_t *goal);

@@ -1,8 +1,12 @@
 //! What the tests share: the claim of shared runs, the subjects it is put to,
 //! and small helpers.
 
+pub mod answers;
+pub mod inputs;
+pub mod rows;
 pub mod shared_runs;
 pub mod subject;
+pub mod vectors;
 
 use std::io::Write;
 

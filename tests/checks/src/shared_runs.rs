@@ -1,11 +1,13 @@
 //! Demand 3: a list runs in the original exactly where its unfolding runs in
 //! the split, and what runs in the split is blocks.
 
-use generate::{steps, Case, Random};
+use generate::tasks::task;
+use generate::{cases, steps, Case, Random, Shape};
 use reference::run::{State, Step};
 use reference::table::{Atom, Task, MAX_PARTS};
 use reference::{Answer, Place, Reason};
 
+use crate::report;
 use crate::subject::{End, Subject};
 
 /// How a list fared where the claim held.
@@ -167,4 +169,54 @@ pub fn both_ways(
     let mut cut = given(subject.unfold(task, steps), "unfolding")?;
     cut.truncate(random.below(cut.len() + 1));
     Ok([there, back, backwards(subject, task, state, &cut)?])
+}
+
+const EVERY_WAY: [Fared; 6] = [
+    Fared::Ran,
+    Fared::Stopped,
+    Fared::Whole,
+    Fared::Empty,
+    Fared::Unfinished,
+    Fared::Nothing,
+];
+
+/// Puts the claim to many cases and requires that each way to fare was seen
+/// often.
+fn shared_runs(
+    subject: &impl Subject,
+    what: &str,
+    count: usize,
+    mut random: Random,
+    case: impl Fn(&mut Random) -> Case,
+) {
+    let mut fared = Vec::new();
+    for number in 0..count {
+        let case = case(&mut random);
+        match both_ways(subject, &mut random, &case) {
+            Ok(found) => fared.extend(found),
+            Err(against) => panic!("case {number}: {against}\n{case:?}"),
+        }
+    }
+    for way in EVERY_WAY {
+        let seen = fared.iter().filter(|found| **found == way).count();
+        assert!(seen > count / 50, "{what}: {way:?} only {seen} times");
+        report(&format!("{what}, {way:?}"), seen);
+    }
+}
+
+pub fn small_tasks(subject: &impl Subject, what: &str, count: usize) {
+    shared_runs(subject, what, count, Random::new(31), cases::case);
+}
+
+pub fn usual_tasks(subject: &impl Subject, what: &str, count: usize) {
+    let shape = Shape {
+        free: 0,
+        schemas: 1..=4,
+        ..Shape::USUAL
+    };
+    shared_runs(subject, what, count, Random::new(32), |random| {
+        let task = task(random, &shape);
+        let (state, steps) = cases::run(random, &task);
+        Case { task, state, steps }
+    });
 }

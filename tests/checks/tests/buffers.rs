@@ -1,76 +1,24 @@
 //! Every entry point on sound and damaged input: it always answers, and leaves
 //! each lent word as document 01 says.
 
-use std::collections::BTreeMap;
-
+use checks::answers::each_answer;
+use checks::inputs::{junk, lent_state, lent_table, step_words, task_and_table};
 use checks::{read_table, report};
 use generate::split_lists::split_list;
 use generate::tasks::any_task;
-use generate::{limits, states, steps, tables, texts, Random};
-use reference::run::{Step, RECORD_WORDS, STEP_WORDS};
+use generate::{limits, steps, texts, Random};
+use reference::run::{RECORD_WORDS, STEP_WORDS};
 use reference::table::{Task, TABLE_WORDS};
-use reference::{tokens, Answer, Refusal};
+use reference::{tokens, Answer};
 
 const CASES: usize = 5000;
 
-/// Puts an entry point to many cases, each of which gives its answer's number,
-/// and requires that exactly the expected numbers were given.
-fn each_answer(
-    entry: &str,
-    seed: u64,
-    cases: usize,
-    expected: &[u32],
-    case: impl Fn(&mut Random) -> u32,
-) {
-    let mut random = Random::new(seed);
-    let mut given: BTreeMap<u32, usize> = BTreeMap::new();
-    for _ in 0..cases {
-        *given.entry(case(&mut random)).or_default() += 1;
-    }
-    let numbers: Vec<u32> = given.keys().copied().collect();
-    assert_eq!(numbers, expected, "{entry}");
-    for (number, count) in given {
-        report(&format!("{entry}, answer {number}"), count);
-    }
-}
-
 /// The refusal's number, or 0 for a result.
-fn number<Value>(answer: &Answer<Value>) -> u32 {
-    answer.as_ref().err().map_or(0, Refusal::number)
-}
-
-fn junk(random: &mut Random, length: usize) -> Vec<u16> {
-    (0..length).map(|_| random.word()).collect()
-}
-
-/// A lent table full of junk, sometimes too short or too long.
-fn lent_table(random: &mut Random) -> Vec<u16> {
-    let length = match random.below(20) {
-        0 => random.below(TABLE_WORDS),
-        1 => TABLE_WORDS + 3,
-        _ => TABLE_WORDS,
-    };
-    junk(random, length)
-}
-
-/// A task and its table, or a damaged one.
-fn task_and_table(random: &mut Random) -> (Task, Vec<u16>) {
-    let task = any_task(random);
-    let table = if random.chance(1, 8) {
-        tables::damaged(random, &task)
-    } else {
-        tables::table(&task)
-    };
-    (task, table)
-}
-
-/// The words of steps, or damaged ones.
-fn step_words(random: &mut Random, list: &[Step]) -> Vec<u16> {
-    if random.chance(1, 3) {
-        steps::damaged(random, list)
-    } else {
-        steps::words(list)
-    }
+fn number<Value>(answer: &Answer<Value>) -> u64 {
+    answer
+        .as_ref()
+        .err()
+        .map_or(0, |refusal| refusal.number().into())
 }
 
 #[test]
@@ -150,12 +98,7 @@ fn running() {
         let (task, table) = task_and_table(random);
         let (state, list) = generate::cases::run(random, &task);
         let steps = step_words(random, &list);
-        let spare = random.below(40);
-        let found = if random.chance(1, 8) {
-            states::damaged(random, &state, spare)
-        } else {
-            states::lent(random, &state, spare)
-        };
+        let found = lent_state(random, &state);
         let mut lent = found.words.clone();
         let answer = reference::run(&table, &steps, &mut lent, found.records);
         match answer {

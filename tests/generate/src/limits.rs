@@ -218,3 +218,41 @@ pub fn any_table(random: &mut Random) -> Task {
     );
     tables.swap_remove(random.below(tables.len()))
 }
+
+/// An atom whose arguments count down, from the highest less the number given.
+fn atom_from_the_top<Argument: Copy + Default + From<u16>>(
+    predicate: usize,
+    highest: usize,
+    number: usize,
+) -> Atom<Argument> {
+    let arguments: [Argument; 4] = std::array::from_fn(|place| {
+        let below = (number + place) % (highest + 1);
+        Argument::from((highest - below) as u16)
+    });
+    Atom::new(predicate as u16, &arguments)
+}
+
+/// A task at every limit at once but those of a schema's atoms and parts; its
+/// text is as long as texts get, or nearly.
+pub fn largest() -> Task {
+    let schema = |number: usize| Schema {
+        parameters: 12,
+        atoms: (0..5)
+            .map(|atom| precondition(atom, atom_from_the_top(399 - number % 200, 11, 2 * atom)))
+            .collect(),
+    };
+    let ground = |count: usize| {
+        let mut atoms: Vec<Atom<ObjectNumber>> = (0..count)
+            .map(|number| atom_from_the_top(399, 999, number))
+            .collect();
+        atoms.sort();
+        atoms
+    };
+    Task {
+        objects: 1000,
+        arities: vec![4; 400],
+        schemas: (0..200).map(schema).collect(),
+        initial: ground(500),
+        goal: ground(100),
+    }
+}

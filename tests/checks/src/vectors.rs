@@ -1,0 +1,130 @@
+//! The files of `vectors/`, whose README tells the format.
+
+use std::fs;
+use std::path::Path;
+
+use crate::rows::Row;
+use crate::{read_table, report};
+
+/// A line of a vector file.
+struct Case<'a> {
+    label: String,
+    fields: Vec<&'a str>,
+}
+
+impl<'a> Case<'a> {
+    /// The fields, of which a line of this file has so many.
+    fn fields<const COUNT: usize>(&self) -> [&'a str; COUNT] {
+        let fields = self.fields.as_slice().try_into();
+        fields.unwrap_or_else(|_| panic!("{} has not {COUNT} fields", self.label))
+    }
+}
+
+/// Compares every line of a vector file and reports how many there were.
+fn each_case(file: &str, compare: impl Fn(&Case)) {
+    let path = Path::new(env!("CARGO_MANIFEST_DIR")).join("../vectors");
+    let text = fs::read_to_string(path.join(file)).expect("a vector file");
+    let mut compared = 0;
+    for (number, line) in (1..).zip(text.lines()) {
+        if !line.is_empty() {
+            compare(&Case {
+                label: format!("{file}:{number}"),
+                fields: line.split(' ').collect(),
+            });
+            compared += 1;
+        }
+    }
+    let lines = text.split('\n').filter(|line| !line.is_empty()).count();
+    assert!(compared > 0, "{file} has no case");
+    assert_eq!(compared, lines, "{file} has cases left out");
+    report(file, compared);
+}
+
+fn bytes(field: &str) -> Vec<u8> {
+    if field == "-" {
+        return Vec::new();
+    }
+    assert_eq!(field.len() % 2, 0, "hex has two digits for a byte");
+    (0..field.len())
+        .step_by(2)
+        .map(|at| u8::from_str_radix(&field[at..at + 2], 16).expect("hex"))
+        .collect()
+}
+
+fn number<Number: std::str::FromStr>(field: &str) -> Number {
+    field.parse().ok().expect("a number")
+}
+
+fn words(field: &str) -> Vec<u16> {
+    if field == "-" {
+        return Vec::new();
+    }
+    field.split(',').map(number).collect()
+}
+
+fn shown(printed: &[u8]) -> String {
+    String::from_utf8_lossy(printed).into_owned()
+}
+
+/// `split.txt`, put to the program.
+pub fn split_program_cases(program: impl Fn(&[u8]) -> Vec<u8>) {
+    each_case("split.txt", |case| {
+        let [stdin, printed] = case.fields().map(bytes);
+        assert_eq!(shown(&program(&stdin)), shown(&printed), "{}", case.label);
+    });
+}
+
+/// `unfold_program.txt`, put to the program; an empty file may be missing too.
+pub fn unfold_program_cases(program: impl Fn(Option<&[u8]>, Option<&[u8]>) -> Vec<u8>) {
+    each_case("unfold_program.txt", |case| {
+        let [task, plan, printed] = case.fields().map(bytes);
+        let mut found = vec![program(Some(&task), Some(&plan))];
+        if task.is_empty() {
+            found.push(program(None, Some(&plan)));
+        }
+        if plan.is_empty() {
+            found.push(program(Some(&task), None));
+        }
+        for found in found {
+            assert_eq!(shown(&found), shown(&printed), "{}", case.label);
+        }
+    });
+}
+
+/// `table.txt`, put to an entry point that answers 0 for a table and 2 for
+/// another.
+pub fn table_cases(answer: impl Fn(&[u16]) -> u32) {
+    each_case("table.txt", |case| {
+        let [text, changes, is_table] = case.fields();
+        let mut table = read_table(&bytes(text));
+        for change in changes.split(';').filter(|change| *change != "-") {
+            let (index, value) = change.split_once('=').expect("index=value");
+            table[number::<usize>(index)] = number(value);
+        }
+        let expected = if is_table == "1" { 0 } else { 2 };
+        assert_eq!(answer(&table), expected, "{}", case.label);
+    });
+}
+
+/// `run.txt`, put to running.
+pub fn run_cases(run: impl Fn(&[u16], &[u16], &mut [u16], u64) -> Row) {
+    each_case("run.txt", |case| {
+        let [text, steps, lent, records, expected @ .., left] = case.fields::<9>();
+        let mut state = words(lent);
+        let table = read_table(&bytes(text));
+        let found = run(&table, &words(steps), &mut state, number(records));
+        assert_eq!(found, expected.map(number), "{}", case.label);
+        assert_eq!(state, words(left), "{}", case.label);
+    });
+}
+
+/// `unfold.txt` or `fold.txt`, which have the same fields.
+pub fn list_cases(file: &str, entry: impl Fn(&[u16], &[u16], &mut [u16]) -> Row) {
+    each_case(file, |case| {
+        let [text, steps, length, expected @ .., left] = case.fields::<8>();
+        let mut out = vec![7; number(length)];
+        let found = entry(&read_table(&bytes(text)), &words(steps), &mut out);
+        assert_eq!(found, expected.map(number), "{}", case.label);
+        assert_eq!(out, words(left), "{}", case.label);
+    });
+}

@@ -1,0 +1,90 @@
+//! Two implementations on the same lent words or bytes.
+
+use std::fmt::Debug;
+
+use checks::inputs::lent_table;
+use checks::rows::Row;
+use generate::Random;
+use reference::table::TABLE_WORDS;
+
+/// How many elements before and behind the lent ones are watched.
+const GUARDS: usize = 8;
+
+/// Lends a copy from within guards, which must stay, and gives it back with the
+/// answer.
+fn lending<Element: Copy + Debug + From<u8> + PartialEq>(
+    lent: &[Element],
+    entry: impl FnOnce(&mut [Element]) -> Row,
+) -> (Row, Vec<Element>) {
+    let guards = [Element::from(0xa5); GUARDS];
+    let mut around = [&guards, lent, &guards].concat();
+    let row = entry(&mut around[GUARDS..GUARDS + lent.len()]);
+    let after = around.split_off(GUARDS + lent.len());
+    assert_eq!(after, guards, "written behind what was lent");
+    assert_eq!(around[..GUARDS], guards, "written before what was lent");
+    (row, around.split_off(GUARDS))
+}
+
+/// Requires the same answer and the same elements afterwards of both; the
+/// number of the answer.
+pub fn compare<Element: Copy + Debug + From<u8> + PartialEq>(
+    lent: &[Element],
+    reference: impl FnOnce(&mut [Element]) -> Row,
+    proved: impl FnOnce(&mut [Element]) -> Row,
+    input: impl FnOnce() -> String,
+) -> u64 {
+    let mut expected = lent.to_vec();
+    let expected_row = reference(&mut expected);
+    let (row, found) = lending(lent, proved);
+    if row == expected_row && found == expected {
+        return row[0];
+    }
+    let at = found.iter().zip(&expected).position(|(a, b)| a != b);
+    panic!(
+        "{row:?} instead of {expected_row:?}; of {} lent the first that differs is {at:?}; {}",
+        lent.len(),
+        input()
+    );
+}
+
+/// Words as they are shown, without the zeros at their end.
+pub fn shown(words: &[u16]) -> String {
+    let used = words
+        .iter()
+        .rposition(|word| *word != 0)
+        .map_or(0, |last| last + 1);
+    format!("{} words {:?}", words.len(), &words[..used])
+}
+
+/// The table, sometimes too short or longer than a table.
+pub fn short_or_long(random: &mut Random, mut table: Vec<u16>) -> Vec<u16> {
+    match random.below(40) {
+        0 => table.truncate(TABLE_WORDS - 1),
+        1 => table.truncate(random.below(TABLE_WORDS)),
+        2 => table.extend([1, 2, 3]),
+        _ => {}
+    }
+    table
+}
+
+/// A table to write: junk of any length now and then, else sevens, which are
+/// quicker.
+pub fn table_to_write(random: &mut Random) -> Vec<u16> {
+    if random.chance(1, 4) {
+        lent_table(random)
+    } else {
+        vec![7; random.pick(&[TABLE_WORDS, TABLE_WORDS, TABLE_WORDS + 1])]
+    }
+}
+
+/// So many words as the result needs, one more or fewer, or any number.
+pub fn lent_words(random: &mut Random, needed: usize) -> Vec<u16> {
+    let length = match random.below(6) {
+        0 => needed.saturating_sub(1),
+        1 | 2 => needed,
+        3 => needed + 1,
+        4 => random.below(needed + 1),
+        _ => needed + random.below(40),
+    };
+    vec![7; length]
+}

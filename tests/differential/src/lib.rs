@@ -1,0 +1,8 @@
+//! The proved code through its C interface, `include/splitter.h`: a module for
+//! each entry point that has landed, with answers as rows of numbers.
+
+pub mod beside;
+pub mod running;
+
+/// What a number lent to be written holds before the call.
+const UNWRITTEN: u64 = 0xdead_beef;

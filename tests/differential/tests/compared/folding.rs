@@ -1,0 +1,62 @@
+//! Folding.
+
+use checks::answers::each_answer;
+use checks::inputs::{step_words, task_and_table};
+use checks::rows::fold_row;
+use checks::vectors::list_cases;
+use differential::beside::{compare, lent_words, short_or_long, shown};
+use differential::folding::fold;
+use generate::split_lists::split_list;
+use generate::{steps, Random};
+use reference::blocks;
+use reference::run::STEP_WORDS;
+use reference::table::Task;
+use reference::tokens::{self, Split};
+
+fn compared(table: &[u16], list: &[u16], lent: &[u16]) -> u64 {
+    compare(
+        lent,
+        |out| fold_row(reference::fold(table, list, out)),
+        |out| fold(table, list, out),
+        || {
+            format!(
+                "{} words lent, list {list:?}, table {}",
+                lent.len(),
+                shown(table)
+            )
+        },
+    )
+}
+
+/// The list that a split list is folded to, or one that it might be.
+fn needed(random: &mut Random, list: usize, folded: Option<usize>) -> usize {
+    STEP_WORDS * folded.unwrap_or_else(|| random.below(list + 1))
+}
+
+/// Compares folding of some list, of split steps where there is a split.
+fn some_list(random: &mut Random, task: &Task, table: &[u16], split: Option<&Split>) -> u64 {
+    let list = match split {
+        Some(split) => split_list(random, task, split),
+        None => steps::list(random, task, 3),
+    };
+    let folded = split.and_then(|split| blocks::fold(split, &list).ok());
+    let needed = needed(random, list.len(), folded.map(|steps| steps.len()));
+    let words = step_words(random, &list);
+    let lent = lent_words(random, needed);
+    compared(table, &words, &lent)
+}
+
+#[test]
+fn sound_and_damaged_lists() {
+    let expected = [0, 1, 2, 9, 10, 12, 13, 14];
+    each_answer("folding compared", 186, 100_000, &expected, |random| {
+        let (task, table) = task_and_table(random);
+        let table = short_or_long(random, table);
+        some_list(random, &task, &table, tokens::split(&task).ok().as_ref())
+    });
+}
+
+#[test]
+fn vectors() {
+    list_cases("fold.txt", fold);
+}

@@ -1,0 +1,24 @@
+//! The proved code beside the reference: the same answers, and the same words
+//! afterwards. A module for each entry point that has landed.
+
+mod running;
+
+const HEADER: &str = include_str!("../../../../include/splitter.h");
+const MODULES: &str = include_str!("main.rs");
+
+/// A function stands in the header exactly where its module stands here.
+#[test]
+fn every_function_is_compared() {
+    for (function, module) in [
+        ("splitter_read", "reading"),
+        ("splitter_write", "writing"),
+        ("splitter_split", "splitting"),
+        ("splitter_run", "running"),
+        ("splitter_unfold", "unfolding"),
+        ("splitter_fold", "folding"),
+    ] {
+        let declared = HEADER.contains(&format!("uint32_t {function}("));
+        let compared = MODULES.lines().any(|line| line == format!("mod {module};"));
+        assert_eq!(compared, declared, "{function}");
+    }
+}

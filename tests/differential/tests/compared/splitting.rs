@@ -1,0 +1,76 @@
+//! Splitting.
+
+use checks::answers::each_answer;
+use checks::inputs::task_and_table;
+use checks::report;
+use checks::rows::plain_row;
+use checks::vectors::split_program_cases;
+use differential::beside::{compare, short_or_long, shown, table_to_write};
+use differential::reading::read;
+use differential::splitting::split;
+use differential::writing::write;
+use generate::{limits, tables};
+use reference::programs::INPUT_BYTES;
+use reference::table::{Task, TABLE_WORDS};
+
+fn compared(table: &[u16], lent: &[u16]) -> u64 {
+    compare(
+        lent,
+        |out| plain_row(reference::split(table, out)),
+        |out| split(table, out),
+        || format!("{} words lent, table {}", lent.len(), shown(table)),
+    )
+}
+
+#[test]
+fn sound_and_damaged_tables() {
+    each_answer(
+        "splitting compared",
+        184,
+        60_000,
+        &[0, 1, 2, 9, 10],
+        |random| {
+            let (_, table) = task_and_table(random);
+            let table = short_or_long(random, table);
+            compared(&table, &table_to_write(random))
+        },
+    );
+}
+
+#[test]
+fn splits_at_the_limits() {
+    let limits = limits::splitting();
+    for limit in &limits {
+        let answer = |task: &Task| compared(&tables::table(task), &[7; TABLE_WORDS + 1]);
+        assert_eq!(
+            [answer(&limit.inside), answer(&limit.outside)],
+            [0, 10],
+            "{}",
+            limit.name
+        );
+    }
+    report("splits at the limits compared", 2 * limits.len());
+}
+
+/// What the program prints, put together from the entry points.
+fn printed(stdin: &[u8]) -> Vec<u8> {
+    let mut table = vec![7; TABLE_WORDS];
+    let mut out = vec![7; TABLE_WORDS];
+    let mut text = vec![b'x'; INPUT_BYTES];
+    let mut answer = read(&stdin[..stdin.len().min(INPUT_BYTES)], &mut table);
+    if answer[0] == 0 {
+        answer = split(&table, &mut out);
+    }
+    if answer[0] == 0 {
+        answer = write(&out, &mut text);
+    }
+    match answer {
+        [0, _, bytes, _] => text[..bytes as usize].to_vec(),
+        [number, place, ..] => format!("refused={number}:{place}\n").into_bytes(),
+    }
+}
+
+#[test]
+fn vectors() {
+    split_program_cases(printed);
+}

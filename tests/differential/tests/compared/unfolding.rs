@@ -1,0 +1,52 @@
+//! Unfolding.
+
+use checks::answers::each_answer;
+use checks::inputs::{step_words, task_and_table};
+use checks::rows::unfold_row;
+use checks::vectors::list_cases;
+use differential::beside::{compare, lent_words, short_or_long, shown};
+use differential::unfolding::unfold;
+use generate::steps;
+use reference::run::STEP_WORDS;
+use reference::table::Task;
+
+fn compared(table: &[u16], steps: &[u16], lent: &[u16]) -> u64 {
+    compare(
+        lent,
+        |out| unfold_row(reference::unfold(table, steps, out)),
+        |out| unfold(table, steps, out),
+        || {
+            format!(
+                "{} words lent, steps {steps:?}, table {}",
+                lent.len(),
+                shown(table)
+            )
+        },
+    )
+}
+
+/// The words that the unfolding of whole steps takes.
+fn needed(task: &Task, steps: &[u16]) -> usize {
+    let parts = |step: &[u16]| task.schemas.get(usize::from(step[0]))?.part_count();
+    let counts = steps.chunks(STEP_WORDS).filter_map(parts);
+    STEP_WORDS * counts.sum::<usize>()
+}
+
+#[test]
+fn sound_and_damaged_lists() {
+    let expected = [0, 1, 2, 9, 10, 12, 13];
+    each_answer("unfolding compared", 185, 50_000, &expected, |random| {
+        let (task, table) = task_and_table(random);
+        let table = short_or_long(random, table);
+        let length = random.pick(&[0, 1, 2, 3, 4, 5, 6, 7, 40]);
+        let list = steps::list(random, &task, length);
+        let steps = step_words(random, &list);
+        let lent = lent_words(random, needed(&task, &steps));
+        compared(&table, &steps, &lent)
+    });
+}
+
+#[test]
+fn vectors() {
+    list_cases("unfold.txt", unfold);
+}
