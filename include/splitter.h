@@ -34,6 +34,21 @@ uint32_t splitter_run(const uint16_t *table, size_t table_len, const uint16_t *s
                       uint16_t *state, size_t state_len, uint64_t records,
                       uint64_t *place, uint64_t *left, uint64_t *goal);
 
+/* Writes the text of the table's task over the front of the bytes lent; `bytes` is how many it has. 65,536 bytes are
+ * enough for every task.
+ *
+ * Refusals: 1 a short table, 2 no table, 11 the text is longer than the bytes lent. None has a place, and each
+ * leaves the bytes as found, with `bytes` 0. Bytes behind a text are left as found too. */
+uint32_t splitter_write(const uint16_t *table, size_t table_len, uint8_t *text, size_t text_len,
+                        uint64_t *place, uint64_t *bytes);
+
+/* Splits the table's task along its parts and writes the split as a table: 13,406 words, zeros behind its last atom.
+ *
+ * Refusals: 1 either table is short, 2 the one to be read is no table, 9 no order of parts complies with the arcs
+ * of a schema (place: the lowest such schema), 10 the split would pass a limit of a table. Each leaves the split as
+ * found. Words behind the split's are never touched. */
+uint32_t splitter_split(const uint16_t *table, size_t table_len, uint16_t *split, size_t split_len, uint64_t *place);
+
 #ifdef __cplusplus
 }
 #endif

@@ -3,6 +3,8 @@
 
 pub mod beside;
 pub mod running;
+pub mod splitting;
+pub mod writing;
 
 /// What a number lent to be written holds before the call.
 const UNWRITTEN: u64 = 0xdead_beef;

@@ -2,6 +2,8 @@
 //! afterwards. A module for each entry point that has landed.
 
 mod running;
+mod splitting;
+mod writing;
 
 const HEADER: &str = include_str!("../../../../include/splitter.h");
 const MODULES: &str = include_str!("main.rs");
