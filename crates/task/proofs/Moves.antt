@@ -45,14 +45,15 @@ pub record Up (w : List ℕ) (i b : ℕ) (out : List ℕ) : Type 0 where
   pub size : length out ≡ length w
   pub below : (j : ℕ) → j < i + 5 → getD out j 0 ≡ getD w j 0
   pub moved : (j : ℕ) → i ≤ j → j < b → getD out (j + 5) 0 ≡ getD w j 0
+  pub behind : (j : ℕ) → b + 5 ≤ j → getD out j 0 ≡ getD w j 0
 
 pub up-none : (w : List ℕ) (b : ℕ) → Up w b b w
-up-none w b = record { size = refl; below = λ j l. refl; moved = λ j l m. absurd (omega arith) }
+up-none w b = record { size = refl; below = λ j l. refl; moved = λ j l m. absurd (omega arith); behind = λ j l. refl }
 
 -- with i for the turn's own index, one less than before it
-pub up-more : (w : List ℕ) (i h b : ℕ) (out : List ℕ) → h ≡ i + 1 → i + 5 < length w → Up w h b out →
+pub up-more : (w : List ℕ) (i h b : ℕ) (out : List ℕ) → h ≡ i + 1 → i < b → i + 5 < length w → Up w h b out →
     Up w i b (set out (i + 5) (getD out i 0))
-up-more w i h b out e n u = record {
+up-more w i h b out e v n u = record {
   size = length-set out (i + 5) (getD out i 0) ∙ u .size;
   below = λ j m. getD-set-other out (i + 5) j _ 0 (λ e. omega arith) ∙ u .below j (omega arith);
   moved = λ j m k. elim (decLt i j) [
@@ -62,6 +63,7 @@ up-more w i h b out e n u = record {
         subst (λ (k : ℕ). getD (set out (i + 5) (getD out i 0)) (k + 5) 0 ≡ getD w k 0) q
         (getD-set-same out (i + 5) (getD out i 0) 0 (let z = u .size in omega arith) ∙ u .below i (omega arith))
   ];
+  behind = λ j m. getD-set-other out (i + 5) j _ 0 (λ e. omega arith) ∙ u .behind j m;
 }
 
 -- ---- five words written one after another

@@ -39,7 +39,7 @@ digits : (p a b c d number : ℕ) → a < 1024 → b < 1024 → c < 1024 → d <
     (number / 1099511627776 ≡ p) × (number / 1073741824 % 1024 ≡ a) × (number / 1048576 % 1024 ≡ b) × (number / 1024 % 1024 ≡ c) × (number % 1024 ≡ d)
 digits p a b c d number ha hb hc hd e = (omega arith, omega arith, omega arith, omega arith, omega arith)
 
-record-digits : (p : ℕ) (ps : List ℕ) (number : ℕ) → length ps ≡ 4 → Small ps → inBase p ps ≡ number →
+pub record-digits : (p : ℕ) (ps : List ℕ) (number : ℕ) → length ps ≡ 4 → Small ps → inBase p ps ≡ number →
     (w : List ℕ) (at : ℕ) (out : List ℕ) → Written w at number out →
     (j : ℕ) → j < 5 → getD out (at + j) 0 ≡ getD (p ∷ ps) j 0
 unfolding inBase

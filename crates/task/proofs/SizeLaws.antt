@@ -63,6 +63,14 @@ span-front s k l m = record {
   atoms = λ j x y. s .atoms j x (omega arith);
 }
 
+pub span-back : {w steps : List ℕ} {i a b : ℕ} → SpanOf w steps i a b → (k : ℕ) → a ≤ k → k ≤ b → SpanOf w steps i k b
+span-back s k l m = record {
+  tabled = s .tabled;
+  stepped = s .stepped;
+  ordered = m;
+  atoms = λ j x y. s .atoms j (omega arith) y;
+}
+
 pub span-last : (w steps : List ℕ) (i a k : ℕ) → a ≤ k →
     groundSpan w steps i a (k + 1 - a) ≡ groundSpan w steps i a (k - a) ++ (groundAt w steps i k ∷ [])
 unfolding groundSpan

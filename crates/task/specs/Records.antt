@@ -43,15 +43,23 @@ pub record RowIs (w : List ℕ) (n k number : ℕ) (r : Bool) : Type 0 where
   pub found : r ≡ true → (k < n) × (rowNumber w k ≡ number)
   pub missed : r ≡ false → k < n → rowNumber w k ≡ number → ⊥
 
--- the words from a to b - 1 come from five further on, those before a stay
+-- one of n rows has this number
+pub record RowWith (w : List ℕ) (n number : ℕ) : Type 0 where
+  pub row : ℕ
+  pub within : row < n
+  pub has : rowNumber w row ≡ number
+
+-- the words from a to b - 1 come from five further on, those before a and from b on stay
 pub record MovedDown (w : List ℕ) (a b : ℕ) (out : List ℕ) : Type 0 where
   pub before : (i : ℕ) → i < a → getD out i 0 ≡ getD w i 0
   pub moved : (i : ℕ) → a ≤ i → i < b → getD out i 0 ≡ getD w (i + 5) 0
+  pub behind : (i : ℕ) → b ≤ i → getD out i 0 ≡ getD w i 0
 
--- the words from a to b - 1 go to five further on, those before a stay
+-- the words from a to b - 1 go to five further on, those before a and behind these stay
 pub record MovedUp (w : List ℕ) (a b : ℕ) (out : List ℕ) : Type 0 where
   pub before : (i : ℕ) → i < a → getD out i 0 ≡ getD w i 0
   pub moved : (i : ℕ) → a ≤ i → i < b → getD out (i + 5) 0 ≡ getD w i 0
+  pub behind : (i : ℕ) → b + 5 ≤ i → getD out i 0 ≡ getD w i 0
 
 -- the five digits of a number stand from word a on, every other word stays
 pub record Written (w : List ℕ) (a number : ℕ) (out : List ℕ) : Type 0 where

@@ -1,12 +1,13 @@
 // Records in lent words: a row of five words as one number, and finding, taking out and putting in a row.
 ghost use mathlib.Core.Path.{_≡_};
+ghost use mathlib.Core.Bool.{false};
 ghost use mathlib.Core.List.{[], _∷_};
 ghost use Prim.Native.Nat.{ℕ, _+_, _*_, _≤_, _<_};
 ghost use lib.ListN.{length, getD, take};
 ghost use Rattle.task.specs.Lists.{padded};
 ghost use Rattle.task.specs.Task.{Task, Fact};
 ghost use Rattle.task.specs.Run.{holds, insert, removeAll, stateIn};
-ghost use Rattle.task.specs.Records.{inBase, numberAt, rowNumber, RowsAscend, LowerBound, RowIs, MovedDown, MovedUp, Written, Known, Keeps};
+ghost use Rattle.task.specs.Records.{inBase, numberAt, rowNumber, RowsAscend, LowerBound, RowIs, RowWith, MovedDown, MovedUp, Written, Known, Keeps};
 
 // A word of lent words as a wider number.
 pub(crate) fn word(w: &[u16], at: usize) -> u64
@@ -158,5 +159,25 @@ pub(crate) fn put_in(state: &mut [u16], n: usize, number: u64) -> usize
         move_up(state, 5 * k, 5 * n);
         write_at(state, 5 * k, number);
         n + 1
+    }
+}
+
+// Replaces the row with the number `out` by one with this number, which no row has: the rows between the two places move.
+pub(crate) fn replace(state: &mut [u16], n: usize, out: u64, number: u64)
+    requires { ⌜ 5 * n ≤ length (now state) ⌝ }
+    requires { ⌜ RowsAscend (now state) n ⌝ }
+    requires { ⌜ RowWith (now state) n out × (number < 72057594037927936) ⌝ }
+    ensures { λ _. ⌜ ((t : Task) (f g : Fact) → Known t (now (state .entry)) n f out → Known t (now (state .entry)) n g number →
+        holds (stateIn t (now (state .entry)) n) g ≡ false →
+        Keeps t (now (state .exit)) n (insert g (removeAll (f ∷ []) (stateIn t (now (state .entry)) n)))) ⌝ }
+{
+    let k = find(state, n, out);
+    let j = find(state, n, number);
+    if j <= k {
+        move_up(state, 5 * j, 5 * k);
+        write_at(state, 5 * j, number);
+    } else {
+        move_down(state, 5 * k, 5 * (j - 1));
+        write_at(state, 5 * (j - 1), number);
     }
 }

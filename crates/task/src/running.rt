@@ -1,6 +1,7 @@
 // Running a step list over a state in lent words.
 use crate::Place;
 use crate::RunAnswer;
+use crate::exchange::exchange;
 use crate::records::clear_from;
 use crate::records::held;
 use crate::records::word;
@@ -8,8 +9,6 @@ use crate::sizes::has_room;
 use crate::spans::all_hold;
 use crate::spans::atom_at;
 use crate::spans::fact_number;
-use crate::spans::insert_span;
-use crate::spans::remove_span;
 ghost use mathlib.Core.Path.{_≡_};
 ghost use mathlib.Core.Bool.{true};
 ghost use mathlib.Core.Option.{none};
@@ -104,8 +103,7 @@ fn run_step(
     if !has_room(table, add, del, end, steps, i, state, n) {
         return Turn::Outgrown;
     }
-    let left = remove_span(table, del, end, steps, i, state, n);
-    Turn::Ran(insert_span(table, add, del, steps, i, state, left))
+    Turn::Ran(exchange(table, add, del, end, steps, i, state, n))
 }
 
 // Whether all goal atoms hold.

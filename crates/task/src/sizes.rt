@@ -14,7 +14,14 @@ ghost use Rattle.task.specs.Records.{recordNumber, Known};
 ghost use Rattle.task.specs.Spans.{groundSpan, SpanOf};
 
 // Whether none of the atoms from `from` to `to`, with the objects of step i, has this number.
-fn absent(table: &[u16], from: usize, to: usize, steps: &[u16], i: usize, number: u64) -> bool
+pub(crate) fn absent(
+    table: &[u16],
+    from: usize,
+    to: usize,
+    steps: &[u16],
+    i: usize,
+    number: u64,
+) -> bool
     requires { ⌜ SpanOf (now table) (now steps) i from to ⌝ }
     ensures { λ r. ⌜ r ≡ all (λ f. not (eqb (recordNumber f) number))
         (groundSpan (now (table .entry)) (now (steps .entry)) i from (to - from)) ⌝ }

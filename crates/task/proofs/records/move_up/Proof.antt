@@ -41,7 +41,7 @@ loop-again : tie.Need-loop-again Inv-loop μ-loop
 loop-again c = (
   omega arith,
   omega arith,
-  up-more _ _ (c .before .before .loop .i) _ _ (omega arith) (omega arith) (c .before .before .loop .inv .2),
+  up-more _ _ (c .before .before .loop .i) _ _ (omega arith) (omega arith) (omega arith) (c .before .before .loop .inv .2),
 )
 
 same-length : tie.Need-same-length Inv-loop μ-loop
@@ -50,7 +50,7 @@ same-length c = c .before .loop .inv .2 .size
 returns : tie.Need-returns Inv-loop μ-loop
 returns c =
     let u = c .before .loop .inv .2 in
-    record { before = λ i l. u .below i (omega arith); moved = λ i l m. u .moved i (omega arith) m }
+    record { before = λ i l. u .below i (omega arith); moved = λ i l m. u .moved i (omega arith) m; behind = u .behind }
 
 pub move-up-spec : {M : Type 1} → statement M
 move-up-spec =

@@ -1,10 +1,10 @@
 -- `running::run_step` meets its contract: the step's atoms are parted by role, and its turn follows from the tests on the
--- parts; the adds come into what the deletes left.
+-- parts; the exchange leaves the next state.
 use mathlib.Core.Path.{refl}
 use borrow.Author.Tests.{not-true, not-false}
 use Rattle.task.specs.Turns.{Turned}
 use Rattle.task.proofs.StepSpans.{span-bounds}
-use Rattle.task.proofs.TurnLaws.{Parted, preconditions-are, adds-are, deletes-are, applies-so, fits-so, room-left, next-kept}
+use Rattle.task.proofs.TurnLaws.{Parted, preconditions-are, adds-are, deletes-are, applies-so, fits-so, room-enough, next-kept}
 use borrow.Author.Needs.{needs}
 use Rattle.task.proofs.running.run_step.Statement.{statement}
 use Rattle.task.proofs.running.run_step.Tie as tie
@@ -59,16 +59,12 @@ returns-2 c = (
   refl,
 )
 
-remove-span-requires : tie.Need-remove-span-requires
-remove-span-requires c κs = (deletes-are (parted (c .before .before .before .before .before .before .before)), c .before .before .before .before .before .before .before .before .before .before .before .before .pre .1 .1 .1 .1)
-
-insert-span-requires : tie.Need-insert-span-requires
-insert-span-requires c κs = (
-  adds-are (parted (c .before .before .before .before .before .before .before .before .before .before .before)),
+exchange-requires : tie.Need-exchange-requires
+exchange-requires c κs = (
+  adds-are (parted (c .before .before .before .before .before .before .before)),
   (
-    c .before .before .before .remove-span .ensures .state,
-    room-left (parted (c .before .before .before .before .before .before .before .before .before .before .before)) _ _ _ _ (c .before .before .before .remove-span .ensures) (c .before .before .before .before .before .before .has-room .ensures) (not-false _ (c .before .before .before .before .before .if2 .left))
-        (c .before .before .before .remove-span .kept .1 .1 .1 .1 .1 .0),
+    deletes-are (parted (c .before .before .before .before .before .before .before)),
+    (c .before .before .before .before .before .before .before .before .before .before .before .before .pre .1 .1 .1 .1, room-enough (parted (c .before .before .before .before .before .before .before)) _ _ (c .before .before .has-room .ensures) (not-false _ (c .before .if2 .left))),
   ),
 )
 
@@ -78,9 +74,9 @@ same-length-3 c = search needs
 returns-3 : tie.Need-returns-3
 unfolding Turned
 returns-3 c = (
-  applies-so (parted (c .before .before .before .before .before .before .before .before .before .before .before .before .before .before)) _ (c .before .before .before .before .before .before .before .before .before .before .before .before .all-hold .ensures) (not-false _ (c .before .before .before .before .before .before .before .before .before .before .before .if1 .left)),
-  fits-so (parted (c .before .before .before .before .before .before .before .before .before .before .before .before .before .before)) _ _ (c .before .before .before .before .before .before .before .before .before .has-room .ensures) (not-false _ (c .before .before .before .before .before .before .before .before .if2 .left)),
-  next-kept (parted (c .before .before .before .before .before .before .before .before .before .before .before .before .before .before)) _ _ _ _ _ _ (c .before .before .before .before .before .before .remove-span .ensures) (c .before .before .insert-span .ensures),
+  applies-so (parted (c .before .before .before .before .before .before .before .before .before .before)) _ (c .before .before .before .before .before .before .before .before .all-hold .ensures) (not-false _ (c .before .before .before .before .before .before .before .if1 .left)),
+  fits-so (parted (c .before .before .before .before .before .before .before .before .before .before)) _ _ (c .before .before .before .before .before .has-room .ensures) (not-false _ (c .before .before .before .before .if2 .left)),
+  next-kept (parted (c .before .before .before .before .before .before .before .before .before .before)) _ _ _ (c .before .before .exchange .ensures),
 )
 
 pub run-step-spec : {M : Type 1} → statement M
@@ -95,7 +91,6 @@ run-step-spec =
     has-room-requires
     same-length-2
     returns-2
-    remove-span-requires
-    insert-span-requires
+    exchange-requires
     same-length-3
     returns-3)
