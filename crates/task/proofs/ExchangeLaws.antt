@@ -16,7 +16,6 @@ use Rattle.task.specs.Table.{taskOf, isTable}
 use Rattle.task.specs.Run.{holds, insert, insertAll, removeAll, stateIn, roomIn, isState}
 use Rattle.task.specs.Records.{recordNumber, Known, Keeps}
 use Rattle.task.specs.Spans.{groundAt, groundSpan, SpanOf}
-use Rattle.task.specs.Exchange.{FirstNew, ExchangedOne}
 use Rattle.task.proofs.Laws.{both-ft, false-if, In, here, there, in-empty, in-eq, in-map, map-in, in-all, all-in, in-upFrom, upFrom-in, in-filter, filter-in}
 use Rattle.task.proofs.States.{holds-in, in-holds, dec-in, Asc, asc-ext, asc-insert, asc-insertAll, in-insert, insert-new, insert-old, in-insertAll, insertAll-old, insertAll-new}
 use Rattle.task.proofs.RowsChanged.{insert-present}

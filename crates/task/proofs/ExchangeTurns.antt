@@ -13,24 +13,16 @@ use Rattle.task.specs.Lists.{all}
 use Rattle.task.specs.Task.{Fact, Task}
 use Rattle.task.specs.Table.{taskOf, isTable}
 use Rattle.task.specs.Run.{holds, insert, insertAll, removeAll, stateIn, roomIn, isState}
-use Rattle.task.specs.Records.{recordNumber, RowWith, Known, Keeps}
+use Rattle.task.specs.Records.{recordNumber, Known, Keeps}
 use Rattle.task.specs.Spans.{groundAt, groundSpan, SpanOf}
+use Rattle.task.specs.declared.exchange.New.{New}
 use Rattle.task.specs.Exchange.{FirstNew, ExchangedOne}
 use Rattle.task.proofs.Laws.{both-ft, In, here, in-empty, in-eq}
 use Rattle.task.proofs.States.{holds-in, in-holds, dec-in, Asc, asc-insert, in-insert, insert-new, insert-old}
-use Rattle.task.proofs.RowsMoved.{in-row}
-use Rattle.task.proofs.RowsFound.{known-kept, known-fits}
 use Rattle.task.proofs.Changes.{remove-nothing}
 use Rattle.task.proofs.SpanLaws.{span-more, span-end}
 use Rattle.task.proofs.SizeLaws.{span-absent, span-front, state-asc, removed-asc}
 use Rattle.task.proofs.ExchangeLaws.{removed-in, in-removed, one-in, same-end, in-span, span-in, Held, all-held, held-all, held-none, held-join, rest-comes}
-
--- a fact that holds has a row
-pub held-row : {t : Task} {w : List ℕ} {n : ℕ} {f : Fact} {number : ℕ} → Known t w n f number → holds (stateIn t w n) f ≡ true → RowWith w n number
-held-row {t} {w} {n} {f} {number} d h =
-    let s = stateIn t w n in
-    let (k, l, e) = in-row t (d .task) w n s (known-kept d) f number (known-fits d) (d .is) (holds-in s f h) in
-    record { row = k; within = l; has = e }
 
 module _ (w steps : List ℕ) (i add del k next : ℕ) (found : List ℕ) (n : ℕ) (sp : SpanOf w steps i add del) (l : add ≤ next) (m : next ≤ del)
     (st : isState (taskOf w) found n ≡ true)
@@ -57,7 +49,10 @@ module _ (w steps : List ℕ) (i add del k next : ℕ) (found : List ℕ) (n : �
         (λ x j. inr (j, λ q. both-ft (in-holds (in-eq (sym q) j)) e)) (λ x j q. inr j);
   }
 
-  module _ (new : ℕ) (c : FirstNew w steps i next del s new) where
+  module _ (fresh : New) (c : FirstNew w steps i next del found n fresh) where
+    abbrev new : ℕ
+    new = fresh .atom
+
     to-new : Held w steps i s add new
     to-new = held-join w steps i s add next new (all-held w steps i s add next h) (all-held w steps i s next new (c .hold))
 

@@ -13,7 +13,7 @@ use Rattle.task.specs.Records.{rowNumber, RowsAscend, LowerBound, RowIs,
 use Rattle.task.proofs.Laws.{false-if, In}
 use Rattle.task.proofs.States.{holds-in, in-holds, argsFit-fitting, Fits}
 use Rattle.task.proofs.Rows.{Kept, state-kept, kept-keeps}
-use Rattle.task.proofs.RowsChanged.{remove-absent, insert-present}
+use Rattle.task.proofs.RowsChanged.{insert-present}
 use Rattle.task.proofs.RowsMoved.{row-in, absent, taken-out, put-in}
 
 pub row-is : {w : List ℕ} {n k number : ℕ} {r b : Bool} → RowIs w n k number r → r ≡ b → RowIs w n k number b
@@ -55,9 +55,6 @@ module _ {t : Task} {w : List ℕ} {n : ℕ} {f : Fact} {number : ℕ} (d : Know
   row-out {k} {out} r m z =
       let (l, e) = r .found refl in
       kept-keeps t (d .task) out (n - 1) (removeAll (f ∷ []) s) (taken-out t (d .task) w n s known-kept f number known-fits (d .is) k out l e m z)
-
-  pub none-out : {k : ℕ} → LowerBound w n number k → RowIs w n k number false → Keeps t w n (removeAll (f ∷ []) s)
-  none-out b r = record { state = d .state; facts = sym (remove-absent f s (missed-in b r)) }
 
   pub row-there : {k : ℕ} → RowIs w n k number true → Keeps t w n (insert f s)
   row-there r = record { state = d .state; facts = sym (insert-present f s (known-kept .state .asc) (found-in r)) }

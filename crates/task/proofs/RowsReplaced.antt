@@ -10,7 +10,7 @@ use lib.ListN.{length, getD}
 use Rattle.task.specs.Lists.{padded}
 use Rattle.task.specs.Task.{Fact, Task, wellFormed}
 use Rattle.task.specs.Run.{holds, insert, removeAll, recordWords, stateIn}
-use Rattle.task.specs.Records.{recordNumber, rowNumber, RowsAscend, LowerBound, RowWith, MovedDown, MovedUp, Written, Known, Keeps}
+use Rattle.task.specs.Records.{recordNumber, rowNumber, LowerBound, MovedDown, MovedUp, Written, Replaced, up, down, Known, Keeps}
 use Rattle.task.proofs.Laws.{both-ft, In, Less}
 use Rattle.task.proofs.States.{key, in-holds, Fits}
 use Rattle.task.proofs.Tables.{noFact, length-padded}
@@ -102,19 +102,6 @@ module _ (w : List ℕ) (s : List Fact) (r : Rows w s) (g : Fact) (c : Slight g)
           fact-word (getD s (suc i) noFact) (getD (placed p g (without k s)) (suc i) noFact) j
           (sym (placed-behind p g (without k s) i noFact (omega arith) (omega arith) ∙ without-from k s i noFact (omega arith)))))
 
--- ---- where a row is
-pub row-found : {w : List ℕ} {n number k : ℕ} → RowsAscend w n → LowerBound w n number k → RowWith w n number →
-    (k < n) × (rowNumber w k ≡ number)
-row-found {w} {n} {number} {k} a b r = elim (decLt (r .row) k) [
-  | yes x ↦ absurd (let z = b .below (r .row) x in let e = r .has in omega arith)
-  | no x ↦
-      let l = r .within in
-      let e = r .has in
-      let y = b .from k (omega arith) (omega arith) in
-      let z = a k (r .row) (omega arith) l in
-      (omega arith, omega arith)
-]
-
 -- ---- a kept state
 module _ {t : Task} {w : List ℕ} {n : ℕ} {f g : Fact} {gone number : ℕ} (d : Known t w n f gone) (d′ : Known t w n g number)
     (x : holds (stateIn t w n) g ≡ false) {k j : ℕ} (found : (k < n) × (rowNumber w k ≡ gone)) (b : LowerBound w n number j) where
@@ -164,7 +151,7 @@ module _ {t : Task} {w : List ℕ} {n : ℕ} {f g : Fact} {gone number : ℕ} (d
       })
 
   -- the place of the new row is at or before the one that goes
-  pub replaced-up : {mid out : List ℕ} → j ≤ k → MovedUp w (5 * j) (5 * k) mid → Written mid (5 * j) number out → length out ≡ length w →
+  replaced-up : {mid out : List ℕ} → j ≤ k → MovedUp w (5 * j) (5 * k) mid → Written mid (5 * j) number out → length out ≡ length w →
       Keeps t out n (insert g (removeAll (f ∷ []) s))
   replaced-up {mid} {out} l m h z =
       let len = kept .count in
@@ -184,7 +171,7 @@ module _ {t : Task} {w : List ℕ} {n : ℕ} {f g : Fact} {gone number : ℕ} (d
           subst (λ (q : Fact). Less (key g) (key q)) (sym (without-from k s j noFact (omega arith))) (behind-new (suc j) (omega arith) (omega arith))
 
   -- the place of the new row is behind the one that goes
-  pub replaced-down : {mid out : List ℕ} → k < j → MovedDown w (5 * k) (5 * (j - 1)) mid → Written mid (5 * (j - 1)) number out →
+  replaced-down : {mid out : List ℕ} → k < j → MovedDown w (5 * k) (5 * (j - 1)) mid → Written mid (5 * (j - 1)) number out →
       length out ≡ length w → Keeps t out n (insert g (removeAll (f ∷ []) s))
   replaced-down {mid} {out} l m h z =
       let len = kept .count in
@@ -201,3 +188,7 @@ module _ {t : Task} {w : List ℕ} {n : ℕ} {f g : Fact} {gone number : ℕ} (d
       below : (i : ℕ) → i < j - 1 → Dec (i < k) → Less (key (getD (without k s) i noFact)) (key g)
       below i a (yes y) = subst (λ (q : Fact). Less (key q) (key g)) (sym (without-before k s i noFact y)) (before-new i (omega arith))
       below i a (no y) = subst (λ (q : Fact). Less (key q) (key g)) (sym (without-from k s i noFact (omega arith))) (before-new (suc i) (omega arith))
+
+  pub row-replaced : {out : List ℕ} → Replaced w k j number out → length out ≡ length w → Keeps t out n (insert g (removeAll (f ∷ []) s))
+  row-replaced (up l m h) z = replaced-up l m h z
+  row-replaced (down l m h) z = replaced-down l m h z

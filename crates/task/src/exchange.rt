@@ -1,7 +1,8 @@
 // A step's deletes and adds in one go: where a record goes out and another comes in, only the rows between them move.
-use crate::records::held;
+use crate::records::find;
+use crate::records::is_row;
+use crate::records::remove_row;
 use crate::records::replace;
-use crate::records::take_out;
 use crate::sizes::absent;
 use crate::spans::ground;
 use crate::spans::insert_span;
@@ -24,6 +25,13 @@ pub struct Exchanged {
     pub next: usize,
 }
 
+// An atom of a step that does not hold: its place in the table, its number, and the row before which it is to come.
+pub struct New {
+    pub atom: usize,
+    pub number: u64,
+    pub row: usize,
+}
+
 // The first atom from `from` on, with the objects of step i, that does not hold, or `to`.
 fn first_new(
     table: &[u16],
@@ -33,20 +41,29 @@ fn first_new(
     i: usize,
     state: &[u16],
     n: usize,
-) -> usize
+) -> New
     requires { ⌜ SpanOf (now table) (now steps) i from to ⌝ }
     requires { ⌜ isState (taskOf (now table)) (now state) n ≡ true ⌝ }
-    ensures { λ r. ⌜ FirstNew (now (table .entry)) (now (steps .entry)) i from to
-        (stateIn (taskOf (now (table .entry))) (now (state .entry)) n) r ⌝ }
+    ensures { λ r. ⌜ FirstNew (now (table .entry)) (now (steps .entry)) i from to (now (state .entry)) n r ⌝ }
 {
     let mut k = from;
     while k < to {
-        if !held(state, n, ground(table, k, steps, i)) {
-            return k;
+        let number = ground(table, k, steps, i);
+        let row = find(state, n, number);
+        if !is_row(state, n, row, number) {
+            return New {
+                atom: k,
+                number,
+                row,
+            };
         }
         k += 1;
     }
-    k
+    New {
+        atom: k,
+        number: 0,
+        row: 0,
+    }
 }
 
 // Takes atom k, a delete, out of the state, unless it is not there or an add that is there already, and puts the next
@@ -70,23 +87,29 @@ fn exchange_one(
     ensures { λ r. ⌜ ExchangedOne (now (table .entry)) (now (steps .entry)) i add del k (now (state .entry)) n (now (state .exit)) (r .left) (r .next) ⌝ }
 {
     let out = ground(table, k, steps, i);
-    if !held(state, n, out) {
+    let row = find(state, n, out);
+    if !is_row(state, n, row, out) {
         return Exchanged { left: n, next };
     }
     let new = first_new(table, next, del, steps, i, state, n);
-    if !absent(table, add, new, steps, i, out) {
-        return Exchanged { left: n, next: new };
-    }
-    if new < del {
-        replace(state, n, out, ground(table, new, steps, i));
+    let atom = new.atom;
+    if !absent(table, add, atom, steps, i, out) {
         return Exchanged {
             left: n,
-            next: new + 1,
+            next: atom,
         };
     }
+    if atom < del {
+        replace(state, row, new.row, new.number);
+        return Exchanged {
+            left: n,
+            next: atom + 1,
+        };
+    }
+    remove_row(state, n, row);
     Exchanged {
-        left: take_out(state, n, out),
-        next: new,
+        left: n - 1,
+        next: atom,
     }
 }
 

@@ -6,6 +6,7 @@ use native.Mathlib.Omega.{arith}
 use borrow.Author.Tests.{not-true, not-false}
 use Rattle.task.specs.Table.{taskOf}
 use Rattle.task.specs.Run.{stateIn}
+use Rattle.task.proofs.RowsFound.{found-holds}
 use Rattle.task.proofs.GroundWords.{span-atom}
 use Rattle.task.proofs.SpanLaws.{state-long, state-ascends, atom-known}
 use Rattle.task.proofs.ExchangeLaws.{Held, held-none, held-more, held-all}
@@ -25,17 +26,22 @@ loop-holds c = (omega arith, c .before .before .before .pre .0 .ordered, held-no
 ground-requires : tie.Need-ground-requires Inv-loop μ-loop
 ground-requires c κs = span-atom _ _ _ _ _ (c .before .before .before .before .before .pre .0) _ (c .before .loop .inv .0) (c .loop-test .taken)
 
-held-requires : tie.Need-held-requires Inv-loop μ-loop
-held-requires c κs = (state-long _ _ _ (c .before .before .before .before .before .before .pre .0 .tabled) (c .before .before .before .before .before .before .pre .1), state-ascends _ _ _ (c .before .before .before .before .before .before .pre .0 .tabled) (c .before .before .before .before .before .before .pre .1))
+find-requires : tie.Need-find-requires Inv-loop μ-loop
+find-requires c κs = (state-long _ _ _ (c .before .before .before .before .before .before .pre .0 .tabled) (c .before .before .before .before .before .before .pre .1), state-ascends _ _ _ (c .before .before .before .before .before .before .pre .0 .tabled) (c .before .before .before .before .before .before .pre .1))
+
+is-row-requires : tie.Need-is-row-requires Inv-loop μ-loop
+is-row-requires c κs = state-long _ _ _ (c .before .before .before .before .before .before .before .pre .0 .tabled) (c .before .before .before .before .before .before .before .pre .1)
 
 returns : tie.Need-returns Inv-loop μ-loop
 returns c =
-    let known = atom-known (span-atom _ _ _ _ _ (c .before .before .before .before .before .before .before .before .pre .0) _ (c .before .before .before .before .loop .inv .0) (c .before .before .before .loop-test .taken)) (c .before .before .before .before .before .before .before .before .pre .1) (c .before .before .ground .ensures) in
+    let known = atom-known (span-atom _ _ _ _ _ (c .before .before .before .before .before .before .before .before .before .pre .0) _ (c .before .before .before .before .before .loop .inv .0) (c .before .before .before .before .loop-test .taken)) (c .before .before .before .before .before .before .before .before .before .pre .1) (c .before .before .before .ground .ensures) in
     record {
-      from = c .before .before .before .before .loop .inv .0;
-      within = c .before .before .before .before .loop .inv .1;
-      hold = held-all _ _ _ _ _ _ (c .before .before .before .before .loop .inv .0) (c .before .before .before .before .loop .inv .2);
-      new = λ l. sym (c .before .held .ensures _ _ known) ∙ not-true _ (c .if1 .taken);
+      from = c .before .before .before .before .before .loop .inv .0;
+      within = c .before .before .before .before .before .loop .inv .1;
+      hold = held-all _ _ _ _ _ _ (c .before .before .before .before .before .loop .inv .0) (c .before .before .before .before .before .loop .inv .2);
+      new = λ l. sym (found-holds known (c .before .before .find .ensures) (c .before .is-row .ensures)) ∙ not-true _ (c .if1 .taken);
+      is = λ l. c .before .before .before .ground .ensures;
+      place = λ l. c .before .before .find .ensures;
     }
 
 add-k : tie.Need-add-k Inv-loop μ-loop
@@ -46,19 +52,23 @@ loop-less c = omega arith
 
 loop-again : tie.Need-loop-again Inv-loop μ-loop
 loop-again c =
-    let known = atom-known (span-atom _ _ _ _ _ (c .before .before .before .before .before .before .before .before .pre .0) _ (c .before .before .before .before .loop .inv .0) (c .before .before .before .loop-test .taken)) (c .before .before .before .before .before .before .before .before .pre .1) (c .before .before .ground .ensures) in (
+    let known = atom-known (span-atom _ _ _ _ _ (c .before .before .before .before .before .before .before .before .before .pre .0) _ (c .before .before .before .before .before .loop .inv .0) (c .before .before .before .before .loop-test .taken)) (c .before .before .before .before .before .before .before .before .before .pre .1) (c .before .before .before .ground .ensures) in (
       omega arith,
       omega arith,
-      held-more _ _ _ (c .before .before .before .before .loop .inv .2) (sym (c .before .held .ensures _ _ known) ∙ not-false _ (c .if1 .left)),
+      held-more _ _ _ (c .before .before .before .before .before .loop .inv .2) (sym (found-holds known (c .before .before .find .ensures) (c .before .is-row .ensures)) ∙ not-false _ (c .if1 .left)),
     )
 
 returns-2 : tie.Need-returns-2 Inv-loop μ-loop
-returns-2 c = record {
-  from = c .before .loop .inv .0;
-  within = c .before .loop .inv .1;
-  hold = held-all _ _ _ _ _ _ (c .before .loop .inv .0) (c .before .loop .inv .2);
-  new = λ l. absurd (let z = c .loop-test .left in omega arith);
-}
+returns-2 c =
+    let ended = c .loop-test .left in
+    record {
+      from = c .before .loop .inv .0;
+      within = c .before .loop .inv .1;
+      hold = held-all _ _ _ _ _ _ (c .before .loop .inv .0) (c .before .loop .inv .2);
+      new = λ l. absurd (omega arith);
+      is = λ l. absurd (omega arith);
+      place = λ l. absurd (omega arith);
+    }
 
 pub first-new-spec : {M : Type 1} → statement M
 first-new-spec =
@@ -68,7 +78,8 @@ first-new-spec =
     μ-loop
     loop-holds
     ground-requires
-    held-requires
+    find-requires
+    is-row-requires
     returns
     add-k
     loop-less
