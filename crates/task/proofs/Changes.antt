@@ -1,18 +1,17 @@
 -- States that change fact by fact: removing several is removing one after another, what holds afterwards, and how long
 -- the list is. So a size can be counted before anything is changed.
-use Prim.Native.Nat.{ℕ, zero, suc, _+_, _≤_, _<_}
-use mathlib.Core.Path.{_≡_, refl, sym, _∙_, ap, ap₂}
+use Prim.Native.Nat.{_+_, _≤_}
+use mathlib.Core.Path.{_≡_, refl, sym, _∙_, ap}
 use mathlib.Core.Bool.{Bool, true, false, cond, not, _&&_, _||_}
 use mathlib.Core.List.{List, [], _∷_, _++_}
-use mathlib.Core.Logic.{_⊎_, inl, inr}
+use mathlib.Core.Logic.{inl, inr}
 use native.Mathlib.Omega.{arith}
 use lib.ListN.{length}
-use borrow.Author.Tests.{not-true}
 use Rattle.task.specs.Lists.{all, any, filter, keepIf}
 use Rattle.task.specs.Task.{Fact, factLess, factEq}
 use Rattle.task.specs.Run.{holds, insert, insertAll, removeAll}
-use Rattle.task.proofs.Laws.{both-ft, bool-ext, false-if, and-left, and-right, and-both, or-cases, or-left, or-right, In, here, there, in-filter, filter-in, getD-in}
-use Rattle.task.proofs.States.{factEq-eq, holds-in, in-holds, Asc, asc-insert, asc-filter, in-insert, insert-new, insert-old, in-insertAll, insertAll-old, insertAll-new}
+use Rattle.task.proofs.Laws.{both-ft, bool-ext, and-left, and-right, and-both, or-cases, or-left, or-right, In, here, there, in-filter, filter-in, getD-in}
+use Rattle.task.proofs.States.{factEq-eq, holds-in, in-holds, Asc, asc-insert, in-insertAll, insertAll-old, insertAll-new}
 use Rattle.task.proofs.Tables.{noFact, filter-all}
 use Rattle.task.proofs.RowsChanged.{remove-absent, remove-place, insert-present, length-without}
 

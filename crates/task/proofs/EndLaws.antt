@@ -1,6 +1,6 @@
 -- The end of a run: the words that keep the last state, with zeros behind them, and what the answer tells.
 use Prim.Native.Nat.{ℕ, _+_, _*_, _≤_, _<_}
-use mathlib.Core.Path.{_≡_, refl, sym, _∙_, ap, ap₂, subst}
+use mathlib.Core.Path.{_≡_, sym, _∙_, ap, ap₂, subst}
 use mathlib.Core.Bool.{Bool, true}
 use mathlib.Core.List.{List, [], _∷_}
 use native.Mathlib.Omega.{arith}
@@ -11,9 +11,9 @@ use Rattle.task.specs.declared.RunAnswer.the-variants as answer
 use Rattle.task.specs.declared.running.Ended.{Ended}
 use Rattle.task.specs.declared.running.Ended.the-variants as ended
 use Rattle.task.specs.Lists.{padded}
-use Rattle.task.specs.Answers.{Told, result, refused, Outcome}
-use Rattle.task.specs.Task.{Fact, Task}
-use Rattle.task.specs.Table.{wordsAt, taskOf, isTable}
+use Rattle.task.specs.Answers.{result, refused}
+use Rattle.task.specs.Task.{Task}
+use Rattle.task.specs.Table.{wordsAt}
 use Rattle.task.specs.Run.{stateWords, stateIn, isState, goalMet, Running, ran, stopped, outgrown, bit, runTold, runDone, runAnswerTold, left as lastState}
 use Rattle.task.specs.Turns.{endedAs, recordsLeft}
 use Rattle.task.proofs.TablesByWords.{length-wordsAt, getD-mapped}

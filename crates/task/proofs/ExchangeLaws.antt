@@ -1,27 +1,22 @@
 -- Deletes and adds exchanged: whatever is taken out that no add needs, and whatever add is put in, inserting all adds into
 -- the state without all deletes comes out the same, since ascending lists with the same members are equal.
 use Prim.Native.Nat.{ℕ, zero, suc, _+_, _-_, _≤_, _<_}
-use mathlib.Core.Path.{_≡_, refl, sym, _∙_, ap, subst}
-use mathlib.Core.Bool.{Bool, true, false, not}
-use mathlib.Core.List.{List, [], _∷_, _++_}
+use mathlib.Core.Path.{_≡_, sym, _∙_, ap, subst}
+use mathlib.Core.Bool.{true, not}
+use mathlib.Core.List.{List, [], _∷_}
 use mathlib.Core.Logic.{_⊎_, inl, inr}
 use native.Mathlib.Omega.{arith}
 use native.Mathlib.Decide.{decLt}
-use lib.ListN.{length}
-use lib.Dec.{eqb}
-use borrow.Author.Tests.{not-true, not-false}
+use borrow.Author.Tests.{not-true}
 use Rattle.task.specs.Lists.{all, upFrom}
-use Rattle.task.specs.Task.{Fact, Task}
-use Rattle.task.specs.Table.{taskOf, isTable}
-use Rattle.task.specs.Run.{holds, insert, insertAll, removeAll, stateIn, roomIn, isState}
-use Rattle.task.specs.Records.{recordNumber, Known, Keeps}
-use Rattle.task.specs.Spans.{groundAt, groundSpan, SpanOf}
+use Rattle.task.specs.Task.{Fact}
+use Rattle.task.specs.Run.{holds, insertAll, removeAll}
+use Rattle.task.specs.Spans.{groundAt, groundSpan}
 use Rattle.task.proofs.Laws.{both-ft, false-if, In, here, there, in-empty, in-eq, in-map, map-in, in-all, all-in, in-upFrom, upFrom-in, in-filter, filter-in}
-use Rattle.task.proofs.States.{holds-in, in-holds, dec-in, Asc, asc-ext, asc-insert, asc-insertAll, in-insert, insert-new, insert-old, in-insertAll, insertAll-old, insertAll-new}
+use Rattle.task.proofs.States.{holds-in, in-holds, Asc, asc-ext, asc-insertAll, in-insertAll, insertAll-old, insertAll-new}
 use Rattle.task.proofs.RowsChanged.{insert-present}
-use Rattle.task.proofs.Changes.{remove-nothing}
-use Rattle.task.proofs.SpanLaws.{span-more, span-end}
-use Rattle.task.proofs.SizeLaws.{span-absent, state-asc, removed-asc}
+use Rattle.task.proofs.SpanLaws.{span-more}
+use Rattle.task.proofs.SizeLaws.{removed-asc}
 
 -- ---- removing, by membership
 pub removed-in : (fs s : List Fact) (x : Fact) → In x (removeAll fs s) → In x s × (In x fs → ⊥)

@@ -1,12 +1,12 @@
 -- Goal atoms by their places in the table: each is a ground atom of the task, and all of them are its goal.
 use Prim.Native.Nat.{ℕ, _+_, _-_, _≤_, _<_}
-use mathlib.Core.Path.{_≡_, refl, sym, _∙_, ap, ap₂, subst}
+use mathlib.Core.Path.{_≡_, sym, _∙_, ap, ap₂}
 use mathlib.Core.Bool.{Bool, true}
 use mathlib.Core.List.{List, map}
 use native.Mathlib.Omega.{arith}
-use lib.ListN.{length, getD}
+use lib.ListN.{getD}
 use Rattle.task.specs.Lists.{all, upFrom}
-use Rattle.task.specs.Task.{Fact, Task}
+use Rattle.task.specs.Task.{Fact}
 use Rattle.task.specs.Table.{factIn, taskOf, isTable}
 use Rattle.task.specs.Run.{holds, isState, goalMet}
 use Rattle.task.specs.Records.{recordNumber, Known}

@@ -1,7 +1,7 @@
 -- Atoms of a table with the objects of a step, word by word: where their words lie, that a parameter's object is a word of
 -- the step, and the number that four arguments give, unused ones as 0.
-use Prim.Native.Nat.{ℕ, zero, suc, _+_, _-_, _*_, _≤_, _<_}
-use mathlib.Core.Path.{_≡_, refl, sym, _∙_, ap, ap₂, subst}
+use Prim.Native.Nat.{ℕ, _+_, _-_, _*_, _≤_, _<_}
+use mathlib.Core.Path.{_≡_, refl, sym, _∙_, ap, subst}
 use mathlib.Core.Bool.{Bool, true, false, cond, _&&_}
 use mathlib.Core.List.{List, [], _∷_, map}
 use native.Mathlib.Omega.{arith}
@@ -9,8 +9,8 @@ use native.Mathlib.Decide.{decLt}
 use lib.ListN.{length, getD, length-map, List·getD-eq-default}
 use lib.Dec.{ltb, leb}
 use borrow.Author.Tests.{leb-true, ltb-true, lt-ltb, le-ltb}
-use Rattle.task.specs.Lists.{padded, upFrom, eqList}
-use Rattle.task.specs.Task.{Atom, Fact, Task, argsFit, schemaFits}
+use Rattle.task.specs.Lists.{padded, eqList}
+use Rattle.task.specs.Task.{Fact, Task, argsFit, schemaFits}
 use Rattle.task.specs.Table.{wordsAt, arityIn, atomBase, atomIn, schemaNumberIn, factIn, taskOf, isTable}
 use Rattle.task.specs.Run.{Step, schemaAt, ground, isStep, paramCount, stepIn, stepAt, stepWords, isStepAt}
 use Rattle.task.specs.Records.{inBase, recordNumber}
@@ -19,8 +19,8 @@ use Rattle.task.proofs.Laws.{and-left, and-right, In, all-in, in-eq, in
 use Rattle.task.proofs.Tests.{schema-tests, task-tests}
 use Rattle.task.proofs.States.{Fits, fitting-argsFit, IsStep, isStep-is, WellFormed, wellFormed-is, ground-fits}
 use Rattle.task.proofs.Tables.{noAtom, noSchema, startOf, tableWords-is, of-table}
-use Rattle.task.proofs.TablesByIndex.{Frame, table-frame, table-long, schemas-word, atom-inside, start-suc, atom-at, Lies, atom-lies}
-use Rattle.task.proofs.TablesByWords.{WordsFit, table-words, length-wordsAt, getD-mapped}
+use Rattle.task.proofs.TablesByIndex.{table-frame, table-long, atom-inside, start-suc, atom-at, atom-lies}
+use Rattle.task.proofs.TablesByWords.{table-words, length-wordsAt, getD-mapped}
 
 -- ---- where words lie
 pub table-is-long : (w : List ℕ) → isTable w ≡ true → 13406 ≤ length w

@@ -1,24 +1,24 @@
 -- A state in lent words by its rows: row k has the words of fact k. What `isState` says, row by row, and back again;
 -- and the numbers of the rows, which ascend as the facts do.
-use Prim.Native.Nat.{ℕ, zero, suc, _+_, _-_, _*_, _/_, _≤_, _<_}
-use mathlib.Core.Path.{_≡_, refl, sym, _∙_, ap, ap₂, subst}
-use mathlib.Core.Bool.{Bool, true, _&&_}
-use mathlib.Core.List.{List, [], _∷_, _++_, map}
+use Prim.Native.Nat.{ℕ, zero, suc, _+_, _-_, _*_, _≤_, _<_}
+use mathlib.Core.Path.{_≡_, refl, sym, _∙_, ap, subst}
+use mathlib.Core.Bool.{true}
+use mathlib.Core.List.{List, [], _∷_, map}
 use native.Mathlib.Omega.{arith}
 use native.Mathlib.Decide.{decLt}
 use lib.ListN.{length, getD, replicate, length-map, List·getD-append}
 use lib.Dec.{leb}
 use borrow.Author.Tests.{leb-true, le-leb}
-use Rattle.task.specs.Lists.{all, upTo, upFrom, concatMap, eqList, padded}
-use Rattle.task.specs.Task.{Fact, Task, argsFit, factsFit, wellFormed}
+use Rattle.task.specs.Lists.{upTo, upFrom, concatMap, eqList, padded}
+use Rattle.task.specs.Task.{Fact, Task, factsFit, wellFormed}
 use Rattle.task.specs.Table.{wordsAt}
 use Rattle.task.specs.Run.{recordWords, stateWords, recordAt, stateIn, roomIn, isState}
-use Rattle.task.specs.Records.{inBase, recordNumber, numberAt, rowNumber, RowsAscend, Keeps}
+use Rattle.task.specs.Records.{recordNumber, numberAt, rowNumber, RowsAscend, Keeps}
 use Rattle.task.proofs.Laws.{and-left, and-right, and-both, In, here, there, in-all, in-getD, length-upTo, eqList-refl, eqList-eq, Less}
 use Rattle.task.proofs.Tests.{fits, tests-fact}
 use Rattle.task.proofs.States.{key, Asc, asc-cons, asc-ascending, fitting-argsFit, Fits, State, factsFit-state}
 use Rattle.task.proofs.Tables.{At, noFact, tabulate, wordsAt-at, length-padded}
-use Rattle.task.proofs.TablesByWords.{at-join, length-wordsAt, at-wordsAt}
+use Rattle.task.proofs.TablesByWords.{at-join, at-wordsAt}
 use Rattle.task.proofs.StepWords.{length-rows, at-row, length-recordWords}
 use Rattle.task.proofs.Numbers.{Slight, slight, less-number}
 

@@ -1,7 +1,7 @@
 -- What the search for a record's number says of the state that the words keep: whether the fact holds, and what taking
 -- its row out or putting it in leaves. For every task and fact of which the words and the number are.
 use Prim.Native.Nat.{ℕ, _+_, _-_, _*_, _≤_, _<_}
-use mathlib.Core.Path.{_≡_, refl, sym, _∙_, ap, subst}
+use mathlib.Core.Path.{_≡_, refl, sym, subst}
 use mathlib.Core.Bool.{Bool, true, false}
 use mathlib.Core.List.{List, [], _∷_}
 use native.Mathlib.Omega.{arith}

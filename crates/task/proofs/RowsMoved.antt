@@ -1,18 +1,18 @@
 -- Moved words keep the changed state: a row less after moving down, a row more after moving up and writing its digits.
 -- And what a lower bound says of a fact: it is there exactly where the row found has its number.
 use Prim.Native.Nat.{ℕ, zero, suc, _+_, _-_, _*_, _/_, _%_, _≤_, _<_}
-use mathlib.Core.Path.{_≡_, refl, sym, _∙_, ap, subst}
-use mathlib.Core.Bool.{true, false}
+use mathlib.Core.Path.{_≡_, sym, _∙_, ap, subst}
+use mathlib.Core.Bool.{true}
 use mathlib.Core.List.{List, [], _∷_}
 use native.Mathlib.Omega.{arith}
 use native.Mathlib.Decide.{decLt}
 use lib.ListN.{length, getD}
 use Rattle.task.specs.Lists.{padded}
 use Rattle.task.specs.Task.{Fact, Task, wellFormed}
-use Rattle.task.specs.Run.{holds, insert, removeAll, recordWords}
+use Rattle.task.specs.Run.{insert, removeAll, recordWords}
 use Rattle.task.specs.Records.{inBase, recordNumber, rowNumber, LowerBound, MovedDown, MovedUp, Written}
-use Rattle.task.proofs.Laws.{false-if, In, in-eq, in-getD, getD-in, Less}
-use Rattle.task.proofs.States.{key, holds-in, in-holds, Fits, State}
+use Rattle.task.proofs.Laws.{In, in-eq, in-getD, getD-in}
+use Rattle.task.proofs.States.{Fits}
 use Rattle.task.proofs.Tables.{noFact, length-padded}
 use Rattle.task.proofs.Numbers.{Small, small-padded, Slight, slight, number-fact, number-before}
 use Rattle.task.proofs.Rows.{Rows, Kept, fact-fits, number-row, number-before-number}

@@ -1,18 +1,18 @@
 -- A row replaced by another: the rows between the two places move by one, and the words keep the state without the one
 -- fact and with the other. The list is that with one more at p of the list without element k.
 use Prim.Native.Nat.{ℕ, zero, suc, _+_, _-_, _*_, _≤_, _<_}
-use mathlib.Core.Path.{_≡_, refl, sym, _∙_, ap, subst}
-use mathlib.Core.Bool.{true, false}
+use mathlib.Core.Path.{_≡_, sym, _∙_, ap, subst}
+use mathlib.Core.Bool.{false}
 use mathlib.Core.List.{List, [], _∷_}
 use native.Mathlib.Omega.{arith}
 use native.Mathlib.Decide.{decLt}
 use lib.ListN.{length, getD}
 use Rattle.task.specs.Lists.{padded}
-use Rattle.task.specs.Task.{Fact, Task, wellFormed}
+use Rattle.task.specs.Task.{Fact, Task}
 use Rattle.task.specs.Run.{holds, insert, removeAll, recordWords, stateIn}
 use Rattle.task.specs.Records.{recordNumber, rowNumber, LowerBound, MovedDown, MovedUp, Written, Replaced, up, down, Known, Keeps}
-use Rattle.task.proofs.Laws.{both-ft, In, Less}
-use Rattle.task.proofs.States.{key, in-holds, Fits}
+use Rattle.task.proofs.Laws.{both-ft, Less}
+use Rattle.task.proofs.States.{key, in-holds}
 use Rattle.task.proofs.Tables.{noFact, length-padded}
 use Rattle.task.proofs.Numbers.{small-padded, Slight, slight, number-before}
 use Rattle.task.proofs.Rows.{Rows, Kept, fact-fits, number-row, kept-keeps}

@@ -1,6 +1,6 @@
 -- Running a list: between the steps, running those left from the state kept gives what running all was to give. The words
 -- never change their number, so the room is the same at each step.
-use Prim.Native.Nat.{ℕ, zero, suc, _+_, _-_, _*_, _/_, _≤_, _<_}
+use Prim.Native.Nat.{ℕ, suc, _+_, _-_, _*_, _/_, _≤_, _<_}
 use mathlib.Core.Path.{_≡_, refl, sym, _∙_, ap, ap₂, subst}
 use mathlib.Core.Bool.{Bool, true, false, not}
 use mathlib.Core.Option.{none}
@@ -14,10 +14,9 @@ use Rattle.task.specs.declared.running.Turn.the-variants as turned
 use Rattle.task.specs.Lists.{upTo, upFrom}
 use Rattle.task.specs.Task.{Fact, Task}
 use Rattle.task.specs.Table.{taskOf, isTable}
-use Rattle.task.specs.Run.{Step, stepAt, isStepAt, badStep, stepsIn, stateIn, roomIn, isState, applies, next, Running, ran, stopped, outgrown, turn, runFitting, runWithin}
-use Rattle.task.specs.Records.{Keeps}
+use Rattle.task.specs.Run.{Step, stepAt, isStepAt, badStep, stepsIn, stateIn, roomIn, isState, applies, next, ran, stopped, outgrown, turn, runFitting, runWithin}
 use Rattle.task.specs.Turns.{firstAtom, Starts, Turned}
-use Rattle.task.proofs.Laws.{bool-cases, false-if, no-ft, in-upTo, first-none}
+use Rattle.task.proofs.Laws.{in-upTo, first-none}
 use Rattle.task.proofs.TablesByIndex.{table-frame, schemas-word}
 use Rattle.task.proofs.StepSpans.{schema-known}
 use Rattle.task.proofs.StartLaws.{schemas-few}

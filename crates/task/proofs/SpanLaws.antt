@@ -1,29 +1,29 @@
 -- Loops over the ground atoms of a span: between the turns, what is done with the atoms left gives what was to be done with
 -- all. One law a loop for its start, its turn and its end.
-use Prim.Native.Nat.{ℕ, zero, suc, _+_, _-_, _*_, _≤_, _<_}
-use mathlib.Core.Path.{_≡_, refl, sym, _∙_, ap, subst}
-use mathlib.Core.Bool.{Bool, true, false, not}
-use mathlib.Core.List.{List, [], _∷_, _++_, map}
+use Prim.Native.Nat.{ℕ, suc, _+_, _-_, _*_, _≤_, _<_}
+use mathlib.Core.Path.{_≡_, refl, sym, _∙_, ap}
+use mathlib.Core.Bool.{Bool, true, false}
+use mathlib.Core.List.{List, [], _∷_, map}
 use native.Mathlib.Omega.{arith}
 use native.Mathlib.Numerals.{add-one}
 use lib.ListN.{length}
 use borrow.Author.Tests.{leb-true}
 use Rattle.task.specs.Lists.{all, upFrom, padded}
-use Rattle.task.specs.Task.{Fact, Task, wellFormed}
+use Rattle.task.specs.Task.{Fact, Task}
 use Rattle.task.specs.Table.{taskOf, isTable}
-use Rattle.task.specs.Run.{holds, insert, insertAll, stateIn, roomIn, isState}
+use Rattle.task.specs.Run.{insert, insertAll, stateIn, roomIn, isState}
 use Rattle.task.specs.Records.{inBase, recordNumber, rowNumber, RowsAscend, Known, Keeps}
-use Rattle.task.specs.Spans.{groundAt, groundSpan, AtomOf, SpanOf}
+use Rattle.task.specs.Spans.{groundAt, groundSpan, AtomOf}
 use Rattle.task.proofs.Laws.{In}
 use Rattle.task.proofs.Tests.{task-tests}
-use Rattle.task.proofs.States.{Fits, asc-insert}
+use Rattle.task.proofs.States.{asc-insert}
 use Rattle.task.proofs.Tables.{of-table, length-padded}
 use Rattle.task.proofs.Numbers.{base-mono, small-padded, slight}
-use Rattle.task.proofs.Rows.{Kept, state-kept, kept-ascend, length-stateIn, room-words}
+use Rattle.task.proofs.Rows.{state-kept, kept-ascend, room-words}
 use Rattle.task.proofs.RowsMoved.{in-row}
 use Rattle.task.proofs.RowsFound.{known-kept, known-fits}
 use Rattle.task.proofs.Changes.{insert-missing, insertAll-length, all-more, all-stops}
-use Rattle.task.proofs.GroundWords.{ground-args-fit, span-atom}
+use Rattle.task.proofs.GroundWords.{ground-args-fit}
 
 -- ---- spans
 module _ (g : ℕ → Fact) where

@@ -1,7 +1,7 @@
 -- Where the atoms of each schema begin, found in one pass: each atom writes the place behind itself as the end of its
 -- schema, and the last of a schema leaves the right one, since atoms stand schema by schema and none lacks an atom.
 use Prim.Native.Nat.{ℕ, zero, suc, _+_, _≤_, _<_}
-use mathlib.Core.Path.{_≡_, refl, sym, _∙_, ap, subst}
+use mathlib.Core.Path.{_≡_, sym, _∙_, ap, subst}
 use mathlib.Core.Bool.{true}
 use mathlib.Core.List.{List}
 use native.Mathlib.Omega.{arith}
@@ -17,7 +17,7 @@ use Rattle.task.specs.Turns.{Starts, RoleEnds}
 use Rattle.task.proofs.Laws.{all-in, in-getD}
 use Rattle.task.proofs.Tests.{schema-tests, task-tests}
 use Rattle.task.proofs.Tables.{noSchema, counts, startOf, of-table}
-use Rattle.task.proofs.TablesByIndex.{table-frame, schemas-word, start-suc, start-end, Lies, atom-lies}
+use Rattle.task.proofs.TablesByIndex.{table-frame, schemas-word, start-suc, start-end, atom-lies}
 use Rattle.task.proofs.TablesByWords.{sum-take-rises}
 
 -- ---- starts

@@ -1,6 +1,6 @@
 -- What one step and a whole list do to a state in lent words, as the inner functions of running speak of them.
 -- No promise of an entry point cites these.
-use Prim.Native.Nat.{ℕ, _+_, _*_, _≤_, _<_}
+use Prim.Native.Nat.{ℕ, _≤_, _<_}
 use mathlib.Core.Path.{_≡_}
 use mathlib.Core.Bool.{true, false}
 use mathlib.Core.List.{List, map}

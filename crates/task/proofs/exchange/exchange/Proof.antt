@@ -6,7 +6,6 @@ use native.Mathlib.Omega.{arith}
 use Rattle.task.proofs.GroundWords.{span-atom}
 use Rattle.task.proofs.SizeLaws.{span-back}
 use Rattle.task.proofs.ExchangeTurns.{ExchangeSo, exchange-start, exchange-turn, rest-room, exchange-end}
-use borrow.Author.Needs.{needs}
 use Rattle.task.proofs.exchange.exchange.Statement.{statement}
 use Rattle.task.proofs.exchange.exchange.Tie as tie
 

@@ -10,7 +10,6 @@ use Rattle.task.proofs.RowsFound.{found-holds}
 use Rattle.task.proofs.GroundWords.{span-atom}
 use Rattle.task.proofs.SpanLaws.{state-long, state-ascends, atom-known}
 use Rattle.task.proofs.ExchangeLaws.{Held, held-none, held-more, held-all}
-use borrow.Author.Needs.{needs}
 use Rattle.task.proofs.exchange.first_new.Statement.{statement}
 use Rattle.task.proofs.exchange.first_new.Tie as tie
 

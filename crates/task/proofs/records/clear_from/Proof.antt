@@ -4,7 +4,6 @@ use Prim.Native.Nat.{_≤_, _-_}
 use native.Mathlib.Omega.{arith}
 use lib.ListN.{length}
 use Rattle.task.proofs.Moves.{Cleared, clear-none, clear-more, cleared-padded}
-use borrow.Author.Needs.{needs}
 use Rattle.task.proofs.records.clear_from.Statement.{statement}
 use Rattle.task.proofs.records.clear_from.Tie as tie
 

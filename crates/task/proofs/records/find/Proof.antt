@@ -3,7 +3,6 @@
 use Prim.Native.Nat.{ℕ, _+_, _-_, _/_}
 use native.Mathlib.Omega.{arith}
 use Rattle.task.proofs.Bracket.{Bracket, bracket-all, bracket-up, bracket-down, bracket-met}
-use borrow.Author.Needs.{needs}
 use Rattle.task.proofs.records.find.Statement.{statement}
 use Rattle.task.proofs.records.find.Tie as tie
 

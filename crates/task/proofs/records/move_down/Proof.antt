@@ -3,7 +3,6 @@
 use Prim.Native.Nat.{_≤_, _-_}
 use native.Mathlib.Omega.{arith}
 use Rattle.task.proofs.Moves.{Down, down-none, down-more}
-use borrow.Author.Needs.{needs}
 use Rattle.task.proofs.records.move_down.Statement.{statement}
 use Rattle.task.proofs.records.move_down.Tie as tie
 

@@ -3,7 +3,6 @@
 use Prim.Native.Nat.{_≤_}
 use native.Mathlib.Omega.{arith}
 use Rattle.task.proofs.Moves.{Up, up-none, up-more}
-use borrow.Author.Needs.{needs}
 use Rattle.task.proofs.records.move_up.Statement.{statement}
 use Rattle.task.proofs.records.move_up.Tie as tie
 

@@ -1,6 +1,5 @@
 -- `records::number_at` meets its contract: the five words are those that `wordsAt` lists.
-use mathlib.Core.Path.{refl}
-use Rattle.task.specs.Records.{inBase, numberAt}
+use Rattle.task.specs.Records.{numberAt}
 use borrow.Author.Needs.{needs}
 use Rattle.task.proofs.records.number_at.Statement.{statement}
 use Rattle.task.proofs.records.number_at.Tie as tie

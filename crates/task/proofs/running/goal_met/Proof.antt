@@ -9,7 +9,6 @@ use Rattle.task.specs.Run.{holds, stateIn}
 use Rattle.task.proofs.GroundWords.{table-is-long}
 use Rattle.task.proofs.SpanLaws.{state-long, state-ascends, AllSo, all-start, all-turn, all-left, all-ended}
 use Rattle.task.proofs.GoalLaws.{goal-known, goal-so}
-use borrow.Author.Needs.{needs}
 use Rattle.task.proofs.running.goal_met.Statement.{statement}
 use Rattle.task.proofs.running.goal_met.Tie as tie
 

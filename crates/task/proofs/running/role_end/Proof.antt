@@ -4,7 +4,6 @@ use Prim.Native.Nat.{_-_}
 use mathlib.Core.Path.{sym, _∙_}
 use native.Mathlib.Omega.{arith}
 use Rattle.task.proofs.StartLaws.{RoleSo, role-at, role-start, role-turn, role-ends}
-use borrow.Author.Needs.{needs}
 use Rattle.task.proofs.running.role_end.Statement.{statement}
 use Rattle.task.proofs.running.role_end.Tie as tie
 

@@ -5,7 +5,6 @@ use native.Mathlib.Omega.{arith}
 use Rattle.task.proofs.GroundWords.{table-is-long}
 use Rattle.task.proofs.TablesByIndex.{table-frame, atom-lies}
 use Rattle.task.proofs.StartLaws.{StartsSo, schemas-few, starts-none, starts-turn, starts-end, schema-at}
-use borrow.Author.Needs.{needs}
 use Rattle.task.proofs.running.schema_starts.Statement.{statement}
 use Rattle.task.proofs.running.schema_starts.Tie as tie
 

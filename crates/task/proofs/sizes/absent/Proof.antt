@@ -10,7 +10,6 @@ use Rattle.task.specs.Records.{recordNumber}
 use Rattle.task.specs.Spans.{groundAt, groundSpan}
 use Rattle.task.proofs.GroundWords.{span-atom}
 use Rattle.task.proofs.SpanLaws.{AllSo, all-start, all-turn, all-left, all-ended}
-use borrow.Author.Needs.{needs}
 use Rattle.task.proofs.sizes.absent.Statement.{statement}
 use Rattle.task.proofs.sizes.absent.Tie as tie
 

@@ -13,7 +13,6 @@ use Rattle.task.proofs.Rows.{length-stateIn}
 use Rattle.task.proofs.GroundWords.{span-atom}
 use Rattle.task.proofs.SpanLaws.{state-long, atom-known, insert-nothing}
 use Rattle.task.proofs.SizeLaws.{span-front, length-span, size-grows, size-same, few-inserted, CountedSo, count-start, count-turn, count-end, state-asc, removed-asc}
-use borrow.Author.Needs.{needs}
 use Rattle.task.proofs.sizes.size_with.Statement.{statement}
 use Rattle.task.proofs.sizes.size_with.Tie as tie
 

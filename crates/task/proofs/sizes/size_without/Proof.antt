@@ -12,7 +12,6 @@ use Rattle.task.proofs.Changes.{remove-nothing}
 use Rattle.task.proofs.GroundWords.{span-atom}
 use Rattle.task.proofs.SpanLaws.{atom-known}
 use Rattle.task.proofs.SizeLaws.{span-front, size-goes, size-stays, CountedSo, count-start, count-turn, count-end, state-asc}
-use borrow.Author.Needs.{needs}
 use Rattle.task.proofs.sizes.size_without.Statement.{statement}
 use Rattle.task.proofs.sizes.size_without.Tie as tie
 

@@ -9,7 +9,6 @@ use Rattle.task.specs.Run.{holds, stateIn}
 use Rattle.task.specs.Spans.{groundAt, groundSpan}
 use Rattle.task.proofs.GroundWords.{span-atom}
 use Rattle.task.proofs.SpanLaws.{state-long, state-ascends, atom-known, AllSo, all-start, all-turn, all-left, all-ended}
-use borrow.Author.Needs.{needs}
 use Rattle.task.proofs.spans.all_hold.Statement.{statement}
 use Rattle.task.proofs.spans.all_hold.Tie as tie
 

@@ -4,7 +4,6 @@ use Prim.Native.Nat.{_-_}
 use native.Mathlib.Omega.{arith}
 use Rattle.task.proofs.GroundWords.{span-atom}
 use Rattle.task.proofs.SpanLaws.{state-long, state-ascends, atom-known, known-small, known-room, InsertedSo, insert-start, insert-turn, insert-end, rest-fits}
-use borrow.Author.Needs.{needs}
 use Rattle.task.proofs.spans.insert_span.Statement.{statement}
 use Rattle.task.proofs.spans.insert_span.Tie as tie
 
