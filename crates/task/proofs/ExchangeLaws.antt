@@ -1,5 +1,5 @@
--- Deletes and adds exchanged: whatever is taken out that no add needs, and whatever add is put in, inserting all adds into
--- the state without all deletes comes out the same, since ascending lists with the same members are equal.
+-- Deletes and adds exchanged: whatever is taken out that no add needs, and whatever add is put in, inserting all adds
+-- into the state without all deletes comes out the same, since ascending lists with the same members are equal.
 use Prim.Native.Nat.{ℕ, zero, suc, _+_, _-_, _≤_, _<_}
 use mathlib.Core.Path.{_≡_, sym, _∙_, ap, subst}
 use mathlib.Core.Bool.{true, not}
@@ -12,8 +12,33 @@ use Rattle.task.specs.Lists.{all, upFrom}
 use Rattle.task.specs.Task.{Fact}
 use Rattle.task.specs.Run.{holds, insertAll, removeAll}
 use Rattle.task.specs.Spans.{groundAt, groundSpan}
-use Rattle.task.proofs.Laws.{both-ft, false-if, In, here, there, in-empty, in-eq, in-map, map-in, in-all, all-in, in-upFrom, upFrom-in, in-filter, filter-in}
-use Rattle.task.proofs.States.{holds-in, in-holds, Asc, asc-ext, asc-insertAll, in-insertAll, insertAll-old, insertAll-new}
+use Rattle.task.proofs.Laws.{
+  both-ft,
+  false-if,
+  In,
+  here,
+  there,
+  in-empty,
+  in-eq,
+  in-map,
+  map-in,
+  in-all,
+  all-in,
+  in-upFrom,
+  upFrom-in,
+  in-filter,
+  filter-in,
+}
+use Rattle.task.proofs.States.{
+  holds-in,
+  in-holds,
+  Asc,
+  asc-ext,
+  asc-insertAll,
+  in-insertAll,
+  insertAll-old,
+  insertAll-new,
+}
 use Rattle.task.proofs.RowsChanged.{insert-present}
 use Rattle.task.proofs.SpanLaws.{span-more}
 use Rattle.task.proofs.SizeLaws.{removed-asc}
@@ -35,11 +60,13 @@ one-in (there i) = absurd (in-empty i)
 
 -- s′ is what s becomes with the delete d dealt with: d has gone unless it is an add, and only adds have come
 pub same-end : (adds : List Fact) (d : Fact) (s s′ : List Fact) → Asc s → Asc s′ →
-    ((x : Fact) → In x s′ → In x adds ⊎ (In x s × (x ≡ d → ⊥))) → ((x : Fact) → In x s → (x ≡ d → ⊥) → In x adds ⊎ In x s′) →
+    ((x : Fact) → In x s′ → In x adds ⊎ (In x s × (x ≡ d → ⊥))) →
+    ((x : Fact) → In x s → (x ≡ d → ⊥) → In x adds ⊎ In x s′) →
     (fs : List Fact) → insertAll adds (removeAll fs s′) ≡ insertAll adds (removeAll (d ∷ fs) s)
 same-end adds d s s′ a a′ p q fs =
     asc-ext (asc-insertAll adds (removed-asc fs a′)) (asc-insertAll adds (removed-asc (d ∷ fs) a))
-    (λ x i. to x (in-insertAll adds (removeAll fs s′) x i)) (λ x i. back x (in-insertAll adds (removeAll (d ∷ fs) s) x i))
+    (λ x i. to x (in-insertAll adds (removeAll fs s′) x i))
+    (λ x i. back x (in-insertAll adds (removeAll (d ∷ fs) s) x i))
   where
     new : (x : Fact) (u : List Fact) → In x adds → In x (insertAll adds u)
     new x u i = insertAll-new adds u x i
@@ -68,7 +95,8 @@ module _ (w steps : List ℕ) (i : ℕ) where
   unfolding groundSpan
   in-span a b k l m = in-map (groundAt w steps i) (in-upFrom a (b - a) k l (omega arith))
 
-  pub span-in : (a b : ℕ) (f : Fact) → a ≤ b → In f (groundSpan w steps i a (b - a)) → (k : ℕ) × (a ≤ k) × (k < b) × (f ≡ groundAt w steps i k)
+  pub span-in : (a b : ℕ) (f : Fact) → a ≤ b → In f (groundSpan w steps i a (b - a)) →
+      (k : ℕ) × (a ≤ k) × (k < b) × (f ≡ groundAt w steps i k)
   unfolding groundSpan
   span-in a b f l h =
       let (k, j, e) = map-in (groundAt w steps i) (upFrom a (b - a)) f h in
@@ -96,7 +124,8 @@ module _ (w steps : List ℕ) (i : ℕ) where
   pub held-more : {s : List Fact} {a k : ℕ} → Held s a k → holds s (groundAt w steps i k) ≡ true → Held s a (k + 1)
   held-more {s} {a} {k} p h j l m = elim (decLt j k) [
     | yes x ↦ p j l x
-    | no x ↦ let e : k ≡ j = omega arith in subst (λ (y : ℕ). In (groundAt w steps i y) s) e (holds-in s (groundAt w steps i k) h)
+    | no x ↦ let e : k ≡ j = omega arith in
+        subst (λ (y : ℕ). In (groundAt w steps i y) s) e (holds-in s (groundAt w steps i k) h)
   ]
 
   -- adds that hold need not come in
@@ -109,4 +138,5 @@ module _ (w steps : List ℕ) (i : ℕ) where
   rest-comes s h a b (suc count) k e l p =
       rest-comes s h (a + 1) b count k (omega arith) l (λ j x y. p j (omega arith) y) ∙
       sym (ap (λ (fs : List Fact). insertAll fs s) (span-more w steps i a b (omega arith)) ∙
-      ap (insertAll (groundSpan w steps i (a + 1) (b - (a + 1)))) (insert-present (groundAt w steps i a) s h (p a (omega arith) (omega arith))))
+      ap (insertAll (groundSpan w steps i (a + 1) (b - (a + 1))))
+      (insert-present (groundAt w steps i a) s h (p a (omega arith) (omega arith))))

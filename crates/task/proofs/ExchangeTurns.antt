@@ -22,9 +22,23 @@ use Rattle.task.proofs.States.{holds-in, in-holds, dec-in, Asc, asc-ins
 use Rattle.task.proofs.Changes.{remove-nothing}
 use Rattle.task.proofs.SpanLaws.{span-more, span-end}
 use Rattle.task.proofs.SizeLaws.{span-absent, span-front, state-asc, removed-asc}
-use Rattle.task.proofs.ExchangeLaws.{removed-in, in-removed, one-in, same-end, in-span, span-in, Held, all-held, held-all, held-none, held-join, rest-comes}
+use Rattle.task.proofs.ExchangeLaws.{
+  removed-in,
+  in-removed,
+  one-in,
+  same-end,
+  in-span,
+  span-in,
+  Held,
+  all-held,
+  held-all,
+  held-none,
+  held-join,
+  rest-comes,
+}
 
-module _ (w steps : List ℕ) (i add del k next : ℕ) (found : List ℕ) (n : ℕ) (sp : SpanOf w steps i add del) (l : add ≤ next) (m : next ≤ del)
+module _ (w steps : List ℕ) (i add del k next : ℕ) (found : List ℕ) (n : ℕ) (sp : SpanOf w steps i add del)
+    (l : add ≤ next) (m : next ≤ del)
     (st : isState (taskOf w) found n ≡ true)
     (h : all (holds (stateIn (taskOf w) found n)) (groundSpan w steps i add (next - add)) ≡ true) where
   abbrev s : List Fact
@@ -54,7 +68,8 @@ module _ (w steps : List ℕ) (i add del k next : ℕ) (found : List ℕ) (n : �
     new = fresh .atom
 
     to-new : Held w steps i s add new
-    to-new = held-join w steps i s add next new (all-held w steps i s add next h) (all-held w steps i s next new (c .hold))
+    to-new = held-join w steps i s add next new (all-held w steps i s add next h)
+        (all-held w steps i s next new (c .hold))
 
     from-add : add ≤ new
     from-add = let z = c .from in omega arith
@@ -69,7 +84,8 @@ module _ (w steps : List ℕ) (i add del k next : ℕ) (found : List ℕ) (n : �
     is-add known e q =
         let p = not-false (holds (groundSpan w steps i add (new - add)) d) (sym (e ∙ span-absent passed known) ∙ q) in
         let (j, a, b, y) = span-in w steps i add new d from-add (holds-in (groundSpan w steps i add (new - add)) d p) in
-        let u : In d (groundSpan w steps i add (del - add)) = in-eq y (in-span w steps i add del j a (let z = c .within in omega arith)) in
+        let u : In d (groundSpan w steps i add (del - add)) =
+        in-eq y (in-span w steps i add del j a (let z = c .within in omega arith)) in
         record {
           from = from-add;
           within = c .within;
@@ -108,14 +124,16 @@ module _ (w steps : List ℕ) (i add del k next : ℕ) (found : List ℕ) (n : �
 
     pub replaced-by : {number : ℕ} {r : Bool} (out : List ℕ) → Known (taskOf w) found n d number →
         r ≡ all (λ f. not (eqb (recordNumber f) number)) (groundSpan w steps i add (new - add)) → r ≡ true → new < del →
-        Keeps (taskOf w) out n (insert (groundAt w steps i new) (removeAll (d ∷ []) s)) → ExchangedOne w steps i add del k found n out n (new + 1)
+        Keeps (taskOf w) out n (insert (groundAt w steps i new) (removeAll (d ∷ []) s)) →
+        ExchangedOne w steps i add del k found n out n (new + 1)
     replaced-by out known e q y kept =
         let a = groundAt w steps i new in
         let rest = removeAll (d ∷ []) s in
         let new-held : Held w steps i (insert a rest) add (new + 1) =
         held-join w steps i (insert a rest) add new (new + 1)
         (λ j u v. insert-old a rest (groundAt w steps i j) (others-hold known e q j u v))
-        (λ j u v. let z : new ≡ j = omega arith in subst (λ (x : ℕ). In (groundAt w steps i x) (insert a rest)) z (insert-new a rest)) in
+        (λ j u v. let z : new ≡ j = omega arith in
+        subst (λ (x : ℕ). In (groundAt w steps i x) (insert a rest)) z (insert-new a rest)) in
         let u : In a (groundSpan w steps i add (del - add)) = in-span w steps i add del new from-add y in
         let z = from-add in
         record {
@@ -126,13 +144,15 @@ module _ (w steps : List ℕ) (i add del k next : ℕ) (found : List ℕ) (n : �
               (subst (λ (x : List Fact). Held w steps i x add (new + 1)) (sym (kept .facts)) new-held);
           same = λ fs.
               ap (λ (x : List Fact). insertAll (groundSpan w steps i add (del - add)) (removeAll fs x)) (kept .facts) ∙
-              same-end (groundSpan w steps i add (del - add)) d s (insert a rest) asc (asc-insert a (removed-asc (d ∷ []) asc))
+              same-end (groundSpan w steps i add (del - add)) d s (insert a rest) asc
+              (asc-insert a (removed-asc (d ∷ []) asc))
               (λ x j. elim (in-insert a rest x j) [ inl v ↦ inl (in-eq v u) | inr v ↦ inr (left-in x v) ])
               (λ x j v. inr (insert-old a rest x (in-removed (d ∷ []) s x j (λ p. v (one-in p))))) fs;
         }
 
 -- ---- all deletes, one after another
-pub record ExchangeSo (w steps : List ℕ) (i add del end : ℕ) (found : List ℕ) (n : ℕ) (state : List ℕ) (left next k : ℕ) : Type 0 where
+pub record ExchangeSo (w steps : List ℕ) (i add del end : ℕ) (found : List ℕ) (n : ℕ) (state : List ℕ)
+    (left next k : ℕ) : Type 0 where
   pub from-first : del ≤ k
   pub to-last : k ≤ end
   pub size : length state ≡ length found
@@ -140,10 +160,13 @@ pub record ExchangeSo (w steps : List ℕ) (i add del end : ℕ) (found : List �
   pub from-add : add ≤ next
   pub to-del : next ≤ del
   pub hold : all (holds (stateIn (taskOf w) state left)) (groundSpan w steps i add (next - add)) ≡ true
-  pub same : insertAll (groundSpan w steps i add (del - add)) (removeAll (groundSpan w steps i k (end - k)) (stateIn (taskOf w) state left)) ≡
-      insertAll (groundSpan w steps i add (del - add)) (removeAll (groundSpan w steps i del (end - del)) (stateIn (taskOf w) found n))
+  pub same : insertAll (groundSpan w steps i add (del - add))
+      (removeAll (groundSpan w steps i k (end - k)) (stateIn (taskOf w) state left)) ≡
+      insertAll (groundSpan w steps i add (del - add))
+      (removeAll (groundSpan w steps i del (end - del)) (stateIn (taskOf w) found n))
 
-pub exchange-start : (w steps : List ℕ) (i add del end : ℕ) (state : List ℕ) (n : ℕ) → add ≤ del → del ≤ end → isState (taskOf w) state n ≡ true →
+pub exchange-start : (w steps : List ℕ) (i add del end : ℕ) (state : List ℕ) (n : ℕ) → add ≤ del → del ≤ end →
+    isState (taskOf w) state n ≡ true →
     ExchangeSo w steps i add del end state n state n add del
 exchange-start w steps i add del end state n l m h = record {
   from-first = omega arith;
@@ -152,14 +175,16 @@ exchange-start w steps i add del end state n l m h = record {
   is-state = h;
   from-add = omega arith;
   to-del = l;
-  hold = held-all w steps i (stateIn (taskOf w) state n) add add (omega arith) (held-none w steps i (stateIn (taskOf w) state n) add);
+  hold = held-all w steps i (stateIn (taskOf w) state n) add add (omega arith)
+      (held-none w steps i (stateIn (taskOf w) state n) add);
   same = refl;
 }
 
 module _ {w steps : List ℕ} {i add del end : ℕ} {found : List ℕ} {n : ℕ} {state : List ℕ} {left next k : ℕ}
     (c : ExchangeSo w steps i add del end found n state left next k) where
   pub exchange-turn : {out : List ℕ} {left′ next′ : ℕ} → k < end → length out ≡ length state →
-      ExchangedOne w steps i add del k state left out left′ next′ → ExchangeSo w steps i add del end found n out left′ next′ (k + 1)
+      ExchangedOne w steps i add del k state left out left′ next′ →
+      ExchangeSo w steps i add del end found n out left′ next′ (k + 1)
   exchange-turn l z e = record {
     from-first = let y = c .from-first in omega arith;
     to-last = omega arith;
@@ -170,22 +195,28 @@ module _ {w steps : List ℕ} {i add del end : ℕ} {found : List ℕ} {n : ℕ}
     hold = e .hold;
     same =
         e .same (groundSpan w steps i (k + 1) (end - (k + 1))) ∙
-        (ap (λ (fs : List Fact). insertAll (groundSpan w steps i add (del - add)) (removeAll fs (stateIn (taskOf w) state left)))
+        (ap (λ (fs : List Fact). insertAll (groundSpan w steps i add (del - add))
+        (removeAll fs (stateIn (taskOf w) state left)))
         (sym (span-more w steps i k end l)) ∙ c .same);
   }
 
   -- what is still to come in makes the end
-  pub rest-ends : isTable w ≡ true → end ≤ k → insertAll (groundSpan w steps i next (del - next)) (stateIn (taskOf w) state left) ≡
-      insertAll (groundSpan w steps i add (del - add)) (removeAll (groundSpan w steps i del (end - del)) (stateIn (taskOf w) found n))
+  pub rest-ends : isTable w ≡ true → end ≤ k →
+      insertAll (groundSpan w steps i next (del - next)) (stateIn (taskOf w) state left) ≡
+      insertAll (groundSpan w steps i add (del - add))
+      (removeAll (groundSpan w steps i del (end - del)) (stateIn (taskOf w) found n))
   rest-ends h l =
       let s = stateIn (taskOf w) state left in
       let a = c .from-add in
-      rest-comes w steps i s (state-asc w state left h (c .is-state)) add del (next - add) next (omega arith) (c .to-del) (all-held w steps i s add next (c .hold)) ∙
+      rest-comes w steps i s (state-asc w state left h (c .is-state)) add del (next - add) next (omega arith)
+      (c .to-del) (all-held w steps i s add next (c .hold)) ∙
       (ap (insertAll (groundSpan w steps i add (del - add))) (sym (remove-nothing s)) ∙
-      (ap (λ (fs : List Fact). insertAll (groundSpan w steps i add (del - add)) (removeAll fs s)) (sym (span-end w steps i k end l)) ∙ c .same))
+      (ap (λ (fs : List Fact). insertAll (groundSpan w steps i add (del - add)) (removeAll fs s))
+      (sym (span-end w steps i k end l)) ∙ c .same))
 
   pub rest-room : isTable w ≡ true → end ≤ k →
-      length (insertAll (groundSpan w steps i add (del - add)) (removeAll (groundSpan w steps i del (end - del)) (stateIn (taskOf w) found n))) ≤ roomIn found →
+      length (insertAll (groundSpan w steps i add (del - add))
+      (removeAll (groundSpan w steps i del (end - del)) (stateIn (taskOf w) found n))) ≤ roomIn found →
       length (insertAll (groundSpan w steps i next (del - next)) (stateIn (taskOf w) state left)) ≤ roomIn state
   unfolding roomIn
   rest-room h l m = let e = ap length (rest-ends h l) in let z = c .size in omega arith
@@ -193,5 +224,6 @@ module _ {w steps : List ℕ} {i add del end : ℕ} {found : List ℕ} {n : ℕ}
   pub exchange-end : {out : List ℕ} {m : ℕ} → isTable w ≡ true → end ≤ k →
       Keeps (taskOf w) out m (insertAll (groundSpan w steps i next (del - next)) (stateIn (taskOf w) state left)) →
       Keeps (taskOf w) out m
-      (insertAll (groundSpan w steps i add (del - add)) (removeAll (groundSpan w steps i del (end - del)) (stateIn (taskOf w) found n)))
+      (insertAll (groundSpan w steps i add (del - add))
+      (removeAll (groundSpan w steps i del (end - del)) (stateIn (taskOf w) found n)))
   exchange-end h l kept = record { state = kept .state; facts = kept .facts ∙ rest-ends h l }

@@ -35,7 +35,8 @@ goal-known w state n k number h s l m e =
       is = sym e;
     }
 
-pub goal-so : (w : List ℕ) (s : List Fact) (from to : ℕ) {r : Bool} → from ≡ getD w 3 0 + getD w 4 0 → to ≡ from + getD w 5 0 →
+pub goal-so : (w : List ℕ) (s : List Fact) (from to : ℕ) {r : Bool} → from ≡ getD w 3 0 + getD w 4 0 →
+    to ≡ from + getD w 5 0 →
     r ≡ all (holds s) (map (factIn w) (upFrom from (to - from))) → r ≡ goalMet (taskOf w) s
 unfolding goalMet taskOf
 goal-so w s from to a b e =

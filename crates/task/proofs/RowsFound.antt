@@ -9,7 +9,17 @@ use native.Mathlib.Decide.{decLt}
 use lib.ListN.{length}
 use Rattle.task.specs.Task.{Fact, Task}
 use Rattle.task.specs.Run.{holds, insert, removeAll, stateIn}
-use Rattle.task.specs.Records.{rowNumber, RowsAscend, LowerBound, RowIs, MovedDown, MovedUp, Written, Known, Keeps}
+use Rattle.task.specs.Records.{
+  rowNumber,
+  RowsAscend,
+  LowerBound,
+  RowIs,
+  MovedDown,
+  MovedUp,
+  Written,
+  Known,
+  Keeps,
+}
 use Rattle.task.proofs.Laws.{false-if, In}
 use Rattle.task.proofs.States.{holds-in, in-holds, argsFit-fitting, Fits}
 use Rattle.task.proofs.Rows.{Kept, state-kept, kept-keeps}
@@ -50,16 +60,19 @@ module _ {t : Task} {w : List ℕ} {n : ℕ} {f : Fact} {number : ℕ} (d : Know
   found-holds {k} {r = true} b h = sym (in-holds (found-in h))
   found-holds {k} {r = false} b h = sym (false-if (holds s f) (λ e. missed-in b h (holds-in s f e)))
 
-  pub row-out : {k : ℕ} {out : List ℕ} → RowIs w n k number true → MovedDown w (5 * k) (5 * (n - 1)) out → length out ≡ length w →
+  pub row-out : {k : ℕ} {out : List ℕ} → RowIs w n k number true → MovedDown w (5 * k) (5 * (n - 1)) out →
+      length out ≡ length w →
       Keeps t out (n - 1) (removeAll (f ∷ []) s)
   row-out {k} {out} r m z =
       let (l, e) = r .found refl in
-      kept-keeps t (d .task) out (n - 1) (removeAll (f ∷ []) s) (taken-out t (d .task) w n s known-kept f number known-fits (d .is) k out l e m z)
+      kept-keeps t (d .task) out (n - 1) (removeAll (f ∷ []) s)
+      (taken-out t (d .task) w n s known-kept f number known-fits (d .is) k out l e m z)
 
   pub row-there : {k : ℕ} → RowIs w n k number true → Keeps t w n (insert f s)
   row-there r = record { state = d .state; facts = sym (insert-present f s (known-kept .state .asc) (found-in r)) }
 
-  pub row-came : {k : ℕ} {mid out : List ℕ} → LowerBound w n number k → RowIs w n k number false → MovedUp w (5 * k) (5 * n) mid →
+  pub row-came : {k : ℕ} {mid out : List ℕ} → LowerBound w n number k → RowIs w n k number false →
+      MovedUp w (5 * k) (5 * n) mid →
       Written mid (5 * k) number out → length out ≡ length w → 5 * n + 5 ≤ length w → Keeps t out (n + 1) (insert f s)
   row-came {k} {mid} {out} b r m v z y =
       kept-keeps t (d .task) out (n + 1) (insert f s)

@@ -1,5 +1,5 @@
--- Loops over the ground atoms of a span: between the turns, what is done with the atoms left gives what was to be done with
--- all. One law a loop for its start, its turn and its end.
+-- Loops over the ground atoms of a span: between the turns, what is done with the atoms left gives what was to be done
+-- with all. One law a loop for its start, its turn and its end.
 use Prim.Native.Nat.{ℕ, suc, _+_, _-_, _*_, _≤_, _<_}
 use mathlib.Core.Path.{_≡_, refl, sym, _∙_, ap}
 use mathlib.Core.Bool.{Bool, true, false}
@@ -39,7 +39,8 @@ module _ (g : ℕ → Fact) where
   row-end k to l = let e : to - k ≡ 0 = omega arith in ap (λ (n : ℕ). map g (upFrom k n)) e
 
 module _ (w steps : List ℕ) (i : ℕ) where
-  pub span-more : (k to : ℕ) → k < to → groundSpan w steps i k (to - k) ≡ groundAt w steps i k ∷ groundSpan w steps i (k + 1) (to - (k + 1))
+  pub span-more : (k to : ℕ) → k < to →
+      groundSpan w steps i k (to - k) ≡ groundAt w steps i k ∷ groundSpan w steps i (k + 1) (to - (k + 1))
   unfolding groundSpan
   span-more k to l = row-more (groundAt w steps i) k to l
 
@@ -48,15 +49,18 @@ module _ (w steps : List ℕ) (i : ℕ) where
   span-end k to l = row-end (groundAt w steps i) k to l
 
 -- ---- states
-pub state-long : (w state : List ℕ) (n : ℕ) → isTable w ≡ true → isState (taskOf w) state n ≡ true → 5 * n ≤ length state
+pub state-long : (w state : List ℕ) (n : ℕ) → isTable w ≡ true → isState (taskOf w) state n ≡ true →
+    5 * n ≤ length state
 state-long w state n h e = state-kept (taskOf w) (of-table w h .0) state n e .room
 
-pub state-ascends : (w state : List ℕ) (n : ℕ) → isTable w ≡ true → isState (taskOf w) state n ≡ true → RowsAscend state n
+pub state-ascends : (w state : List ℕ) (n : ℕ) → isTable w ≡ true → isState (taskOf w) state n ≡ true →
+    RowsAscend state n
 state-ascends w state n h e =
     let wf = of-table w h .0 in
     kept-ascend (taskOf w) wf state n (stateIn (taskOf w) state n) (state-kept (taskOf w) wf state n e)
 
-pub atom-known : {w steps : List ℕ} {i k : ℕ} {state : List ℕ} {n number : ℕ} → AtomOf w steps i k → isState (taskOf w) state n ≡ true →
+pub atom-known : {w steps : List ℕ} {i k : ℕ} {state : List ℕ} {n number : ℕ} → AtomOf w steps i k →
+    isState (taskOf w) state n ≡ true →
     number ≡ recordNumber (groundAt w steps i k) → Known (taskOf w) state n (groundAt w steps i k) number
 atom-known {w} {steps} {i} {k} o h e = record {
   task = of-table w (o .tabled) .0;
@@ -65,7 +69,8 @@ atom-known {w} {steps} {i} {k} o h e = record {
   is = sym e;
 }
 
-pub known-small : {t : Task} {w : List ℕ} {n : ℕ} {f : Fact} {number : ℕ} → Known t w n f number → number < 72057594037927936
+pub known-small : {t : Task} {w : List ℕ} {n : ℕ} {f : Fact} {number : ℕ} → Known t w n f number →
+    number < 72057594037927936
 unfolding inBase recordNumber
 known-small {t} {f = f} d =
     let c = slight t (d .task) f (known-fits d) in
@@ -78,12 +83,14 @@ known-small {t} {f = f} d =
 
 -- a row comes in only where there is room for the state that is to come
 pub known-room : {t : Task} {w : List ℕ} {n : ℕ} {f : Fact} {number : ℕ} (d : Known t w n f number) (fs : List Fact) →
-    length (insertAll (f ∷ fs) (stateIn t w n)) ≤ roomIn w → ((i : ℕ) → i < n → rowNumber w i ≡ number → ⊥) → 5 * n + 5 ≤ length w
+    length (insertAll (f ∷ fs) (stateIn t w n)) ≤ roomIn w → ((i : ℕ) → i < n → rowNumber w i ≡ number → ⊥) →
+    5 * n + 5 ≤ length w
 unfolding insertAll
 known-room {t} {w} {n} {f} {number} d fs l h =
     let s = stateIn t w n in
     let c = known-kept d in
-    let absent : In f s → ⊥ = λ i. (let (k, m, e) = in-row t (d .task) w n s c f number (known-fits d) (d .is) i in h k m e) in
+    let absent : In f s → ⊥ = λ i. (let (k, m, e) = in-row t (d .task) w n s c f number (known-fits d) (d .is) i in
+    h k m e) in
     let a = insert-missing f s absent in
     let b = insertAll-length fs (insert f s) (asc-insert f (c .state .asc)) .0 in
     let z = c .count in
@@ -127,7 +134,8 @@ insert-more : (f : Fact) (fs s : List Fact) → insertAll (f ∷ fs) s ≡ inser
 unfolding insertAll
 insert-more f fs s = refl
 
-pub record InsertedSo (w steps : List ℕ) (i from to : ℕ) (found : List ℕ) (n : ℕ) (state : List ℕ) (left k : ℕ) : Type 0 where
+pub record InsertedSo (w steps : List ℕ) (i from to : ℕ) (found : List ℕ) (n : ℕ) (state : List ℕ) (left k : ℕ) : Type
+    0 where
   pub from-first : from ≤ k
   pub to-last : k ≤ to
   pub size : length state ≡ length found
@@ -135,7 +143,8 @@ pub record InsertedSo (w steps : List ℕ) (i from to : ℕ) (found : List ℕ) 
   pub same : insertAll (groundSpan w steps i k (to - k)) (stateIn (taskOf w) state left) ≡
       insertAll (groundSpan w steps i from (to - from)) (stateIn (taskOf w) found n)
 
-pub insert-start : (w steps : List ℕ) (i from to : ℕ) (state : List ℕ) (n : ℕ) → from ≤ to → isState (taskOf w) state n ≡ true →
+pub insert-start : (w steps : List ℕ) (i from to : ℕ) (state : List ℕ) (n : ℕ) → from ≤ to →
+    isState (taskOf w) state n ≡ true →
     InsertedSo w steps i from to state n state n from
 insert-start w steps i from to state n l h = record {
   from-first = omega arith;
@@ -154,7 +163,8 @@ module _ {w steps : List ℕ} {i from to : ℕ} {found : List ℕ} {n : ℕ} {st
   rest = groundSpan w steps i (k + 1) (to - (k + 1))
 
   pub insert-turn : {out : List ℕ} {left′ : ℕ} → k < to → length out ≡ length state →
-      Keeps (taskOf w) out left′ (insert (groundAt w steps i k) s) → InsertedSo w steps i from to found n out left′ (k + 1)
+      Keeps (taskOf w) out left′ (insert (groundAt w steps i k) s) →
+      InsertedSo w steps i from to found n out left′ (k + 1)
   insert-turn l z h = record {
     from-first = let y = c .from-first in omega arith;
     to-last = omega arith;
@@ -166,7 +176,8 @@ module _ {w steps : List ℕ} {i from to : ℕ} {found : List ℕ} {n : ℕ} {st
         (ap (λ (fs : List Fact). insertAll fs s) (sym (span-more w steps i k to l)) ∙ c .same));
   }
 
-  pub insert-end : to ≤ k → Keeps (taskOf w) state left (insertAll (groundSpan w steps i from (to - from)) (stateIn (taskOf w) found n))
+  pub insert-end : to ≤ k → Keeps (taskOf w) state left
+      (insertAll (groundSpan w steps i from (to - from)) (stateIn (taskOf w) found n))
   insert-end l = record {
     state = c .is-state;
     facts =
@@ -175,7 +186,8 @@ module _ {w steps : List ℕ} {i from to : ℕ} {found : List ℕ} {n : ℕ} {st
   }
 
   -- what is still to come in fits, since all of it does
-  pub rest-fits : k < to → length (insertAll (groundSpan w steps i from (to - from)) (stateIn (taskOf w) found n)) ≤ roomIn found →
+  pub rest-fits : k < to → length (insertAll (groundSpan w steps i from (to - from)) (stateIn (taskOf w) found n)) ≤
+      roomIn found →
       length (insertAll (groundAt w steps i k ∷ rest) s) ≤ roomIn state
   unfolding roomIn
   rest-fits l h =

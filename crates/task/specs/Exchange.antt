@@ -1,5 +1,5 @@
--- Deletes and adds exchanged row for row, as the inner functions of running speak of it. No promise of an entry point cites
--- these.
+-- Deletes and adds exchanged row for row, as the inner functions of running speak of it. No promise of an entry point
+-- cites these.
 use Prim.Native.Nat.{ℕ, _-_, _≤_, _<_}
 use mathlib.Core.Path.{_≡_}
 use mathlib.Core.Bool.{true, false}
@@ -22,11 +22,13 @@ pub record FirstNew (table steps : List ℕ) (i a b : ℕ) (state : List ℕ) (n
   pub place : r .atom < b → LowerBound state n (r .number) (r .row)
 
 -- the delete k is dealt with, whatever deletes are still to come, and the adds before `next` hold
-pub record ExchangedOne (table steps : List ℕ) (i add del k : ℕ) (found : List ℕ) (n : ℕ) (out : List ℕ) (left next : ℕ) : Type 0 where
+pub record ExchangedOne (table steps : List ℕ) (i add del k : ℕ) (found : List ℕ) (n : ℕ) (out : List ℕ)
+    (left next : ℕ) : Type 0 where
   pub from : add ≤ next
   pub within : next ≤ del
   pub state : isState (taskOf table) out left ≡ true
   pub hold : all (holds (stateIn (taskOf table) out left)) (groundSpan table steps i add (next - add)) ≡ true
   pub same : (fs : List Fact) →
       insertAll (groundSpan table steps i add (del - add)) (removeAll fs (stateIn (taskOf table) out left)) ≡
-      insertAll (groundSpan table steps i add (del - add)) (removeAll (groundAt table steps i k ∷ fs) (stateIn (taskOf table) found n))
+      insertAll (groundSpan table steps i add (del - add))
+      (removeAll (groundAt table steps i k ∷ fs) (stateIn (taskOf table) found n))

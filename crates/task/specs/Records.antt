@@ -66,8 +66,10 @@ pub record Written (w : List ℕ) (a number : ℕ) (out : List ℕ) : Type 0 whe
 
 -- row k gives way to one with this number before row j: the rows between come over it
 pub data Replaced (w : List ℕ) (k j number : ℕ) (out : List ℕ) : Type 0 where
-  up : {mid : List ℕ} → j ≤ k → MovedUp w (5 * j) (5 * k) mid → Written mid (5 * j) number out → Replaced w k j number out
-  down : {mid : List ℕ} → k < j → MovedDown w (5 * k) (5 * (j - 1)) mid → Written mid (5 * (j - 1)) number out → Replaced w k j number out
+  up : {mid : List ℕ} → j ≤ k → MovedUp w (5 * j) (5 * k) mid → Written mid (5 * j) number out →
+      Replaced w k j number out
+  down : {mid : List ℕ} → k < j → MovedDown w (5 * k) (5 * (j - 1)) mid → Written mid (5 * (j - 1)) number out →
+      Replaced w k j number out
 
 -- the words keep a state of the task, and the number is that of a ground atom of its predicates and objects
 pub record Known (t : Task) (w : List ℕ) (n : ℕ) (f : Fact) (number : ℕ) : Type 0 where

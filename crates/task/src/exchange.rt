@@ -83,8 +83,10 @@ fn exchange_one(
     requires { ⌜ SpanOf (now table) (now steps) i add del ⌝ }
     requires { ⌜ (add ≤ next) × (next ≤ del) ⌝ }
     requires { ⌜ isState (taskOf (now table)) (now state) n ≡ true ⌝ }
-    requires { ⌜ all (holds (stateIn (taskOf (now table)) (now state) n)) (groundSpan (now table) (now steps) i add (next - add)) ≡ true ⌝ }
-    ensures { λ r. ⌜ ExchangedOne (now (table .entry)) (now (steps .entry)) i add del k (now (state .entry)) n (now (state .exit)) (r .left) (r .next) ⌝ }
+    requires { ⌜ all (holds (stateIn (taskOf (now table)) (now state) n))
+        (groundSpan (now table) (now steps) i add (next - add)) ≡ true ⌝ }
+    ensures { λ r. ⌜ ExchangedOne (now (table .entry)) (now (steps .entry)) i add del k (now (state .entry)) n
+        (now (state .exit)) (r .left) (r .next) ⌝ }
 {
     let out = ground(table, k, steps, i);
     let row = find(state, n, out);
@@ -113,7 +115,7 @@ fn exchange_one(
     }
 }
 
-// Takes the atoms from `del` to `end` out of the state and puts those from `add` to `del` in, into a state with room for
+// Takes the atoms from `del` to `end` out of the state and puts those from `add` to `del` in, where there is room for
 // what is left; returns how many records there are then.
 pub(crate) fn exchange(
     table: &[u16],
@@ -129,7 +131,8 @@ pub(crate) fn exchange(
     requires { ⌜ SpanOf (now table) (now steps) i del end ⌝ }
     requires { ⌜ isState (taskOf (now table)) (now state) n ≡ true ⌝ }
     requires { ⌜ length (insertAll (groundSpan (now table) (now steps) i add (del - add))
-        (removeAll (groundSpan (now table) (now steps) i del (end - del)) (stateIn (taskOf (now table)) (now state) n))) ≤ roomIn (now state) ⌝ }
+        (removeAll (groundSpan (now table) (now steps) i del (end - del)) (stateIn (taskOf (now table)) (now state) n)))
+        ≤ roomIn (now state) ⌝ }
     ensures { λ r. ⌜ Keeps (taskOf (now (table .entry))) (now (state .exit)) r
         (insertAll (groundSpan (now (table .entry)) (now (steps .entry)) i add (del - add))
         (removeAll (groundSpan (now (table .entry)) (now (steps .entry)) i del (end - del))

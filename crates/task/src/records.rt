@@ -6,7 +6,20 @@ ghost use lib.ListN.{length, getD, take};
 ghost use Rattle.task.specs.Lists.{padded};
 ghost use Rattle.task.specs.Task.{Task, Fact};
 ghost use Rattle.task.specs.Run.{holds, insert, stateIn};
-ghost use Rattle.task.specs.Records.{inBase, numberAt, rowNumber, RowsAscend, LowerBound, RowIs, MovedDown, MovedUp, Written, Replaced, Known, Keeps};
+ghost use Rattle.task.specs.Records.{
+  inBase,
+  numberAt,
+  rowNumber,
+  RowsAscend,
+  LowerBound,
+  RowIs,
+  MovedDown,
+  MovedUp,
+  Written,
+  Replaced,
+  Known,
+  Keeps,
+};
 
 // A word of lent words as a wider number.
 pub(crate) fn word(w: &[u16], at: usize) -> u64
@@ -121,7 +134,8 @@ pub(crate) fn is_row(state: &[u16], n: usize, k: usize, number: u64) -> bool
 pub(crate) fn held(state: &[u16], n: usize, number: u64) -> bool
     requires { ⌜ 5 * n ≤ length (now state) ⌝ }
     requires { ⌜ RowsAscend (now state) n ⌝ }
-    ensures { λ r. ⌜ ((t : Task) (f : Fact) → Known t (now (state .entry)) n f number → r ≡ holds (stateIn t (now (state .entry)) n) f) ⌝ }
+    ensures { λ r. ⌜ ((t : Task) (f : Fact) → Known t (now (state .entry)) n f number →
+        r ≡ holds (stateIn t (now (state .entry)) n) f) ⌝ }
 {
     let k = find(state, n, number);
     is_row(state, n, k, number)
@@ -139,7 +153,8 @@ pub(crate) fn remove_row(state: &mut [u16], n: usize, k: usize)
 pub(crate) fn put_in(state: &mut [u16], n: usize, number: u64) -> usize
     requires { ⌜ 5 * n ≤ length (now state) ⌝ }
     requires { ⌜ RowsAscend (now state) n ⌝ }
-    requires { ⌜ (((i : ℕ) → i < n → rowNumber (now state) i ≡ number → ⊥) → 5 * n + 5 ≤ length (now state)) × (number < 72057594037927936) ⌝ }
+    requires { ⌜ (((i : ℕ) → i < n → rowNumber (now state) i ≡ number → ⊥) → 5 * n + 5 ≤ length (now state)) ×
+        (number < 72057594037927936) ⌝ }
     ensures { λ r. ⌜ ((t : Task) (f : Fact) → Known t (now (state .entry)) n f number →
         Keeps t (now (state .exit)) r (insert f (stateIn t (now (state .entry)) n))) ⌝ }
 {

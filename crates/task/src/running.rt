@@ -110,7 +110,8 @@ fn run_step(
 fn goal_met(table: &[u16], state: &[u16], n: usize) -> bool
     requires { ⌜ isTable (now table) ≡ true ⌝ }
     requires { ⌜ isState (taskOf (now table)) (now state) n ≡ true ⌝ }
-    ensures { λ r. ⌜ r ≡ goalMet (taskOf (now (table .entry))) (stateIn (taskOf (now (table .entry))) (now (state .entry)) n) ⌝ }
+    ensures { λ r. ⌜ r ≡ goalMet (taskOf (now (table .entry)))
+        (stateIn (taskOf (now (table .entry))) (now (state .entry)) n) ⌝ }
 {
     let from = word(table, 3) as usize + word(table, 4) as usize;
     let to = from + word(table, 5) as usize;
@@ -131,7 +132,8 @@ fn run_list(table: &[u16], starts: &[u16], steps: &[u16], state: &mut [u16], n: 
     requires { ⌜ badStep (taskOf (now table)) (now steps) ≡ none ⌝ }
     requires { ⌜ isState (taskOf (now table)) (now state) n ≡ true ⌝ }
     ensures { λ r. ⌜ isState (taskOf (now (table .entry))) (now (state .exit)) (recordsLeft r) ≡ true ⌝ }
-    ensures { λ r. ⌜ runWithin (roomIn (now (state .entry))) (taskOf (now (table .entry))) (stepsIn (taskOf (now (table .entry))) (now (steps .entry)))
+    ensures { λ r. ⌜ runWithin (roomIn (now (state .entry))) (taskOf (now (table .entry)))
+        (stepsIn (taskOf (now (table .entry))) (now (steps .entry)))
         (stateIn (taskOf (now (table .entry))) (now (state .entry)) n) ≡
         endedAs r (stateIn (taskOf (now (table .entry))) (now (state .exit)) (recordsLeft r)) ⌝ }
 {
@@ -161,10 +163,12 @@ pub(crate) fn run_steps(table: &[u16], steps: &[u16], state: &mut [u16], records
     requires { ⌜ badStep (taskOf (now table)) (now steps) ≡ none ⌝ }
     requires { ⌜ isState (taskOf (now table)) (now state) records ≡ true ⌝ }
     ensures { λ r. ⌜ runAnswerTold r ≡ runDone (taskOf (now (table .entry))) (length (now (state .entry)))
-        (runWithin (roomIn (now (state .entry))) (taskOf (now (table .entry))) (stepsIn (taskOf (now (table .entry))) (now (steps .entry)))
+        (runWithin (roomIn (now (state .entry))) (taskOf (now (table .entry)))
+        (stepsIn (taskOf (now (table .entry))) (now (steps .entry)))
         (stateIn (taskOf (now (table .entry))) (now (state .entry)) records)) .told ⌝ }
     ensures { λ _. ⌜ now (state .exit) ≡ runDone (taskOf (now (table .entry))) (length (now (state .entry)))
-        (runWithin (roomIn (now (state .entry))) (taskOf (now (table .entry))) (stepsIn (taskOf (now (table .entry))) (now (steps .entry)))
+        (runWithin (roomIn (now (state .entry))) (taskOf (now (table .entry)))
+        (stepsIn (taskOf (now (table .entry))) (now (steps .entry)))
         (stateIn (taskOf (now (table .entry))) (now (state .entry)) records)) .buffer ⌝ }
 {
     let mut starts = [0u16; 201];

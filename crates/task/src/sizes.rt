@@ -95,8 +95,8 @@ fn size_without(
     size
 }
 
-// Whether the atom with this number is new when those from `del` to `end` have gone out and those from `add` to `k` have
-// come in.
+// Whether the atom with this number is new when those from `del` to `end` have gone out and those from `add` to `k`
+// have come in.
 fn comes(
     table: &[u16],
     add: usize,
@@ -124,8 +124,8 @@ fn comes(
     }
 }
 
-// How many records there are when the atoms from `del` to `end` have gone out, which leaves `size`, and those from `add`
-// to `del` have come in.
+// How many records there are when the atoms from `del` to `end` have gone out, which leaves `size`, and those from
+// `add` to `del` have come in.
 fn size_with(
     table: &[u16],
     add: usize,

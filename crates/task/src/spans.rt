@@ -116,8 +116,8 @@ pub(crate) fn insert_span(
 ) -> usize
     requires { ⌜ SpanOf (now table) (now steps) i from to ⌝ }
     requires { ⌜ isState (taskOf (now table)) (now state) n ≡ true ⌝ }
-    requires { ⌜ length (insertAll (groundSpan (now table) (now steps) i from (to - from)) (stateIn (taskOf (now table)) (now state) n))
-        ≤ roomIn (now state) ⌝ }
+    requires { ⌜ length (insertAll (groundSpan (now table) (now steps) i from (to - from))
+        (stateIn (taskOf (now table)) (now state) n)) ≤ roomIn (now state) ⌝ }
     ensures { λ r. ⌜ Keeps (taskOf (now (table .entry))) (now (state .exit)) r
         (insertAll (groundSpan (now (table .entry)) (now (steps .entry)) i from (to - from))
         (stateIn (taskOf (now (table .entry))) (now (state .entry)) n)) ⌝ }

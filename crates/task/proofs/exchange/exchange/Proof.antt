@@ -1,5 +1,5 @@
--- `exchange::exchange` meets its contract. Between the turns, inserting all adds into the state without the deletes left
--- gives the end, and the adds before `next` hold; the measure is how many deletes are left.
+-- `exchange::exchange` meets its contract. Between the turns, inserting all adds into the state without the deletes
+-- left gives the end, and the adds before `next` hold; the measure is how many deletes are left.
 use Prim.Native.Nat.{_-_}
 use mathlib.Core.Path.{_∙_}
 use native.Mathlib.Omega.{arith}
@@ -17,13 +17,18 @@ abbrev μ-loop : tie.MeasureT-loop
 μ-loop table add del end steps i state₀ n left₀ next₀ k₀ state left next k = end - k
 
 loop-holds : tie.Need-loop-holds Inv-loop μ-loop
-loop-holds c = exchange-start _ _ _ _ _ _ _ _ (c .before .before .before .pre .0 .ordered) (c .before .before .before .pre .1 .0 .ordered) (c .before .before .before .pre .1 .1 .0)
+loop-holds c = exchange-start _ _ _ _ _ _ _ _ (c .before .before .before .pre .0 .ordered)
+    (c .before .before .before .pre .1 .0 .ordered) (c .before .before .before .pre .1 .1 .0)
 
 exchange-one-requires : tie.Need-exchange-one-requires Inv-loop μ-loop
 exchange-one-requires c κs =
     let so = c .before .before .loop .inv in (
-      span-atom _ _ _ _ _ (c .before .before .before .before .before .before .pre .1 .0) _ (so .from-first) (c .before .loop-test .taken),
-      (c .before .before .before .before .before .before .pre .0, ((so .from-add, so .to-del), (so .is-state, so .hold))),
+      span-atom _ _ _ _ _ (c .before .before .before .before .before .before .pre .1 .0) _ (so .from-first)
+          (c .before .loop-test .taken),
+      (
+        c .before .before .before .before .before .before .pre .0,
+        ((so .from-add, so .to-del), (so .is-state, so .hold)),
+      ),
     )
 
 add-k : tie.Need-add-k Inv-loop μ-loop
@@ -33,20 +38,29 @@ loop-less : tie.Need-loop-less Inv-loop μ-loop
 loop-less c = omega arith
 
 loop-again : tie.Need-loop-again Inv-loop μ-loop
-loop-again c = exchange-turn (c .before .before .before .before .before .loop .inv) (c .before .before .before .before .loop-test .taken) (c .before .before .exchange-one .kept .1 .1 .1 .1 .1 .1 .1 .0) (c .before .before .exchange-one .ensures)
+loop-again c = exchange-turn (c .before .before .before .before .before .loop .inv)
+    (c .before .before .before .before .loop-test .taken)
+    (c .before .before .exchange-one .kept .1 .1 .1 .1 .1 .1 .1 .0) (c .before .before .exchange-one .ensures)
 
 insert-span-requires : tie.Need-insert-span-requires Inv-loop μ-loop
 insert-span-requires c κs =
     let so = c .before .before .loop .inv in (
       span-back (c .before .before .before .before .before .before .pre .0) _ (so .from-add) (so .to-del),
-      (so .is-state, rest-room so (c .before .before .before .before .before .before .pre .0 .tabled) (c .before .loop-test .left) (c .before .before .before .before .before .before .pre .1 .1 .1)),
+      (
+        so .is-state,
+        rest-room so (c .before .before .before .before .before .before .pre .0 .tabled)
+            (c .before .loop-test .left) (c .before .before .before .before .before .before .pre .1 .1 .1),
+      ),
     )
 
 same-length : tie.Need-same-length Inv-loop μ-loop
-same-length c = c .before .before .insert-span .kept .1 .1 .1 .1 .1 .0 ∙ c .before .before .before .before .before .loop .inv .size
+same-length c = c .before .before .insert-span .kept .1 .1 .1 .1 .1 .0 ∙
+    c .before .before .before .before .before .loop .inv .size
 
 returns : tie.Need-returns Inv-loop μ-loop
-returns c = exchange-end (c .before .before .before .before .before .loop .inv) (c .before .before .before .before .before .before .before .before .before .pre .0 .tabled) (c .before .before .before .before .loop-test .left) (c .before .before .insert-span .ensures)
+returns c = exchange-end (c .before .before .before .before .before .loop .inv)
+    (c .before .before .before .before .before .before .before .before .before .pre .0 .tabled)
+    (c .before .before .before .before .loop-test .left) (c .before .before .insert-span .ensures)
 
 pub exchange-spec : {M : Type 1} → statement M
 exchange-spec =

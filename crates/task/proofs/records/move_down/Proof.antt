@@ -49,7 +49,12 @@ same-length c = c .before .loop .inv .2 .size
 returns : tie.Need-returns Inv-loop μ-loop
 returns c =
     let d = c .before .loop .inv .2 in
-    record { before = d .before; moved = λ i l m. d .moved i l (omega arith); behind = λ i l. d .behind i (omega arith) }
+    record {
+      before = d .before;
+      moved = λ i l m. d .moved i l (omega arith);
+      behind =
+          λ i l. d .behind i (omega arith);
+    }
 
 pub move-down-spec : {M : Type 1} → statement M
 move-down-spec =

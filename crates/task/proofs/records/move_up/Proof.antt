@@ -40,7 +40,8 @@ loop-again : tie.Need-loop-again Inv-loop μ-loop
 loop-again c = (
   omega arith,
   omega arith,
-  up-more _ _ (c .before .before .loop .i) _ _ (omega arith) (omega arith) (omega arith) (c .before .before .loop .inv .2),
+  up-more _ _ (c .before .before .loop .i) _ _ (omega arith) (omega arith) (omega arith)
+      (c .before .before .loop .inv .2),
 )
 
 same-length : tie.Need-same-length Inv-loop μ-loop

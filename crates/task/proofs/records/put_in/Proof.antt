@@ -31,14 +31,21 @@ mul-move-up-2 : tie.Need-mul-move-up-2
 mul-move-up-2 c = search needs
 
 move-up-requires : tie.Need-move-up-requires
-move-up-requires c κs = (let z = c .before .before .before .before .find .ensures .within in omega arith, room (c .before .before .before .before .before .before .before .pre) (c .before .before .before .before .find .ensures) (c .before .before .is-row .ensures) (c .before .if1 .left))
+move-up-requires c κs = (
+  let z = c .before .before .before .before .find .ensures .within in omega arith,
+  room (c .before .before .before .before .before .before .before .pre)
+      (c .before .before .before .before .find .ensures) (c .before .before .is-row .ensures) (c .before .if1 .left),
+)
 
 mul-write-at : tie.Need-mul-write-at
 mul-write-at c = search needs
 
 write-at-requires : tie.Need-write-at-requires
 write-at-requires c κs = (
-  let y = room (c .before .before .before .before .before .before .before .before .before .before .before .pre) (c .before .before .before .before .before .before .before .before .find .ensures) (c .before .before .before .before .before .before .is-row .ensures) (c .before .before .before .before .before .if1 .left) in
+  let y = room (c .before .before .before .before .before .before .before .before .before .before .before .pre)
+      (c .before .before .before .before .before .before .before .before .find .ensures)
+      (c .before .before .before .before .before .before .is-row .ensures)
+      (c .before .before .before .before .before .if1 .left) in
       let z = c .before .before .before .before .before .before .before .before .find .ensures .within in
       let k = c .before .before .before .move-up .kept .0 in
       omega arith,
@@ -59,8 +66,15 @@ same-length-2 c = search needs
 
 returns-2 : tie.Need-returns-2
 returns-2 c = λ t f d.
-    row-came d (c .before .before .before .before .before .before .before .before .before .before .before .find .ensures) (row-is (c .before .before .before .before .before .before .before .before .before .is-row .ensures) (c .before .before .before .before .before .before .before .before .if1 .left)) (c .before .before .before .before .before .before .move-up .ensures) (c .before .before .write-at .ensures)
-    (c .before .before .write-at .kept .0 ∙ c .before .before .before .before .before .before .move-up .kept .0) (room (c .before .before .before .before .before .before .before .before .before .before .before .before .before .before .pre) (c .before .before .before .before .before .before .before .before .before .before .before .find .ensures) (c .before .before .before .before .before .before .before .before .before .is-row .ensures) (c .before .before .before .before .before .before .before .before .if1 .left))
+    row-came d (c .before .before .before .before .before .before .before .before .before .before .before .find
+    .ensures) (row-is (c .before .before .before .before .before .before .before .before .before .is-row .ensures)
+    (c .before .before .before .before .before .before .before .before .if1 .left))
+    (c .before .before .before .before .before .before .move-up .ensures) (c .before .before .write-at .ensures)
+    (c .before .before .write-at .kept .0 ∙ c .before .before .before .before .before .before .move-up .kept .0)
+    (room (c .before .before .before .before .before .before .before .before .before .before .before .before
+    .before .before .pre) (c .before .before .before .before .before .before .before .before .before .before
+    .before .find .ensures) (c .before .before .before .before .before .before .before .before .before .is-row
+    .ensures) (c .before .before .before .before .before .before .before .before .if1 .left))
 
 pub put-in-spec : {M : Type 1} → statement M
 put-in-spec =

@@ -1,4 +1,5 @@
--- `records::replace` meets its contract: the rows between move up over row k, or down, and the new row's digits are written.
+-- `records::replace` meets its contract: the rows between move up over row k, or down, and the new row's digits are
+-- written.
 use Rattle.task.specs.Records.{up, down}
 use borrow.Author.Needs.{needs}
 use Rattle.task.proofs.records.replace.Statement.{statement}
@@ -44,13 +45,15 @@ same-length : tie.Need-same-length
 same-length c = search needs
 
 returns : tie.Need-returns
-returns c = up (c .before .before .before .before .before .before .before .before .if1 .taken) (c .before .before .before .before .before .before .move-up .ensures) (c .before .before .write-at .ensures)
+returns c = up (c .before .before .before .before .before .before .before .before .if1 .taken)
+    (c .before .before .before .before .before .before .move-up .ensures) (c .before .before .write-at .ensures)
 
 same-length-2 : tie.Need-same-length-2
 same-length-2 c = search needs
 
 returns-2 : tie.Need-returns-2
-returns-2 c = down (c .before .before .before .before .before .before .before .before .if1 .left) (c .before .before .before .before .before .before .move-down .ensures) (c .before .before .write-at2 .ensures)
+returns-2 c = down (c .before .before .before .before .before .before .before .before .if1 .left)
+    (c .before .before .before .before .before .before .move-down .ensures) (c .before .before .write-at2 .ensures)
 
 pub replace-spec : {M : Type 1} → statement M
 replace-spec =

@@ -37,10 +37,20 @@ loop-holds : tie.Need-loop-holds Inv-loop μ-loop
 loop-holds c = all-start _ _ _ _ (omega arith)
 
 fact-number-requires : tie.Need-fact-number-requires Inv-loop μ-loop
-fact-number-requires c κs = (c .before .before .before .before .before .before .before .pre .0, let e₃ = c .before .before .before .before .word .ensures in let e₄ = c .before .before .before .word2 .ensures in let e₅ = c .before .before .word3 .ensures in let m = c .loop-test .taken in omega arith)
+fact-number-requires c κs = (
+  c .before .before .before .before .before .before .before .pre .0,
+  let e₃ =
+      c .before .before .before .before .word .ensures in let e₄ = c .before .before .before .word2 .ensures in let e₅ =
+      c .before .before .word3 .ensures in let m = c .loop-test .taken in omega arith,
+)
 
 held-requires : tie.Need-held-requires Inv-loop μ-loop
-held-requires c κs = (state-long _ _ _ (c .before .before .before .before .before .before .before .before .pre .0) (c .before .before .before .before .before .before .before .before .pre .1), state-ascends _ _ _ (c .before .before .before .before .before .before .before .before .pre .0) (c .before .before .before .before .before .before .before .before .pre .1))
+held-requires c κs = (
+  state-long _ _ _ (c .before .before .before .before .before .before .before .before .pre .0)
+      (c .before .before .before .before .before .before .before .before .pre .1),
+  state-ascends _ _ _ (c .before .before .before .before .before .before .before .before .pre .0)
+      (c .before .before .before .before .before .before .before .before .pre .1),
+)
 
 returns : tie.Need-returns Inv-loop μ-loop
 returns c =
@@ -49,9 +59,14 @@ returns c =
     let e₅ = c .before .before .before .before .before .word3 .ensures in
     let l = c .before .before .before .before .loop .inv .from-first in
     let m = c .before .before .before .loop-test .taken in
-    let known = goal-known _ _ _ (c .before .before .before .before .loop .k) _ (c .before .before .before .before .before .before .before .before .before .before .pre .0) (c .before .before .before .before .before .before .before .before .before .before .pre .1) (omega arith) (omega arith) (c .before .before .fact-number .ensures) in
-    goal-so _ _ (c .before .before .before .before .before .before .before .word .result + c .before .before .before .before .before .before .word2 .result) _ (omega arith) (omega arith)
-    (all-left _ _ _ _ _ m (c .before .before .before .before .loop .inv) (sym (c .before .held .ensures _ _ known) ∙ not-true _ (c .if1 .taken)))
+    let known = goal-known _ _ _ (c .before .before .before .before .loop .k) _
+    (c .before .before .before .before .before .before .before .before .before .before .pre .0)
+    (c .before .before .before .before .before .before .before .before .before .before .pre .1) (omega arith)
+    (omega arith) (c .before .before .fact-number .ensures) in
+    goal-so _ _ (c .before .before .before .before .before .before .before .word .result + c .before .before .before
+    .before .before .before .word2 .result) _ (omega arith) (omega arith)
+    (all-left _ _ _ _ _ m (c .before .before .before .before .loop .inv) (sym (c .before .held .ensures _ _ known) ∙
+    not-true _ (c .if1 .taken)))
 
 add-k : tie.Need-add-k Inv-loop μ-loop
 add-k c = omega arith
@@ -66,13 +81,19 @@ loop-again c =
     let e₅ = c .before .before .before .before .before .word3 .ensures in
     let l = c .before .before .before .before .loop .inv .from-first in
     let m = c .before .before .before .loop-test .taken in
-    let known = goal-known _ _ _ (c .before .before .before .before .loop .k) _ (c .before .before .before .before .before .before .before .before .before .before .pre .0) (c .before .before .before .before .before .before .before .before .before .before .pre .1) (omega arith) (omega arith) (c .before .before .fact-number .ensures) in
-    all-turn _ _ _ _ _ m (c .before .before .before .before .loop .inv) (sym (c .before .held .ensures _ _ known) ∙ not-false _ (c .if1 .left))
+    let known = goal-known _ _ _ (c .before .before .before .before .loop .k) _
+    (c .before .before .before .before .before .before .before .before .before .before .pre .0)
+    (c .before .before .before .before .before .before .before .before .before .before .pre .1) (omega arith)
+    (omega arith) (c .before .before .fact-number .ensures) in
+    all-turn _ _ _ _ _ m (c .before .before .before .before .loop .inv) (sym (c .before .held .ensures _ _ known) ∙
+    not-false _ (c .if1 .left))
 
 returns-2 : tie.Need-returns-2 Inv-loop μ-loop
 returns-2 c =
-    let e₃ = c .before .before .before .before .word .ensures in let e₄ = c .before .before .before .word2 .ensures in let e₅ = c .before .before .word3 .ensures in
-    goal-so _ _ (c .before .before .before .before .word .result + c .before .before .before .word2 .result) _ (omega arith) (omega arith)
+    let e₃ = c .before .before .before .before .word .ensures in let e₄ = c .before .before .before .word2 .ensures in
+    let e₅ = c .before .before .word3 .ensures in
+    goal-so _ _ (c .before .before .before .before .word .result + c .before .before .before .word2 .result) _
+    (omega arith) (omega arith)
     (all-ended _ _ _ _ _ (c .loop-test .left) (c .before .loop .inv))
 
 pub goal-met-spec : {M : Type 1} → statement M

@@ -1,5 +1,5 @@
--- `running::role_end` meets its contract. Between the turns the atoms from `from` to `k` have the role; the measure is how
--- many are left up to `to`.
+-- `running::role_end` meets its contract. Between the turns the atoms from `from` to `k` have the role; the measure is
+-- how many are left up to `to`.
 use Prim.Native.Nat.{_-_}
 use mathlib.Core.Path.{sym, _∙_}
 use native.Mathlib.Omega.{arith}
@@ -29,7 +29,8 @@ shared-slice-read-if1 : tie.Need-shared-slice-read-if1 Inv-loop μ-loop
 shared-slice-read-if1 c = omega arith
 
 returns : tie.Need-returns Inv-loop μ-loop
-returns c = role-ends (c .before .before .before .before .loop .inv) (λ l e. c .if1 .taken (sym (role-at _ _ _ (c .before .before .atom-at .ensures .0)) ∙ e))
+returns c = role-ends (c .before .before .before .before .loop .inv)
+    (λ l e. c .if1 .taken (sym (role-at _ _ _ (c .before .before .atom-at .ensures .0)) ∙ e))
 
 add-k : tie.Need-add-k Inv-loop μ-loop
 add-k c = omega arith
@@ -38,7 +39,8 @@ loop-less : tie.Need-loop-less Inv-loop μ-loop
 loop-less c = omega arith
 
 loop-again : tie.Need-loop-again Inv-loop μ-loop
-loop-again c = role-turn (c .before .before .before .before .loop .inv) (c .before .before .before .loop-test .taken) (role-at _ _ _ (c .before .before .atom-at .ensures .0) ∙ c .if1 .left)
+loop-again c = role-turn (c .before .before .before .before .loop .inv) (c .before .before .before .loop-test .taken)
+    (role-at _ _ _ (c .before .before .atom-at .ensures .0) ∙ c .if1 .left)
 
 returns-2 : tie.Need-returns-2 Inv-loop μ-loop
 returns-2 c = role-ends (c .before .loop .inv) (λ l e. let z = c .loop-test .left in omega arith)

@@ -1,5 +1,5 @@
--- `running::run_list` meets its contract. Between the steps, running those left from the state kept gives what running all
--- was to give; the measure is how many are left.
+-- `running::run_list` meets its contract. Between the steps, running those left from the state kept gives what running
+-- all was to give; the measure is how many are left.
 use Prim.Native.Nat.{_+_, _-_, _*_, _<_}
 use mathlib.Core.Path.{_≡_, _∙_}
 use mathlib.Core.Bool.{true}
@@ -8,7 +8,18 @@ use lib.ListN.{getD}
 use Rattle.task.specs.Table.{taskOf}
 use Rattle.task.specs.Run.{isStepAt}
 use Rattle.task.specs.Turns.{endedAs, recordsLeft}
-use Rattle.task.proofs.RunLaws.{good-step, schema-below, start-found, end-found, RunSo, run-start, run-turn, run-missing, run-outgrown, run-ended}
+use Rattle.task.proofs.RunLaws.{
+  good-step,
+  schema-below,
+  start-found,
+  end-found,
+  RunSo,
+  run-start,
+  run-turn,
+  run-missing,
+  run-outgrown,
+  run-ended,
+}
 use borrow.Author.Needs.{needs}
 use Rattle.task.proofs.running.run_list.Statement.{statement}
 use Rattle.task.proofs.running.run_list.Tie as tie
@@ -50,10 +61,16 @@ mul-start : tie.Need-mul-start Inv-loop μ-loop
 mul-start c = let l = below (c .before) in omega arith
 
 shared-slice-read-start : tie.Need-shared-slice-read-start Inv-loop μ-loop
-shared-slice-read-start c = let l = below (c .before .before) in let z = c .before .before .before .before .before .before .before .before .pre .1 .0 .0 in omega arith
+shared-slice-read-start c = let l = below (c .before .before) in let z =
+    c .before .before .before .before .before .before .before .before .pre .1 .0 .0 in omega arith
 
 cast-start : tie.Need-cast-start Inv-loop μ-loop
-cast-start c = omega (arith, c .shared-slice-known5 .given (getD (c .before .before .before .before .before .before .before .before .args .steps .now) (13 * c .before .before .before .loop .i) 0))
+cast-start c = omega (
+  arith,
+  c .shared-slice-known5 .given
+      (getD (c .before .before .before .before .before .before .before .before .args .steps .now)
+      (13 * c .before .before .before .loop .i) 0),
+)
 
 add-end : tie.Need-add-end Inv-loop μ-loop
 add-end c = let l = below (c .before .before) in omega arith
@@ -62,10 +79,16 @@ mul-end : tie.Need-mul-end Inv-loop μ-loop
 mul-end c = let l = below (c .before .before) in omega arith
 
 shared-slice-read-end : tie.Need-shared-slice-read-end Inv-loop μ-loop
-shared-slice-read-end c = let l = below (c .before .before .before) in let z = c .before .before .before .before .before .before .before .before .before .pre .1 .0 .0 in omega arith
+shared-slice-read-end c = let l = below (c .before .before .before) in let z =
+    c .before .before .before .before .before .before .before .before .before .pre .1 .0 .0 in omega arith
 
 cast-end : tie.Need-cast-end Inv-loop μ-loop
-cast-end c = omega (arith, c .shared-slice-known6 .given (getD (c .before .before .before .before .before .before .before .before .before .args .steps .now) (13 * c .before .before .before .before .loop .i) 0 + 1))
+cast-end c = omega (
+  arith,
+  c .shared-slice-known6 .given
+      (getD (c .before .before .before .before .before .before .before .before .before .args .steps .now)
+      (13 * c .before .before .before .before .loop .i) 0 + 1),
+)
 
 run-step-requires : tie.Need-run-step-requires Inv-loop μ-loop
 run-step-requires c κs =
@@ -76,7 +99,10 @@ run-step-requires c κs =
         good,
         (
           start-found _ (start .args .starts .now) _ _ (start .pre .0) (start .pre .1 .0 .1) good,
-          (end-found _ (start .args .starts .now) _ _ (start .pre .0) (start .pre .1 .0 .1) good, c .before .before .before .before .before .loop .inv .is-state),
+          (
+            end-found _ (start .args .starts .now) _ _ (start .pre .0) (start .pre .1 .0 .1) good,
+            c .before .before .before .before .before .loop .inv .is-state,
+          ),
         ),
       ),
     )
@@ -91,27 +117,36 @@ loop-less : tie.Need-loop-less Inv-loop μ-loop
 loop-less c = omega arith
 
 loop-again : tie.Need-loop-again Inv-loop μ-loop
-loop-again c = run-turn (c .before .before .before .before .before .before .before .before .before .before .before .loop .inv) _ _ (c .before .before .before .before .before .before .before .before .before .before .loop-test .taken) (c .before .before .before .before .before .run-step .kept .1 .1 .1 .1 .1 .0) (c .before .before .before .before .before .run-step .ensures) (c .before .turn .given .1)
+loop-again c = run-turn (c .before .before .before .before .before .before .before .before .before .before .before
+    .loop .inv) _ _ (c .before .before .before .before .before .before .before .before .before .before .loop-test
+    .taken) (c .before .before .before .before .before .run-step .kept .1 .1 .1 .1 .1 .0)
+    (c .before .before .before .before .before .run-step .ensures) (c .before .turn .given .1)
 
 enum-told : tie.Need-enum-told Inv-loop μ-loop
 enum-told c = search needs
 
 same-length : tie.Need-same-length Inv-loop μ-loop
-same-length c = c .before .before .before .before .run-step .kept .1 .1 .1 .1 .1 .0 ∙ c .before .before .before .before .before .before .before .before .before .before .loop .inv .size
+same-length c = c .before .before .before .before .run-step .kept .1 .1 .1 .1 .1 .0 ∙
+    c .before .before .before .before .before .before .before .before .before .before .loop .inv .size
 
 returns : tie.Need-returns Inv-loop μ-loop
 unfolding recordsLeft endedAs
-returns c = run-missing (c .before .before .before .before .before .before .before .before .before .before .loop .inv) _ (c .before .before .before .before .before .before .before .before .before .loop-test .taken) (c .before .before .before .before .run-step .ensures) (c .enum-told .given .1)
+returns c = run-missing (c .before .before .before .before .before .before .before .before .before .before .loop .inv)
+    _ (c .before .before .before .before .before .before .before .before .before .loop-test .taken)
+    (c .before .before .before .before .run-step .ensures) (c .enum-told .given .1)
 
 enum-told-2 : tie.Need-enum-told-2 Inv-loop μ-loop
 enum-told-2 c = search needs
 
 same-length-2 : tie.Need-same-length-2 Inv-loop μ-loop
-same-length-2 c = c .before .before .before .before .run-step .kept .1 .1 .1 .1 .1 .0 ∙ c .before .before .before .before .before .before .before .before .before .before .loop .inv .size
+same-length-2 c = c .before .before .before .before .run-step .kept .1 .1 .1 .1 .1 .0 ∙
+    c .before .before .before .before .before .before .before .before .before .before .loop .inv .size
 
 returns-2 : tie.Need-returns-2 Inv-loop μ-loop
 unfolding recordsLeft endedAs
-returns-2 c = run-outgrown (c .before .before .before .before .before .before .before .before .before .before .loop .inv) _ (c .before .before .before .before .before .before .before .before .before .loop-test .taken) (c .before .before .before .before .run-step .ensures) (c .enum-told2 .given .1)
+returns-2 c = run-outgrown (c .before .before .before .before .before .before .before .before .before .before .loop
+    .inv) _ (c .before .before .before .before .before .before .before .before .before .loop-test .taken)
+    (c .before .before .before .before .run-step .ensures) (c .enum-told2 .given .1)
 
 same-length-3 : tie.Need-same-length-3 Inv-loop μ-loop
 same-length-3 c = c .before .loop .inv .size

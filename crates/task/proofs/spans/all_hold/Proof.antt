@@ -8,7 +8,16 @@ use Rattle.task.specs.Table.{taskOf}
 use Rattle.task.specs.Run.{holds, stateIn}
 use Rattle.task.specs.Spans.{groundAt, groundSpan}
 use Rattle.task.proofs.GroundWords.{span-atom}
-use Rattle.task.proofs.SpanLaws.{state-long, state-ascends, atom-known, AllSo, all-start, all-turn, all-left, all-ended}
+use Rattle.task.proofs.SpanLaws.{
+  state-long,
+  state-ascends,
+  atom-known,
+  AllSo,
+  all-start,
+  all-turn,
+  all-left,
+  all-ended,
+}
 use Rattle.task.proofs.spans.all_hold.Statement.{statement}
 use Rattle.task.proofs.spans.all_hold.Tie as tie
 
@@ -23,16 +32,27 @@ loop-holds : tie.Need-loop-holds Inv-loop μ-loop
 loop-holds c = all-start _ _ _ _ (c .before .before .before .pre .0 .ordered)
 
 ground-requires : tie.Need-ground-requires Inv-loop μ-loop
-ground-requires c κs = span-atom _ _ _ _ _ (c .before .before .before .before .before .pre .0) _ (c .before .loop .inv .from-first) (c .loop-test .taken)
+ground-requires c κs = span-atom _ _ _ _ _ (c .before .before .before .before .before .pre .0) _
+    (c .before .loop .inv .from-first) (c .loop-test .taken)
 
 held-requires : tie.Need-held-requires Inv-loop μ-loop
-held-requires c κs = (state-long _ _ _ (c .before .before .before .before .before .before .pre .0 .tabled) (c .before .before .before .before .before .before .pre .1), state-ascends _ _ _ (c .before .before .before .before .before .before .pre .0 .tabled) (c .before .before .before .before .before .before .pre .1))
+held-requires c κs = (
+  state-long _ _ _ (c .before .before .before .before .before .before .pre .0 .tabled)
+      (c .before .before .before .before .before .before .pre .1),
+  state-ascends _ _ _ (c .before .before .before .before .before .before .pre .0 .tabled)
+      (c .before .before .before .before .before .before .pre .1),
+)
 
 returns : tie.Need-returns Inv-loop μ-loop
 unfolding groundSpan
 returns c =
-    let known = atom-known (span-atom _ _ _ _ _ (c .before .before .before .before .before .before .before .before .pre .0) _ (c .before .before .before .before .loop .inv .from-first) (c .before .before .before .loop-test .taken)) (c .before .before .before .before .before .before .before .before .pre .1) (c .before .before .ground .ensures) in
-    all-left _ _ _ _ _ (c .before .before .before .loop-test .taken) (c .before .before .before .before .loop .inv) (sym (c .before .held .ensures _ _ known) ∙ not-true _ (c .if1 .taken))
+    let known = atom-known (span-atom _ _ _ _ _
+    (c .before .before .before .before .before .before .before .before .pre .0) _
+    (c .before .before .before .before .loop .inv .from-first) (c .before .before .before .loop-test .taken))
+    (c .before .before .before .before .before .before .before .before .pre .1)
+    (c .before .before .ground .ensures) in
+    all-left _ _ _ _ _ (c .before .before .before .loop-test .taken) (c .before .before .before .before .loop .inv)
+    (sym (c .before .held .ensures _ _ known) ∙ not-true _ (c .if1 .taken))
 
 add-k : tie.Need-add-k Inv-loop μ-loop
 add-k c = omega arith
@@ -42,8 +62,13 @@ loop-less c = omega arith
 
 loop-again : tie.Need-loop-again Inv-loop μ-loop
 loop-again c =
-    let known = atom-known (span-atom _ _ _ _ _ (c .before .before .before .before .before .before .before .before .pre .0) _ (c .before .before .before .before .loop .inv .from-first) (c .before .before .before .loop-test .taken)) (c .before .before .before .before .before .before .before .before .pre .1) (c .before .before .ground .ensures) in
-    all-turn _ _ _ _ _ (c .before .before .before .loop-test .taken) (c .before .before .before .before .loop .inv) (sym (c .before .held .ensures _ _ known) ∙ not-false _ (c .if1 .left))
+    let known = atom-known (span-atom _ _ _ _ _
+    (c .before .before .before .before .before .before .before .before .pre .0) _
+    (c .before .before .before .before .loop .inv .from-first) (c .before .before .before .loop-test .taken))
+    (c .before .before .before .before .before .before .before .before .pre .1)
+    (c .before .before .ground .ensures) in
+    all-turn _ _ _ _ _ (c .before .before .before .loop-test .taken) (c .before .before .before .before .loop .inv)
+    (sym (c .before .held .ensures _ _ known) ∙ not-false _ (c .if1 .left))
 
 returns-2 : tie.Need-returns-2 Inv-loop μ-loop
 unfolding groundSpan

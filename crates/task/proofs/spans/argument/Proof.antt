@@ -27,7 +27,9 @@ cast-result c = search needs
 returns : tie.Need-returns
 unfolding argumentIn
 returns c = (
-  c .before .object-of .ensures ∙ ap (λ (u : Bool). cond u (argument (c .before .before .before .before .before .before)) 0) (sym (c .before .before .before .if1 .taken)),
+  c .before .object-of .ensures ∙
+      ap (λ (u : Bool). cond u (argument (c .before .before .before .before .before .before)) 0)
+      (sym (c .before .before .before .if1 .taken)),
   omega (arith, c .struct-known .given),
 )
 

@@ -18,10 +18,12 @@ add-result-2 : tie.Need-add-result-2
 add-result-2 c = search needs
 
 mul-result : tie.Need-mul-result
-mul-result c = let l = atom-words-inside _ (c .before .before .before .pre .0) _ (c .before .before .before .pre .1) in omega arith
+mul-result c = let l = atom-words-inside _ (c .before .before .before .pre .0) _ (c .before .before .before .pre .1) in
+    omega arith
 
 add-result-3 : tie.Need-add-result-3
-add-result-3 c = let l = atom-words-inside _ (c .before .before .before .pre .0) _ (c .before .before .before .pre .1) in omega arith
+add-result-3 c = let l = atom-words-inside _ (c .before .before .before .pre .0) _
+    (c .before .before .before .pre .1) in omega arith
 
 returns : tie.Need-returns
 returns c =

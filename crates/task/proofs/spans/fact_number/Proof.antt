@@ -42,7 +42,10 @@ number-of-requires c κs = search needs
 
 returns : tie.Need-returns
 returns c =
-    let e = fact-read _ (c .before .before .before .before .before .before .before .before .pre .0) _ (c .before .before .before .before .before .before .before .before .pre .1) (c .before .before .before .before .before .before .atom-at .result) (c .before .before .before .before .before .before .atom-at .ensures .0) in
+    let e = fact-read _ (c .before .before .before .before .before .before .before .before .pre .0) _
+    (c .before .before .before .before .before .before .before .before .pre .1)
+    (c .before .before .before .before .before .before .atom-at .result)
+    (c .before .before .before .before .before .before .atom-at .ensures .0) in
     let e₀ = c .before .before .before .before .before .word .ensures .0 in
     let e₁ = c .before .before .before .before .word2 .ensures .0 in
     let e₂ = c .before .before .before .word3 .ensures .0 in

@@ -3,7 +3,18 @@
 use Prim.Native.Nat.{_-_}
 use native.Mathlib.Omega.{arith}
 use Rattle.task.proofs.GroundWords.{span-atom}
-use Rattle.task.proofs.SpanLaws.{state-long, state-ascends, atom-known, known-small, known-room, InsertedSo, insert-start, insert-turn, insert-end, rest-fits}
+use Rattle.task.proofs.SpanLaws.{
+  state-long,
+  state-ascends,
+  atom-known,
+  known-small,
+  known-room,
+  InsertedSo,
+  insert-start,
+  insert-turn,
+  insert-end,
+  rest-fits,
+}
 use Rattle.task.proofs.spans.insert_span.Statement.{statement}
 use Rattle.task.proofs.spans.insert_span.Tie as tie
 
@@ -15,18 +26,28 @@ abbrev μ-loop : tie.MeasureT-loop
 μ-loop table from to steps i state₀ n left₀ k₀ state left k = to - k
 
 loop-holds : tie.Need-loop-holds Inv-loop μ-loop
-loop-holds c = insert-start _ _ _ _ _ _ _ (c .before .before .before .pre .0 .ordered) (c .before .before .before .pre .1 .0)
+loop-holds c = insert-start _ _ _ _ _ _ _ (c .before .before .before .pre .0 .ordered)
+    (c .before .before .before .pre .1 .0)
 
 ground-requires : tie.Need-ground-requires Inv-loop μ-loop
-ground-requires c κs = span-atom _ _ _ _ _ (c .before .before .before .before .before .before .pre .0) _ (c .before .before .loop .inv .from-first) (c .before .loop-test .taken)
+ground-requires c κs = span-atom _ _ _ _ _ (c .before .before .before .before .before .before .pre .0) _
+    (c .before .before .loop .inv .from-first) (c .before .loop-test .taken)
 
 put-in-requires : tie.Need-put-in-requires Inv-loop μ-loop
 put-in-requires c κs =
-    let known = atom-known (span-atom _ _ _ _ _ (c .before .before .before .before .before .before .before .pre .0) _ (c .before .before .before .loop .inv .from-first) (c .before .before .loop-test .taken)) (c .before .before .before .loop .inv .is-state) (c .ground .ensures) in (
-      state-long _ _ _ (c .before .before .before .before .before .before .before .pre .0 .tabled) (c .before .before .before .loop .inv .is-state),
+    let known = atom-known (span-atom _ _ _ _ _ (c .before .before .before .before .before .before .before .pre .0) _
+    (c .before .before .before .loop .inv .from-first) (c .before .before .loop-test .taken))
+    (c .before .before .before .loop .inv .is-state) (c .ground .ensures) in (
+      state-long _ _ _ (c .before .before .before .before .before .before .before .pre .0 .tabled)
+          (c .before .before .before .loop .inv .is-state),
       (
-        state-ascends _ _ _ (c .before .before .before .before .before .before .before .pre .0 .tabled) (c .before .before .before .loop .inv .is-state),
-        (known-room known _ (rest-fits (c .before .before .before .loop .inv) (c .before .before .loop-test .taken) (c .before .before .before .before .before .before .before .pre .1 .1)), known-small known),
+        state-ascends _ _ _ (c .before .before .before .before .before .before .before .pre .0 .tabled)
+            (c .before .before .before .loop .inv .is-state),
+        (
+          known-room known _ (rest-fits (c .before .before .before .loop .inv) (c .before .before .loop-test .taken)
+              (c .before .before .before .before .before .before .before .pre .1 .1)),
+          known-small known,
+        ),
       ),
     )
 
@@ -38,8 +59,15 @@ loop-less c = omega arith
 
 loop-again : tie.Need-loop-again Inv-loop μ-loop
 loop-again c =
-    let known = atom-known (span-atom _ _ _ _ _ (c .before .before .before .before .before .before .before .before .before .before .pre .0) _ (c .before .before .before .before .before .before .loop .inv .from-first) (c .before .before .before .before .before .loop-test .taken)) (c .before .before .before .before .before .before .loop .inv .is-state) (c .before .before .before .ground .ensures) in
-    insert-turn (c .before .before .before .before .before .before .loop .inv) (c .before .before .before .before .before .loop-test .taken) (c .before .before .put-in .kept .0) (c .before .before .put-in .ensures _ _ known)
+    let known = atom-known (span-atom _ _ _ _ _
+    (c .before .before .before .before .before .before .before .before .before .before .pre .0) _
+    (c .before .before .before .before .before .before .loop .inv .from-first)
+    (c .before .before .before .before .before .loop-test .taken))
+    (c .before .before .before .before .before .before .loop .inv .is-state)
+    (c .before .before .before .ground .ensures) in
+    insert-turn (c .before .before .before .before .before .before .loop .inv)
+    (c .before .before .before .before .before .loop-test .taken) (c .before .before .put-in .kept .0)
+    (c .before .before .put-in .ensures _ _ known)
 
 same-length : tie.Need-same-length Inv-loop μ-loop
 same-length c = c .before .loop .inv .size
