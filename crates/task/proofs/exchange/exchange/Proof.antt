@@ -17,16 +17,19 @@ abbrev μ-loop : tie.MeasureT-loop
 μ-loop table add del end steps i state₀ n left₀ next₀ k₀ state left next k = end - k
 
 loop-holds : tie.Need-loop-holds Inv-loop μ-loop
-loop-holds c = exchange-start _ _ _ _ _ _ _ _ (c .before .before .before .pre .0 .ordered)
-    (c .before .before .before .pre .1 .0 .ordered) (c .before .before .before .pre .1 .1 .0)
+loop-holds c =
+    let start = c .before .before .before in
+    exchange-start _ _ _ _ _ _ _ _ (start .pre .0 .ordered) (start .pre .1 .0 .ordered) (start .pre .1 .1 .0)
 
 exchange-one-requires : tie.Need-exchange-one-requires Inv-loop μ-loop
 exchange-one-requires c κs =
-    let so = c .before .before .loop .inv in (
-      span-atom _ _ _ _ _ (c .before .before .before .before .before .before .pre .1 .0) _ (so .from-first)
+    let at-loop = c .before .before in
+    let start = at-loop .before .before .before .before in
+    let so = at-loop .loop .inv in (
+      span-atom _ _ _ _ _ (start .pre .1 .0) _ (so .from-first)
           (c .before .loop-test .taken),
       (
-        c .before .before .before .before .before .before .pre .0,
+        start .pre .0,
         ((so .from-add, so .to-del), (so .is-state, so .hold)),
       ),
     )
@@ -38,29 +41,40 @@ loop-less : tie.Need-loop-less Inv-loop μ-loop
 loop-less c = omega arith
 
 loop-again : tie.Need-loop-again Inv-loop μ-loop
-loop-again c = exchange-turn (c .before .before .before .before .before .loop .inv)
-    (c .before .before .before .before .loop-test .taken)
-    (c .before .before .exchange-one .kept .1 .1 .1 .1 .1 .1 .1 .0) (c .before .before .exchange-one .ensures)
+loop-again c =
+    let at-exchange-one = c .before .before in
+    let at-loop-test = at-exchange-one .before .before in
+    let at-loop = at-loop-test .before in
+    exchange-turn (at-loop .loop .inv) (at-loop-test .loop-test .taken)
+    (at-exchange-one .exchange-one .kept .1 .1 .1 .1 .1 .1 .1 .0) (at-exchange-one .exchange-one .ensures)
 
 insert-span-requires : tie.Need-insert-span-requires Inv-loop μ-loop
 insert-span-requires c κs =
-    let so = c .before .before .loop .inv in (
-      span-back (c .before .before .before .before .before .before .pre .0) _ (so .from-add) (so .to-del),
+    let at-loop = c .before .before in
+    let start = at-loop .before .before .before .before in
+    let so = at-loop .loop .inv in (
+      span-back (start .pre .0) _ (so .from-add) (so .to-del),
       (
         so .is-state,
-        rest-room so (c .before .before .before .before .before .before .pre .0 .tabled)
-            (c .before .loop-test .left) (c .before .before .before .before .before .before .pre .1 .1 .1),
+        rest-room so (start .pre .0 .tabled)
+            (c .before .loop-test .left) (start .pre .1 .1 .1),
       ),
     )
 
 same-length : tie.Need-same-length Inv-loop μ-loop
-same-length c = c .before .before .insert-span .kept .1 .1 .1 .1 .1 .0 ∙
-    c .before .before .before .before .before .loop .inv .size
+same-length c =
+    let at-insert-span = c .before .before in
+    let at-loop = at-insert-span .before .before .before in
+    at-insert-span .insert-span .kept .1 .1 .1 .1 .1 .0 ∙ at-loop .loop .inv .size
 
 returns : tie.Need-returns Inv-loop μ-loop
-returns c = exchange-end (c .before .before .before .before .before .loop .inv)
-    (c .before .before .before .before .before .before .before .before .before .pre .0 .tabled)
-    (c .before .before .before .before .loop-test .left) (c .before .before .insert-span .ensures)
+returns c =
+    let at-insert-span = c .before .before in
+    let at-loop-test = at-insert-span .before .before in
+    let at-loop = at-loop-test .before in
+    let start = at-loop .before .before .before .before in
+    exchange-end (at-loop .loop .inv) (start .pre .0 .tabled) (at-loop-test .loop-test .left)
+    (at-insert-span .insert-span .ensures)
 
 pub exchange-spec : {M : Type 1} → statement M
 exchange-spec =

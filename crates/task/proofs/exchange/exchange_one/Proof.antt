@@ -29,166 +29,143 @@ ground-requires : tie.Need-ground-requires
 ground-requires c κs = search needs
 
 find-requires : tie.Need-find-requires
-find-requires c κs = (
-  state-long _ _ _ (c .before .before .before .before .before .pre .0 .tabled)
-      (c .before .before .before .before .before .pre .1 .1 .1 .0),
-  state-ascends _ _ _ (c .before .before .before .before .before .pre .0 .tabled)
-      (c .before .before .before .before .before .pre .1 .1 .1 .0),
-)
+find-requires c κs =
+    let start = c .before .before .before .before .before in (
+      state-long _ _ _ (start .pre .0 .tabled)
+          (start .pre .1 .1 .1 .0),
+      state-ascends _ _ _ (start .pre .0 .tabled)
+          (start .pre .1 .1 .1 .0),
+    )
 
 is-row-requires : tie.Need-is-row-requires
-is-row-requires c κs = state-long _ _ _ (c .before .before .before .before .before .before .before .pre .0 .tabled)
-    (c .before .before .before .before .before .before .before .pre .1 .1 .1 .0)
+is-row-requires c κs =
+    let start = c .before .before .before .before .before .before .before in
+    state-long _ _ _ (start .pre .0 .tabled) (start .pre .1 .1 .1 .0)
 
 same-length : tie.Need-same-length
 same-length c = search needs
 
 returns : tie.Need-returns
 returns c =
-    not-there _ _ _ _ _ _ _ _ _ (c .before .before .before .before .before .before .before .before .before .pre .1 .0)
-    (c .before .before .before .before .before .before .before .before .before .pre .1 .1 .0 .0)
-    (c .before .before .before .before .before .before .before .before .before .pre .1 .1 .0 .1)
-    (c .before .before .before .before .before .before .before .before .before .pre .1 .1 .1 .0)
-    (c .before .before .before .before .before .before .before .before .before .pre .1 .1 .1 .1)
-    (sym (found-holds (known (c .before)) (c .before .before .before .find .ensures) (c .before .is-row .ensures)) ∙
+    let at-find = c .before .before .before in
+    let start = at-find .before .before .before .before .before .before in
+    not-there _ _ _ _ _ _ _ _ _ (start .pre .1 .0) (start .pre .1 .1 .0 .0) (start .pre .1 .1 .0 .1)
+    (start .pre .1 .1 .1 .0) (start .pre .1 .1 .1 .1)
+    (sym (found-holds (known (c .before)) (at-find .find .ensures) (c .before .is-row .ensures)) ∙
     not-true _ (c .if1 .taken))
 
 first-new-requires : tie.Need-first-new-requires
-first-new-requires c κs = (
-  span-back
-      (c .before .before .before .before .before .before .before .before .before .before .pre .1 .0) _
-      (c .before .before .before .before .before .before .before .before .before .before .pre .1 .1 .0 .0)
-      (c .before .before .before .before .before .before .before .before .before .before .pre .1 .1 .0 .1),
-  c .before .before .before .before .before .before .before .before .before .before .pre .1 .1 .1 .0,
-)
+first-new-requires c κs =
+    let start = c .before .before .before .before .before .before .before .before .before .before in (
+      span-back
+          (start .pre .1 .0) _
+          (start .pre .1 .1 .0 .0)
+          (start .pre .1 .1 .0 .1),
+      start .pre .1 .1 .1 .0,
+    )
 
 absent-requires : tie.Need-absent-requires
 absent-requires c κs =
+    let start = c .before .before .before .before .before .before .before .before .before .before .before in
     let from = c .first-new .ensures .from in
-    let next = c .before .before .before .before .before .before .before .before .before .before .before .pre .1 .1 .0
-    .0 in
-    span-front (c .before .before .before .before .before .before .before .before .before .before .before .pre .1 .0) _
-    (omega arith) (c .first-new .ensures .within)
+    let next = start .pre .1 .1 .0 .0 in span-front (start .pre .1 .0) _ (omega arith) (c .first-new .ensures .within)
 
 same-length-2 : tie.Need-same-length-2
 same-length-2 c = search needs
 
 returns-2 : tie.Need-returns-2
 returns-2 c =
-    is-add _ _ _ _ _ _ _ _ _ (c .before .before .before .before .before .before .before .before .before .before .before
-    .before .before .pre .1 .0)
-    (c .before .before .before .before .before .before .before .before .before .before .before .before .before .pre
-    .1 .1 .0 .0) (c .before .before .before .before .before .before .before .before .before .before .before .before
-    .before .pre .1 .1 .0 .1) (c .before .before .before .before .before .before .before .before .before .before
-    .before .before .before .pre .1 .1 .1 .0)
-    (c .before .before .before .before .before .before .before .before .before .before .before .before .before .pre
-    .1 .1 .1 .1) _ (c .before .before .first-new .ensures) (known (c .before .before .before .before .before))
+    let at-first-new = c .before .before in
+    let at-is-row = at-first-new .before .before .before in
+    let start = at-is-row .before .before .before .before .before .before .before .before in
+    is-add _ _ _ _ _ _ _ _ _ (start .pre .1 .0) (start .pre .1 .1 .0 .0) (start .pre .1 .1 .0 .1)
+    (start .pre .1 .1 .1 .0) (start .pre .1 .1 .1 .1) _ (at-first-new .first-new .ensures) (known at-is-row)
     (c .before .absent .ensures) (not-true _ (c .if2 .taken))
 
 replace-requires : tie.Need-replace-requires
 replace-requires c κs =
-    let from = c .before .before .before .before .first-new .ensures .from in
-    let next = c .before .before .before .before .before .before .before .before .before .before .before .before
-    .before .before .before .pre .1 .1 .0 .0 in
-    let new = atom-known (span-atom _ _ _ _ _
-    (c .before .before .before .before .before .before .before .before .before .before .before .before .before
-    .before .before .pre .1 .0) (c .before .before .before .before .first-new .result .atom) (omega arith)
-    (c .before .if3 .taken))
-    (c .before .before .before .before .before .before .before .before .before .before .before .before .before .before
-    .before .pre .1 .1 .1 .0) (c .before .before .before .before .first-new .ensures .is (c .before .if3 .taken)) in
-    let row = c .before .before .before .before .before .before .before .is-row .ensures .found
-    (not-false _ (c .before .before .before .before .before .before .if1 .left)) .0 in
-    let place = c .before .before .before .before .first-new .ensures .place (c .before .if3 .taken) .within in
-    let long = state-long _ _ _ (c .before .before .before .before .before .before .before .before .before .before
-    .before .before .before .before .before .pre .0 .tabled)
-    (c .before .before .before .before .before .before .before .before .before .before .before .before .before
-    .before .before .pre .1 .1 .1 .0) in
+    let at-first-new = c .before .before .before .before in
+    let at-if1 = at-first-new .before .before in
+    let at-is-row = at-if1 .before in
+    let start = at-is-row .before .before .before .before .before .before .before .before in
+    let from = at-first-new .first-new .ensures .from in
+    let next = start .pre .1 .1 .0 .0 in
+    let new = atom-known (span-atom _ _ _ _ _ (start .pre .1 .0) (at-first-new .first-new .result .atom) (omega arith)
+    (c .before .if3 .taken)) (start .pre .1 .1 .1 .0)
+    (at-first-new .first-new .ensures .is (c .before .if3 .taken)) in
+    let row = at-is-row .is-row .ensures .found (not-false _ (at-if1 .if1 .left)) .0 in
+    let place = at-first-new .first-new .ensures .place (c .before .if3 .taken) .within in
+    let long = state-long _ _ _ (start .pre .0 .tabled) (start .pre .1 .1 .1 .0) in
     (omega arith, omega arith, known-small new)
 
 add-t25 : tie.Need-add-t25
-add-t25 c = let z = c .before .before .before .before .if3 .taken in let f =
-    c .before .before .before .before .before .before .before .before .before .before .before .before .before .before
-    .before .before .before .before .fits .del in omega arith
+add-t25 c =
+    let at-if3 = c .before .before .before .before in
+    let at-find = at-if3 .before .before .before .before .before .before .before .before in
+    let start = at-find .before .before .before .before .before .before in
+    let z = at-if3 .if3 .taken in
+    let f = start .fits .del in
+    omega arith
 
 same-length-3 : tie.Need-same-length-3
 same-length-3 c = search needs
 
 returns-3 : tie.Need-returns-3
 returns-3 c =
-    let from = c .before .before .before .before .before .before .before .first-new .ensures .from in
-    let next = c .before .before .before .before .before .before .before .before .before .before .before .before
-    .before .before .before .before .before .before .pre .1 .1 .0 .0 in
-    let new = atom-known (span-atom _ _ _ _ _
-    (c .before .before .before .before .before .before .before .before .before .before .before .before .before
-    .before .before .before .before .before .pre .1 .0)
-    (c .before .before .before .before .before .before .before .first-new .result .atom) (omega arith)
-    (c .before .before .before .before .if3 .taken))
-    (c .before .before .before .before .before .before .before .before .before .before .before .before .before .before
-    .before .before .before .before .pre .1 .1 .1 .0)
-    (c .before .before .before .before .before .before .before .first-new .ensures .is
-    (c .before .before .before .before .if3 .taken)) in
-    let row = c .before .before .before .before .before .before .before .before .before .before .is-row .ensures .found
-    (not-false _ (c .before .before .before .before .before .before .before .before .before .if1 .left)) in
-    replaced-by _ _ _ _ _ _ _ _ _ (c .before .before .before .before .before .before .before .before .before .before
-    .before .before .before .before .before .before .before .before .pre .1 .0)
-    (c .before .before .before .before .before .before .before .before .before .before .before .before .before
-    .before .before .before .before .before .pre .1 .1 .0 .0)
-    (c .before .before .before .before .before .before .before .before .before .before .before .before .before
-    .before .before .before .before .before .pre .1 .1 .0 .1)
-    (c .before .before .before .before .before .before .before .before .before .before .before .before .before
-    .before .before .before .before .before .pre .1 .1 .1 .0)
-    (c .before .before .before .before .before .before .before .before .before .before .before .before .before
-    .before .before .before .before .before .pre .1 .1 .1 .1) _
-    (c .before .before .before .before .before .before .before .first-new .ensures) _
-    (known (c .before .before .before .before .before .before .before .before .before .before))
-    (c .before .before .before .before .before .before .absent .ensures)
-    (not-false _ (c .before .before .before .before .before .if2 .left))
-    (c .before .before .before .before .if3 .taken)
-    (row-replaced (known (c .before .before .before .before .before .before .before .before .before .before)) new
-    (c .before .before .before .before .before .before .before .first-new .ensures .new
-    (c .before .before .before .before .if3 .taken)) row
-    (c .before .before .before .before .before .before .before .first-new .ensures .place
-    (c .before .before .before .before .if3 .taken))
-    (c .before .before .replace .ensures) (c .before .before .replace .kept .0))
+    let at-replace = c .before .before in
+    let at-if3 = at-replace .before .before in
+    let at-if2 = at-if3 .before in
+    let at-absent = at-if2 .before in
+    let at-first-new = at-absent .before in
+    let at-if1 = at-first-new .before .before in
+    let at-is-row = at-if1 .before in
+    let start = at-is-row .before .before .before .before .before .before .before .before in
+    let from = at-first-new .first-new .ensures .from in
+    let next = start .pre .1 .1 .0 .0 in
+    let new = atom-known (span-atom _ _ _ _ _ (start .pre .1 .0) (at-first-new .first-new .result .atom) (omega arith)
+    (at-if3 .if3 .taken)) (start .pre .1 .1 .1 .0) (at-first-new .first-new .ensures .is (at-if3 .if3 .taken)) in
+    let row = at-is-row .is-row .ensures .found (not-false _ (at-if1 .if1 .left)) in
+    replaced-by _ _ _ _ _ _ _ _ _ (start .pre .1 .0) (start .pre .1 .1 .0 .0) (start .pre .1 .1 .0 .1)
+    (start .pre .1 .1 .1 .0) (start .pre .1 .1 .1 .1) _ (at-first-new .first-new .ensures) _ (known at-is-row)
+    (at-absent .absent .ensures) (not-false _ (at-if2 .if2 .left)) (at-if3 .if3 .taken)
+    (row-replaced (known at-is-row) new (at-first-new .first-new .ensures .new (at-if3 .if3 .taken)) row
+    (at-first-new .first-new .ensures .place (at-if3 .if3 .taken)) (at-replace .replace .ensures)
+    (at-replace .replace .kept .0))
 
 remove-row-requires : tie.Need-remove-row-requires
-remove-row-requires c κs = (
-  c .before .before .before .before .before .before .before .is-row .ensures .found
-      (not-false _ (c .before .before .before .before .before .before .if1 .left)) .0,
-  state-long _ _ _ (c .before .before .before .before .before .before .before .before .before .before .before .before
-      .before .before .before .pre .0 .tabled)
-      (c .before .before .before .before .before .before .before .before .before .before .before .before .before .before
-      .before .pre .1 .1 .1 .0),
-)
+remove-row-requires c κs =
+    let at-if1 = c .before .before .before .before .before .before in
+    let at-is-row = at-if1 .before in
+    let start = at-is-row .before .before .before .before .before .before .before .before in (
+      at-is-row .is-row .ensures .found
+          (not-false _ (at-if1 .if1 .left)) .0,
+      state-long _ _ _ (start .pre .0 .tabled)
+          (start .pre .1 .1 .1 .0),
+    )
 
 sub-t29 : tie.Need-sub-t29
-sub-t29 c = let row = c .before .before .before .before .before .before .before .before .before .before .is-row
-    .ensures .found (not-false _
-    (c .before .before .before .before .before .before .before .before .before .if1 .left)) .0 in omega arith
+sub-t29 c =
+    let at-if1 = c .before .before .before .before .before .before .before .before .before in
+    let at-is-row = at-if1 .before in
+    let row = at-is-row .is-row .ensures .found (not-false _ (at-if1 .if1 .left)) .0 in omega arith
 
 same-length-4 : tie.Need-same-length-4
 same-length-4 c = search needs
 
 returns-4 : tie.Need-returns-4
 returns-4 c =
-    goes-alone _ _ _ _ _ _ _ _ _ (c .before .before .before .before .before .before .before .before .before .before
-    .before .before .before .before .before .before .before .before .pre .1 .0)
-    (c .before .before .before .before .before .before .before .before .before .before .before .before .before
-    .before .before .before .before .before .pre .1 .1 .0 .0)
-    (c .before .before .before .before .before .before .before .before .before .before .before .before .before
-    .before .before .before .before .before .pre .1 .1 .0 .1)
-    (c .before .before .before .before .before .before .before .before .before .before .before .before .before
-    .before .before .before .before .before .pre .1 .1 .1 .0)
-    (c .before .before .before .before .before .before .before .before .before .before .before .before .before
-    .before .before .before .before .before .pre .1 .1 .1 .1) _
-    (c .before .before .before .before .before .before .before .first-new .ensures) _ _
-    (known (c .before .before .before .before .before .before .before .before .before .before))
-    (c .before .before .before .before .before .before .absent .ensures)
-    (not-false _ (c .before .before .before .before .before .if2 .left))
-    (row-out (known (c .before .before .before .before .before .before .before .before .before .before))
-    (row-is (c .before .before .before .before .before .before .before .before .before .before .is-row .ensures)
-    (not-false _ (c .before .before .before .before .before .before .before .before .before .if1 .left)))
-    (c .before .before .remove-row .ensures) (c .before .before .remove-row .kept .0))
+    let at-remove-row = c .before .before in
+    let at-if2 = at-remove-row .before .before .before in
+    let at-absent = at-if2 .before in
+    let at-first-new = at-absent .before in
+    let at-if1 = at-first-new .before .before in
+    let at-is-row = at-if1 .before in
+    let start = at-is-row .before .before .before .before .before .before .before .before in
+    goes-alone _ _ _ _ _ _ _ _ _ (start .pre .1 .0) (start .pre .1 .1 .0 .0) (start .pre .1 .1 .0 .1)
+    (start .pre .1 .1 .1 .0) (start .pre .1 .1 .1 .1) _ (at-first-new .first-new .ensures) _ _ (known at-is-row)
+    (at-absent .absent .ensures) (not-false _ (at-if2 .if2 .left))
+    (row-out (known at-is-row) (row-is (at-is-row .is-row .ensures) (not-false _ (at-if1 .if1 .left)))
+    (at-remove-row .remove-row .ensures) (at-remove-row .remove-row .kept .0))
 
 pub exchange-one-spec : {M : Type 1} → statement M
 exchange-one-spec =

@@ -21,41 +21,51 @@ abbrev μ-loop : tie.MeasureT-loop
 μ-loop table from to steps i state n k₀ k = to - k
 
 loop-holds : tie.Need-loop-holds Inv-loop μ-loop
-loop-holds c = (omega arith, c .before .before .before .pre .0 .ordered, held-none _ _ _ _ _)
+loop-holds c =
+    let start = c .before .before .before in
+    (omega arith, start .pre .0 .ordered, held-none _ _ _ _ _)
 
 ground-requires : tie.Need-ground-requires Inv-loop μ-loop
-ground-requires c κs = span-atom _ _ _ _ _ (c .before .before .before .before .before .pre .0) _
-    (c .before .loop .inv .0) (c .loop-test .taken)
+ground-requires c κs =
+    let start = c .before .before .before .before .before in
+    span-atom _ _ _ _ _ (start .pre .0) _ (c .before .loop .inv .0) (c .loop-test .taken)
 
 find-requires : tie.Need-find-requires Inv-loop μ-loop
-find-requires c κs = (
-  state-long _ _ _ (c .before .before .before .before .before .before .pre .0 .tabled)
-      (c .before .before .before .before .before .before .pre .1),
-  state-ascends _ _ _ (c .before .before .before .before .before .before .pre .0 .tabled)
-      (c .before .before .before .before .before .before .pre .1),
-)
+find-requires c κs =
+    let start = c .before .before .before .before .before .before in (
+      state-long _ _ _ (start .pre .0 .tabled)
+          (start .pre .1),
+      state-ascends _ _ _ (start .pre .0 .tabled)
+          (start .pre .1),
+    )
 
 is-row-requires : tie.Need-is-row-requires Inv-loop μ-loop
-is-row-requires c κs = state-long _ _ _ (c .before .before .before .before .before .before .before .pre .0 .tabled)
-    (c .before .before .before .before .before .before .before .pre .1)
+is-row-requires c κs =
+    let start = c .before .before .before .before .before .before .before in
+    state-long _ _ _ (start .pre .0 .tabled) (start .pre .1)
 
 returns : tie.Need-returns Inv-loop μ-loop
 returns c =
+    let at-find = c .before .before in
+    let at-ground = at-find .before in
+    let at-loop-test = at-ground .before in
+    let at-loop = at-loop-test .before in
+    let start = at-loop .before .before .before .before in
     let known = atom-known (span-atom _ _ _ _ _
-    (c .before .before .before .before .before .before .before .before .before .pre .0) _
-    (c .before .before .before .before .before .loop .inv .0)
-    (c .before .before .before .before .loop-test .taken))
-    (c .before .before .before .before .before .before .before .before .before .pre .1)
-    (c .before .before .before .ground .ensures) in
+    (start .pre .0) _
+    (at-loop .loop .inv .0)
+    (at-loop-test .loop-test .taken))
+    (start .pre .1)
+    (at-ground .ground .ensures) in
     record {
-      from = c .before .before .before .before .before .loop .inv .0;
-      within = c .before .before .before .before .before .loop .inv .1;
-      hold = held-all _ _ _ _ _ _ (c .before .before .before .before .before .loop .inv .0)
-          (c .before .before .before .before .before .loop .inv .2);
-      new = λ l. sym (found-holds known (c .before .before .find .ensures) (c .before .is-row .ensures)) ∙
+      from = at-loop .loop .inv .0;
+      within = at-loop .loop .inv .1;
+      hold = held-all _ _ _ _ _ _ (at-loop .loop .inv .0)
+          (at-loop .loop .inv .2);
+      new = λ l. sym (found-holds known (at-find .find .ensures) (c .before .is-row .ensures)) ∙
           not-true _ (c .if1 .taken);
-      is = λ l. c .before .before .before .ground .ensures;
-      place = λ l. c .before .before .find .ensures;
+      is = λ l. at-ground .ground .ensures;
+      place = λ l. at-find .find .ensures;
     }
 
 add-k : tie.Need-add-k Inv-loop μ-loop
@@ -66,16 +76,21 @@ loop-less c = omega arith
 
 loop-again : tie.Need-loop-again Inv-loop μ-loop
 loop-again c =
+    let at-find = c .before .before in
+    let at-ground = at-find .before in
+    let at-loop-test = at-ground .before in
+    let at-loop = at-loop-test .before in
+    let start = at-loop .before .before .before .before in
     let known = atom-known (span-atom _ _ _ _ _
-    (c .before .before .before .before .before .before .before .before .before .pre .0) _
-    (c .before .before .before .before .before .loop .inv .0)
-    (c .before .before .before .before .loop-test .taken))
-    (c .before .before .before .before .before .before .before .before .before .pre .1)
-    (c .before .before .before .ground .ensures) in (
+    (start .pre .0) _
+    (at-loop .loop .inv .0)
+    (at-loop-test .loop-test .taken))
+    (start .pre .1)
+    (at-ground .ground .ensures) in (
       omega arith,
       omega arith,
-      held-more _ _ _ (c .before .before .before .before .before .loop .inv .2)
-          (sym (found-holds known (c .before .before .find .ensures) (c .before .is-row .ensures)) ∙
+      held-more _ _ _ (at-loop .loop .inv .2)
+          (sym (found-holds known (at-find .find .ensures) (c .before .is-row .ensures)) ∙
           not-false _ (c .if1 .left)),
     )
 

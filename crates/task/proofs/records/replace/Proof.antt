@@ -45,15 +45,21 @@ same-length : tie.Need-same-length
 same-length c = search needs
 
 returns : tie.Need-returns
-returns c = up (c .before .before .before .before .before .before .before .before .if1 .taken)
-    (c .before .before .before .before .before .before .move-up .ensures) (c .before .before .write-at .ensures)
+returns c =
+    let at-write-at = c .before .before in
+    let at-move-up = at-write-at .before .before .before .before in
+    let at-if1 = at-move-up .before .before in
+    up (at-if1 .if1 .taken) (at-move-up .move-up .ensures) (at-write-at .write-at .ensures)
 
 same-length-2 : tie.Need-same-length-2
 same-length-2 c = search needs
 
 returns-2 : tie.Need-returns-2
-returns-2 c = down (c .before .before .before .before .before .before .before .before .if1 .left)
-    (c .before .before .before .before .before .before .move-down .ensures) (c .before .before .write-at2 .ensures)
+returns-2 c =
+    let at-write-at2 = c .before .before in
+    let at-move-down = at-write-at2 .before .before .before .before in
+    let at-if1 = at-move-down .before .before in
+    down (at-if1 .if1 .left) (at-move-down .move-down .ensures) (at-write-at2 .write-at2 .ensures)
 
 pub replace-spec : {M : Type 1} → statement M
 replace-spec =

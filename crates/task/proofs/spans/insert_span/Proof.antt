@@ -26,26 +26,32 @@ abbrev μ-loop : tie.MeasureT-loop
 μ-loop table from to steps i state₀ n left₀ k₀ state left k = to - k
 
 loop-holds : tie.Need-loop-holds Inv-loop μ-loop
-loop-holds c = insert-start _ _ _ _ _ _ _ (c .before .before .before .pre .0 .ordered)
-    (c .before .before .before .pre .1 .0)
+loop-holds c =
+    let start = c .before .before .before in
+    insert-start _ _ _ _ _ _ _ (start .pre .0 .ordered) (start .pre .1 .0)
 
 ground-requires : tie.Need-ground-requires Inv-loop μ-loop
-ground-requires c κs = span-atom _ _ _ _ _ (c .before .before .before .before .before .before .pre .0) _
-    (c .before .before .loop .inv .from-first) (c .before .loop-test .taken)
+ground-requires c κs =
+    let at-loop = c .before .before in
+    let start = at-loop .before .before .before .before in
+    span-atom _ _ _ _ _ (start .pre .0) _ (at-loop .loop .inv .from-first) (c .before .loop-test .taken)
 
 put-in-requires : tie.Need-put-in-requires Inv-loop μ-loop
 put-in-requires c κs =
-    let known = atom-known (span-atom _ _ _ _ _ (c .before .before .before .before .before .before .before .pre .0) _
-    (c .before .before .before .loop .inv .from-first) (c .before .before .loop-test .taken))
-    (c .before .before .before .loop .inv .is-state) (c .ground .ensures) in (
-      state-long _ _ _ (c .before .before .before .before .before .before .before .pre .0 .tabled)
-          (c .before .before .before .loop .inv .is-state),
+    let at-loop-test = c .before .before in
+    let at-loop = at-loop-test .before in
+    let start = at-loop .before .before .before .before in
+    let known = atom-known (span-atom _ _ _ _ _ (start .pre .0) _
+    (at-loop .loop .inv .from-first) (at-loop-test .loop-test .taken))
+    (at-loop .loop .inv .is-state) (c .ground .ensures) in (
+      state-long _ _ _ (start .pre .0 .tabled)
+          (at-loop .loop .inv .is-state),
       (
-        state-ascends _ _ _ (c .before .before .before .before .before .before .before .pre .0 .tabled)
-            (c .before .before .before .loop .inv .is-state),
+        state-ascends _ _ _ (start .pre .0 .tabled)
+            (at-loop .loop .inv .is-state),
         (
-          known-room known _ (rest-fits (c .before .before .before .loop .inv) (c .before .before .loop-test .taken)
-              (c .before .before .before .before .before .before .before .pre .1 .1)),
+          known-room known _ (rest-fits (at-loop .loop .inv) (at-loop-test .loop-test .taken)
+              (start .pre .1 .1)),
           known-small known,
         ),
       ),
@@ -59,15 +65,15 @@ loop-less c = omega arith
 
 loop-again : tie.Need-loop-again Inv-loop μ-loop
 loop-again c =
-    let known = atom-known (span-atom _ _ _ _ _
-    (c .before .before .before .before .before .before .before .before .before .before .pre .0) _
-    (c .before .before .before .before .before .before .loop .inv .from-first)
-    (c .before .before .before .before .before .loop-test .taken))
-    (c .before .before .before .before .before .before .loop .inv .is-state)
-    (c .before .before .before .ground .ensures) in
-    insert-turn (c .before .before .before .before .before .before .loop .inv)
-    (c .before .before .before .before .before .loop-test .taken) (c .before .before .put-in .kept .0)
-    (c .before .before .put-in .ensures _ _ known)
+    let at-put-in = c .before .before in
+    let at-ground = at-put-in .before in
+    let at-loop-test = at-ground .before .before in
+    let at-loop = at-loop-test .before in
+    let start = at-loop .before .before .before .before in
+    let known = atom-known (span-atom _ _ _ _ _ (start .pre .0) _ (at-loop .loop .inv .from-first)
+    (at-loop-test .loop-test .taken)) (at-loop .loop .inv .is-state) (at-ground .ground .ensures) in
+    insert-turn (at-loop .loop .inv) (at-loop-test .loop-test .taken) (at-put-in .put-in .kept .0)
+    (at-put-in .put-in .ensures _ _ known)
 
 same-length : tie.Need-same-length Inv-loop μ-loop
 same-length c = c .before .loop .inv .size
