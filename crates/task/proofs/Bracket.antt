@@ -20,7 +20,8 @@ bracket-all w n number = record {
   from = λ i l m. absurd (omega arith);
 }
 
-module _ {w : List ℕ} {n number lo hi : ℕ} (a : RowsAscend w n) (b : Bracket w n number lo hi) (m : ℕ) (l : lo ≤ m) (h : m < hi) where
+module _ {w : List ℕ} {n number lo hi : ℕ} (a : RowsAscend w n) (b : Bracket w n number lo hi) (m : ℕ) (l : lo ≤ m)
+    (h : m < hi) where
   pub bracket-up : rowNumber w m < number → Bracket w n number (m + 1) hi
   bracket-up x = record {
     ordered = omega arith;

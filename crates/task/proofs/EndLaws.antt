@@ -1,6 +1,6 @@
 -- The end of a run: the words that keep the last state, with zeros behind them, and what the answer tells.
 use Prim.Native.Nat.{ℕ, _+_, _*_, _≤_, _<_}
-use mathlib.Core.Path.{_≡_, refl, sym, _∙_, ap, ap₂, subst}
+use mathlib.Core.Path.{_≡_, sym, _∙_, ap, ap₂, subst}
 use mathlib.Core.Bool.{Bool, true}
 use mathlib.Core.List.{List, [], _∷_}
 use native.Mathlib.Omega.{arith}
@@ -11,10 +11,24 @@ use Rattle.task.specs.declared.RunAnswer.the-variants as answer
 use Rattle.task.specs.declared.running.Ended.{Ended}
 use Rattle.task.specs.declared.running.Ended.the-variants as ended
 use Rattle.task.specs.Lists.{padded}
-use Rattle.task.specs.Answers.{Told, result, refused, Outcome}
-use Rattle.task.specs.Task.{Fact, Task}
-use Rattle.task.specs.Table.{wordsAt, taskOf, isTable}
-use Rattle.task.specs.Run.{stateWords, stateIn, isState, goalMet, Running, ran, stopped, outgrown, bit, runTold, runDone, runAnswerTold, left as lastState}
+use Rattle.task.specs.Answers.{result, refused}
+use Rattle.task.specs.Task.{Task}
+use Rattle.task.specs.Table.{wordsAt}
+use Rattle.task.specs.Run.{
+  stateWords,
+  stateIn,
+  isState,
+  goalMet,
+  Running,
+  ran,
+  stopped,
+  outgrown,
+  bit,
+  runTold,
+  runDone,
+  runAnswerTold,
+  left as lastState,
+}
 use Rattle.task.specs.Turns.{endedAs, recordsLeft}
 use Rattle.task.proofs.TablesByWords.{length-wordsAt, getD-mapped}
 use Rattle.task.proofs.Rows.{state-tests, length-stateIn, room-words}
@@ -37,26 +51,33 @@ pub state-taken : (t : Task) (w : List ℕ) (n : ℕ) → isState t w n ≡ true
 state-taken t w n h = sym (words-taken w (5 * n) (state-fills t w n h)) ∙ state-tests t w n h .words
 
 -- ---- how a list ended, by its case
-pub ended-ran : (t : Task) (out : List ℕ) {e : Ended} {r : Running} (m : ℕ) → e ≡ ended.Ran m → isState t out (recordsLeft e) ≡ true →
+pub ended-ran : (t : Task) (out : List ℕ) {e : Ended} {r : Running} (m : ℕ) → e ≡ ended.Ran m →
+    isState t out (recordsLeft e) ≡ true →
     r ≡ endedAs e (stateIn t out (recordsLeft e)) → (isState t out m ≡ true) × (r ≡ ran (stateIn t out m))
 unfolding endedAs recordsLeft
 ended-ran t out {r = r} m q h s =
-    subst (λ (e : Ended). (isState t out (recordsLeft e) ≡ true) × (r ≡ endedAs e (stateIn t out (recordsLeft e)))) q (h, s)
+    subst (λ (e : Ended). (isState t out (recordsLeft e) ≡ true) × (r ≡ endedAs e (stateIn t out (recordsLeft e)))) q
+    (h, s)
 
-pub ended-missing : (t : Task) (out : List ℕ) {e : Ended} {r : Running} (i m : ℕ) → e ≡ ended.Missing i m → isState t out (recordsLeft e) ≡ true →
+pub ended-missing : (t : Task) (out : List ℕ) {e : Ended} {r : Running} (i m : ℕ) → e ≡ ended.Missing i m →
+    isState t out (recordsLeft e) ≡ true →
     r ≡ endedAs e (stateIn t out (recordsLeft e)) → (isState t out m ≡ true) × (r ≡ stopped i (stateIn t out m))
 unfolding endedAs recordsLeft
 ended-missing t out {r = r} i m q h s =
-    subst (λ (e : Ended). (isState t out (recordsLeft e) ≡ true) × (r ≡ endedAs e (stateIn t out (recordsLeft e)))) q (h, s)
+    subst (λ (e : Ended). (isState t out (recordsLeft e) ≡ true) × (r ≡ endedAs e (stateIn t out (recordsLeft e)))) q
+    (h, s)
 
-pub ended-outgrown : (t : Task) (out : List ℕ) {e : Ended} {r : Running} (i m : ℕ) → e ≡ ended.Outgrown i m → isState t out (recordsLeft e) ≡ true →
+pub ended-outgrown : (t : Task) (out : List ℕ) {e : Ended} {r : Running} (i m : ℕ) → e ≡ ended.Outgrown i m →
+    isState t out (recordsLeft e) ≡ true →
     r ≡ endedAs e (stateIn t out (recordsLeft e)) → (isState t out m ≡ true) × (r ≡ outgrown i (stateIn t out m))
 unfolding endedAs recordsLeft
 ended-outgrown t out {r = r} i m q h s =
-    subst (λ (e : Ended). (isState t out (recordsLeft e) ≡ true) × (r ≡ endedAs e (stateIn t out (recordsLeft e)))) q (h, s)
+    subst (λ (e : Ended). (isState t out (recordsLeft e) ≡ true) × (r ≡ endedAs e (stateIn t out (recordsLeft e)))) q
+    (h, s)
 
 -- ---- the outcome
-module _ (t : Task) (w out : List ℕ) (n size : ℕ) (h : isState t w n ≡ true) (z : length w ≡ size) (c : out ≡ padded (length w) (take (5 * n) w)) where
+module _ (t : Task) (w out : List ℕ) (n size : ℕ) (h : isState t w n ≡ true) (z : length w ≡ size)
+    (c : out ≡ padded (length w) (take (5 * n) w)) where
   cleared : out ≡ padded size (stateWords (stateIn t w n))
   cleared = c ∙ ap₂ padded z (state-taken t w n h)
 
@@ -64,19 +85,22 @@ module _ (t : Task) (w out : List ℕ) (n size : ℕ) (h : isState t w n ≡ tru
       (runAnswerTold (answer.Ran n g) ≡ runDone t size r .told) × (out ≡ runDone t size r .buffer)
   unfolding runAnswerTold runDone runTold lastState
   done-ran {g = g} e q =
-      subst (λ (r : Running). (runAnswerTold (answer.Ran n g) ≡ runDone t size r .told) × (out ≡ runDone t size r .buffer)) (sym e)
+      subst (λ (r : Running). (runAnswerTold (answer.Ran n g) ≡ runDone t size r .told) ×
+      (out ≡ runDone t size r .buffer)) (sym e)
       (ap₂ (λ (m : ℕ) (b : Bool). result (m ∷ bit b ∷ [])) (sym (length-stateIn t w n)) q, cleared)
 
   pub done-stopped : {r : Running} (i : ℕ) → r ≡ stopped i (stateIn t w n) →
       (runAnswerTold (answer.Stopped 16 (place.Step i) n) ≡ runDone t size r .told) × (out ≡ runDone t size r .buffer)
   unfolding runAnswerTold runDone runTold lastState
   done-stopped i e =
-      subst (λ (r : Running). (runAnswerTold (answer.Stopped 16 (place.Step i) n) ≡ runDone t size r .told) × (out ≡ runDone t size r .buffer)) (sym e)
+      subst (λ (r : Running). (runAnswerTold (answer.Stopped 16 (place.Step i) n) ≡ runDone t size r .told) ×
+      (out ≡ runDone t size r .buffer)) (sym e)
       (ap (λ (m : ℕ). refused 16 (place.Step i) (m ∷ [])) (sym (length-stateIn t w n)), cleared)
 
   pub done-outgrown : {r : Running} (i : ℕ) → r ≡ outgrown i (stateIn t w n) →
       (runAnswerTold (answer.Stopped 17 (place.Step i) n) ≡ runDone t size r .told) × (out ≡ runDone t size r .buffer)
   unfolding runAnswerTold runDone runTold lastState
   done-outgrown i e =
-      subst (λ (r : Running). (runAnswerTold (answer.Stopped 17 (place.Step i) n) ≡ runDone t size r .told) × (out ≡ runDone t size r .buffer)) (sym e)
+      subst (λ (r : Running). (runAnswerTold (answer.Stopped 17 (place.Step i) n) ≡ runDone t size r .told) ×
+      (out ≡ runDone t size r .buffer)) (sym e)
       (ap (λ (m : ℕ). refused 17 (place.Step i) (m ∷ [])) (sym (length-stateIn t w n)), cleared)

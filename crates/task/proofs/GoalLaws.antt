@@ -1,12 +1,12 @@
 -- Goal atoms by their places in the table: each is a ground atom of the task, and all of them are its goal.
 use Prim.Native.Nat.{ℕ, _+_, _-_, _≤_, _<_}
-use mathlib.Core.Path.{_≡_, refl, sym, _∙_, ap, ap₂, subst}
+use mathlib.Core.Path.{_≡_, sym, _∙_, ap, ap₂}
 use mathlib.Core.Bool.{Bool, true}
 use mathlib.Core.List.{List, map}
 use native.Mathlib.Omega.{arith}
-use lib.ListN.{length, getD}
+use lib.ListN.{getD}
 use Rattle.task.specs.Lists.{all, upFrom}
-use Rattle.task.specs.Task.{Fact, Task}
+use Rattle.task.specs.Task.{Fact}
 use Rattle.task.specs.Table.{factIn, taskOf, isTable}
 use Rattle.task.specs.Run.{holds, isState, goalMet}
 use Rattle.task.specs.Records.{recordNumber, Known}
@@ -35,7 +35,8 @@ goal-known w state n k number h s l m e =
       is = sym e;
     }
 
-pub goal-so : (w : List ℕ) (s : List Fact) (from to : ℕ) {r : Bool} → from ≡ getD w 3 0 + getD w 4 0 → to ≡ from + getD w 5 0 →
+pub goal-so : (w : List ℕ) (s : List Fact) (from to : ℕ) {r : Bool} → from ≡ getD w 3 0 + getD w 4 0 →
+    to ≡ from + getD w 5 0 →
     r ≡ all (holds s) (map (factIn w) (upFrom from (to - from))) → r ≡ goalMet (taskOf w) s
 unfolding goalMet taskOf
 goal-so w s from to a b e =

@@ -1,7 +1,7 @@
--- Atoms of a table with the objects of a step, word by word: where their words lie, that a parameter's object is a word of
--- the step, and the number that four arguments give, unused ones as 0.
-use Prim.Native.Nat.{ℕ, zero, suc, _+_, _-_, _*_, _≤_, _<_}
-use mathlib.Core.Path.{_≡_, refl, sym, _∙_, ap, ap₂, subst}
+-- Atoms of a table with the objects of a step, word by word: where their words lie, that a parameter's object is a
+-- word of the step, and the number that four arguments give, unused ones as 0.
+use Prim.Native.Nat.{ℕ, _+_, _-_, _*_, _≤_, _<_}
+use mathlib.Core.Path.{_≡_, refl, sym, _∙_, ap, subst}
 use mathlib.Core.Bool.{Bool, true, false, cond, _&&_}
 use mathlib.Core.List.{List, [], _∷_, map}
 use native.Mathlib.Omega.{arith}
@@ -9,8 +9,8 @@ use native.Mathlib.Decide.{decLt}
 use lib.ListN.{length, getD, length-map, List·getD-eq-default}
 use lib.Dec.{ltb, leb}
 use borrow.Author.Tests.{leb-true, ltb-true, lt-ltb, le-ltb}
-use Rattle.task.specs.Lists.{padded, upFrom, eqList}
-use Rattle.task.specs.Task.{Atom, Fact, Task, argsFit, schemaFits}
+use Rattle.task.specs.Lists.{padded, eqList}
+use Rattle.task.specs.Task.{Fact, Task, argsFit, schemaFits}
 use Rattle.task.specs.Table.{wordsAt, arityIn, atomBase, atomIn, schemaNumberIn, factIn, taskOf, isTable}
 use Rattle.task.specs.Run.{Step, schemaAt, ground, isStep, paramCount, stepIn, stepAt, stepWords, isStepAt}
 use Rattle.task.specs.Records.{inBase, recordNumber}
@@ -19,8 +19,8 @@ use Rattle.task.proofs.Laws.{and-left, and-right, In, all-in, in-eq, in
 use Rattle.task.proofs.Tests.{schema-tests, task-tests}
 use Rattle.task.proofs.States.{Fits, fitting-argsFit, IsStep, isStep-is, WellFormed, wellFormed-is, ground-fits}
 use Rattle.task.proofs.Tables.{noAtom, noSchema, startOf, tableWords-is, of-table}
-use Rattle.task.proofs.TablesByIndex.{Frame, table-frame, table-long, schemas-word, atom-inside, start-suc, atom-at, Lies, atom-lies}
-use Rattle.task.proofs.TablesByWords.{WordsFit, table-words, length-wordsAt, getD-mapped}
+use Rattle.task.proofs.TablesByIndex.{table-frame, table-long, atom-inside, start-suc, atom-at, atom-lies}
+use Rattle.task.proofs.TablesByWords.{table-words, length-wordsAt, getD-mapped}
 
 -- ---- where words lie
 pub table-is-long : (w : List ℕ) → isTable w ≡ true → 13406 ≤ length w
@@ -64,7 +64,8 @@ step-object t steps i p l =
     getD-mapped (λ k. getD steps k 0) (13 * i + 1) n p 0 (omega arith)
 
 -- ---- atoms of a schema
-pub atom-in-schema : (w : List ℕ) → isTable w ≡ true → (k : ℕ) → k < getD w 3 0 → In (atomIn w k) (schemaAt (taskOf w) (schemaNumberIn w k) .atoms)
+pub atom-in-schema : (w : List ℕ) → isTable w ≡ true → (k : ℕ) → k < getD w 3 0 →
+    In (atomIn w k) (schemaAt (taskOf w) (schemaNumberIn w k) .atoms)
 atom-in-schema w h k l =
     let fr = table-frame w h in
     let t = taskOf w in
@@ -89,17 +90,20 @@ padded-four (a ∷ b ∷ c ∷ d ∷ []) l = refl
 padded-four (a ∷ b ∷ c ∷ d ∷ e ∷ xs) l = absurd (omega arith)
 
 pub number-four : (f : Fact) → length (f .args) ≤ 4 →
-    recordNumber f ≡ inBase (f .pred) (getD (f .args) 0 0 ∷ getD (f .args) 1 0 ∷ getD (f .args) 2 0 ∷ getD (f .args) 3 0 ∷ [])
+    recordNumber f ≡ inBase (f .pred)
+    (getD (f .args) 0 0 ∷ getD (f .args) 1 0 ∷ getD (f .args) 2 0 ∷ getD (f .args) 3 0 ∷ [])
 unfolding recordNumber
 number-four f l = ap (inBase (f .pred)) (padded-four (f .args) l)
 
-mapped-at : (g : ℕ → ℕ) (w : List ℕ) (a n j : ℕ) → getD (map g (wordsAt w a n)) j 0 ≡ cond (ltb j n) (g (getD w (a + j) 0)) 0
+mapped-at : (g : ℕ → ℕ) (w : List ℕ) (a n j : ℕ) →
+    getD (map g (wordsAt w a n)) j 0 ≡ cond (ltb j n) (g (getD w (a + j) 0)) 0
 unfolding wordsAt
 mapped-at g w a n j = elim (decLt j n) [
   | yes l ↦
       let e = length-wordsAt w a n in
       getD-map g (wordsAt w a n) j 0 0 (omega arith) ∙
-      (ap g (getD-mapped (λ k. getD w k 0) a n j 0 l) ∙ ap (λ (b : Bool). cond b (g (getD w (a + j) 0)) 0) (sym (lt-ltb j n l)))
+      (ap g (getD-mapped (λ k. getD w k 0) a n j 0 l) ∙
+      ap (λ (b : Bool). cond b (g (getD w (a + j) 0)) 0) (sym (lt-ltb j n l)))
   | no l ↦
       let e = length-wordsAt w a n in
       let z = length-map (wordsAt w a n) g in
@@ -122,7 +126,8 @@ module _ (w steps : List ℕ) (i k : ℕ) (o : AtomOf w steps i k) where
   arity = arityIn w (getD w (b + 2) 0)
 
   own-atom : In (atomIn w k) (schemaAt t (x .schema) .atoms)
-  own-atom = subst (λ (m : ℕ). In (atomIn w k) (schemaAt t m .atoms)) (o .own ∙ sym (step-schema t steps i)) (atom-in-schema w (o .tabled) k (o .known))
+  own-atom = subst (λ (m : ℕ). In (atomIn w k) (schemaAt t m .atoms)) (o .own ∙ sym (step-schema t steps i))
+      (atom-in-schema w (o .tabled) k (o .known))
 
   is-step : IsStep t x
   is-step = step-words t steps i (o .stepped) .is
@@ -134,8 +139,10 @@ module _ (w steps : List ℕ) (i k : ℕ) (o : AtomOf w steps i k) where
   unfolding groundAt
   ground-at-fits = ground-fits t x formed is-step (atomIn w k) own-atom
 
-  pub ground-args-fit : argsFit (t .arities) (t .objects) (groundAt w steps i k .pred) (groundAt w steps i k .args) ≡ true
-  ground-args-fit = fitting-argsFit (t .objects) (t .arities) (groundAt w steps i k .pred) (groundAt w steps i k .args) ground-at-fits
+  pub ground-args-fit : argsFit (t .arities) (t .objects) (groundAt w steps i k .pred) (groundAt w steps i k .args) ≡
+      true
+  ground-args-fit = fitting-argsFit (t .objects) (t .arities) (groundAt w steps i k .pred) (groundAt w steps i k .args)
+      ground-at-fits
 
   pred-inside : 6 + getD w (b + 2) 0 < length w
   unfolding atomIn
@@ -147,7 +154,8 @@ module _ (w steps : List ℕ) (i k : ℕ) (o : AtomOf w steps i k) where
 
   arity-short : arity ≤ 4
   unfolding atomIn
-  arity-short = table-words w (o .tabled) .arity (getD w (b + 2) 0) (table-words w (o .tabled) .known k (let z = o .known in omega arith))
+  arity-short = table-words w (o .tabled) .arity (getD w (b + 2) 0)
+      (table-words w (o .tabled) .known k (let z = o .known in omega arith))
 
   parameter-small : (j : ℕ) → j < arity → getD w (b + 4 + j) 0 < length (x .objects)
   unfolding atomIn wordsAt
@@ -164,7 +172,8 @@ module _ (w steps : List ℕ) (i k : ℕ) (o : AtomOf w steps i k) where
   params-few =
       let c = task-tests t (of-table w (o .tabled) .0) in
       let s = getD (t .schemas) (x .schema) noSchema in
-      let q = schema-tests (t .arities) s (all-in (schemaFits (t .arities)) (c .fit) (in-getD (t .schemas) (x .schema) noSchema (is-step .known))) in
+      let q = schema-tests (t .arities) s
+      (all-in (schemaFits (t .arities)) (c .fit) (in-getD (t .schemas) (x .schema) noSchema (is-step .known))) in
       let l = leb-true (s .params) 12 (q .params) in
       let e = is-step .count in
       omega arith
@@ -177,13 +186,15 @@ module _ (w steps : List ℕ) (i k : ℕ) (o : AtomOf w steps i k) where
       let z = ap (λ (y : ℕ). getD w y 0) e in
       omega arith
 
-  argument-is : (j q : ℕ) → b + 4 + j ≡ q → getD (groundAt w steps i k .args) j 0 ≡ argumentIn (ltb j arity) steps i (getD w q 0)
+  argument-is : (j q : ℕ) → b + 4 + j ≡ q →
+      getD (groundAt w steps i k .args) j 0 ≡ argumentIn (ltb j arity) steps i (getD w q 0)
   unfolding groundAt ground atomIn argumentIn
   argument-is j q e =
       mapped-at (λ y. getD (x .objects) y 0) w (b + 4) arity j ∙
       (ap (λ (y : ℕ). cond (ltb j arity) (getD (x .objects) (getD w y 0) 0) 0) e ∙ go (ltb j arity) refl)
     where
-      go : (u : Bool) → ltb j arity ≡ u → cond u (getD (x .objects) (getD w q 0) 0) 0 ≡ argumentIn u steps i (getD w q 0)
+      go : (u : Bool) → ltb j arity ≡ u →
+          cond u (getD (x .objects) (getD w q 0) 0) 0 ≡ argumentIn u steps i (getD w q 0)
       go true h =
           let m = parameter-small j (ltb-true j arity h) in
           let z = ap (λ (y : ℕ). getD w y 0) e in
@@ -219,7 +230,8 @@ module _ (w steps : List ℕ) (i k : ℕ) (o : AtomOf w steps i k) where
     read-inside j q e l = argument-inside j q (omega arith) (ap (ltb j) (sym arity-read) ∙ l)
 
     pub read-number : (a₀ a₁ a₂ a₃ r : ℕ) → a₀ ≡ argumentIn (ltb 0 ar) steps i (getD w (at + 4) 0) →
-        a₁ ≡ argumentIn (ltb 1 ar) steps i (getD w (at + 5) 0) → a₂ ≡ argumentIn (ltb 2 ar) steps i (getD w (at + 6) 0) →
+        a₁ ≡ argumentIn (ltb 1 ar) steps i (getD w (at + 5) 0) →
+        a₂ ≡ argumentIn (ltb 2 ar) steps i (getD w (at + 6) 0) →
         a₃ ≡ argumentIn (ltb 3 ar) steps i (getD w (at + 7) 0) → r ≡ inBase p (a₀ ∷ a₁ ∷ a₂ ∷ a₃ ∷ []) →
         r ≡ recordNumber (groundAt w steps i k)
     read-number a₀ a₁ a₂ a₃ r e₀ e₁ e₂ e₃ e = let z = arity-read in let n = ground-number in cc
@@ -232,7 +244,8 @@ fact-argument w h k l j m = elim (decLt j arity) [
   | yes x ↦ getD-mapped (λ k. getD w k 0) (b + 4) arity j 0 x
   | no x ↦
       let n = length-wordsAt w (b + 4) arity in
-      List·getD-eq-default (wordsAt w (b + 4) arity) 0 (omega arith) ∙ sym (table-words w h .unused k j l (omega arith) m)
+      List·getD-eq-default (wordsAt w (b + 4) arity) 0 (omega arith) ∙
+      sym (table-words w h .unused k j l (omega arith) m)
 ]
   where
     b : ℕ
@@ -241,8 +254,10 @@ fact-argument w h k l j m = elim (decLt j arity) [
     arity : ℕ
     arity = arityIn w (getD w (b + 2) 0)
 
-pub fact-read : (w : List ℕ) → isTable w ≡ true → (k : ℕ) → k < getD w 3 0 + getD w 4 0 + getD w 5 0 → (at : ℕ) → at ≡ atomBase w k →
-    recordNumber (factIn w k) ≡ inBase (getD w (at + 2) 0) (getD w (at + 4) 0 ∷ getD w (at + 5) 0 ∷ getD w (at + 6) 0 ∷ getD w (at + 7) 0 ∷ [])
+pub fact-read : (w : List ℕ) → isTable w ≡ true → (k : ℕ) → k < getD w 3 0 + getD w 4 0 + getD w 5 0 → (at : ℕ) →
+    at ≡ atomBase w k →
+    recordNumber (factIn w k) ≡ inBase (getD w (at + 2) 0)
+    (getD w (at + 4) 0 ∷ getD w (at + 5) 0 ∷ getD w (at + 6) 0 ∷ getD w (at + 7) 0 ∷ [])
 unfolding factIn atomIn
 fact-read w h k l at e =
     let c = table-words w h in

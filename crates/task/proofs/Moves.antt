@@ -5,7 +5,18 @@ use mathlib.Core.Path.{_≡_, refl, sym, _∙_, ap, subst}
 use mathlib.Core.List.{List, _++_}
 use native.Mathlib.Omega.{arith}
 use native.Mathlib.Decide.{decLt}
-use lib.ListN.{length, getD, set, take, replicate, length-set, length-append, length-replicate, getD-replicate, List·getD-append}
+use lib.ListN.{
+  length,
+  getD,
+  set,
+  take,
+  replicate,
+  length-set,
+  length-append,
+  length-replicate,
+  getD-replicate,
+  List·getD-append,
+}
 use lib.Seq.{getD-set-same, getD-set-other, getD-take, length-take-le, getD-append-add, ext-getD}
 use Rattle.task.specs.Lists.{padded}
 use Rattle.task.specs.Records.{Written}
@@ -45,14 +56,15 @@ pub record Up (w : List ℕ) (i b : ℕ) (out : List ℕ) : Type 0 where
   pub size : length out ≡ length w
   pub below : (j : ℕ) → j < i + 5 → getD out j 0 ≡ getD w j 0
   pub moved : (j : ℕ) → i ≤ j → j < b → getD out (j + 5) 0 ≡ getD w j 0
+  pub behind : (j : ℕ) → b + 5 ≤ j → getD out j 0 ≡ getD w j 0
 
 pub up-none : (w : List ℕ) (b : ℕ) → Up w b b w
-up-none w b = record { size = refl; below = λ j l. refl; moved = λ j l m. absurd (omega arith) }
+up-none w b = record { size = refl; below = λ j l. refl; moved = λ j l m. absurd (omega arith); behind = λ j l. refl }
 
 -- with i for the turn's own index, one less than before it
-pub up-more : (w : List ℕ) (i h b : ℕ) (out : List ℕ) → h ≡ i + 1 → i + 5 < length w → Up w h b out →
+pub up-more : (w : List ℕ) (i h b : ℕ) (out : List ℕ) → h ≡ i + 1 → i < b → i + 5 < length w → Up w h b out →
     Up w i b (set out (i + 5) (getD out i 0))
-up-more w i h b out e n u = record {
+up-more w i h b out e v n u = record {
   size = length-set out (i + 5) (getD out i 0) ∙ u .size;
   below = λ j m. getD-set-other out (i + 5) j _ 0 (λ e. omega arith) ∙ u .below j (omega arith);
   moved = λ j m k. elim (decLt i j) [
@@ -62,6 +74,7 @@ up-more w i h b out e n u = record {
         subst (λ (k : ℕ). getD (set out (i + 5) (getD out i 0)) (k + 5) 0 ≡ getD w k 0) q
         (getD-set-same out (i + 5) (getD out i 0) 0 (let z = u .size in omega arith) ∙ u .below i (omega arith))
   ];
+  behind = λ j m. getD-set-other out (i + 5) j _ 0 (λ e. omega arith) ∙ u .behind j m;
 }
 
 -- ---- five words written one after another
@@ -90,13 +103,17 @@ written w a number l =
     let o₁ : (i : ℕ) → (i ≡ a + 1 → ⊥) → getD w₁ i 0 ≡ getD w₀ i 0 = λ i h. getD-set-other w₀ (a + 1) i v₁ 0 h in
     let o₂ : (i : ℕ) → (i ≡ a + 2 → ⊥) → getD w₂ i 0 ≡ getD w₁ i 0 = λ i h. getD-set-other w₁ (a + 2) i v₂ 0 h in
     let o₃ : (i : ℕ) → (i ≡ a + 3 → ⊥) → getD w₃ i 0 ≡ getD w₂ i 0 = λ i h. getD-set-other w₂ (a + 3) i v₃ 0 h in
-    let o₄ : (i : ℕ) → (i ≡ a + 4 → ⊥) → getD (set w₃ (a + 4) v₄) i 0 ≡ getD w₃ i 0 = λ i h. getD-set-other w₃ (a + 4) i v₄ 0 h in
+    let o₄ : (i : ℕ) → (i ≡ a + 4 → ⊥) → getD (set w₃ (a + 4) v₄) i 0 ≡ getD w₃ i 0 =
+    λ i h. getD-set-other w₃ (a + 4) i v₄ 0 h in
     record {
       other = λ i. (
-        λ h. o₄ i (λ e. omega arith) ∙ (o₃ i (λ e. omega arith) ∙ (o₂ i (λ e. omega arith) ∙ (o₁ i (λ e. omega arith) ∙ getD-set-other w a i v₀ 0 (λ e. omega arith)))),
-        λ h. o₄ i (λ e. omega arith) ∙ (o₃ i (λ e. omega arith) ∙ (o₂ i (λ e. omega arith) ∙ (o₁ i (λ e. omega arith) ∙ getD-set-other w a i v₀ 0 (λ e. omega arith)))),
+        λ h. o₄ i (λ e. omega arith) ∙ (o₃ i (λ e. omega arith) ∙
+            (o₂ i (λ e. omega arith) ∙ (o₁ i (λ e. omega arith) ∙ getD-set-other w a i v₀ 0 (λ e. omega arith)))),
+        λ h. o₄ i (λ e. omega arith) ∙ (o₃ i (λ e. omega arith) ∙
+            (o₂ i (λ e. omega arith) ∙ (o₁ i (λ e. omega arith) ∙ getD-set-other w a i v₀ 0 (λ e. omega arith)))),
       );
-      digit₀ = o₄ a (λ e. omega arith) ∙ (o₃ a (λ e. omega arith) ∙ (o₂ a (λ e. omega arith) ∙ (o₁ a (λ e. omega arith) ∙ s₀)));
+      digit₀ = o₄ a (λ e. omega arith) ∙
+          (o₃ a (λ e. omega arith) ∙ (o₂ a (λ e. omega arith) ∙ (o₁ a (λ e. omega arith) ∙ s₀)));
       digit₁ = o₄ (a + 1) (λ e. omega arith) ∙ (o₃ (a + 1) (λ e. omega arith) ∙ (o₂ (a + 1) (λ e. omega arith) ∙ s₁));
       digit₂ = o₄ (a + 2) (λ e. omega arith) ∙ (o₃ (a + 2) (λ e. omega arith) ∙ s₂);
       digit₃ = o₄ (a + 3) (λ e. omega arith) ∙ s₃;
@@ -113,7 +130,8 @@ pub record Cleared (w : List ℕ) (a i : ℕ) (out : List ℕ) : Type 0 where
 pub clear-none : (w : List ℕ) (a : ℕ) → Cleared w a a w
 clear-none w a = record { size = refl; before = λ j l. refl; zeros = λ j l m. absurd (omega arith) }
 
-pub clear-more : (w : List ℕ) (a i : ℕ) (out : List ℕ) → a ≤ i → i < length w → Cleared w a i out → Cleared w a (i + 1) (set out i 0)
+pub clear-more : (w : List ℕ) (a i : ℕ) (out : List ℕ) → a ≤ i → i < length w → Cleared w a i out →
+    Cleared w a (i + 1) (set out i 0)
 clear-more w a i out l n c = record {
   size = length-set out i 0 ∙ c .size;
   before = λ j m. getD-set-other out i j 0 0 (λ e. omega arith) ∙ c .before j m;
@@ -125,7 +143,8 @@ clear-more w a i out l n c = record {
   ];
 }
 
-pub cleared-padded : (w : List ℕ) (a i : ℕ) (out : List ℕ) → a ≤ length w → length w ≤ i → Cleared w a i out → out ≡ padded (length w) (take a w)
+pub cleared-padded : (w : List ℕ) (a i : ℕ) (out : List ℕ) → a ≤ length w → length w ≤ i → Cleared w a i out →
+    out ≡ padded (length w) (take a w)
 unfolding padded
 cleared-padded w a i out l m c =
     let t : length (take a w) ≡ a = length-take-le a w l in
@@ -139,5 +158,6 @@ cleared-padded w a i out l m c =
           let q : length (take a w) + (j - a) ≡ j = omega arith in
           c .zeros j (omega arith) (omega arith) ∙
           sym (ap (λ (y : ℕ). getD (take a w ++ zs) y 0) (sym q) ∙
-          (getD-append-add (take a w) zs (j - a) 0 ∙ getD-replicate (length w - length (take a w)) (j - a) 0 0 (omega arith)))
+          (getD-append-add (take a w) zs (j - a) 0 ∙
+          getD-replicate (length w - length (take a w)) (j - a) 0 0 (omega arith)))
     ])

@@ -4,7 +4,7 @@ use Prim.Native.Nat.{ℕ, zero, suc, _+_, _-_, _*_, _≤_, _<_}
 use mathlib.Core.Path.{_≡_, refl, sym, _∙_, ap, subst}
 use mathlib.Core.Bool.{true}
 use mathlib.Core.List.{List, [], _∷_, _++_}
-use mathlib.Core.Logic.{_⊎_, inl, inr}
+use mathlib.Core.Logic.{inl, inr}
 use native.Mathlib.Omega.{arith}
 use lib.ListN.{length, getD, replicate, length-replicate}
 use lib.Dec.{leb}
@@ -12,7 +12,23 @@ use borrow.Author.Tests.{leb-true}
 use Rattle.task.specs.Lists.{padded}
 use Rattle.task.specs.Task.{Fact, Task, wellFormed}
 use Rattle.task.specs.Records.{inBase, recordNumber}
-use Rattle.task.proofs.Laws.{In, here, there, in-empty, in-append, all-in, in-getD, Less, shorter, smaller, same, less-total, before, equal, after}
+use Rattle.task.proofs.Laws.{
+  In,
+  here,
+  there,
+  in-empty,
+  in-append,
+  all-in,
+  in-getD,
+  Less,
+  shorter,
+  smaller,
+  same,
+  less-total,
+  before,
+  equal,
+  after,
+}
 use Rattle.task.proofs.Tests.{task-tests}
 use Rattle.task.proofs.States.{key, key-inj, Fits}
 use Rattle.task.proofs.Tables.{length-padded}
@@ -63,11 +79,13 @@ pub slight : (t : Task) → wellFormed t ≡ true → (f : Fact) → Fits t f �
 slight t h f c =
     let d = task-tests t h in
     let l = leb-true (t .objects) 1000 (d .objects) in
-    let m = leb-true (getD (t .arities) (f .pred) 0) 4 (all-in (λ n. leb n 4) (d .arities) (in-getD (t .arities) (f .pred) 0 (c .known))) in
+    let m = leb-true (getD (t .arities) (f .pred) 0) 4
+    (all-in (λ n. leb n 4) (d .arities) (in-getD (t .arities) (f .pred) 0 (c .known))) in
     let e = c .count in
     record { short = omega arith; small = λ o i. let z = c .small o i in omega arith }
 
-pub same-length : (t : Task) (f g : Fact) → Fits t f → Fits t g → f .pred ≡ g .pred → length (f .args) ≡ length (g .args)
+pub same-length : (t : Task) (f g : Fact) → Fits t f → Fits t g → f .pred ≡ g .pred →
+    length (f .args) ≡ length (g .args)
 same-length t f g c d e = c .count ∙ (ap (λ (p : ℕ). getD (t .arities) p 0) e ∙ sym (d .count))
 
 abbrev zeros : List ℕ → List ℕ
@@ -79,7 +97,8 @@ unfolding recordNumber padded
 number-less f g a b q (smaller l) =
     let m = length-padded 4 (f .args) (a .short) in
     let n = length-padded 4 (g .args) (b .short) in
-    base-mono (padded 4 (f .args)) (padded 4 (g .args)) (f .pred) (g .pred) (omega arith) (small-padded 4 (f .args) (a .small)) l
+    base-mono (padded 4 (f .args)) (padded 4 (g .args)) (f .pred) (g .pred) (omega arith)
+    (small-padded 4 (f .args) (a .small)) l
 number-less f g a b q (same e l) =
     let h : length (f .args) ≡ length (g .args) = q e in
     let y : inBase (f .pred) (f .args) < inBase (g .pred) (g .args) =

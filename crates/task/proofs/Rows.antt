@@ -1,24 +1,37 @@
 -- A state in lent words by its rows: row k has the words of fact k. What `isState` says, row by row, and back again;
 -- and the numbers of the rows, which ascend as the facts do.
-use Prim.Native.Nat.{ℕ, zero, suc, _+_, _-_, _*_, _/_, _≤_, _<_}
-use mathlib.Core.Path.{_≡_, refl, sym, _∙_, ap, ap₂, subst}
-use mathlib.Core.Bool.{Bool, true, _&&_}
-use mathlib.Core.List.{List, [], _∷_, _++_, map}
+use Prim.Native.Nat.{ℕ, zero, suc, _+_, _-_, _*_, _≤_, _<_}
+use mathlib.Core.Path.{_≡_, refl, sym, _∙_, ap, subst}
+use mathlib.Core.Bool.{true}
+use mathlib.Core.List.{List, [], _∷_, map}
 use native.Mathlib.Omega.{arith}
 use native.Mathlib.Decide.{decLt}
 use lib.ListN.{length, getD, replicate, length-map, List·getD-append}
 use lib.Dec.{leb}
 use borrow.Author.Tests.{leb-true, le-leb}
-use Rattle.task.specs.Lists.{all, upTo, upFrom, concatMap, eqList, padded}
-use Rattle.task.specs.Task.{Fact, Task, argsFit, factsFit, wellFormed}
+use Rattle.task.specs.Lists.{upTo, upFrom, concatMap, eqList, padded}
+use Rattle.task.specs.Task.{Fact, Task, factsFit, wellFormed}
 use Rattle.task.specs.Table.{wordsAt}
 use Rattle.task.specs.Run.{recordWords, stateWords, recordAt, stateIn, roomIn, isState}
-use Rattle.task.specs.Records.{inBase, recordNumber, numberAt, rowNumber, RowsAscend, Keeps}
-use Rattle.task.proofs.Laws.{and-left, and-right, and-both, In, here, there, in-all, in-getD, length-upTo, eqList-refl, eqList-eq, Less}
+use Rattle.task.specs.Records.{recordNumber, numberAt, rowNumber, RowsAscend, Keeps}
+use Rattle.task.proofs.Laws.{
+  and-left,
+  and-right,
+  and-both,
+  In,
+  here,
+  there,
+  in-all,
+  in-getD,
+  length-upTo,
+  eqList-refl,
+  eqList-eq,
+  Less,
+}
 use Rattle.task.proofs.Tests.{fits, tests-fact}
 use Rattle.task.proofs.States.{key, Asc, asc-cons, asc-ascending, fitting-argsFit, Fits, State, factsFit-state}
 use Rattle.task.proofs.Tables.{At, noFact, tabulate, wordsAt-at, length-padded}
-use Rattle.task.proofs.TablesByWords.{at-join, length-wordsAt, at-wordsAt}
+use Rattle.task.proofs.TablesByWords.{at-join, at-wordsAt}
 use Rattle.task.proofs.WordRows.{length-rows, at-row}
 use Rattle.task.proofs.RecordWords.{length-recordWords}
 use Rattle.task.proofs.Numbers.{Slight, slight, less-number}
@@ -37,13 +50,15 @@ abbrev Five : List Fact → Type 0
 Five s = (f : Fact) → In f s → length (recordWords f) ≡ 5
 
 rows-at : (w : List ℕ) (b : ℕ) (s : List Fact) → Five s →
-    ((k j : ℕ) → k < length s → j < 5 → getD w (b + (5 * k + j)) 0 ≡ getD (recordWords (getD s k noFact)) j 0) → At w b (stateWords s)
+    ((k j : ℕ) → k < length s → j < 5 → getD w (b + (5 * k + j)) 0 ≡ getD (recordWords (getD s k noFact)) j 0) →
+    At w b (stateWords s)
 unfolding stateWords concatMap
 rows-at w b [] h r = λ k l. absurd (omega arith)
 rows-at w b (f ∷ s) h r =
     let five = h f (here refl) in
     at-join w b (recordWords f) (stateWords s)
-    (λ j l. let e : b + j ≡ b + (5 * 0 + j) = omega arith in ap (λ (x : ℕ). getD w x 0) e ∙ r 0 j (omega arith) (omega arith))
+    (λ j l. let e : b + j ≡ b + (5 * 0 + j) = omega arith in ap (λ (x : ℕ). getD w x 0) e ∙
+    r 0 j (omega arith) (omega arith))
     (rows-at w (b + length (recordWords f)) s (λ g i. h g (there i)) (λ k j l m.
     let e : b + length (recordWords f) + (5 * k + j) ≡ b + (5 * suc k + j) = omega arith in
     ap (λ (x : ℕ). getD w x 0) e ∙ r (suc k) j (omega arith) m))
@@ -72,7 +87,8 @@ state-tests t w n h =
 pub tests-state : (t : Task) (w : List ℕ) (n : ℕ) → StateTests t w n → isState t w n ≡ true
 unfolding isState
 tests-state t w n c =
-    and-both _ _ (le-leb n (roomIn w) (c .room)) (and-both _ _ (c .fit) (go (wordsAt w 0 (5 * n)) (stateWords (stateIn t w n)) (c .words)))
+    and-both _ _ (le-leb n (roomIn w) (c .room))
+    (and-both _ _ (c .fit) (go (wordsAt w 0 (5 * n)) (stateWords (stateIn t w n)) (c .words)))
   where
     go : (xs ys : List ℕ) → xs ≡ ys → eqList xs ys ≡ true
     go xs ys e = subst (λ (zs : List ℕ). eqList xs zs ≡ true) e (eqList-refl xs)
@@ -105,12 +121,14 @@ module _ (t : Task) (wf : wellFormed t ≡ true) where
             let e : 0 + 5 * k + j ≡ 5 * k + j = omega arith in
             let q = five t wf s st f (in-getD s k noFact l) in
             ap (λ (x : ℕ). getD w x 0) (sym e) ∙
-            at-row recordWords 5 (λ k. 5 * k) (omega arith) (λ k. omega arith) w 0 s noFact (five t wf s st) whole k l j (omega arith);
+            at-row recordWords 5 (λ k. 5 * k) (omega arith) (λ k. omega arith) w 0 s noFact (five t wf s st) whole k l
+            j (omega arith);
         count = len;
         room = room-words w n (c .room);
       }
 
-  pub record-read : (w : List ℕ) (s : List Fact) → State t s → Rows w s → (k : ℕ) → k < length s → recordAt t w k ≡ getD s k noFact
+  pub record-read : (w : List ℕ) (s : List Fact) → State t s → Rows w s → (k : ℕ) → k < length s →
+      recordAt t w k ≡ getD s k noFact
   unfolding recordAt recordWords padded
   record-read w s st r k l =
       let f = getD s k noFact in
@@ -119,7 +137,8 @@ module _ (t : Task) (wf : wellFormed t ≡ true) where
       let zs : List ℕ = replicate (4 - length (f .args)) 0 in
       let z : 5 * k ≡ 5 * k + 0 = omega arith in
       let p : getD w (5 * k) 0 ≡ f .pred = ap (λ (x : ℕ). getD w x 0) z ∙ r k 0 l (omega arith) in
-      let n : getD (t .arities) (getD w (5 * k) 0) 0 ≡ length (f .args) = ap (λ (x : ℕ). getD (t .arities) x 0) p ∙ sym (c .count) in
+      let n : getD (t .arities) (getD w (5 * k) 0) 0 ≡ length (f .args) = ap (λ (x : ℕ). getD (t .arities) x 0) p ∙
+      sym (c .count) in
       let a : At w (5 * k + 1) (f .args) = λ j m.
       (let e : 5 * k + 1 + j ≡ 5 * k + suc j = omega arith in
       ap (λ (x : ℕ). getD w x 0) e ∙ (r k (suc j) l (omega arith) ∙ List·getD-append (f .args) zs 0 j m)) in
@@ -137,7 +156,8 @@ module _ (t : Task) (wf : wellFormed t ≡ true) where
 
   pub state-fit : (s : List Fact) → State t s → factsFit (t .objects) (t .arities) s ≡ true
   state-fit s c = tests-fact (t .objects) (t .arities) s (record {
-    fit = in-all (fits (t .objects) (t .arities)) s (λ f i. fitting-argsFit (t .objects) (t .arities) (f .pred) (f .args) (c .fit f i));
+    fit = in-all (fits (t .objects) (t .arities)) s
+        (λ f i. fitting-argsFit (t .objects) (t .arities) (f .pred) (f .args) (c .fit f i));
     order = asc-ascending s (c .asc);
   })
 
@@ -158,9 +178,6 @@ module _ (t : Task) (wf : wellFormed t ≡ true) where
         });
         facts = e;
       }
-
-  pub keeps-kept : (w : List ℕ) (n : ℕ) (s : List Fact) → Keeps t w n s → Kept t w n s
-  keeps-kept w n s c = subst (Kept t w n) (c .facts) (state-kept w n (c .state))
 
 -- ---- the numbers of rows
 four : (xs : List ℕ) → length xs ≡ 4 → getD xs 0 0 ∷ getD xs 1 0 ∷ getD xs 2 0 ∷ getD xs 3 0 ∷ [] ≡ xs
@@ -183,11 +200,13 @@ row-number w s r k l c =
     let e₂ : getD w (5 * k + 2) 0 ≡ getD ps 1 0 = r k 2 l (omega arith) in
     let e₃ : getD w (5 * k + 3) 0 ≡ getD ps 2 0 = r k 3 l (omega arith) in
     let e₄ : getD w (5 * k + 4) 0 ≡ getD ps 3 0 = r k 4 l (omega arith) in
-    let q : getD ps 0 0 ∷ getD ps 1 0 ∷ getD ps 2 0 ∷ getD ps 3 0 ∷ [] ≡ ps = four ps (length-padded 4 (f .args) (c .short)) in
+    let q : getD ps 0 0 ∷ getD ps 1 0 ∷ getD ps 2 0 ∷ getD ps 3 0 ∷ [] ≡ ps =
+    four ps (length-padded 4 (f .args) (c .short)) in
     cc
 
 -- facts of an ascending list, by place
-pub asc-places : {s : List Fact} → Asc s → (i j : ℕ) → i < j → j < length s → Less (key (getD s i noFact)) (key (getD s j noFact))
+pub asc-places : {s : List Fact} → Asc s → (i j : ℕ) → i < j → j < length s →
+    Less (key (getD s i noFact)) (key (getD s j noFact))
 asc-places (asc-cons {f = f} {s = s} b h) i zero l m = absurd (omega arith)
 asc-places (asc-cons {f = f} {s = s} b h) zero (suc j) l m = b (getD s j noFact) (in-getD s j noFact (omega arith))
 asc-places (asc-cons {f = f} {s = s} b h) (suc i) (suc j) l m = asc-places h i j (omega arith) (omega arith)
@@ -197,7 +216,8 @@ module _ (t : Task) (wf : wellFormed t ≡ true) (w : List ℕ) (n : ℕ) (s : L
   fact-fits k l = c .state .fit (getD s k noFact) (in-getD s k noFact (let e = c .count in omega arith))
 
   pub number-row : (k : ℕ) → k < n → rowNumber w k ≡ recordNumber (getD s k noFact)
-  number-row k l = row-number w s (c .rows) k (let e = c .count in omega arith) (slight t wf (getD s k noFact) (fact-fits k l))
+  number-row k l = row-number w s (c .rows) k (let e = c .count in omega arith)
+      (slight t wf (getD s k noFact) (fact-fits k l))
 
   pub number-before-number : (i j : ℕ) → i < j → j < n → rowNumber w i < rowNumber w j
   number-before-number i j l m =

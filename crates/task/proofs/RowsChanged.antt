@@ -10,8 +10,36 @@ use lib.ListN.{length, getD}
 use Rattle.task.specs.Lists.{filter, keepIf}
 use Rattle.task.specs.Task.{Fact, Task, factLess, factEq}
 use Rattle.task.specs.Run.{holds, insert, removeAll}
-use Rattle.task.proofs.Laws.{false-if, In, here, there, in-empty, in-eq, filter-in, in-getD, Less, lessList-less, less-lessList, less-irrefl, less-trans}
-use Rattle.task.proofs.States.{key, factEq-eq, holds-in, in-holds, Asc, asc-cons, asc-ext, in-insert, insert-old, asc-insert, asc-filter, Fits, State}
+use Rattle.task.proofs.Laws.{
+  false-if,
+  In,
+  here,
+  there,
+  in-empty,
+  in-eq,
+  filter-in,
+  in-getD,
+  Less,
+  lessList-less,
+  less-lessList,
+  less-irrefl,
+  less-trans,
+}
+use Rattle.task.proofs.States.{
+  key,
+  factEq-eq,
+  holds-in,
+  in-holds,
+  Asc,
+  asc-cons,
+  asc-ext,
+  in-insert,
+  insert-old,
+  asc-insert,
+  asc-filter,
+  Fits,
+  State,
+}
 use Rattle.task.proofs.Tables.{noFact, filter-all}
 
 -- ---- lists without an element, and with one more
@@ -47,7 +75,8 @@ length-placed zero f s l = omega arith
 length-placed (suc k) f [] l = absurd (omega arith)
 length-placed (suc k) f (g ∷ s) l = let e = length-placed k f s (omega arith) in omega arith
 
-pub placed-before : (k : ℕ) (f : Fact) (s : List Fact) (i : ℕ) (d : Fact) → k ≤ length s → i < k → getD (placed k f s) i d ≡ getD s i d
+pub placed-before : (k : ℕ) (f : Fact) (s : List Fact) (i : ℕ) (d : Fact) → k ≤ length s → i < k →
+    getD (placed k f s) i d ≡ getD s i d
 placed-before zero f s i d l m = absurd (omega arith)
 placed-before (suc k) f [] i d l m = absurd (omega arith)
 placed-before (suc k) f (g ∷ s) zero d l m = refl
@@ -58,7 +87,8 @@ placed-at zero f s d l = refl
 placed-at (suc k) f [] d l = absurd (omega arith)
 placed-at (suc k) f (g ∷ s) d l = placed-at k f s d (omega arith)
 
-pub placed-behind : (k : ℕ) (f : Fact) (s : List Fact) (i : ℕ) (d : Fact) → k ≤ length s → k ≤ i → getD (placed k f s) (suc i) d ≡ getD s i d
+pub placed-behind : (k : ℕ) (f : Fact) (s : List Fact) (i : ℕ) (d : Fact) → k ≤ length s → k ≤ i →
+    getD (placed k f s) (suc i) d ≡ getD s i d
 placed-behind zero f s i d l m = refl
 placed-behind (suc k) f [] i d l m = absurd (omega arith)
 placed-behind (suc k) f (g ∷ s) zero d l m = absurd (omega arith)
@@ -85,7 +115,8 @@ remove-absent f s h = filter-all (apart f) s (λ g i. other-apart f g (λ e. h (
 less-apart : {f g : Fact} → Less (key f) (key g) → g ≡ f → ⊥
 less-apart {f = f} l e = less-irrefl (key f) (rw e at l)
 
-pub remove-place : (f : Fact) (s : List Fact) → Asc s → (k : ℕ) → k < length s → getD s k noFact ≡ f → removeAll (f ∷ []) s ≡ without k s
+pub remove-place : (f : Fact) (s : List Fact) → Asc s → (k : ℕ) → k < length s → getD s k noFact ≡ f →
+    removeAll (f ∷ []) s ≡ without k s
 unfolding removeAll filter keepIf
 remove-place f [] a k l e = absurd (omega arith)
 remove-place f (g ∷ s) (asc-cons b a) zero l e =
@@ -122,7 +153,8 @@ unfolding insert
 insert-place f [] zero l below from = refl
 insert-place f [] (suc k) l below from = absurd (omega arith)
 insert-place f (g ∷ s) zero l below from =
-    ap (λ (b : Bool). cond b (f ∷ g ∷ s) (cond (factEq f g) (g ∷ s) (g ∷ insert f s))) (is-less f g (from (omega arith)))
+    ap (λ (b : Bool). cond b (f ∷ g ∷ s) (cond (factEq f g) (g ∷ s) (g ∷ insert f s)))
+    (is-less f g (from (omega arith)))
 insert-place f (g ∷ s) (suc k) l below from =
     let m = below 0 (omega arith) in
     ap₂ (λ (b c : Bool). cond b (f ∷ g ∷ s) (cond c (g ∷ s) (g ∷ insert f s))) (not-less f g m) (not-equal f g m) ∙

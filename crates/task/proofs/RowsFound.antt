@@ -1,7 +1,7 @@
 -- What the search for a record's number says of the state that the words keep: whether the fact holds, and what taking
 -- its row out or putting it in leaves. For every task and fact of which the words and the number are.
 use Prim.Native.Nat.{ℕ, _+_, _-_, _*_, _≤_, _<_}
-use mathlib.Core.Path.{_≡_, refl, sym, _∙_, ap, subst}
+use mathlib.Core.Path.{_≡_, refl, sym, subst}
 use mathlib.Core.Bool.{Bool, true, false}
 use mathlib.Core.List.{List, [], _∷_}
 use native.Mathlib.Omega.{arith}
@@ -9,11 +9,21 @@ use native.Mathlib.Decide.{decLt}
 use lib.ListN.{length}
 use Rattle.task.specs.Task.{Fact, Task}
 use Rattle.task.specs.Run.{holds, insert, removeAll, stateIn}
-use Rattle.task.specs.Records.{rowNumber, RowsAscend, LowerBound, RowIs, MovedDown, MovedUp, Written, Known, Keeps}
+use Rattle.task.specs.Records.{
+  rowNumber,
+  RowsAscend,
+  LowerBound,
+  RowIs,
+  MovedDown,
+  MovedUp,
+  Written,
+  Known,
+  Keeps,
+}
 use Rattle.task.proofs.Laws.{false-if, In}
 use Rattle.task.proofs.States.{holds-in, in-holds, argsFit-fitting, Fits}
 use Rattle.task.proofs.Rows.{Kept, state-kept, kept-keeps}
-use Rattle.task.proofs.RowsChanged.{remove-absent, insert-present}
+use Rattle.task.proofs.RowsChanged.{insert-present}
 use Rattle.task.proofs.RowsMoved.{row-in, absent, taken-out, put-in}
 
 pub row-is : {w : List ℕ} {n k number : ℕ} {r b : Bool} → RowIs w n k number r → r ≡ b → RowIs w n k number b
@@ -50,19 +60,19 @@ module _ {t : Task} {w : List ℕ} {n : ℕ} {f : Fact} {number : ℕ} (d : Know
   found-holds {k} {r = true} b h = sym (in-holds (found-in h))
   found-holds {k} {r = false} b h = sym (false-if (holds s f) (λ e. missed-in b h (holds-in s f e)))
 
-  pub row-out : {k : ℕ} {out : List ℕ} → RowIs w n k number true → MovedDown w (5 * k) (5 * (n - 1)) out → length out ≡ length w →
+  pub row-out : {k : ℕ} {out : List ℕ} → RowIs w n k number true → MovedDown w (5 * k) (5 * (n - 1)) out →
+      length out ≡ length w →
       Keeps t out (n - 1) (removeAll (f ∷ []) s)
   row-out {k} {out} r m z =
       let (l, e) = r .found refl in
-      kept-keeps t (d .task) out (n - 1) (removeAll (f ∷ []) s) (taken-out t (d .task) w n s known-kept f number known-fits (d .is) k out l e m z)
-
-  pub none-out : {k : ℕ} → LowerBound w n number k → RowIs w n k number false → Keeps t w n (removeAll (f ∷ []) s)
-  none-out b r = record { state = d .state; facts = sym (remove-absent f s (missed-in b r)) }
+      kept-keeps t (d .task) out (n - 1) (removeAll (f ∷ []) s)
+      (taken-out t (d .task) w n s known-kept f number known-fits (d .is) k out l e m z)
 
   pub row-there : {k : ℕ} → RowIs w n k number true → Keeps t w n (insert f s)
   row-there r = record { state = d .state; facts = sym (insert-present f s (known-kept .state .asc) (found-in r)) }
 
-  pub row-came : {k : ℕ} {mid out : List ℕ} → LowerBound w n number k → RowIs w n k number false → MovedUp w (5 * k) (5 * n) mid →
+  pub row-came : {k : ℕ} {mid out : List ℕ} → LowerBound w n number k → RowIs w n k number false →
+      MovedUp w (5 * k) (5 * n) mid →
       Written mid (5 * k) number out → length out ≡ length w → 5 * n + 5 ≤ length w → Keeps t out (n + 1) (insert f s)
   row-came {k} {mid} {out} b r m v z y =
       kept-keeps t (d .task) out (n + 1) (insert f s)

@@ -1,7 +1,7 @@
 -- Where the atoms of each schema begin, found in one pass: each atom writes the place behind itself as the end of its
 -- schema, and the last of a schema leaves the right one, since atoms stand schema by schema and none lacks an atom.
 use Prim.Native.Nat.{ℕ, zero, suc, _+_, _≤_, _<_}
-use mathlib.Core.Path.{_≡_, refl, sym, _∙_, ap, subst}
+use mathlib.Core.Path.{_≡_, sym, _∙_, ap, subst}
 use mathlib.Core.Bool.{true}
 use mathlib.Core.List.{List}
 use native.Mathlib.Omega.{arith}
@@ -17,7 +17,7 @@ use Rattle.task.specs.Turns.{Starts, RoleEnds}
 use Rattle.task.proofs.Laws.{all-in, in-getD}
 use Rattle.task.proofs.Tests.{schema-tests, task-tests}
 use Rattle.task.proofs.Tables.{noSchema, counts, startOf, of-table}
-use Rattle.task.proofs.TablesByIndex.{table-frame, schemas-word, start-suc, start-end, Lies, atom-lies}
+use Rattle.task.proofs.TablesByIndex.{table-frame, schemas-word, start-suc, start-end, atom-lies}
 use Rattle.task.proofs.TablesByWords.{sum-take-rises}
 
 -- ---- starts
@@ -25,7 +25,8 @@ use Rattle.task.proofs.TablesByWords.{sum-take-rises}
 pub record StartsSo (w : List ℕ) (k : ℕ) (starts : List ℕ) : Type 0 where
   pub size : length starts ≡ 201
   pub first : getD starts 0 0 ≡ 0
-  pub ends : (s : ℕ) → s < getD w 2 0 → startOf (taskOf w) (suc s) ≤ k → getD starts (suc s) 0 ≡ startOf (taskOf w) (suc s)
+  pub ends : (s : ℕ) → s < getD w 2 0 → startOf (taskOf w) (suc s) ≤ k →
+      getD starts (suc s) 0 ≡ startOf (taskOf w) (suc s)
 
 module _ (w : List ℕ) (h : isTable w ≡ true) where
   abbrev t : Task
@@ -53,7 +54,12 @@ module _ (w : List ℕ) (h : isTable w ≡ true) where
       omega arith
 
   pub starts-none : (starts : List ℕ) → length starts ≡ 201 → getD starts 0 0 ≡ 0 → StartsSo w 0 starts
-  starts-none starts z e = record { size = z; first = e; ends = λ s l m. absurd (let y = start-more s l in omega arith) }
+  starts-none starts z e = record {
+    size = z;
+    first = e;
+    ends =
+        λ s l m. absurd (let y = start-more s l in omega arith);
+  }
 
   pub starts-turn : (k : ℕ) (starts : List ℕ) (m : ℕ) → k < getD w 3 0 → m ≡ schemaNumberIn w k → StartsSo w k starts →
       StartsSo w (k + 1) (set starts (m + 1) (k + 1))
@@ -93,7 +99,8 @@ module _ (w : List ℕ) (h : isTable w ≡ true) where
           let i : m + 1 < length starts = (let a = known in let b = schemas-few in let d = c .size in omega arith) in
           let u = upper in
           let r : startOf t (suc m) ≡ startOf t (suc s) = ap (λ (j : ℕ). startOf t (suc j)) z in
-          ap (λ (j : ℕ). getD (set starts (m + 1) (k + 1)) j 0) (sym v) ∙ (getD-set-same starts (m + 1) (k + 1) 0 i ∙ (omega arith))
+          ap (λ (j : ℕ). getD (set starts (m + 1) (k + 1)) j 0) (sym v) ∙
+          (getD-set-same starts (m + 1) (k + 1) 0 i ∙ (omega arith))
 
   pub starts-end : (k : ℕ) (starts : List ℕ) → getD w 3 0 ≤ k → StartsSo w k starts → Starts t starts
   unfolding sum
@@ -122,7 +129,8 @@ schema-at w k at e = ap (λ (b : ℕ). getD w b 0) e
 pub role-start : (w : List ℕ) (a b role : ℕ) → a ≤ b → RoleSo w a b role a
 role-start w a b role l = record { from = omega arith; within = l; has = λ j x y. absurd (omega arith) }
 
-pub role-turn : {w : List ℕ} {a b role k : ℕ} → RoleSo w a b role k → k < b → atomIn w k .role ≡ role → RoleSo w a b role (k + 1)
+pub role-turn : {w : List ℕ} {a b role k : ℕ} → RoleSo w a b role k → k < b → atomIn w k .role ≡ role →
+    RoleSo w a b role (k + 1)
 role-turn {w} {role = role} {k = k} c l e = record {
   from = let z = c .from in omega arith;
   within = omega arith;
@@ -132,5 +140,6 @@ role-turn {w} {role = role} {k = k} c l e = record {
   ];
 }
 
-pub role-ends : {w : List ℕ} {a b role k : ℕ} → RoleSo w a b role k → (k < b → atomIn w k .role ≡ role → ⊥) → RoleEnds w a b role k
+pub role-ends : {w : List ℕ} {a b role k : ℕ} → RoleSo w a b role k → (k < b → atomIn w k .role ≡ role → ⊥) →
+    RoleEnds w a b role k
 role-ends c s = record { from = c .from; within = c .within; has = c .has; stops = s }

@@ -1,107 +1,39 @@
--- The spans of a step: its schema's atoms stand together, preconditions first, then adds, then deletes, so that the ground
--- atoms of each role are those of one span.
-use Prim.Native.Nat.{ℕ, zero, suc, _+_, _-_, _*_, _≤_, _<_}
-use mathlib.Core.Path.{_≡_, refl, sym, _∙_, ap, ap₂, subst}
-use mathlib.Core.Bool.{Bool, true, false, _&&_}
+-- The spans of a step: its schema's atoms stand together, preconditions first, then adds, then deletes, so that the
+-- ground atoms of each role are those of one span.
+use Prim.Native.Nat.{ℕ, suc, _+_, _-_, _*_, _≤_, _<_}
+use mathlib.Core.Path.{_≡_, refl, sym, _∙_, ap, ap₂}
+use mathlib.Core.Bool.{true}
 use mathlib.Core.List.{List, [], _∷_, _++_, map}
 use native.Mathlib.Omega.{arith}
 use native.Mathlib.Decide.{decLt}
 use lib.ListN.{length, getD}
-use lib.Dec.{eqb, leb}
-use borrow.Author.Tests.{leb-true, eq-eqb, ne-eqb}
+use lib.Dec.{eqb}
+use borrow.Author.Tests.{eq-eqb, ne-eqb}
 use Rattle.task.specs.Lists.{all, filter, upFrom}
-use Rattle.task.specs.Task.{Atom, Fact, Task, schemaFits, rolesAscend}
-use Rattle.task.specs.Table.{atomIn, schemaNumberIn, taskOf, isTable}
-use Rattle.task.specs.Run.{Step, schemaAt, ground, ofRole, groundRole, holds, insertAll, removeAll, stepAt, isStepAt, applies, next}
+use Rattle.task.specs.Task.{Atom, Fact}
+use Rattle.task.specs.Table.{atomIn, taskOf, isTable}
+use Rattle.task.specs.Run.{
+  Step,
+  schemaAt,
+  ground,
+  ofRole,
+  groundRole,
+  holds,
+  insertAll,
+  removeAll,
+  stepAt,
+  isStepAt,
+  applies,
+  next,
+}
 use Rattle.task.specs.Spans.{groundAt, groundSpan, SpanOf}
 use Rattle.task.specs.Turns.{firstAtom, RoleEnds}
-use Rattle.task.proofs.Laws.{and-left, and-right, In, all-in, in-getD, map-in, upFrom-in, map-append}
-use Rattle.task.proofs.Tests.{schema-tests, task-tests}
-use Rattle.task.proofs.Tables.{noAtom, noSchema, startOf, of-table, upFrom-append, filter-append, filter-all, filter-none, tabulate}
-use Rattle.task.proofs.TablesByIndex.{table-frame, schemas-word, start-suc, start-end, atom-at, schema-of-atom}
+use Rattle.task.proofs.Laws.{In, map-in, upFrom-in, map-append}
+use Rattle.task.proofs.Tables.{upFrom-append, filter-append, filter-all, filter-none}
+use Rattle.task.proofs.TablesByIndex.{table-frame, schemas-word, start-suc}
 use Rattle.task.proofs.StartLaws.{start-rises}
+use Rattle.task.proofs.SchemaAtoms.{schema-inside, own-number, role-rises, role-most, atoms-listed}
 use Rattle.task.proofs.GroundWords.{step-words, step-schema}
-
--- ---- roles that ascend, by place
-pub roles-places : (atoms : List Atom) → rolesAscend atoms ≡ true → (i j : ℕ) → i ≤ j → j < length atoms → getD atoms i noAtom .role ≤ getD atoms j noAtom .role
-unfolding rolesAscend
-roles-places [] h i j l m = absurd (omega arith)
-roles-places (a ∷ []) h i j l m =
-    let p : i ≡ 0 = omega arith in
-    let q : j ≡ 0 = omega arith in
-    let e : getD (a ∷ []) i noAtom .role ≡ getD (a ∷ []) j noAtom .role = ap (λ (k : ℕ). getD (a ∷ []) k noAtom .role) (p ∙ sym q) in
-    omega arith
-roles-places (a ∷ b ∷ atoms) h zero zero l m = omega arith
-roles-places (a ∷ b ∷ atoms) h zero (suc j) l m =
-    let p = leb-true (a .role) (b .role) (and-left (leb (a .role) (b .role)) (rolesAscend (b ∷ atoms)) h) in
-    let q = roles-places (b ∷ atoms) (and-right (leb (a .role) (b .role)) (rolesAscend (b ∷ atoms)) h) zero j (omega arith) (omega arith) in
-    omega arith
-roles-places (a ∷ b ∷ atoms) h (suc i) zero l m = absurd (omega arith)
-roles-places (a ∷ b ∷ atoms) h (suc i) (suc j) l m =
-    roles-places (b ∷ atoms) (and-right (leb (a .role) (b .role)) (rolesAscend (b ∷ atoms)) h) i j (omega arith) (omega arith)
-
-pub last-role : (atoms : List Atom) → rolesAscend atoms ≡ true → (j : ℕ) → j < length atoms → getD atoms j noAtom .role ≤ 2
-unfolding rolesAscend
-last-role [] h j l = absurd (omega arith)
-last-role (a ∷ []) h zero l = leb-true (a .role) 2 h
-last-role (a ∷ []) h (suc j) l = absurd (omega arith)
-last-role (a ∷ b ∷ atoms) h zero l =
-    let p = leb-true (a .role) (b .role) (and-left (leb (a .role) (b .role)) (rolesAscend (b ∷ atoms)) h) in
-    let q = last-role (b ∷ atoms) (and-right (leb (a .role) (b .role)) (rolesAscend (b ∷ atoms)) h) zero (omega arith) in
-    omega arith
-last-role (a ∷ b ∷ atoms) h (suc j) l = last-role (b ∷ atoms) (and-right (leb (a .role) (b .role)) (rolesAscend (b ∷ atoms)) h) j (omega arith)
-
--- ---- the atoms of a schema in the table
-module _ (w : List ℕ) (h : isTable w ≡ true) (s : ℕ) (l : s < getD w 2 0) where
-  abbrev t : Task
-  t = taskOf w
-
-  abbrev atoms : List Atom
-  atoms = schemaAt t s .atoms
-
-  pub schema-inside : startOf t (suc s) ≤ getD w 3 0
-  schema-inside =
-      let e = start-end w (table-frame w h) in
-      let r = start-rises w h (suc s) (getD w 2 0) (omega arith) in
-      omega arith
-
-  place : (k : ℕ) → startOf t s ≤ k → k < startOf t (suc s) → (k - startOf t s < length atoms) × (atomIn w k ≡ getD atoms (k - startOf t s) noAtom)
-  place k a b =
-      let fr = table-frame w h in
-      let e = start-suc w fr s l in
-      let z : startOf t s + (k - startOf t s) ≡ k = omega arith in
-      let m : k - startOf t s < length atoms = omega arith in
-      (m, ap (atomIn w) (sym z) ∙ atom-at w fr s (k - startOf t s) l m)
-
-  pub own-number : (k : ℕ) → startOf t s ≤ k → k < startOf t (suc s) → schemaNumberIn w k ≡ s
-  own-number k a b =
-      let fr = table-frame w h in
-      let z : startOf t s + (k - startOf t s) ≡ k = omega arith in
-      ap (schemaNumberIn w) (sym z) ∙ schema-of-atom w fr s (k - startOf t s) l (place k a b .0)
-
-  roles-ascend : rolesAscend atoms ≡ true
-  unfolding schemaAt
-  roles-ascend =
-      let c = task-tests t (of-table w h .0) in
-      let n = schemas-word w (table-frame w h) in
-      schema-tests (t .arities) (getD (t .schemas) s noSchema)
-      (all-in (schemaFits (t .arities)) (c .fit) (in-getD (t .schemas) s noSchema (omega arith))) .roles
-
-  pub role-rises : (j k : ℕ) → startOf t s ≤ j → j ≤ k → k < startOf t (suc s) → atomIn w j .role ≤ atomIn w k .role
-  role-rises j k a b d =
-      let p = ap (λ (x : Atom). x .role) (place j a (omega arith) .1) in
-      let q = ap (λ (x : Atom). x .role) (place k (omega arith) d .1) in
-      let r = roles-places atoms roles-ascend (j - startOf t s) (k - startOf t s) (omega arith) (place k (omega arith) d .0) in
-      omega arith
-
-  pub role-most : (k : ℕ) → startOf t s ≤ k → k < startOf t (suc s) → atomIn w k .role ≤ 2
-  role-most k a b =
-      let p = ap (λ (x : Atom). x .role) (place k a b .1) in
-      let r = last-role atoms roles-ascend (k - startOf t s) (place k a b .0) in
-      omega arith
-
-  pub atoms-listed : map (atomIn w) (upFrom (startOf t s) (length atoms)) ≡ atoms
-  atoms-listed = tabulate (atomIn w) (startOf t s) atoms noAtom (λ k x. atom-at w (table-frame w h) s k l x)
 
 -- ---- lists
 nil-append : {A : Type 0} (xs : List A) → xs ++ [] ≡ xs
@@ -127,13 +59,15 @@ module _ (w steps : List ℕ) (i : ℕ) (h : isTable w ≡ true) (st : isStepAt 
       let n = schemas-word w (table-frame w h) in
       omega arith
 
-  pub span-bounds : (start end : ℕ) → start ≡ firstAtom (taskOf w) schema → end ≡ firstAtom (taskOf w) (suc schema) → (start ≤ end) × (end ≤ getD w 3 0)
+  pub span-bounds : (start end : ℕ) → start ≡ firstAtom (taskOf w) schema → end ≡ firstAtom (taskOf w) (suc schema) →
+      (start ≤ end) × (end ≤ getD w 3 0)
   span-bounds start end es ee =
       let r = start-rises w h schema (suc schema) (omega arith) in
       let m = schema-inside w h schema schema-known in
       (omega arith, omega arith)
 
-  module _ (start end add del : ℕ) (es : start ≡ firstAtom (taskOf w) schema) (ee : end ≡ firstAtom (taskOf w) (suc schema))
+  module _ (start end add del : ℕ) (es : start ≡ firstAtom (taskOf w) schema)
+      (ee : end ≡ firstAtom (taskOf w) (suc schema))
       (ra : RoleEnds w start end 0 add) (rd : RoleEnds w add end 1 del) where
     sub-span : (a b : ℕ) → start ≤ a → a ≤ b → b ≤ end → SpanOf w steps i a b
     sub-span a b l m n = record {
@@ -179,7 +113,8 @@ module _ (w steps : List ℕ) (i : ℕ) (h : isTable w ≡ true) (st : isStepAt 
     part : ℕ → ℕ → List Atom
     part a b = map (atomIn w) (upFrom a (b - a))
 
-    part-roles : (a b r : ℕ) → a ≤ b → ((k : ℕ) → a ≤ k → k < b → atomIn w k .role ≡ r) → (y : Atom) → In y (part a b) → y .role ≡ r
+    part-roles : (a b r : ℕ) → a ≤ b → ((k : ℕ) → a ≤ k → k < b → atomIn w k .role ≡ r) → (y : Atom) →
+        In y (part a b) → y .role ≡ r
     unfolding part
     part-roles a b r l f y j =
         let (k, j′, e) = map-in (atomIn w) (upFrom a (b - a)) y j in
@@ -239,22 +174,27 @@ module _ (w steps : List ℕ) (i : ℕ) (h : isTable w ≡ true) (st : isStepAt 
     split-role r ps bs cs p q u =
         ap (filter (λ a. eqb r (a .role))) atoms-split ∙
         (filter-append (λ a. eqb r (a .role)) (part start add) (part add del ++ part del end) ∙
-        ap₂ (λ (x y : List Atom). x ++ y) p (filter-append (λ a. eqb r (a .role)) (part add del) (part del end) ∙ ap₂ (λ (x y : List Atom). x ++ y) q u))
+        ap₂ (λ (x y : List Atom). x ++ y) p (filter-append (λ a. eqb r (a .role)) (part add del) (part del end) ∙
+        ap₂ (λ (x y : List Atom). x ++ y) q u))
 
-    grounded : (r a b : ℕ) → ofRole r (schemaAt (taskOf w) schema .atoms) ≡ part a b → groundRole (taskOf w) r x ≡ groundSpan w steps i a (b - a)
+    grounded : (r a b : ℕ) → ofRole r (schemaAt (taskOf w) schema .atoms) ≡ part a b →
+        groundRole (taskOf w) r x ≡ groundSpan w steps i a (b - a)
     unfolding groundRole groundSpan groundAt part
     grounded r a b e =
-        ap (λ (s : ℕ). map (ground (x .objects)) (ofRole r (schemaAt (taskOf w) s .atoms))) (step-schema (taskOf w) steps i) ∙
+        ap (λ (s : ℕ). map (ground (x .objects)) (ofRole r (schemaAt (taskOf w) s .atoms)))
+        (step-schema (taskOf w) steps i) ∙
         (ap (map (ground (x .objects))) e ∙ map-map (ground (x .objects)) (atomIn w) (upFrom a (b - a)))
 
     pub pre-ground : groundRole (taskOf w) 0 x ≡ groundSpan w steps i start (add - start)
     pre-ground = grounded 0 start add
-        (split-role 0 (part start add) [] [] (kept-part 0 (part start add) pres) (left-part 0 1 (part add del) (λ e. omega arith) adds)
+        (split-role 0 (part start add) [] [] (kept-part 0 (part start add) pres)
+        (left-part 0 1 (part add del) (λ e. omega arith) adds)
         (left-part 0 2 (part del end) (λ e. omega arith) dels) ∙ nil-append (part start add))
 
     pub add-ground : groundRole (taskOf w) 1 x ≡ groundSpan w steps i add (del - add)
     add-ground = grounded 1 add del
-        (split-role 1 [] (part add del) [] (left-part 1 0 (part start add) (λ e. omega arith) pres) (kept-part 1 (part add del) adds)
+        (split-role 1 [] (part add del) [] (left-part 1 0 (part start add) (λ e. omega arith) pres)
+        (kept-part 1 (part add del) adds)
         (left-part 1 2 (part del end) (λ e. omega arith) dels) ∙ nil-append (part add del))
 
     pub del-ground : groundRole (taskOf w) 2 x ≡ groundSpan w steps i del (end - del)
@@ -262,11 +202,13 @@ module _ (w steps : List ℕ) (i : ℕ) (h : isTable w ≡ true) (st : isStepAt 
         (split-role 2 [] [] (part del end) (left-part 2 0 (part start add) (λ e. omega arith) pres)
         (left-part 2 1 (part add del) (λ e. omega arith) adds) (kept-part 2 (part del end) dels))
 
-    pub step-applies : (s : List Fact) → applies (taskOf w) s x ≡ all (holds s) (groundSpan w steps i start (add - start))
+    pub step-applies : (s : List Fact) →
+        applies (taskOf w) s x ≡ all (holds s) (groundSpan w steps i start (add - start))
     unfolding applies
     step-applies s = ap (all (holds s)) pre-ground
 
     pub step-next : (s : List Fact) →
-        next (taskOf w) s x ≡ insertAll (groundSpan w steps i add (del - add)) (removeAll (groundSpan w steps i del (end - del)) s)
+        next (taskOf w) s x ≡ insertAll (groundSpan w steps i add (del - add))
+        (removeAll (groundSpan w steps i del (end - del)) s)
     unfolding next
     step-next s = ap₂ (λ (fs gs : List Fact). insertAll fs (removeAll gs s)) add-ground del-ground

@@ -1,6 +1,6 @@
 -- Records in lent words, as the inner functions of running speak of them: a record as one number, what a search finds,
 -- and what moving rows of five words leaves. No promise of an entry point cites these.
-use Prim.Native.Nat.{ℕ, _+_, _*_, _/_, _%_, _≤_, _<_}
+use Prim.Native.Nat.{ℕ, _+_, _-_, _*_, _/_, _%_, _≤_, _<_}
 use mathlib.Core.Path.{_≡_}
 use mathlib.Core.Bool.{Bool, true, false}
 use mathlib.Core.List.{List, [], _∷_}
@@ -43,15 +43,17 @@ pub record RowIs (w : List ℕ) (n k number : ℕ) (r : Bool) : Type 0 where
   pub found : r ≡ true → (k < n) × (rowNumber w k ≡ number)
   pub missed : r ≡ false → k < n → rowNumber w k ≡ number → ⊥
 
--- the words from a to b - 1 come from five further on, those before a stay
+-- the words from a to b - 1 come from five further on, those before a and from b on stay
 pub record MovedDown (w : List ℕ) (a b : ℕ) (out : List ℕ) : Type 0 where
   pub before : (i : ℕ) → i < a → getD out i 0 ≡ getD w i 0
   pub moved : (i : ℕ) → a ≤ i → i < b → getD out i 0 ≡ getD w (i + 5) 0
+  pub behind : (i : ℕ) → b ≤ i → getD out i 0 ≡ getD w i 0
 
--- the words from a to b - 1 go to five further on, those before a stay
+-- the words from a to b - 1 go to five further on, those before a and behind these stay
 pub record MovedUp (w : List ℕ) (a b : ℕ) (out : List ℕ) : Type 0 where
   pub before : (i : ℕ) → i < a → getD out i 0 ≡ getD w i 0
   pub moved : (i : ℕ) → a ≤ i → i < b → getD out (i + 5) 0 ≡ getD w i 0
+  pub behind : (i : ℕ) → b + 5 ≤ i → getD out i 0 ≡ getD w i 0
 
 -- the five digits of a number stand from word a on, every other word stays
 pub record Written (w : List ℕ) (a number : ℕ) (out : List ℕ) : Type 0 where
@@ -61,6 +63,13 @@ pub record Written (w : List ℕ) (a number : ℕ) (out : List ℕ) : Type 0 whe
   pub digit₂ : getD out (a + 2) 0 ≡ number / 1048576 % 1024
   pub digit₃ : getD out (a + 3) 0 ≡ number / 1024 % 1024
   pub digit₄ : getD out (a + 4) 0 ≡ number % 1024
+
+-- row k gives way to one with this number before row j: the rows between come over it
+pub data Replaced (w : List ℕ) (k j number : ℕ) (out : List ℕ) : Type 0 where
+  up : {mid : List ℕ} → j ≤ k → MovedUp w (5 * j) (5 * k) mid → Written mid (5 * j) number out →
+      Replaced w k j number out
+  down : {mid : List ℕ} → k < j → MovedDown w (5 * k) (5 * (j - 1)) mid → Written mid (5 * (j - 1)) number out →
+      Replaced w k j number out
 
 -- the words keep a state of the task, and the number is that of a ground atom of its predicates and objects
 pub record Known (t : Task) (w : List ℕ) (n : ℕ) (f : Fact) (number : ℕ) : Type 0 where

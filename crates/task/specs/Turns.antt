@@ -1,6 +1,6 @@
 -- What one step and a whole list do to a state in lent words, as the inner functions of running speak of them.
 -- No promise of an entry point cites these.
-use Prim.Native.Nat.{ℕ, _+_, _*_, _≤_, _<_}
+use Prim.Native.Nat.{ℕ, _≤_, _<_}
 use mathlib.Core.Path.{_≡_}
 use mathlib.Core.Bool.{true, false}
 use mathlib.Core.List.{List, map}
@@ -38,7 +38,8 @@ Turned t x found n (turned.Ran left) out =
     Keeps t out left (next t (stateIn t found n) x)
 Turned t x found n turned.Missing out = (applies t (stateIn t found n) x ≡ false) × (out ≡ found)
 Turned t x found n turned.Outgrown out =
-    (applies t (stateIn t found n) x ≡ true) × (leb (length (next t (stateIn t found n) x)) (roomIn found) ≡ false) × (out ≡ found)
+    (applies t (stateIn t found n) x ≡ true) × (leb (length (next t (stateIn t found n) x)) (roomIn found) ≡ false) ×
+    (out ≡ found)
 
 -- how a list ended, with the state that it left
 unfoldable pub endedAs : Ended → List Fact → Running

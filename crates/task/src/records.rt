@@ -1,12 +1,25 @@
 // Records in lent words: a row of five words as one number, and finding, taking out and putting in a row.
 ghost use mathlib.Core.Path.{_≡_};
 ghost use mathlib.Core.List.{[], _∷_};
-ghost use Prim.Native.Nat.{ℕ, _+_, _*_, _≤_, _<_};
+ghost use Prim.Native.Nat.{ℕ, _+_, _-_, _*_, _≤_, _<_};
 ghost use lib.ListN.{length, getD, take};
 ghost use Rattle.task.specs.Lists.{padded};
 ghost use Rattle.task.specs.Task.{Task, Fact};
-ghost use Rattle.task.specs.Run.{holds, insert, removeAll, stateIn};
-ghost use Rattle.task.specs.Records.{inBase, numberAt, rowNumber, RowsAscend, LowerBound, RowIs, MovedDown, MovedUp, Written, Known, Keeps};
+ghost use Rattle.task.specs.Run.{holds, insert, stateIn};
+ghost use Rattle.task.specs.Records.{
+  inBase,
+  numberAt,
+  rowNumber,
+  RowsAscend,
+  LowerBound,
+  RowIs,
+  MovedDown,
+  MovedUp,
+  Written,
+  Replaced,
+  Known,
+  Keeps,
+};
 
 // A word of lent words as a wider number.
 pub(crate) fn word(w: &[u16], at: usize) -> u64
@@ -39,7 +52,7 @@ fn number_at(state: &[u16], at: usize) -> u64
 }
 
 // The first of n ascending rows whose number is not below `number`: lo and hi bracket it.
-fn find(state: &[u16], n: usize, number: u64) -> usize
+pub(crate) fn find(state: &[u16], n: usize, number: u64) -> usize
     requires { ⌜ 5 * n ≤ length (now state) ⌝ }
     requires { ⌜ RowsAscend (now state) n ⌝ }
     ensures { λ r. ⌜ LowerBound (now (state .entry)) n number r ⌝ }
@@ -106,7 +119,7 @@ pub(crate) fn clear_from(state: &mut [u16], from: usize)
 }
 
 // Whether row k is one of n rows and has this number.
-fn is_row(state: &[u16], n: usize, k: usize, number: u64) -> bool
+pub(crate) fn is_row(state: &[u16], n: usize, k: usize, number: u64) -> bool
     requires { ⌜ 5 * n ≤ length (now state) ⌝ }
     ensures { λ r. ⌜ RowIs (now (state .entry)) n k number r ⌝ }
 {
@@ -121,33 +134,27 @@ fn is_row(state: &[u16], n: usize, k: usize, number: u64) -> bool
 pub(crate) fn held(state: &[u16], n: usize, number: u64) -> bool
     requires { ⌜ 5 * n ≤ length (now state) ⌝ }
     requires { ⌜ RowsAscend (now state) n ⌝ }
-    ensures { λ r. ⌜ ((t : Task) (f : Fact) → Known t (now (state .entry)) n f number → r ≡ holds (stateIn t (now (state .entry)) n) f) ⌝ }
+    ensures { λ r. ⌜ ((t : Task) (f : Fact) → Known t (now (state .entry)) n f number →
+        r ≡ holds (stateIn t (now (state .entry)) n) f) ⌝ }
 {
     let k = find(state, n, number);
     is_row(state, n, k, number)
 }
 
-// Takes the row with this number out of n ascending rows, where it is there, and returns how many are left.
-pub(crate) fn take_out(state: &mut [u16], n: usize, number: u64) -> usize
-    requires { ⌜ 5 * n ≤ length (now state) ⌝ }
-    requires { ⌜ RowsAscend (now state) n ⌝ }
-    ensures { λ r. ⌜ ((t : Task) (f : Fact) → Known t (now (state .entry)) n f number →
-        Keeps t (now (state .exit)) r (removeAll (f ∷ []) (stateIn t (now (state .entry)) n))) ⌝ }
+// Takes row k out of n rows.
+pub(crate) fn remove_row(state: &mut [u16], n: usize, k: usize)
+    requires { ⌜ (k < n) × (5 * n ≤ length (now state)) ⌝ }
+    ensures { λ _. ⌜ MovedDown (now (state .entry)) (5 * k) (5 * (n - 1)) (now (state .exit)) ⌝ }
 {
-    let k = find(state, n, number);
-    if is_row(state, n, k, number) {
-        move_down(state, 5 * k, 5 * (n - 1));
-        n - 1
-    } else {
-        n
-    }
+    move_down(state, 5 * k, 5 * (n - 1));
 }
 
 // Puts a row with this number among n ascending rows, unless it is there, and returns how many there are then.
 pub(crate) fn put_in(state: &mut [u16], n: usize, number: u64) -> usize
     requires { ⌜ 5 * n ≤ length (now state) ⌝ }
     requires { ⌜ RowsAscend (now state) n ⌝ }
-    requires { ⌜ (((i : ℕ) → i < n → rowNumber (now state) i ≡ number → ⊥) → 5 * n + 5 ≤ length (now state)) × (number < 72057594037927936) ⌝ }
+    requires { ⌜ (((i : ℕ) → i < n → rowNumber (now state) i ≡ number → ⊥) → 5 * n + 5 ≤ length (now state)) ×
+        (number < 72057594037927936) ⌝ }
     ensures { λ r. ⌜ ((t : Task) (f : Fact) → Known t (now (state .entry)) n f number →
         Keeps t (now (state .exit)) r (insert f (stateIn t (now (state .entry)) n))) ⌝ }
 {
@@ -158,5 +165,19 @@ pub(crate) fn put_in(state: &mut [u16], n: usize, number: u64) -> usize
         move_up(state, 5 * k, 5 * n);
         write_at(state, 5 * k, number);
         n + 1
+    }
+}
+
+// Replaces row k by one with this number, whose place is before row j: the rows between the two places move.
+pub(crate) fn replace(state: &mut [u16], k: usize, j: usize, number: u64)
+    requires { ⌜ (5 * k + 5 ≤ length (now state)) × (5 * j ≤ length (now state)) × (number < 72057594037927936) ⌝ }
+    ensures { λ _. ⌜ Replaced (now (state .entry)) k j number (now (state .exit)) ⌝ }
+{
+    if j <= k {
+        move_up(state, 5 * j, 5 * k);
+        write_at(state, 5 * j, number);
+    } else {
+        move_down(state, 5 * k, 5 * (j - 1));
+        write_at(state, 5 * (j - 1), number);
     }
 }

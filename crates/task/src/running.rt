@@ -1,6 +1,7 @@
 // Running a step list over a state in lent words.
 use crate::Place;
 use crate::RunAnswer;
+use crate::exchange::exchange;
 use crate::records::clear_from;
 use crate::records::held;
 use crate::records::word;
@@ -8,8 +9,6 @@ use crate::sizes::has_room;
 use crate::spans::all_hold;
 use crate::spans::atom_at;
 use crate::spans::fact_number;
-use crate::spans::insert_span;
-use crate::spans::remove_span;
 ghost use mathlib.Core.Path.{_≡_};
 ghost use mathlib.Core.Bool.{true};
 ghost use mathlib.Core.Option.{none};
@@ -104,15 +103,15 @@ fn run_step(
     if !has_room(table, add, del, end, steps, i, state, n) {
         return Turn::Outgrown;
     }
-    let left = remove_span(table, del, end, steps, i, state, n);
-    Turn::Ran(insert_span(table, add, del, steps, i, state, left))
+    Turn::Ran(exchange(table, add, del, end, steps, i, state, n))
 }
 
 // Whether all goal atoms hold.
 fn goal_met(table: &[u16], state: &[u16], n: usize) -> bool
     requires { ⌜ isTable (now table) ≡ true ⌝ }
     requires { ⌜ isState (taskOf (now table)) (now state) n ≡ true ⌝ }
-    ensures { λ r. ⌜ r ≡ goalMet (taskOf (now (table .entry))) (stateIn (taskOf (now (table .entry))) (now (state .entry)) n) ⌝ }
+    ensures { λ r. ⌜ r ≡ goalMet (taskOf (now (table .entry)))
+        (stateIn (taskOf (now (table .entry))) (now (state .entry)) n) ⌝ }
 {
     let from = word(table, 3) as usize + word(table, 4) as usize;
     let to = from + word(table, 5) as usize;
@@ -133,7 +132,8 @@ fn run_list(table: &[u16], starts: &[u16], steps: &[u16], state: &mut [u16], n: 
     requires { ⌜ badStep (taskOf (now table)) (now steps) ≡ none ⌝ }
     requires { ⌜ isState (taskOf (now table)) (now state) n ≡ true ⌝ }
     ensures { λ r. ⌜ isState (taskOf (now (table .entry))) (now (state .exit)) (recordsLeft r) ≡ true ⌝ }
-    ensures { λ r. ⌜ runWithin (roomIn (now (state .entry))) (taskOf (now (table .entry))) (stepsIn (taskOf (now (table .entry))) (now (steps .entry)))
+    ensures { λ r. ⌜ runWithin (roomIn (now (state .entry))) (taskOf (now (table .entry)))
+        (stepsIn (taskOf (now (table .entry))) (now (steps .entry)))
         (stateIn (taskOf (now (table .entry))) (now (state .entry)) n) ≡
         endedAs r (stateIn (taskOf (now (table .entry))) (now (state .exit)) (recordsLeft r)) ⌝ }
 {
@@ -163,10 +163,12 @@ pub(crate) fn run_steps(table: &[u16], steps: &[u16], state: &mut [u16], records
     requires { ⌜ badStep (taskOf (now table)) (now steps) ≡ none ⌝ }
     requires { ⌜ isState (taskOf (now table)) (now state) records ≡ true ⌝ }
     ensures { λ r. ⌜ runAnswerTold r ≡ runDone (taskOf (now (table .entry))) (length (now (state .entry)))
-        (runWithin (roomIn (now (state .entry))) (taskOf (now (table .entry))) (stepsIn (taskOf (now (table .entry))) (now (steps .entry)))
+        (runWithin (roomIn (now (state .entry))) (taskOf (now (table .entry)))
+        (stepsIn (taskOf (now (table .entry))) (now (steps .entry)))
         (stateIn (taskOf (now (table .entry))) (now (state .entry)) records)) .told ⌝ }
     ensures { λ _. ⌜ now (state .exit) ≡ runDone (taskOf (now (table .entry))) (length (now (state .entry)))
-        (runWithin (roomIn (now (state .entry))) (taskOf (now (table .entry))) (stepsIn (taskOf (now (table .entry))) (now (steps .entry)))
+        (runWithin (roomIn (now (state .entry))) (taskOf (now (table .entry)))
+        (stepsIn (taskOf (now (table .entry))) (now (steps .entry)))
         (stateIn (taskOf (now (table .entry))) (now (state .entry)) records)) .buffer ⌝ }
 {
     let mut starts = [0u16; 201];

@@ -14,7 +14,14 @@ ghost use Rattle.task.specs.Records.{recordNumber, Known};
 ghost use Rattle.task.specs.Spans.{groundSpan, SpanOf};
 
 // Whether none of the atoms from `from` to `to`, with the objects of step i, has this number.
-fn absent(table: &[u16], from: usize, to: usize, steps: &[u16], i: usize, number: u64) -> bool
+pub(crate) fn absent(
+    table: &[u16],
+    from: usize,
+    to: usize,
+    steps: &[u16],
+    i: usize,
+    number: u64,
+) -> bool
     requires { ⌜ SpanOf (now table) (now steps) i from to ⌝ }
     ensures { λ r. ⌜ r ≡ all (λ f. not (eqb (recordNumber f) number))
         (groundSpan (now (table .entry)) (now (steps .entry)) i from (to - from)) ⌝ }
@@ -88,8 +95,8 @@ fn size_without(
     size
 }
 
-// Whether the atom with this number is new when those from `del` to `end` have gone out and those from `add` to `k` have
-// come in.
+// Whether the atom with this number is new when those from `del` to `end` have gone out and those from `add` to `k`
+// have come in.
 fn comes(
     table: &[u16],
     add: usize,
@@ -117,8 +124,8 @@ fn comes(
     }
 }
 
-// How many records there are when the atoms from `del` to `end` have gone out, which leaves `size`, and those from `add`
-// to `del` have come in.
+// How many records there are when the atoms from `del` to `end` have gone out, which leaves `size`, and those from
+// `add` to `del` have come in.
 fn size_with(
     table: &[u16],
     add: usize,

@@ -4,7 +4,6 @@ use crate::Parameter;
 use crate::records::held;
 use crate::records::number_of;
 use crate::records::put_in;
-use crate::records::take_out;
 use crate::records::word;
 ghost use mathlib.Core.Path.{_≡_};
 ghost use mathlib.Core.Bool.{true};
@@ -13,7 +12,7 @@ ghost use lib.ListN.{length, getD};
 ghost use Rattle.task.specs.Lists.{all};
 ghost use Rattle.task.specs.Task.{Fact, argsFit};
 ghost use Rattle.task.specs.Table.{atomBase, factIn, taskOf, isTable};
-ghost use Rattle.task.specs.Run.{holds, insertAll, removeAll, stateIn, roomIn, isState};
+ghost use Rattle.task.specs.Run.{holds, insertAll, stateIn, roomIn, isState};
 ghost use Rattle.task.specs.Records.{recordNumber, Keeps};
 ghost use Rattle.task.specs.Spans.{groundAt, groundSpan, objectIn, argumentIn, AtomOf, SpanOf};
 
@@ -104,31 +103,6 @@ pub(crate) fn all_hold(
     true
 }
 
-// Takes the atoms from `from` to `to`, with the objects of step i, out of the state, and returns how many are left.
-pub(crate) fn remove_span(
-    table: &[u16],
-    from: usize,
-    to: usize,
-    steps: &[u16],
-    i: usize,
-    state: &mut [u16],
-    n: usize,
-) -> usize
-    requires { ⌜ SpanOf (now table) (now steps) i from to ⌝ }
-    requires { ⌜ isState (taskOf (now table)) (now state) n ≡ true ⌝ }
-    ensures { λ r. ⌜ Keeps (taskOf (now (table .entry))) (now (state .exit)) r
-        (removeAll (groundSpan (now (table .entry)) (now (steps .entry)) i from (to - from))
-        (stateIn (taskOf (now (table .entry))) (now (state .entry)) n)) ⌝ }
-{
-    let mut left = n;
-    let mut k = from;
-    while k < to {
-        left = take_out(state, left, ground(table, k, steps, i));
-        k += 1;
-    }
-    left
-}
-
 // Puts the atoms from `from` to `to`, with the objects of step i, into a state with room for them, and returns how many
 // records there are then.
 pub(crate) fn insert_span(
@@ -142,8 +116,8 @@ pub(crate) fn insert_span(
 ) -> usize
     requires { ⌜ SpanOf (now table) (now steps) i from to ⌝ }
     requires { ⌜ isState (taskOf (now table)) (now state) n ≡ true ⌝ }
-    requires { ⌜ length (insertAll (groundSpan (now table) (now steps) i from (to - from)) (stateIn (taskOf (now table)) (now state) n))
-        ≤ roomIn (now state) ⌝ }
+    requires { ⌜ length (insertAll (groundSpan (now table) (now steps) i from (to - from))
+        (stateIn (taskOf (now table)) (now state) n)) ≤ roomIn (now state) ⌝ }
     ensures { λ r. ⌜ Keeps (taskOf (now (table .entry))) (now (state .exit)) r
         (insertAll (groundSpan (now (table .entry)) (now (steps .entry)) i from (to - from))
         (stateIn (taskOf (now (table .entry))) (now (state .entry)) n)) ⌝ }

@@ -4,7 +4,6 @@ use Prim.Native.Nat.{_≤_, _-_}
 use native.Mathlib.Omega.{arith}
 use lib.ListN.{length}
 use Rattle.task.proofs.Moves.{Cleared, clear-none, clear-more, cleared-padded}
-use borrow.Author.Needs.{needs}
 use Rattle.task.proofs.records.clear_from.Statement.{statement}
 use Rattle.task.proofs.records.clear_from.Tie as tie
 
@@ -39,8 +38,9 @@ same-length c = c .before .loop .inv .1 .size
 
 returns : tie.Need-returns Inv-loop μ-loop
 returns c =
+    let start = c .before .before in
     let z = c .before .loop .inv .1 .size in
-    cleared-padded _ _ (c .before .loop .i) _ (c .before .before .pre) (omega arith) (c .before .loop .inv .1)
+    cleared-padded _ _ (c .before .loop .i) _ (start .pre) (omega arith) (c .before .loop .inv .1)
 
 pub clear-from-spec : {M : Type 1} → statement M
 clear-from-spec =

@@ -3,7 +3,6 @@
 use Prim.Native.Nat.{ℕ, _+_, _-_, _/_}
 use native.Mathlib.Omega.{arith}
 use Rattle.task.proofs.Bracket.{Bracket, bracket-all, bracket-up, bracket-down, bracket-met}
-use borrow.Author.Needs.{needs}
 use Rattle.task.proofs.records.find.Statement.{statement}
 use Rattle.task.proofs.records.find.Tie as tie
 
@@ -39,16 +38,24 @@ loop-less c = omega arith
 
 loop-again : tie.Need-loop-again Inv-loop μ-loop
 loop-again c =
-    bracket-up (c .before .before .before .before .before .pre .1) (c .before .before .before .loop .inv) (middle (c .before .before))
-    (omega arith) (omega arith) (let e = c .before .number-at .ensures in let l = c .if1 .taken in omega arith)
+    let at-loop-test = c .before .before in
+    let at-loop = at-loop-test .before in
+    let start = at-loop .before .before in
+    bracket-up (start .pre .1) (at-loop .loop .inv) (middle at-loop-test) (omega arith) (omega arith) (let e =
+    c .before .number-at .ensures in
+    let l = c .if1 .taken in omega arith)
 
 loop-less-2 : tie.Need-loop-less-2 Inv-loop μ-loop
 loop-less-2 c = omega arith
 
 loop-again-2 : tie.Need-loop-again-2 Inv-loop μ-loop
 loop-again-2 c =
-    bracket-down (c .before .before .before .before .before .pre .1) (c .before .before .before .loop .inv) (middle (c .before .before))
-    (omega arith) (omega arith) (let e = c .before .number-at .ensures in let l = c .if1 .left in omega arith)
+    let at-loop-test = c .before .before in
+    let at-loop = at-loop-test .before in
+    let start = at-loop .before .before in
+    bracket-down (start .pre .1) (at-loop .loop .inv) (middle at-loop-test) (omega arith) (omega arith) (let e =
+    c .before .number-at .ensures in
+    let l = c .if1 .left in omega arith)
 
 returns : tie.Need-returns Inv-loop μ-loop
 returns c = bracket-met (c .loop-test .left) (c .before .loop .inv)

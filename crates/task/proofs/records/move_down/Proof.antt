@@ -3,7 +3,6 @@
 use Prim.Native.Nat.{_≤_, _-_}
 use native.Mathlib.Omega.{arith}
 use Rattle.task.proofs.Moves.{Down, down-none, down-more}
-use borrow.Author.Needs.{needs}
 use Rattle.task.proofs.records.move_down.Statement.{statement}
 use Rattle.task.proofs.records.move_down.Tie as tie
 
@@ -23,13 +22,17 @@ mul-state : tie.Need-mul-state Inv-loop μ-loop
 mul-state c = omega arith
 
 slice-read-state : tie.Need-slice-read-state Inv-loop μ-loop
-slice-read-state c = let z = c .before .before .loop .inv .2 .size in omega arith
+slice-read-state c =
+    let at-loop = c .before .before in
+    let z = at-loop .loop .inv .2 .size in omega arith
 
 mul-state-2 : tie.Need-mul-state-2 Inv-loop μ-loop
 mul-state-2 c = omega arith
 
 slice-write-state : tie.Need-slice-write-state Inv-loop μ-loop
-slice-write-state c = let z = c .before .before .loop .inv .2 .size in omega arith
+slice-write-state c =
+    let at-loop = c .before .before in
+    let z = at-loop .loop .inv .2 .size in omega arith
 
 add-i : tie.Need-add-i Inv-loop μ-loop
 add-i c = omega arith
@@ -38,11 +41,12 @@ loop-less : tie.Need-loop-less Inv-loop μ-loop
 loop-less c = omega arith
 
 loop-again : tie.Need-loop-again Inv-loop μ-loop
-loop-again c = (
-  omega arith,
-  omega arith,
-  down-more _ _ _ _ (c .before .before .loop .inv .0) (omega arith) (c .before .before .loop .inv .2),
-)
+loop-again c =
+    let at-loop = c .before .before in (
+      omega arith,
+      omega arith,
+      down-more _ _ _ _ (at-loop .loop .inv .0) (omega arith) (at-loop .loop .inv .2),
+    )
 
 same-length : tie.Need-same-length Inv-loop μ-loop
 same-length c = c .before .loop .inv .2 .size
@@ -50,7 +54,12 @@ same-length c = c .before .loop .inv .2 .size
 returns : tie.Need-returns Inv-loop μ-loop
 returns c =
     let d = c .before .loop .inv .2 in
-    record { before = d .before; moved = λ i l m. d .moved i l (omega arith) }
+    record {
+      before = d .before;
+      moved = λ i l m. d .moved i l (omega arith);
+      behind =
+          λ i l. d .behind i (omega arith);
+    }
 
 pub move-down-spec : {M : Type 1} → statement M
 move-down-spec =

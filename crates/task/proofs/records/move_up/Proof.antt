@@ -3,7 +3,6 @@
 use Prim.Native.Nat.{_≤_}
 use native.Mathlib.Omega.{arith}
 use Rattle.task.proofs.Moves.{Up, up-none, up-more}
-use borrow.Author.Needs.{needs}
 use Rattle.task.proofs.records.move_up.Statement.{statement}
 use Rattle.task.proofs.records.move_up.Tie as tie
 
@@ -23,7 +22,9 @@ mul-state : tie.Need-mul-state Inv-loop μ-loop
 mul-state c = omega arith
 
 slice-read-state : tie.Need-slice-read-state Inv-loop μ-loop
-slice-read-state c = let z = c .before .before .loop .inv .2 .size in omega arith
+slice-read-state c =
+    let at-loop = c .before .before in
+    let z = at-loop .loop .inv .2 .size in omega arith
 
 add-state : tie.Need-add-state Inv-loop μ-loop
 add-state c = omega arith
@@ -32,17 +33,21 @@ mul-state-2 : tie.Need-mul-state-2 Inv-loop μ-loop
 mul-state-2 c = omega arith
 
 slice-write-state : tie.Need-slice-write-state Inv-loop μ-loop
-slice-write-state c = let z = c .before .before .loop .inv .2 .size in omega arith
+slice-write-state c =
+    let at-loop = c .before .before in
+    let z = at-loop .loop .inv .2 .size in omega arith
 
 loop-less : tie.Need-loop-less Inv-loop μ-loop
 loop-less c = omega arith
 
 loop-again : tie.Need-loop-again Inv-loop μ-loop
-loop-again c = (
-  omega arith,
-  omega arith,
-  up-more _ _ (c .before .before .loop .i) _ _ (omega arith) (omega arith) (c .before .before .loop .inv .2),
-)
+loop-again c =
+    let at-loop = c .before .before in (
+      omega arith,
+      omega arith,
+      up-more _ _ (at-loop .loop .i) _ _ (omega arith) (omega arith) (omega arith)
+          (at-loop .loop .inv .2),
+    )
 
 same-length : tie.Need-same-length Inv-loop μ-loop
 same-length c = c .before .loop .inv .2 .size
@@ -50,7 +55,7 @@ same-length c = c .before .loop .inv .2 .size
 returns : tie.Need-returns Inv-loop μ-loop
 returns c =
     let u = c .before .loop .inv .2 in
-    record { before = λ i l. u .below i (omega arith); moved = λ i l m. u .moved i (omega arith) m }
+    record { before = λ i l. u .below i (omega arith); moved = λ i l m. u .moved i (omega arith) m; behind = u .behind }
 
 pub move-up-spec : {M : Type 1} → statement M
 move-up-spec =

@@ -1,6 +1,5 @@
 -- `records::number_at` meets its contract: the five words are those that `wordsAt` lists.
-use mathlib.Core.Path.{refl}
-use Rattle.task.specs.Records.{inBase, numberAt}
+use Rattle.task.specs.Records.{numberAt}
 use borrow.Author.Needs.{needs}
 use Rattle.task.proofs.records.number_at.Statement.{statement}
 use Rattle.task.proofs.records.number_at.Tie as tie
@@ -38,13 +37,16 @@ number-of-requires c κs = search needs
 returns : tie.Need-returns
 unfolding numberAt
 returns c =
-    let e₀ = c .before .before .before .before .before .word .ensures .0 in
-    let e₁ = c .before .before .before .before .word2 .ensures .0 in
-    let e₂ = c .before .before .before .word3 .ensures .0 in
-    let e₃ = c .before .before .word4 .ensures .0 in
+    let at-word4 = c .before .before in
+    let at-word3 = at-word4 .before in
+    let at-word2 = at-word3 .before in
+    let at-word = at-word2 .before in
+    let e₀ = at-word .word .ensures .0 in
+    let e₁ = at-word2 .word2 .ensures .0 in
+    let e₂ = at-word3 .word3 .ensures .0 in
+    let e₃ = at-word4 .word4 .ensures .0 in
     let e₄ = c .before .word5 .ensures .0 in
-    let e = c .number-of .ensures in
-    cc
+    let e = c .number-of .ensures in cc
 
 pub number-at-spec : {M : Type 1} → statement M
 number-at-spec =

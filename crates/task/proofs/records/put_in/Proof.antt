@@ -31,19 +31,34 @@ mul-move-up-2 : tie.Need-mul-move-up-2
 mul-move-up-2 c = search needs
 
 move-up-requires : tie.Need-move-up-requires
-move-up-requires c κs = (let z = c .before .before .before .before .find .ensures .within in omega arith, room (c .before .before .before .before .before .before .before .pre) (c .before .before .before .before .find .ensures) (c .before .before .is-row .ensures) (c .before .if1 .left))
+move-up-requires c κs =
+    let at-is-row = c .before .before in
+    let at-find = at-is-row .before .before in
+    let start = at-find .before .before .before in (
+      let z = at-find .find .ensures .within in omega arith,
+      room (start .pre)
+          (at-find .find .ensures) (at-is-row .is-row .ensures) (c .before .if1 .left),
+    )
 
 mul-write-at : tie.Need-mul-write-at
 mul-write-at c = search needs
 
 write-at-requires : tie.Need-write-at-requires
-write-at-requires c κs = (
-  let y = room (c .before .before .before .before .before .before .before .before .before .before .before .pre) (c .before .before .before .before .before .before .before .before .find .ensures) (c .before .before .before .before .before .before .is-row .ensures) (c .before .before .before .before .before .if1 .left) in
-      let z = c .before .before .before .before .before .before .before .before .find .ensures .within in
-      let k = c .before .before .before .move-up .kept .0 in
-      omega arith,
-  c .before .before .before .before .before .before .before .before .before .before .before .pre .1 .1 .1,
-)
+write-at-requires c κs =
+    let at-move-up = c .before .before .before in
+    let at-if1 = at-move-up .before .before in
+    let at-is-row = at-if1 .before in
+    let at-find = at-is-row .before .before in
+    let start = at-find .before .before .before in (
+      let y = room (start .pre)
+          (at-find .find .ensures)
+          (at-is-row .is-row .ensures)
+          (at-if1 .if1 .left) in
+          let z = at-find .find .ensures .within in
+          let k = at-move-up .move-up .kept .0 in
+          omega arith,
+      start .pre .1 .1 .1,
+    )
 
 add-result : tie.Need-add-result
 add-result c = search needs
@@ -58,9 +73,17 @@ same-length-2 : tie.Need-same-length-2
 same-length-2 c = search needs
 
 returns-2 : tie.Need-returns-2
-returns-2 c = λ t f d.
-    row-came d (c .before .before .before .before .before .before .before .before .before .before .before .find .ensures) (row-is (c .before .before .before .before .before .before .before .before .before .is-row .ensures) (c .before .before .before .before .before .before .before .before .if1 .left)) (c .before .before .before .before .before .before .move-up .ensures) (c .before .before .write-at .ensures)
-    (c .before .before .write-at .kept .0 ∙ c .before .before .before .before .before .before .move-up .kept .0) (room (c .before .before .before .before .before .before .before .before .before .before .before .before .before .before .pre) (c .before .before .before .before .before .before .before .before .before .before .before .find .ensures) (c .before .before .before .before .before .before .before .before .before .is-row .ensures) (c .before .before .before .before .before .before .before .before .if1 .left))
+returns-2 c =
+    let at-write-at = c .before .before in
+    let at-move-up = at-write-at .before .before .before .before in
+    let at-if1 = at-move-up .before .before in
+    let at-is-row = at-if1 .before in
+    let at-find = at-is-row .before .before in
+    let start = at-find .before .before .before in
+    λ t f d. row-came d (at-find .find .ensures) (row-is (at-is-row .is-row .ensures) (at-if1 .if1 .left))
+    (at-move-up .move-up .ensures) (at-write-at .write-at .ensures) (at-write-at .write-at .kept .0 ∙
+    at-move-up .move-up .kept .0)
+    (room (start .pre) (at-find .find .ensures) (at-is-row .is-row .ensures) (at-if1 .if1 .left))
 
 pub put-in-spec : {M : Type 1} → statement M
 put-in-spec =

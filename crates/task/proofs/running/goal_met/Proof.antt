@@ -1,7 +1,7 @@
 -- `running::goal_met` meets its contract. Between the turns, whether the goal atoms left hold says whether all do; the
 -- measure is how many are left.
 use Prim.Native.Nat.{_+_, _-_}
-use mathlib.Core.Path.{sym, _∙_}
+use mathlib.Core.Path.{_≡_, sym, _∙_}
 use native.Mathlib.Omega.{arith}
 use borrow.Author.Tests.{not-true, not-false}
 use Rattle.task.specs.Table.{factIn, taskOf}
@@ -9,7 +9,6 @@ use Rattle.task.specs.Run.{holds, stateIn}
 use Rattle.task.proofs.GroundWords.{table-is-long}
 use Rattle.task.proofs.SpanLaws.{state-long, state-ascends, AllSo, all-start, all-turn, all-left, all-ended}
 use Rattle.task.proofs.GoalLaws.{goal-known, goal-so}
-use borrow.Author.Needs.{needs}
 use Rattle.task.proofs.running.goal_met.Statement.{statement}
 use Rattle.task.proofs.running.goal_met.Tie as tie
 
@@ -20,16 +19,22 @@ abbrev μ-loop : tie.MeasureT-loop
 μ-loop table state n from to k₀ k = to - k
 
 word-requires : tie.Need-word-requires Inv-loop μ-loop
-word-requires c κs = let l = table-is-long _ (c .before .before .pre .0) in omega arith
+word-requires c κs =
+    let start = c .before .before in
+    let l = table-is-long _ (start .pre .0) in omega arith
 
 word-requires-2 : tie.Need-word-requires-2 Inv-loop μ-loop
-word-requires-2 c κs = let l = table-is-long _ (c .before .before .before .pre .0) in omega arith
+word-requires-2 c κs =
+    let start = c .before .before .before in
+    let l = table-is-long _ (start .pre .0) in omega arith
 
 add-from : tie.Need-add-from Inv-loop μ-loop
 add-from c = omega arith
 
 word-requires-3 : tie.Need-word-requires-3 Inv-loop μ-loop
-word-requires-3 c κs = let l = table-is-long _ (c .before .before .before .before .pre .0) in omega arith
+word-requires-3 c κs =
+    let start = c .before .before .before .before in
+    let l = table-is-long _ (start .pre .0) in omega arith
 
 add-to : tie.Need-add-to Inv-loop μ-loop
 add-to c = omega arith
@@ -38,21 +43,55 @@ loop-holds : tie.Need-loop-holds Inv-loop μ-loop
 loop-holds c = all-start _ _ _ _ (omega arith)
 
 fact-number-requires : tie.Need-fact-number-requires Inv-loop μ-loop
-fact-number-requires c κs = (c .before .before .before .before .before .before .before .pre .0, let e₃ = c .before .before .before .before .word .ensures in let e₄ = c .before .before .before .word2 .ensures in let e₅ = c .before .before .word3 .ensures in let m = c .loop-test .taken in omega arith)
+fact-number-requires c κs =
+    let at-word3 = c .before .before in
+    let at-word2 = at-word3 .before in
+    let at-word = at-word2 .before in
+    let start = at-word .before .before .before in (
+      start .pre .0,
+      let e₃ =
+          at-word .word .ensures in let e₄ = at-word2 .word2 .ensures in let e₅ =
+          at-word3 .word3 .ensures in let m = c .loop-test .taken in omega arith,
+    )
 
 held-requires : tie.Need-held-requires Inv-loop μ-loop
-held-requires c κs = (state-long _ _ _ (c .before .before .before .before .before .before .before .before .pre .0) (c .before .before .before .before .before .before .before .before .pre .1), state-ascends _ _ _ (c .before .before .before .before .before .before .before .before .pre .0) (c .before .before .before .before .before .before .before .before .pre .1))
+held-requires c κs =
+    let start = c .before .before .before .before .before .before .before .before in (
+      state-long _ _ _ (start .pre .0)
+          (start .pre .1),
+      state-ascends _ _ _ (start .pre .0)
+          (start .pre .1),
+    )
+
+abbrev start : tie.After-held Inv-loop μ-loop → tie.Start Inv-loop μ-loop
+start c = c .before .before .before .before .before .before .before .before .before
+
+-- what was looked up is goal atom k
+held-is : (c : tie.After-held Inv-loop μ-loop) → c .held .result ≡
+    holds (stateIn (taskOf (start c .args .table .now)) (start c .args .state .now) (start c .args .n))
+    (factIn (start c .args .table .now) (c .before .before .before .loop .k))
+held-is c =
+    let at-loop = c .before .before .before in
+    let at-word3 = at-loop .before in
+    let e₃ = at-word3 .before .before .word .ensures in
+    let e₄ = at-word3 .before .word2 .ensures in
+    let e₅ = at-word3 .word3 .ensures in
+    let l = at-loop .loop .inv .from-first in
+    let m = c .before .before .loop-test .taken in
+    c .held .ensures _ _
+    (goal-known _ _ _ (at-loop .loop .k) _ (start c .pre .0) (start c .pre .1) (omega arith) (omega arith)
+    (c .before .fact-number .ensures))
 
 returns : tie.Need-returns Inv-loop μ-loop
 returns c =
-    let e₃ = c .before .before .before .before .before .before .before .word .ensures in
-    let e₄ = c .before .before .before .before .before .before .word2 .ensures in
-    let e₅ = c .before .before .before .before .before .word3 .ensures in
-    let l = c .before .before .before .before .loop .inv .from-first in
-    let m = c .before .before .before .loop-test .taken in
-    let known = goal-known _ _ _ (c .before .before .before .before .loop .k) _ (c .before .before .before .before .before .before .before .before .before .before .pre .0) (c .before .before .before .before .before .before .before .before .before .before .pre .1) (omega arith) (omega arith) (c .before .before .fact-number .ensures) in
-    goal-so _ _ (c .before .before .before .before .before .before .before .word .result + c .before .before .before .before .before .before .word2 .result) _ (omega arith) (omega arith)
-    (all-left _ _ _ _ _ m (c .before .before .before .before .loop .inv) (sym (c .before .held .ensures _ _ known) ∙ not-true _ (c .if1 .taken)))
+    let at-loop = c .before .before .before .before in
+    let at-word3 = at-loop .before in
+    let e₃ = at-word3 .before .before .word .ensures in
+    let e₄ = at-word3 .before .word2 .ensures in
+    let e₅ = at-word3 .word3 .ensures in
+    goal-so _ _ (at-word3 .before .before .word .result + at-word3 .before .word2 .result) _ (omega arith) (omega arith)
+    (all-left _ _ _ _ _ (c .before .before .before .loop-test .taken) (at-loop .loop .inv)
+    (sym (held-is (c .before)) ∙ not-true _ (c .if1 .taken)))
 
 add-k : tie.Need-add-k Inv-loop μ-loop
 add-k c = omega arith
@@ -62,18 +101,19 @@ loop-less c = omega arith
 
 loop-again : tie.Need-loop-again Inv-loop μ-loop
 loop-again c =
-    let e₃ = c .before .before .before .before .before .before .before .word .ensures in
-    let e₄ = c .before .before .before .before .before .before .word2 .ensures in
-    let e₅ = c .before .before .before .before .before .word3 .ensures in
-    let l = c .before .before .before .before .loop .inv .from-first in
-    let m = c .before .before .before .loop-test .taken in
-    let known = goal-known _ _ _ (c .before .before .before .before .loop .k) _ (c .before .before .before .before .before .before .before .before .before .before .pre .0) (c .before .before .before .before .before .before .before .before .before .before .pre .1) (omega arith) (omega arith) (c .before .before .fact-number .ensures) in
-    all-turn _ _ _ _ _ m (c .before .before .before .before .loop .inv) (sym (c .before .held .ensures _ _ known) ∙ not-false _ (c .if1 .left))
+    let at-loop-test = c .before .before .before in
+    all-turn _ _ _ _ _ (at-loop-test .loop-test .taken) (at-loop-test .before .loop .inv)
+    (sym (held-is (c .before)) ∙ not-false _ (c .if1 .left))
 
 returns-2 : tie.Need-returns-2 Inv-loop μ-loop
 returns-2 c =
-    let e₃ = c .before .before .before .before .word .ensures in let e₄ = c .before .before .before .word2 .ensures in let e₅ = c .before .before .word3 .ensures in
-    goal-so _ _ (c .before .before .before .before .word .result + c .before .before .before .word2 .result) _ (omega arith) (omega arith)
+    let at-word3 = c .before .before in
+    let at-word2 = at-word3 .before in
+    let at-word = at-word2 .before in
+    let e₃ = at-word .word .ensures in
+    let e₄ = at-word2 .word2 .ensures in
+    let e₅ = at-word3 .word3 .ensures in
+    goal-so _ _ (at-word .word .result + at-word2 .word2 .result) _ (omega arith) (omega arith)
     (all-ended _ _ _ _ _ (c .loop-test .left) (c .before .loop .inv))
 
 pub goal-met-spec : {M : Type 1} → statement M

@@ -1,5 +1,5 @@
--- `running::run_list` meets its contract. Between the steps, running those left from the state kept gives what running all
--- was to give; the measure is how many are left.
+-- `running::run_list` meets its contract. Between the steps, running those left from the state kept gives what running
+-- all was to give; the measure is how many are left.
 use Prim.Native.Nat.{_+_, _-_, _*_, _<_}
 use mathlib.Core.Path.{_≡_, _∙_}
 use mathlib.Core.Bool.{true}
@@ -8,7 +8,18 @@ use lib.ListN.{getD}
 use Rattle.task.specs.Table.{taskOf}
 use Rattle.task.specs.Run.{isStepAt}
 use Rattle.task.specs.Turns.{endedAs, recordsLeft}
-use Rattle.task.proofs.RunLaws.{good-step, schema-below, start-found, end-found, RunSo, run-start, run-turn, run-missing, run-outgrown, run-ended}
+use Rattle.task.proofs.RunLaws.{
+  good-step,
+  schema-below,
+  start-found,
+  end-found,
+  RunSo,
+  run-start,
+  run-turn,
+  run-missing,
+  run-outgrown,
+  run-ended,
+}
 use borrow.Author.Needs.{needs}
 use Rattle.task.proofs.running.run_list.Statement.{statement}
 use Rattle.task.proofs.running.run_list.Tie as tie
@@ -32,7 +43,9 @@ below : (c : tie.In-loop Inv-loop μ-loop) → getD (start c .args .steps .now) 
 below c = schema-below _ (start c .args .starts .now) _ _ (start c .pre .0) (start c .pre .1 .0 .1) (step c)
 
 loop-holds : tie.Need-loop-holds Inv-loop μ-loop
-loop-holds c = run-start _ _ _ _ (c .before .before .before .before .pre .1 .1 .1)
+loop-holds c =
+    let start = c .before .before .before .before in
+    run-start _ _ _ _ (start .pre .1 .1 .1)
 
 mul-schema : tie.Need-mul-schema Inv-loop μ-loop
 mul-schema c = omega arith
@@ -44,39 +57,75 @@ shared-slice-read-schema : tie.Need-shared-slice-read-schema Inv-loop μ-loop
 shared-slice-read-schema c = omega arith
 
 cast-schema : tie.Need-cast-schema Inv-loop μ-loop
-cast-schema c = omega (arith, c .shared-slice-known4 .given (13 * c .before .before .loop .i))
+cast-schema c =
+    let at-loop = c .before .before in
+    omega (arith, c .shared-slice-known4 .given (13 * at-loop .loop .i))
 
 mul-start : tie.Need-mul-start Inv-loop μ-loop
 mul-start c = let l = below (c .before) in omega arith
 
 shared-slice-read-start : tie.Need-shared-slice-read-start Inv-loop μ-loop
-shared-slice-read-start c = let l = below (c .before .before) in let z = c .before .before .before .before .before .before .before .before .pre .1 .0 .0 in omega arith
+shared-slice-read-start c =
+    let at-loop-test = c .before .before in
+    let start = at-loop-test .before .before .before .before .before .before in
+    let l = below at-loop-test in
+    let z = start .pre .1 .0 .0 in omega arith
 
 cast-start : tie.Need-cast-start Inv-loop μ-loop
-cast-start c = omega (arith, c .shared-slice-known5 .given (getD (c .before .before .before .before .before .before .before .before .args .steps .now) (13 * c .before .before .before .loop .i) 0))
+cast-start c =
+    let at-loop = c .before .before .before in
+    let start = at-loop .before .before .before .before .before in
+    omega (
+      arith,
+      c .shared-slice-known5 .given
+          (getD (start .args .steps .now)
+          (13 * at-loop .loop .i) 0),
+    )
 
 add-end : tie.Need-add-end Inv-loop μ-loop
-add-end c = let l = below (c .before .before) in omega arith
+add-end c =
+    let at-loop-test = c .before .before in
+    let l = below at-loop-test in omega arith
 
 mul-end : tie.Need-mul-end Inv-loop μ-loop
-mul-end c = let l = below (c .before .before) in omega arith
+mul-end c =
+    let at-loop-test = c .before .before in
+    let l = below at-loop-test in omega arith
 
 shared-slice-read-end : tie.Need-shared-slice-read-end Inv-loop μ-loop
-shared-slice-read-end c = let l = below (c .before .before .before) in let z = c .before .before .before .before .before .before .before .before .before .pre .1 .0 .0 in omega arith
+shared-slice-read-end c =
+    let at-loop-test = c .before .before .before in
+    let start = at-loop-test .before .before .before .before .before .before in
+    let l = below at-loop-test in
+    let z = start .pre .1 .0 .0 in omega arith
 
 cast-end : tie.Need-cast-end Inv-loop μ-loop
-cast-end c = omega (arith, c .shared-slice-known6 .given (getD (c .before .before .before .before .before .before .before .before .before .args .steps .now) (13 * c .before .before .before .before .loop .i) 0 + 1))
+cast-end c =
+    let at-loop = c .before .before .before .before in
+    let start = at-loop .before .before .before .before .before in
+    omega (
+      arith,
+      c .shared-slice-known6 .given
+          (getD (start .args .steps .now)
+          (13 * at-loop .loop .i) 0 + 1),
+    )
 
 run-step-requires : tie.Need-run-step-requires Inv-loop μ-loop
 run-step-requires c κs =
-    let start = c .before .before .before .before .before .before .before .before .before .before in
-    let good = step (c .before .before .before .before) in (
+    let at-loop-test = c .before .before .before .before in
+    let at-loop = at-loop-test .before in
+    let start′ = at-loop .before .before .before .before .before in
+    let start = start′ in
+    let good = step at-loop-test in (
       start .pre .0,
       (
         good,
         (
           start-found _ (start .args .starts .now) _ _ (start .pre .0) (start .pre .1 .0 .1) good,
-          (end-found _ (start .args .starts .now) _ _ (start .pre .0) (start .pre .1 .0 .1) good, c .before .before .before .before .before .loop .inv .is-state),
+          (
+            end-found _ (start .args .starts .now) _ _ (start .pre .0) (start .pre .1 .0 .1) good,
+            at-loop .loop .inv .is-state,
+          ),
         ),
       ),
     )
@@ -91,27 +140,48 @@ loop-less : tie.Need-loop-less Inv-loop μ-loop
 loop-less c = omega arith
 
 loop-again : tie.Need-loop-again Inv-loop μ-loop
-loop-again c = run-turn (c .before .before .before .before .before .before .before .before .before .before .before .loop .inv) _ _ (c .before .before .before .before .before .before .before .before .before .before .loop-test .taken) (c .before .before .before .before .before .run-step .kept .1 .1 .1 .1 .1 .0) (c .before .before .before .before .before .run-step .ensures) (c .before .turn .given .1)
+loop-again c =
+    let at-run-step = c .before .before .before .before .before in
+    let at-loop-test = at-run-step .before .before .before .before .before in
+    let at-loop = at-loop-test .before in
+    run-turn (at-loop .loop .inv) _ _ (at-loop-test .loop-test .taken) (at-run-step .run-step .kept .1 .1 .1 .1 .1 .0)
+    (at-run-step .run-step .ensures) (c .before .turn .given .1)
 
 enum-told : tie.Need-enum-told Inv-loop μ-loop
 enum-told c = search needs
 
 same-length : tie.Need-same-length Inv-loop μ-loop
-same-length c = c .before .before .before .before .run-step .kept .1 .1 .1 .1 .1 .0 ∙ c .before .before .before .before .before .before .before .before .before .before .loop .inv .size
+same-length c =
+    let at-run-step = c .before .before .before .before in
+    let at-loop = at-run-step .before .before .before .before .before .before in
+    at-run-step .run-step .kept .1 .1 .1 .1 .1 .0 ∙ at-loop .loop .inv .size
 
 returns : tie.Need-returns Inv-loop μ-loop
 unfolding recordsLeft endedAs
-returns c = run-missing (c .before .before .before .before .before .before .before .before .before .before .loop .inv) _ (c .before .before .before .before .before .before .before .before .before .loop-test .taken) (c .before .before .before .before .run-step .ensures) (c .enum-told .given .1)
+returns c =
+    let at-run-step = c .before .before .before .before in
+    let at-loop-test = at-run-step .before .before .before .before .before in
+    let at-loop = at-loop-test .before in
+    run-missing (at-loop .loop .inv) _ (at-loop-test .loop-test .taken) (at-run-step .run-step .ensures)
+    (c .enum-told .given .1)
 
 enum-told-2 : tie.Need-enum-told-2 Inv-loop μ-loop
 enum-told-2 c = search needs
 
 same-length-2 : tie.Need-same-length-2 Inv-loop μ-loop
-same-length-2 c = c .before .before .before .before .run-step .kept .1 .1 .1 .1 .1 .0 ∙ c .before .before .before .before .before .before .before .before .before .before .loop .inv .size
+same-length-2 c =
+    let at-run-step = c .before .before .before .before in
+    let at-loop = at-run-step .before .before .before .before .before .before in
+    at-run-step .run-step .kept .1 .1 .1 .1 .1 .0 ∙ at-loop .loop .inv .size
 
 returns-2 : tie.Need-returns-2 Inv-loop μ-loop
 unfolding recordsLeft endedAs
-returns-2 c = run-outgrown (c .before .before .before .before .before .before .before .before .before .before .loop .inv) _ (c .before .before .before .before .before .before .before .before .before .loop-test .taken) (c .before .before .before .before .run-step .ensures) (c .enum-told2 .given .1)
+returns-2 c =
+    let at-run-step = c .before .before .before .before in
+    let at-loop-test = at-run-step .before .before .before .before .before in
+    let at-loop = at-loop-test .before in
+    run-outgrown (at-loop .loop .inv) _ (at-loop-test .loop-test .taken) (at-run-step .run-step .ensures)
+    (c .enum-told2 .given .1)
 
 same-length-3 : tie.Need-same-length-3 Inv-loop μ-loop
 same-length-3 c = c .before .loop .inv .size

@@ -1,10 +1,19 @@
--- `running::run_step` meets its contract: the step's atoms are parted by role, and its turn follows from the tests on the
--- parts; the adds come into what the deletes left.
+-- `running::run_step` meets its contract: the step's atoms are parted by role, and its turn follows from the tests on
+-- the parts; the exchange leaves the next state.
 use mathlib.Core.Path.{refl}
 use borrow.Author.Tests.{not-true, not-false}
 use Rattle.task.specs.Turns.{Turned}
 use Rattle.task.proofs.StepSpans.{span-bounds}
-use Rattle.task.proofs.TurnLaws.{Parted, preconditions-are, adds-are, deletes-are, applies-so, fits-so, room-left, next-kept}
+use Rattle.task.proofs.TurnLaws.{
+  Parted,
+  preconditions-are,
+  adds-are,
+  deletes-are,
+  applies-so,
+  fits-so,
+  room-enough,
+  next-kept,
+}
 use borrow.Author.Needs.{needs}
 use Rattle.task.proofs.running.run_step.Statement.{statement}
 use Rattle.task.proofs.running.run_step.Tie as tie
@@ -24,64 +33,108 @@ parted c = record {
 }
 
 role-end-requires : tie.Need-role-end-requires
-role-end-requires c κs = (c .before .before .before .pre .0, span-bounds _ _ _ (c .before .before .before .pre .0) (c .before .before .before .pre .1 .0) _ _ (c .before .before .before .pre .1 .1 .0) (c .before .before .before .pre .1 .1 .1 .0))
+role-end-requires c κs =
+    let start = c .before .before .before in (
+      start .pre .0,
+      span-bounds _ _ _ (start .pre .0) (start .pre .1 .0) _ _
+          (start .pre .1 .1 .0) (start .pre .1 .1 .1 .0),
+    )
 
 role-end-requires-2 : tie.Need-role-end-requires-2
-role-end-requires-2 c κs = (
-  c .before .before .before .before .pre .0,
-  (
-    c .role-end .ensures .within,
-    span-bounds _ _ _ (c .before .before .before .before .pre .0) (c .before .before .before .before .pre .1 .0) _ _ (c .before .before .before .before .pre .1 .1 .0) (c .before .before .before .before .pre .1 .1 .1 .0) .1,
-  ),
-)
+role-end-requires-2 c κs =
+    let start = c .before .before .before .before in (
+      start .pre .0,
+      (
+        c .role-end .ensures .within,
+        span-bounds _ _ _ (start .pre .0) (start .pre .1 .0) _ _
+            (start .pre .1 .1 .0) (start .pre .1 .1 .1 .0) .1,
+      ),
+    )
 
 all-hold-requires : tie.Need-all-hold-requires
-all-hold-requires c κs = (preconditions-are (parted (c .before)), c .before .before .before .before .before .before .pre .1 .1 .1 .1)
+all-hold-requires c κs =
+    let start = c .before .before .before .before .before .before in (
+      preconditions-are (parted (c .before)),
+      start .pre .1 .1 .1 .1,
+    )
 
 same-length : tie.Need-same-length
 same-length c = search needs
 
 returns : tie.Need-returns
 unfolding Turned
-returns c = (applies-so (parted (c .before .before .before)) _ (c .before .all-hold .ensures) (not-true _ (c .if1 .taken)), refl)
+returns c =
+    let at-role-end2 = c .before .before .before in (
+      applies-so (parted at-role-end2) _ (c .before .all-hold .ensures)
+          (not-true _ (c .if1 .taken)),
+      refl,
+    )
 
 has-room-requires : tie.Need-has-room-requires
-has-room-requires c κs = (adds-are (parted (c .before .before .before .before)), (deletes-are (parted (c .before .before .before .before)), c .before .before .before .before .before .before .before .before .before .pre .1 .1 .1 .1))
+has-room-requires c κs =
+    let at-role-end2 = c .before .before .before .before in
+    let start = at-role-end2 .before .before .before .before .before in (
+      adds-are (parted at-role-end2),
+      (
+        deletes-are (parted at-role-end2),
+        start .pre .1 .1 .1 .1,
+      ),
+    )
 
 same-length-2 : tie.Need-same-length-2
 same-length-2 c = search needs
 
 returns-2 : tie.Need-returns-2
 unfolding Turned
-returns-2 c = (
-  applies-so (parted (c .before .before .before .before .before .before)) _ (c .before .before .before .before .all-hold .ensures) (not-false _ (c .before .before .before .if1 .left)),
-  fits-so (parted (c .before .before .before .before .before .before)) _ _ (c .before .has-room .ensures) (not-true _ (c .if2 .taken)),
-  refl,
-)
+returns-2 c =
+    let at-if1 = c .before .before .before in
+    let at-all-hold = at-if1 .before in
+    let at-role-end2 = at-all-hold .before .before in (
+      applies-so (parted at-role-end2) _
+          (at-all-hold .all-hold .ensures) (not-false _ (at-if1 .if1 .left)),
+      fits-so (parted at-role-end2) _ _ (c .before .has-room .ensures)
+          (not-true _ (c .if2 .taken)),
+      refl,
+    )
 
-remove-span-requires : tie.Need-remove-span-requires
-remove-span-requires c κs = (deletes-are (parted (c .before .before .before .before .before .before .before)), c .before .before .before .before .before .before .before .before .before .before .before .before .pre .1 .1 .1 .1)
-
-insert-span-requires : tie.Need-insert-span-requires
-insert-span-requires c κs = (
-  adds-are (parted (c .before .before .before .before .before .before .before .before .before .before .before)),
-  (
-    c .before .before .before .remove-span .ensures .state,
-    room-left (parted (c .before .before .before .before .before .before .before .before .before .before .before)) _ _ _ _ (c .before .before .before .remove-span .ensures) (c .before .before .before .before .before .before .has-room .ensures) (not-false _ (c .before .before .before .before .before .if2 .left))
-        (c .before .before .before .remove-span .kept .1 .1 .1 .1 .1 .0),
-  ),
-)
+exchange-requires : tie.Need-exchange-requires
+exchange-requires c κs =
+    let at-has-room = c .before .before in
+    let at-role-end2 = at-has-room .before .before .before .before .before in
+    let start = at-role-end2 .before .before .before .before .before in (
+      adds-are (parted at-role-end2),
+      (
+        deletes-are (parted at-role-end2),
+        (
+          start .pre .1 .1 .1
+              .1,
+          room-enough (parted at-role-end2) _ _
+              (at-has-room .has-room .ensures) (not-false _ (c .before .if2 .left)),
+        ),
+      ),
+    )
 
 same-length-3 : tie.Need-same-length-3
 same-length-3 c = search needs
 
 returns-3 : tie.Need-returns-3
 unfolding Turned
-returns-3 c = (
-  applies-so (parted (c .before .before .before .before .before .before .before .before .before .before .before .before .before .before)) _ (c .before .before .before .before .before .before .before .before .before .before .before .before .all-hold .ensures) (not-false _ (c .before .before .before .before .before .before .before .before .before .before .before .if1 .left)),
-  fits-so (parted (c .before .before .before .before .before .before .before .before .before .before .before .before .before .before)) _ _ (c .before .before .before .before .before .before .before .before .before .has-room .ensures) (not-false _ (c .before .before .before .before .before .before .before .before .if2 .left)),
-  next-kept (parted (c .before .before .before .before .before .before .before .before .before .before .before .before .before .before)) _ _ _ _ _ _ (c .before .before .before .before .before .before .remove-span .ensures) (c .before .before .insert-span .ensures),
-)
+returns-3 c =
+    let at-exchange = c .before .before in
+    let at-if2 = at-exchange .before .before in
+    let at-has-room = at-if2 .before in
+    let at-if1 = at-has-room .before .before in
+    let at-all-hold = at-if1 .before in
+    let at-role-end2 = at-all-hold .before .before in (
+      applies-so (parted at-role-end2) _
+          (at-all-hold .all-hold .ensures)
+          (not-false _ (at-if1 .if1 .left)),
+      fits-so (parted at-role-end2) _ _
+          (at-has-room .has-room .ensures)
+          (not-false _ (at-if2 .if2 .left)),
+      next-kept (parted at-role-end2) _ _ _
+          (at-exchange .exchange .ensures),
+    )
 
 pub run-step-spec : {M : Type 1} → statement M
 run-step-spec =
@@ -95,7 +148,6 @@ run-step-spec =
     has-room-requires
     same-length-2
     returns-2
-    remove-span-requires
-    insert-span-requires
+    exchange-requires
     same-length-3
     returns-3)

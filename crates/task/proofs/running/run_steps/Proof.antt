@@ -1,8 +1,16 @@
--- `running::run_steps` meets its contract: the list ends in one of three ways, and each leaves the last state's words with
--- zeros behind them and tells what the outcome tells.
+-- `running::run_steps` meets its contract: the list ends in one of three ways, and each leaves the last state's words
+-- with zeros behind them and tells what the outcome tells.
 use mathlib.Core.Path.{sym}
 use native.Mathlib.Omega.{arith}
-use Rattle.task.proofs.EndLaws.{state-fills, ended-ran, ended-missing, ended-outgrown, done-ran, done-stopped, done-outgrown}
+use Rattle.task.proofs.EndLaws.{
+  state-fills,
+  ended-ran,
+  ended-missing,
+  ended-outgrown,
+  done-ran,
+  done-stopped,
+  done-outgrown,
+}
 use borrow.Author.Needs.{needs}
 use Rattle.task.proofs.running.run_steps.Statement.{statement}
 use Rattle.task.proofs.running.run_steps.Tie as tie
@@ -14,61 +22,126 @@ slice-aggregate-run-list : tie.Need-slice-aggregate-run-list
 slice-aggregate-run-list c = sym (c .before .schema-starts .ensures .0)
 
 run-list-requires : tie.Need-run-list-requires
-run-list-requires c κs = (c .before .before .before .before .before .before .before .pre .0, (c .before .before .schema-starts .ensures, (c .before .before .before .before .before .before .before .pre .1 .0, c .before .before .before .before .before .before .before .pre .1 .1)))
+run-list-requires c κs =
+    let at-schema-starts = c .before .before in
+    let start = at-schema-starts .before .before .before .before .before in (
+      start .pre .0,
+      (
+        at-schema-starts .schema-starts .ensures,
+        (
+          start .pre .1 .0,
+          start .pre .1 .1,
+        ),
+      ),
+    )
 
 enum-known-ended : tie.Need-enum-known-ended
 enum-known-ended c = search needs
 
 goal-met-requires : tie.Need-goal-met-requires
-goal-met-requires c κs = (c .before .before .before .before .before .before .before .before .before .before .before .before .before .before .pre .0, (ended-ran _ _ (c .before .before .ended .given .0 .0) (c .before .before .ended .given .1) (c .before .before .before .before .before .before .run-list .ensures .0) (c .before .before .before .before .before .before .run-list .ensures .1)) .0)
+goal-met-requires c κs =
+    let at-ended = c .before .before in
+    let at-run-list = at-ended .before .before .before .before in
+    let start = at-run-list .before .before .before .before .before .before .before .before in (
+      start .pre .0,
+      (ended-ran _ _ (at-ended .ended .given .0 .0) (at-ended .ended .given .1)
+          (at-run-list .run-list .ensures .0)
+          (at-run-list .run-list .ensures .1)) .0,
+    )
 
 mul-clear-from : tie.Need-mul-clear-from
-mul-clear-from c = let l = state-fills _ _ _ ((ended-ran _ _ (c .before .before .before .before .ended .given .0 .0) (c .before .before .before .before .ended .given .1) (c .before .before .before .before .before .before .before .before .run-list .ensures .0) (c .before .before .before .before .before .before .before .before .run-list .ensures .1)) .0) in let z = c .before .before .before .before .before .before .before .before .run-list .kept .1 .1 .1 .0 in omega arith
+mul-clear-from c =
+    let at-ended = c .before .before .before .before in
+    let at-run-list = at-ended .before .before .before .before in
+    let start = at-run-list .before .before .before .before .before .before .before .before in
+    let l = state-fills _ _ _ ((ended-ran _ _ (at-ended .ended .given .0 .0) (at-ended .ended .given .1)
+    (at-run-list .run-list .ensures .0) (at-run-list .run-list .ensures .1)) .0) in
+    let z = at-run-list .run-list .kept .1 .1 .1 .0 in omega (arith, start .good)
 
 clear-from-requires : tie.Need-clear-from-requires
-clear-from-requires c κs = state-fills _ _ _ ((ended-ran _ _ (c .before .before .before .before .ended .given .0 .0) (c .before .before .before .before .ended .given .1) (c .before .before .before .before .before .before .before .before .run-list .ensures .0) (c .before .before .before .before .before .before .before .before .run-list .ensures .1)) .0)
+clear-from-requires c κs =
+    let at-ended = c .before .before .before .before in
+    let at-run-list = at-ended .before .before .before .before in
+    state-fills _ _ _ ((ended-ran _ _ (at-ended .ended .given .0 .0) (at-ended .ended .given .1)
+    (at-run-list .run-list .ensures .0) (at-run-list .run-list .ensures .1)) .0)
 
 enum-known-ended-2 : tie.Need-enum-known-ended-2
 enum-known-ended-2 c = search needs
 
 mul-clear-from-2 : tie.Need-mul-clear-from-2
-mul-clear-from-2 c = let l = state-fills _ _ _ ((ended-missing _ _ _ (c .before .before .ended2 .given .0 .1 .0) (c .before .before .ended2 .given .1) (c .before .before .before .before .before .before .run-list .ensures .0) (c .before .before .before .before .before .before .run-list .ensures .1)) .0) in let z = c .before .before .before .before .before .before .run-list .kept .1 .1 .1 .0 in omega arith
+mul-clear-from-2 c =
+    let at-ended2 = c .before .before in
+    let at-run-list = at-ended2 .before .before .before .before in
+    let start = at-run-list .before .before .before .before .before .before .before .before in
+    let l = state-fills _ _ _ ((ended-missing _ _ _ (at-ended2 .ended2 .given .0 .1 .0) (at-ended2 .ended2 .given .1)
+    (at-run-list .run-list .ensures .0) (at-run-list .run-list .ensures .1)) .0) in
+    let z = at-run-list .run-list .kept .1 .1 .1 .0 in omega (arith, start .good)
 
 clear-from-requires-2 : tie.Need-clear-from-requires-2
-clear-from-requires-2 c κs = state-fills _ _ _ ((ended-missing _ _ _ (c .before .before .ended2 .given .0 .1 .0) (c .before .before .ended2 .given .1) (c .before .before .before .before .before .before .run-list .ensures .0) (c .before .before .before .before .before .before .run-list .ensures .1)) .0)
+clear-from-requires-2 c κs =
+    let at-ended2 = c .before .before in
+    let at-run-list = at-ended2 .before .before .before .before in
+    state-fills _ _ _ ((ended-missing _ _ _ (at-ended2 .ended2 .given .0 .1 .0) (at-ended2 .ended2 .given .1)
+    (at-run-list .run-list .ensures .0) (at-run-list .run-list .ensures .1)) .0)
 
 enum-known-ended-3 : tie.Need-enum-known-ended-3
 enum-known-ended-3 c = search needs
 
 mul-clear-from-3 : tie.Need-mul-clear-from-3
-mul-clear-from-3 c = let l = state-fills _ _ _ ((ended-outgrown _ _ _ (c .before .before .ended3 .given .0 .1 .0) (c .before .before .ended3 .given .1) (c .before .before .before .before .before .before .run-list .ensures .0) (c .before .before .before .before .before .before .run-list .ensures .1)) .0) in let z = c .before .before .before .before .before .before .run-list .kept .1 .1 .1 .0 in omega arith
+mul-clear-from-3 c =
+    let at-ended3 = c .before .before in
+    let at-run-list = at-ended3 .before .before .before .before in
+    let start = at-run-list .before .before .before .before .before .before .before .before in
+    let l = state-fills _ _ _ ((ended-outgrown _ _ _ (at-ended3 .ended3 .given .0 .1 .0) (at-ended3 .ended3 .given .1)
+    (at-run-list .run-list .ensures .0) (at-run-list .run-list .ensures .1)) .0) in
+    let z = at-run-list .run-list .kept .1 .1 .1 .0 in omega (arith, start .good)
 
 clear-from-requires-3 : tie.Need-clear-from-requires-3
-clear-from-requires-3 c κs = state-fills _ _ _ ((ended-outgrown _ _ _ (c .before .before .ended3 .given .0 .1 .0) (c .before .before .ended3 .given .1) (c .before .before .before .before .before .before .run-list .ensures .0) (c .before .before .before .before .before .before .run-list .ensures .1)) .0)
+clear-from-requires-3 c κs =
+    let at-ended3 = c .before .before in
+    let at-run-list = at-ended3 .before .before .before .before in
+    state-fills _ _ _ ((ended-outgrown _ _ _ (at-ended3 .ended3 .given .0 .1 .0) (at-ended3 .ended3 .given .1)
+    (at-run-list .run-list .ensures .0) (at-run-list .run-list .ensures .1)) .0)
 
 same-length : tie.Need-same-length
 same-length c = search needs
 
 returns : tie.Need-returns
 returns c =
-    let ended = (ended-ran _ _ (c .before .before .before .before .before .before .before .ended .given .0 .0) (c .before .before .before .before .before .before .before .ended .given .1) (c .before .before .before .before .before .before .before .before .before .before .before .run-list .ensures .0) (c .before .before .before .before .before .before .before .before .before .before .before .run-list .ensures .1)) in
-    done-ran _ _ _ _ _ (ended .0) (c .before .before .before .before .before .before .before .before .before .before .before .run-list .kept .1 .1 .1 .0) (c .before .before .clear-from .ensures) (ended .1) (c .before .before .before .before .goal-met .ensures)
+    let at-clear-from = c .before .before in
+    let at-goal-met = at-clear-from .before .before in
+    let at-ended = at-goal-met .before .before .before in
+    let at-run-list = at-ended .before .before .before .before in
+    let ended = (ended-ran _ _ (at-ended .ended .given .0 .0) (at-ended .ended .given .1)
+    (at-run-list .run-list .ensures .0) (at-run-list .run-list .ensures .1)) in
+    done-ran _ _ _ _ _ (ended .0) (at-run-list .run-list .kept .1 .1 .1 .0) (at-clear-from .clear-from .ensures)
+    (ended .1) (at-goal-met .goal-met .ensures)
 
 same-length-2 : tie.Need-same-length-2
 same-length-2 c = search needs
 
 returns-2 : tie.Need-returns-2
 returns-2 c =
-    let ended = (ended-missing _ _ _ (c .before .before .before .before .before .ended2 .given .0 .1 .0) (c .before .before .before .before .before .ended2 .given .1) (c .before .before .before .before .before .before .before .before .before .run-list .ensures .0) (c .before .before .before .before .before .before .before .before .before .run-list .ensures .1)) in
-    done-stopped _ _ _ _ _ (ended .0) (c .before .before .before .before .before .before .before .before .before .run-list .kept .1 .1 .1 .0) (c .before .before .clear-from2 .ensures) _ (ended .1)
+    let at-clear-from2 = c .before .before in
+    let at-ended2 = at-clear-from2 .before .before .before in
+    let at-run-list = at-ended2 .before .before .before .before in
+    let ended = (ended-missing _ _ _ (at-ended2 .ended2 .given .0 .1 .0) (at-ended2 .ended2 .given .1)
+    (at-run-list .run-list .ensures .0) (at-run-list .run-list .ensures .1)) in
+    done-stopped _ _ _ _ _ (ended .0) (at-run-list .run-list .kept .1 .1 .1 .0)
+    (at-clear-from2 .clear-from2 .ensures) _ (ended .1)
 
 same-length-3 : tie.Need-same-length-3
 same-length-3 c = search needs
 
 returns-3 : tie.Need-returns-3
 returns-3 c =
-    let ended = (ended-outgrown _ _ _ (c .before .before .before .before .before .ended3 .given .0 .1 .0) (c .before .before .before .before .before .ended3 .given .1) (c .before .before .before .before .before .before .before .before .before .run-list .ensures .0) (c .before .before .before .before .before .before .before .before .before .run-list .ensures .1)) in
-    done-outgrown _ _ _ _ _ (ended .0) (c .before .before .before .before .before .before .before .before .before .run-list .kept .1 .1 .1 .0) (c .before .before .clear-from3 .ensures) _ (ended .1)
+    let at-clear-from3 = c .before .before in
+    let at-ended3 = at-clear-from3 .before .before .before in
+    let at-run-list = at-ended3 .before .before .before .before in
+    let ended = (ended-outgrown _ _ _ (at-ended3 .ended3 .given .0 .1 .0) (at-ended3 .ended3 .given .1)
+    (at-run-list .run-list .ensures .0) (at-run-list .run-list .ensures .1)) in
+    done-outgrown _ _ _ _ _ (ended .0) (at-run-list .run-list .kept .1 .1 .1 .0)
+    (at-clear-from3 .clear-from3 .ensures) _ (ended .1)
 
 pub run-steps-spec : {M : Type 1} → statement M
 run-steps-spec =

@@ -5,7 +5,6 @@ use native.Mathlib.Omega.{arith}
 use Rattle.task.proofs.GroundWords.{table-is-long}
 use Rattle.task.proofs.TablesByIndex.{table-frame, atom-lies}
 use Rattle.task.proofs.StartLaws.{StartsSo, schemas-few, starts-none, starts-turn, starts-end, schema-at}
-use borrow.Author.Needs.{needs}
 use Rattle.task.proofs.running.schema_starts.Statement.{statement}
 use Rattle.task.proofs.running.schema_starts.Tie as tie
 
@@ -19,10 +18,18 @@ word-requires : tie.Need-word-requires Inv-loop μ-loop
 word-requires c κs = let l = table-is-long _ (c .before .pre .0) in omega arith
 
 loop-holds : tie.Need-loop-holds Inv-loop μ-loop
-loop-holds c = starts-none _ (c .before .before .pre .0) _ (c .before .before .pre .1 .0) (c .before .before .pre .1 .1)
+loop-holds c =
+    let start = c .before .before in
+    starts-none _ (start .pre .0) _ (start .pre .1 .0) (start .pre .1 .1)
 
 atom-at-requires : tie.Need-atom-at-requires Inv-loop μ-loop
-atom-at-requires c κs = (c .before .before .before .before .pre .0, let e = c .before .before .word .ensures .0 in let l = c .loop-test .taken in omega arith)
+atom-at-requires c κs =
+    let at-word = c .before .before in
+    let start = at-word .before .before in (
+      start .pre .0,
+      let e = at-word .word .ensures .0 in
+          let l = c .loop-test .taken in omega arith,
+    )
 
 mul-schema : tie.Need-mul-schema Inv-loop μ-loop
 mul-schema c = omega arith
@@ -34,10 +41,18 @@ cast-schema : tie.Need-cast-schema Inv-loop μ-loop
 cast-schema c = omega (arith, c .shared-slice-known2 .given (c .before .atom-at .result))
 
 add-k : tie.Need-add-k Inv-loop μ-loop
-add-k c = let e = c .before .before .before .before .word .ensures in let l = c .before .before .loop-test .taken in omega arith
+add-k c =
+    let at-loop-test = c .before .before in
+    let at-word = at-loop-test .before .before in
+    let e = at-word .word .ensures in
+    let l = at-loop-test .loop-test .taken in omega arith
 
 cast-starts : tie.Need-cast-starts Inv-loop μ-loop
-cast-starts c = let e = c .before .before .before .before .word .ensures in let l = c .before .before .loop-test .taken in omega arith
+cast-starts c =
+    let at-loop-test = c .before .before in
+    let at-word = at-loop-test .before .before in
+    let e = at-word .word .ensures in
+    let l = at-loop-test .loop-test .taken in omega arith
 
 add-starts : tie.Need-add-starts Inv-loop μ-loop
 add-starts c = omega (arith, c .shared-slice-known2 .given (c .before .atom-at .result))
@@ -47,28 +62,42 @@ mul-starts c = omega (arith, c .shared-slice-known2 .given (c .before .atom-at .
 
 element-write-starts : tie.Need-element-write-starts Inv-loop μ-loop
 element-write-starts c =
-    let m = atom-lies _ (table-frame _ (c .before .before .before .before .before .before .pre .0)) (c .before .before .before .loop .k) (let e = c .before .before .before .before .word .ensures .0 in let l = c .before .before .loop-test .taken in omega arith) .known in
+    let at-loop-test = c .before .before in
+    let at-loop = at-loop-test .before in
+    let at-word = at-loop .before in
+    let start = at-word .before .before in
+    let m = atom-lies _ (table-frame _ (start .pre .0)) (at-loop .loop .k) (let e = at-word .word .ensures .0 in
+    let l = at-loop-test .loop-test .taken in omega arith) .known in
     let s = schema-at _ _ _ (c .before .atom-at .ensures .0) in
-    let f = schemas-few _ (c .before .before .before .before .before .before .pre .0) in
-    let z = c .before .before .before .loop .inv .size in
-    let e = c .before .before .before .before .word .ensures in
-    let l = c .before .before .loop-test .taken in
-    omega arith
+    let f = schemas-few _ (start .pre .0) in
+    let z = at-loop .loop .inv .size in
+    let e = at-word .word .ensures in
+    let l = at-loop-test .loop-test .taken in omega arith
 
 loop-less : tie.Need-loop-less Inv-loop μ-loop
 loop-less c = omega arith
 
 loop-again : tie.Need-loop-again Inv-loop μ-loop
 loop-again c =
-    let e = c .before .before .before .before .word .ensures .0 in
-    let l = c .before .before .loop-test .taken in
-    starts-turn _ (c .before .before .before .before .before .before .pre .0) _ _ _ (omega arith) (schema-at _ _ _ (c .before .atom-at .ensures .0)) (c .before .before .before .loop .inv)
+    let at-loop-test = c .before .before in
+    let at-loop = at-loop-test .before in
+    let at-word = at-loop .before in
+    let start = at-word .before .before in
+    let e = at-word .word .ensures .0 in
+    let l = at-loop-test .loop-test .taken in
+    starts-turn _ (start .pre .0) _ _ _ (omega arith) (schema-at _ _ _ (c .before .atom-at .ensures .0))
+    (at-loop .loop .inv)
 
 returns : tie.Need-returns Inv-loop μ-loop
 returns c =
-    let e = c .before .before .word .ensures .0 in
-    let l = c .loop-test .left in
-    (c .before .loop .inv .size, starts-end _ (c .before .before .before .before .pre .0) (c .before .loop .k) _ (omega arith) (c .before .loop .inv))
+    let at-word = c .before .before in
+    let start = at-word .before .before in
+    let e = at-word .word .ensures .0 in
+    let l = c .loop-test .left in (
+      c .before .loop .inv .size,
+      starts-end _ (start .pre .0) (c .before .loop .k) _
+          (omega arith) (c .before .loop .inv),
+    )
 
 pub schema-starts-spec : {M : Type 1} → statement M
 schema-starts-spec =

@@ -12,11 +12,16 @@ stays-requires : tie.Need-stays-requires
 stays-requires c κs = search needs
 
 returns : tie.Need-returns
-returns c = λ f d.
-    comes-new _ _ f _ (sym (c .before .before .absent .ensures ∙ span-absent (c .before .before .before .before .before .before .pre .0) d) ∙ c .before .if1 .taken) (c .stays .ensures f d)
+returns c =
+    let at-absent = c .before .before in
+    let start = at-absent .before .before .before .before in
+    λ f d. comes-new _ _ f _ (sym (at-absent .absent .ensures ∙ span-absent (start .pre .0) d) ∙ c .before .if1 .taken)
+    (c .stays .ensures f d)
 
 returns-2 : tie.Need-returns-2
-returns-2 c = λ f d. comes-again _ _ f (sym (c .before .absent .ensures ∙ span-absent (c .before .before .before .before .before .pre .0) d) ∙ c .if1 .left)
+returns-2 c =
+    let start = c .before .before .before .before .before in
+    λ f d. comes-again _ _ f (sym (c .before .absent .ensures ∙ span-absent (start .pre .0) d) ∙ c .if1 .left)
 
 pub comes-spec : {M : Type 1} → statement M
 comes-spec = tie.close (tie.spec absent-requires stays-requires returns returns-2)

@@ -12,10 +12,14 @@ sub-if1 : tie.Need-sub-if1
 sub-if1 c = search needs
 
 sub-if1-2 : tie.Need-sub-if1-2
-sub-if1-2 c = state-room _ _ _ (c .before .before .before .pre .1 .1)
+sub-if1-2 c =
+    let start = c .before .before .before in
+    state-room _ _ _ (start .pre .1 .1)
 
 returns : tie.Need-returns
-returns c = all-fit _ _ _ _ _ _ _ _ (c .before .before .before .before .pre .0 .tabled) (c .before .before .before .before .pre .1 .1) (c .if1 .taken)
+returns c =
+    let start = c .before .before .before .before in
+    all-fit _ _ _ _ _ _ _ _ (start .pre .0 .tabled) (start .pre .1 .1) (c .if1 .taken)
 
 size-without-requires : tie.Need-size-without-requires
 size-without-requires c κs = search needs
@@ -25,7 +29,9 @@ size-with-requires c κs = search needs
 
 returns-2 : tie.Need-returns-2
 unfolding roomIn
-returns-2 c = ap (λ (m : ℕ). leb m (roomIn (c .before .before .before .before .before .before .args .state .now))) (c .size-with .ensures)
+returns-2 c =
+    let start = c .before .before .before .before .before .before in
+    ap (λ (m : ℕ). leb m (roomIn (start .args .state .now))) (c .size-with .ensures)
 
 pub has-room-spec : {M : Type 1} → statement M
 has-room-spec =

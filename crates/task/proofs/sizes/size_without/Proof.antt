@@ -1,5 +1,5 @@
--- `sizes::size_without` meets its contract. Between the turns `size` is how long the state is without the atoms passed; the
--- measure is how many are left.
+-- `sizes::size_without` meets its contract. Between the turns `size` is how long the state is without the atoms
+-- passed; the measure is how many are left.
 use Prim.Native.Nat.{_-_}
 use mathlib.Core.Path.{sym, _∙_, ap}
 use mathlib.Core.Logic.{⊎-elim}
@@ -11,8 +11,16 @@ use Rattle.task.proofs.Rows.{length-stateIn}
 use Rattle.task.proofs.Changes.{remove-nothing}
 use Rattle.task.proofs.GroundWords.{span-atom}
 use Rattle.task.proofs.SpanLaws.{atom-known}
-use Rattle.task.proofs.SizeLaws.{span-front, size-goes, size-stays, CountedSo, count-start, count-turn, count-end, state-asc}
-use borrow.Author.Needs.{needs}
+use Rattle.task.proofs.SizeLaws.{
+  span-front,
+  size-goes,
+  size-stays,
+  CountedSo,
+  count-start,
+  count-turn,
+  count-end,
+  state-asc,
+}
 use Rattle.task.proofs.sizes.size_without.Statement.{statement}
 use Rattle.task.proofs.sizes.size_without.Tie as tie
 
@@ -24,20 +32,35 @@ abbrev μ-loop : tie.MeasureT-loop
 μ-loop table from to steps i state n size₀ k₀ size k = to - k
 
 loop-holds : tie.Need-loop-holds Inv-loop μ-loop
-loop-holds c = count-start _ _ _ _ _ _ _ (c .before .before .before .pre .0 .ordered) (sym (ap length (remove-nothing _) ∙ length-stateIn _ _ _))
+loop-holds c =
+    let start = c .before .before .before in
+    count-start _ _ _ _ _ _ _ (start .pre .0 .ordered) (sym (ap length (remove-nothing _) ∙ length-stateIn _ _ _))
 
 ground-requires : tie.Need-ground-requires Inv-loop μ-loop
-ground-requires c κs = span-atom _ _ _ _ _ (c .before .before .before .before .before .pre .0) _ (c .before .loop .inv .from-first) (c .loop-test .taken)
+ground-requires c κs =
+    let start = c .before .before .before .before .before in
+    span-atom _ _ _ _ _ (start .pre .0) _ (c .before .loop .inv .from-first) (c .loop-test .taken)
 
 stays-requires : tie.Need-stays-requires Inv-loop μ-loop
-stays-requires c κs = (span-front (c .before .before .before .before .before .before .pre .0) _ (c .before .before .loop .inv .from-first) (c .before .before .loop .inv .to-last), c .before .before .before .before .before .before .pre .1)
+stays-requires c κs =
+    let at-loop = c .before .before in
+    let start = at-loop .before .before .before .before in (
+      span-front (start .pre .0) _
+          (at-loop .loop .inv .from-first) (at-loop .loop .inv .to-last),
+      start .pre .1,
+    )
 
 sub-size : tie.Need-sub-size Inv-loop μ-loop
 sub-size c =
-    let known = atom-known (span-atom _ _ _ _ _ (c .before .before .before .before .before .before .before .before .pre .0) _ (c .before .before .before .before .loop .inv .from-first) (c .before .before .before .loop-test .taken)) (c .before .before .before .before .before .before .before .before .pre .1) (c .before .before .ground .ensures) in
-    let e = size-goes _ _ _ (state-asc _ _ _ (c .before .before .before .before .before .before .before .before .pre .0 .tabled) (c .before .before .before .before .before .before .before .before .pre .1)) (sym (c .before .stays .ensures _ known) ∙ c .if1 .taken) in
-    let z = c .before .before .before .before .loop .inv .is in
-    omega arith
+    let at-ground = c .before .before in
+    let at-loop-test = at-ground .before in
+    let at-loop = at-loop-test .before in
+    let start = at-loop .before .before .before .before in
+    let known = atom-known (span-atom _ _ _ _ _ (start .pre .0) _ (at-loop .loop .inv .from-first)
+    (at-loop-test .loop-test .taken)) (start .pre .1) (at-ground .ground .ensures) in
+    let e = size-goes _ _ _ (state-asc _ _ _ (start .pre .0 .tabled) (start .pre .1))
+    (sym (c .before .stays .ensures _ known) ∙ c .if1 .taken) in
+    let z = at-loop .loop .inv .is in omega arith
 
 add-k : tie.Need-add-k Inv-loop μ-loop
 add-k c = omega arith
@@ -47,16 +70,19 @@ loop-less c = omega arith
 
 loop-again : tie.Need-loop-again Inv-loop μ-loop
 loop-again c =
-    let known = atom-known (span-atom _ _ _ _ _ (c .before .before .before .before .before .before .before .before .pre .0) _ (c .before .before .before .before .loop .inv .from-first) (c .before .before .before .loop-test .taken)) (c .before .before .before .before .before .before .before .before .pre .1) (c .before .before .ground .ensures) in
-    let z = c .before .before .before .before .loop .inv .is in
-    ⊎-elim
-    (λ v.
-    let e = size-goes _ _ _ (state-asc _ _ _ (c .before .before .before .before .before .before .before .before .pre .0 .tabled) (c .before .before .before .before .before .before .before .before .pre .1)) (sym (c .before .stays .ensures _ known) ∙ v .0 .taken) in
-    count-turn _ _ _ _ (c .before .before .before .before .loop .inv) (c .before .before .before .loop-test .taken) (omega arith))
-    (λ v.
-    let e = size-stays _ _ _ (state-asc _ _ _ (c .before .before .before .before .before .before .before .before .pre .0 .tabled) (c .before .before .before .before .before .before .before .before .pre .1)) (sym (c .before .stays .ensures _ known) ∙ v .0 .left) in
-    count-turn _ _ _ _ (c .before .before .before .before .loop .inv) (c .before .before .before .loop-test .taken) (omega arith))
-    (c .if1 .came)
+    let at-ground = c .before .before in
+    let at-loop-test = at-ground .before in
+    let at-loop = at-loop-test .before in
+    let start = at-loop .before .before .before .before in
+    let known = atom-known (span-atom _ _ _ _ _ (start .pre .0) _ (at-loop .loop .inv .from-first)
+    (at-loop-test .loop-test .taken)) (start .pre .1) (at-ground .ground .ensures) in
+    let z = at-loop .loop .inv .is in
+    ⊎-elim (λ v. let e = size-goes _ _ _ (state-asc _ _ _ (start .pre .0 .tabled) (start .pre .1))
+    (sym (c .before .stays .ensures _ known) ∙ v .0 .taken) in
+    count-turn _ _ _ _ (at-loop .loop .inv) (at-loop-test .loop-test .taken) (omega arith)) (λ v. let e =
+    size-stays _ _ _ (state-asc _ _ _ (start .pre .0 .tabled) (start .pre .1))
+    (sym (c .before .stays .ensures _ known) ∙ v .0 .left) in
+    count-turn _ _ _ _ (at-loop .loop .inv) (at-loop-test .loop-test .taken) (omega arith)) (c .if1 .came)
 
 returns : tie.Need-returns Inv-loop μ-loop
 returns c = count-end _ _ _ _ (c .before .loop .inv) (c .loop-test .left)

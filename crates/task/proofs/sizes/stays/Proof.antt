@@ -7,14 +7,21 @@ use Rattle.task.proofs.sizes.stays.Statement.{statement}
 use Rattle.task.proofs.sizes.stays.Tie as tie
 
 held-requires : tie.Need-held-requires
-held-requires c κs = (state-long _ _ _ (c .before .before .before .pre .0 .tabled) (c .before .before .before .pre .1), state-ascends _ _ _ (c .before .before .before .pre .0 .tabled) (c .before .before .before .pre .1))
+held-requires c κs =
+    let start = c .before .before .before in (
+      state-long _ _ _ (start .pre .0 .tabled) (start .pre .1),
+      state-ascends _ _ _ (start .pre .0 .tabled) (start .pre .1),
+    )
 
 absent-requires : tie.Need-absent-requires
 absent-requires c κs = search needs
 
 returns : tie.Need-returns
-returns c = λ f d.
-    stays-held _ _ f _ (sym (c .before .before .held .ensures _ f d) ∙ c .before .if1 .taken) (c .absent .ensures ∙ span-absent (c .before .before .before .before .before .before .pre .0) d)
+returns c =
+    let at-held = c .before .before in
+    let start = at-held .before .before .before .before in
+    λ f d. stays-held _ _ f _ (sym (at-held .held .ensures _ f d) ∙ c .before .if1 .taken) (c .absent .ensures ∙
+    span-absent (start .pre .0) d)
 
 returns-2 : tie.Need-returns-2
 returns-2 c = λ f d. stays-missing _ _ f (sym (c .before .held .ensures _ f d) ∙ c .if1 .left)

@@ -19,21 +19,29 @@ shared-slice-read-t11 : tie.Need-shared-slice-read-t11
 shared-slice-read-t11 c = search needs
 
 object-of-requires : tie.Need-object-of-requires
-object-of-requires c κs = c .before .before .before .before .pre .1 (c .before .if1 .taken)
+object-of-requires c κs =
+    let start = c .before .before .before .before in
+    start .pre .1 (c .before .if1 .taken)
 
 cast-result : tie.Need-cast-result
 cast-result c = search needs
 
 returns : tie.Need-returns
 unfolding argumentIn
-returns c = (
-  c .before .object-of .ensures ∙ ap (λ (u : Bool). cond u (argument (c .before .before .before .before .before .before)) 0) (sym (c .before .before .before .if1 .taken)),
-  omega (arith, c .struct-known .given),
-)
+returns c =
+    let at-if1 = c .before .before .before in
+    let start = at-if1 .before .before .before in (
+      c .before .object-of .ensures ∙
+          ap (λ (u : Bool). cond u (argument (start)) 0)
+          (sym (at-if1 .if1 .taken)),
+      omega (arith, c .struct-known .given),
+    )
 
 returns-2 : tie.Need-returns-2
 unfolding argumentIn
-returns-2 c = (ap (λ (u : Bool). cond u (argument (c .before .before .before)) 0) (sym (c .if1 .left)), omega arith)
+returns-2 c =
+    let start = c .before .before .before in
+    (ap (λ (u : Bool). cond u (argument (start)) 0) (sym (c .if1 .left)), omega arith)
 
 pub argument-spec : {M : Type 1} → statement M
 argument-spec =

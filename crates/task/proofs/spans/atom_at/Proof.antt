@@ -12,23 +12,29 @@ add-result : tie.Need-add-result
 add-result c = search needs
 
 word-requires-2 : tie.Need-word-requires-2
-word-requires-2 c κs = let l = table-is-long _ (c .before .before .pre .0) in omega arith
+word-requires-2 c κs =
+    let start = c .before .before in
+    let l = table-is-long _ (start .pre .0) in omega arith
 
 add-result-2 : tie.Need-add-result-2
 add-result-2 c = search needs
 
 mul-result : tie.Need-mul-result
-mul-result c = let l = atom-words-inside _ (c .before .before .before .pre .0) _ (c .before .before .before .pre .1) in omega arith
+mul-result c =
+    let start = c .before .before .before in
+    let l = atom-words-inside _ (start .pre .0) _ (start .pre .1) in omega arith
 
 add-result-3 : tie.Need-add-result-3
-add-result-3 c = let l = atom-words-inside _ (c .before .before .before .pre .0) _ (c .before .before .before .pre .1) in omega arith
+add-result-3 c =
+    let start = c .before .before .before in
+    let l = atom-words-inside _ (start .pre .0) _ (start .pre .1) in omega arith
 
 returns : tie.Need-returns
 returns c =
-    let l = table-is-long _ (c .before .before .before .pre .0) in
-    let m = atom-words-inside _ (c .before .before .before .pre .0) _ (c .before .before .before .pre .1) in
-    let e = atomBase-is (c .before .before .before .args .table .now) (c .before .before .before .args .k) in
-    (omega arith, omega arith)
+    let start = c .before .before .before in
+    let l = table-is-long _ (start .pre .0) in
+    let m = atom-words-inside _ (start .pre .0) _ (start .pre .1) in
+    let e = atomBase-is (start .args .table .now) (start .args .k) in (omega arith, omega arith)
 
 pub atom-at-spec : {M : Type 1} → statement M
 atom-at-spec =

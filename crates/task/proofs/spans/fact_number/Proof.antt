@@ -42,14 +42,20 @@ number-of-requires c κs = search needs
 
 returns : tie.Need-returns
 returns c =
-    let e = fact-read _ (c .before .before .before .before .before .before .before .before .pre .0) _ (c .before .before .before .before .before .before .before .before .pre .1) (c .before .before .before .before .before .before .atom-at .result) (c .before .before .before .before .before .before .atom-at .ensures .0) in
-    let e₀ = c .before .before .before .before .before .word .ensures .0 in
-    let e₁ = c .before .before .before .before .word2 .ensures .0 in
-    let e₂ = c .before .before .before .word3 .ensures .0 in
-    let e₃ = c .before .before .word4 .ensures .0 in
+    let at-word4 = c .before .before in
+    let at-word3 = at-word4 .before in
+    let at-word2 = at-word3 .before in
+    let at-word = at-word2 .before in
+    let at-atom-at = at-word .before in
+    let start = at-atom-at .before .before in
+    let e = fact-read _ (start .pre .0) _ (start .pre .1) (at-atom-at .atom-at .result)
+    (at-atom-at .atom-at .ensures .0) in
+    let e₀ = at-word .word .ensures .0 in
+    let e₁ = at-word2 .word2 .ensures .0 in
+    let e₂ = at-word3 .word3 .ensures .0 in
+    let e₃ = at-word4 .word4 .ensures .0 in
     let e₄ = c .before .word5 .ensures .0 in
-    let n = c .number-of .ensures in
-    cc
+    let n = c .number-of .ensures in cc
 
 pub fact-number-spec : {M : Type 1} → statement M
 fact-number-spec =

@@ -1,0 +1,109 @@
+-- The atoms of a schema in the table, by their places: they stand together, their roles ascend, and none is beyond a
+-- delete.
+use Prim.Native.Nat.{ℕ, zero, suc, _+_, _-_, _≤_, _<_}
+use mathlib.Core.Path.{_≡_, sym, _∙_, ap}
+use mathlib.Core.Bool.{true}
+use mathlib.Core.List.{List, [], _∷_, map}
+use native.Mathlib.Omega.{arith}
+use lib.ListN.{length, getD}
+use lib.Dec.{leb}
+use borrow.Author.Tests.{leb-true}
+use Rattle.task.specs.Lists.{upFrom}
+use Rattle.task.specs.Task.{Atom, Task, schemaFits, rolesAscend}
+use Rattle.task.specs.Table.{atomIn, schemaNumberIn, taskOf, isTable}
+use Rattle.task.specs.Run.{schemaAt}
+use Rattle.task.proofs.Laws.{and-left, and-right, all-in, in-getD}
+use Rattle.task.proofs.Tests.{schema-tests, task-tests}
+use Rattle.task.proofs.Tables.{noAtom, noSchema, startOf, of-table, tabulate}
+use Rattle.task.proofs.TablesByIndex.{table-frame, schemas-word, start-suc, start-end, atom-at, schema-of-atom}
+use Rattle.task.proofs.StartLaws.{start-rises}
+
+-- ---- roles that ascend, by place
+pub roles-places : (atoms : List Atom) → rolesAscend atoms ≡ true → (i j : ℕ) → i ≤ j → j < length atoms →
+    getD atoms i noAtom .role ≤ getD atoms j noAtom .role
+unfolding rolesAscend
+roles-places [] h i j l m = absurd (omega arith)
+roles-places (a ∷ []) h i j l m =
+    let p : i ≡ 0 = omega arith in
+    let q : j ≡ 0 = omega arith in
+    let e : getD (a ∷ []) i noAtom .role ≡ getD (a ∷ []) j noAtom .role =
+    ap (λ (k : ℕ). getD (a ∷ []) k noAtom .role) (p ∙ sym q) in
+    omega arith
+roles-places (a ∷ b ∷ atoms) h zero zero l m = omega arith
+roles-places (a ∷ b ∷ atoms) h zero (suc j) l m =
+    let p = leb-true (a .role) (b .role) (and-left (leb (a .role) (b .role)) (rolesAscend (b ∷ atoms)) h) in
+    let q = roles-places (b ∷ atoms) (and-right (leb (a .role) (b .role)) (rolesAscend (b ∷ atoms)) h) zero j
+    (omega arith) (omega arith) in
+    omega arith
+roles-places (a ∷ b ∷ atoms) h (suc i) zero l m = absurd (omega arith)
+roles-places (a ∷ b ∷ atoms) h (suc i) (suc j) l m =
+    roles-places (b ∷ atoms) (and-right (leb (a .role) (b .role)) (rolesAscend (b ∷ atoms)) h) i j (omega arith)
+    (omega arith)
+
+pub last-role : (atoms : List Atom) → rolesAscend atoms ≡ true → (j : ℕ) → j < length atoms →
+    getD atoms j noAtom .role ≤ 2
+unfolding rolesAscend
+last-role [] h j l = absurd (omega arith)
+last-role (a ∷ []) h zero l = leb-true (a .role) 2 h
+last-role (a ∷ []) h (suc j) l = absurd (omega arith)
+last-role (a ∷ b ∷ atoms) h zero l =
+    let p = leb-true (a .role) (b .role) (and-left (leb (a .role) (b .role)) (rolesAscend (b ∷ atoms)) h) in
+    let q = last-role (b ∷ atoms) (and-right (leb (a .role) (b .role)) (rolesAscend (b ∷ atoms)) h) zero (omega arith)
+    in
+    omega arith
+last-role (a ∷ b ∷ atoms) h (suc j) l =
+    last-role (b ∷ atoms) (and-right (leb (a .role) (b .role)) (rolesAscend (b ∷ atoms)) h) j (omega arith)
+
+-- ---- the atoms of a schema in the table
+module _ (w : List ℕ) (h : isTable w ≡ true) (s : ℕ) (l : s < getD w 2 0) where
+  abbrev t : Task
+  t = taskOf w
+
+  abbrev atoms : List Atom
+  atoms = schemaAt t s .atoms
+
+  pub schema-inside : startOf t (suc s) ≤ getD w 3 0
+  schema-inside =
+      let e = start-end w (table-frame w h) in
+      let r = start-rises w h (suc s) (getD w 2 0) (omega arith) in
+      omega arith
+
+  place : (k : ℕ) → startOf t s ≤ k → k < startOf t (suc s) →
+      (k - startOf t s < length atoms) × (atomIn w k ≡ getD atoms (k - startOf t s) noAtom)
+  place k a b =
+      let fr = table-frame w h in
+      let e = start-suc w fr s l in
+      let z : startOf t s + (k - startOf t s) ≡ k = omega arith in
+      let m : k - startOf t s < length atoms = omega arith in
+      (m, ap (atomIn w) (sym z) ∙ atom-at w fr s (k - startOf t s) l m)
+
+  pub own-number : (k : ℕ) → startOf t s ≤ k → k < startOf t (suc s) → schemaNumberIn w k ≡ s
+  own-number k a b =
+      let fr = table-frame w h in
+      let z : startOf t s + (k - startOf t s) ≡ k = omega arith in
+      ap (schemaNumberIn w) (sym z) ∙ schema-of-atom w fr s (k - startOf t s) l (place k a b .0)
+
+  roles-ascend : rolesAscend atoms ≡ true
+  unfolding schemaAt
+  roles-ascend =
+      let c = task-tests t (of-table w h .0) in
+      let n = schemas-word w (table-frame w h) in
+      schema-tests (t .arities) (getD (t .schemas) s noSchema)
+      (all-in (schemaFits (t .arities)) (c .fit) (in-getD (t .schemas) s noSchema (omega arith))) .roles
+
+  pub role-rises : (j k : ℕ) → startOf t s ≤ j → j ≤ k → k < startOf t (suc s) → atomIn w j .role ≤ atomIn w k .role
+  role-rises j k a b d =
+      let p = ap (λ (x : Atom). x .role) (place j a (omega arith) .1) in
+      let q = ap (λ (x : Atom). x .role) (place k (omega arith) d .1) in
+      let r = roles-places atoms roles-ascend (j - startOf t s) (k - startOf t s) (omega arith)
+      (place k (omega arith) d .0) in
+      omega arith
+
+  pub role-most : (k : ℕ) → startOf t s ≤ k → k < startOf t (suc s) → atomIn w k .role ≤ 2
+  role-most k a b =
+      let p = ap (λ (x : Atom). x .role) (place k a b .1) in
+      let r = last-role atoms roles-ascend (k - startOf t s) (place k a b .0) in
+      omega arith
+
+  pub atoms-listed : map (atomIn w) (upFrom (startOf t s) (length atoms)) ≡ atoms
+  atoms-listed = tabulate (atomIn w) (startOf t s) atoms noAtom (λ k x. atom-at w (table-frame w h) s k l x)
