@@ -2,9 +2,11 @@
 -- text has `drop at text` before it.
 use Prim.Native.Nat.{ℕ, _+_, _≤_, _<_}
 use mathlib.Core.Path.{_≡_}
-use mathlib.Core.List.{List, [], _∷_}
+use mathlib.Core.Bool.{cond}
+use mathlib.Core.List.{List, [], _∷_, _++_}
 use mathlib.Core.Option.{Option, none, some}
 use lib.ListN.{length, getD, drop}
+use lib.Dec.{ltb}
 use Rattle.text.specs.declared.cursor.Cursor.{Cursor}
 use Rattle.text.specs.declared.cursor.Digit.{Digit}
 use Rattle.text.specs.declared.cursor.Digit.the-variants as digit
@@ -16,6 +18,11 @@ use Rattle.text.specs.declared.lists.List.{List as Listing}
 use Rattle.text.specs.declared.lists.List.the-variants as list
 use Rattle.text.specs.declared.lists.Atom.{Atom as AtomRead}
 use Rattle.text.specs.declared.lists.Atom.the-variants as atomRead
+use Rattle.text.specs.declared.keys.Keyed.{Keyed}
+use Rattle.text.specs.declared.keys.Keyed.the-variants as keyed
+use Rattle.text.specs.Lines.{bytes, equals}
+use Rattle.text.specs.Text.{Key, task, objects, arity, schema, pre, add, del, part, init, goal, end, keyName}
+use Rattle.text.specs.Text.{Phase, atTask, atObjects, atArity, between, inPre, inAdd, inDel, inInit, inGoal}
 use Rattle.text.specs.Lines.{newline, leadingDigits, Taken, taken, after, number, Entry, entry, ended}
 
 -- what remains of a text at a cursor
@@ -147,3 +154,58 @@ pub record EntryLine (text : List ℕ) (c : Cursor) (head count : ℕ) (kept : L
 abbrev pub EntryLineAt : List ℕ → Cursor → List ℕ → AtomRead → Type 0
 EntryLineAt text c kept (atomRead.Of head count next) = EntryLine text c head count kept next
 EntryLineAt text c kept atomRead.Missing = whole (entry (rest text c)) ≡ none
+
+-- ---- keys
+-- "Each line is a key, =": the bytes that a line begins with
+abbrev pub keyBytes : Key → List ℕ
+keyBytes k = bytes (keyName k) ++ (equals ∷ [])
+
+-- keys that may stand at one place of the fixed order have numbers that follow one another
+unfoldable pub keyNumber : Key → ℕ
+keyNumber task = 0
+keyNumber objects = 1
+keyNumber arity = 2
+keyNumber pre = 3
+keyNumber add = 4
+keyNumber del = 5
+keyNumber part = 6
+keyNumber schema = 7
+keyNumber init = 8
+keyNumber goal = 9
+keyNumber end = 10
+
+-- a place in the order has the number of the first key that it allows
+unfoldable pub phaseNumber : Phase → ℕ
+phaseNumber atTask = 0
+phaseNumber atObjects = 1
+phaseNumber atArity = 2
+phaseNumber inPre = 3
+phaseNumber inAdd = 4
+phaseNumber inDel = 5
+phaseNumber between = 7
+phaseNumber inInit = 8
+phaseNumber inGoal = 9
+
+unfoldable pub lastKey : ℕ → ℕ
+lastKey phase = cond (ltb phase 3) phase (cond (ltb phase 7) 6 10)
+
+pub record KeyHere (text : List ℕ) (c : Cursor) (number : ℕ) (body : Cursor) : Type 0 where
+  pub key : Key
+  pub numbered : keyNumber key ≡ number
+  pub is : after (keyBytes key) (rest text c) ≡ some (rest text body)
+  pub moved : Moved text c body
+
+abbrev pub KeyAt : List ℕ → Cursor → Keyed → Type 0
+KeyAt text c (keyed.Of number body) = KeyHere text c number body
+KeyAt text c keyed.Missing = (k : Key) → after (keyBytes k) (rest text c) ≡ none
+
+-- the same, of the keys of lines that stand once
+pub record NoOnceKey (bs : List ℕ) : Type 0 where
+  pub no-task : after (keyBytes task) bs ≡ none
+  pub no-objects : after (keyBytes objects) bs ≡ none
+  pub no-arity : after (keyBytes arity) bs ≡ none
+  pub no-end : after (keyBytes end) bs ≡ none
+
+abbrev pub OnceKeyAt : List ℕ → Cursor → Keyed → Type 0
+OnceKeyAt text c (keyed.Of number body) = KeyHere text c number body
+OnceKeyAt text c keyed.Missing = NoOnceKey (rest text c)
