@@ -1,12 +1,13 @@
 -- What the inner functions of the reader answer, by the readers of `Lines` at a cursor: a cursor at an offset `at` of a
 -- text has `drop at text` before it.
-use Prim.Native.Nat.{ℕ, _+_, _≤_, _<_}
+use Prim.Native.Nat.{ℕ, suc, _+_, _≤_, _<_, max}
 use mathlib.Core.Path.{_≡_}
-use mathlib.Core.Bool.{cond}
+use mathlib.Core.Bool.{Bool, cond}
 use mathlib.Core.List.{List, [], _∷_, _++_}
 use mathlib.Core.Option.{Option, none, some}
 use lib.ListN.{length, getD, drop}
-use lib.Dec.{ltb}
+use lib.Dec.{eqb, ltb}
+use Rattle.task.specs.Lists.{all, any, upTo}
 use Rattle.text.specs.declared.cursor.Cursor.{Cursor}
 use Rattle.text.specs.declared.cursor.Digit.{Digit}
 use Rattle.text.specs.declared.cursor.Digit.the-variants as digit
@@ -209,3 +210,26 @@ pub record NoOnceKey (bs : List ℕ) : Type 0 where
 abbrev pub OnceKeyAt : List ℕ → Cursor → Keyed → Type 0
 OnceKeyAt text c (keyed.Of number body) = KeyHere text c number body
 OnceKeyAt text c keyed.Missing = NoOnceKey (rest text c)
+
+-- ---- words of a table
+-- n words were written at a place, word k being f k; no other word was touched
+pub record Wrote (w : List ℕ) (at n : ℕ) (f : ℕ → ℕ) (after : List ℕ) : Type 0 where
+  pub size : length after ≡ length w
+  pub put : (k : ℕ) → k < n → getD after (at + k) 0 ≡ f k
+  pub before : (j : ℕ) → j < at → getD after j 0 ≡ getD w j 0
+  pub behind : (j : ℕ) → at + n ≤ j → getD after j 0 ≡ getD w j 0
+
+-- the first n of some numbers are words
+pub record Words (n : ℕ) (xs : List ℕ) : Type 0 where
+  pub enough : n ≤ length xs
+  pub small : (k : ℕ) → k < n → getD xs k 0 < 65536
+
+-- one more than the highest number, 0 for none
+unfoldable pub oneAbove : List ℕ → ℕ
+oneAbove [] = 0
+oneAbove (x ∷ xs) = max (suc x) (oneAbove xs)
+
+-- "numbered without a gap", of the part numbers alone
+unfoldable pub noGapIn : List ℕ → Bool
+unfolding oneAbove all any upTo
+noGapIn ps = all (λ p. any (λ q. eqb p q) ps) (upTo (oneAbove ps))
