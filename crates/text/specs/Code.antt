@@ -1,13 +1,15 @@
 -- What the inner functions of the reader answer, by the readers of `Lines` at a cursor: a cursor at an offset `at` of a
 -- text has `drop at text` before it.
-use Prim.Native.Nat.{ℕ, suc, _+_, _≤_, _<_, max}
+use Prim.Native.Nat.{ℕ, suc, _+_, _*_, _≤_, _<_, max}
 use mathlib.Core.Path.{_≡_}
-use mathlib.Core.Bool.{Bool, cond}
+use mathlib.Core.Bool.{Bool, true, cond, _&&_}
 use mathlib.Core.List.{List, [], _∷_, _++_}
 use mathlib.Core.Option.{Option, none, some}
 use lib.ListN.{length, getD, drop}
-use lib.Dec.{eqb, ltb}
-use Rattle.task.specs.Lists.{all, any, upTo}
+use lib.Dec.{eqb, ltb, leb}
+use Rattle.task.specs.Lists.{all, any, upTo, eqList}
+use Rattle.task.specs.Task.{Atom, argsFit}
+use Rattle.task.specs.Table.{wordsAt}
 use Rattle.text.specs.declared.cursor.Cursor.{Cursor}
 use Rattle.text.specs.declared.cursor.Digit.{Digit}
 use Rattle.text.specs.declared.cursor.Digit.the-variants as digit
@@ -212,6 +214,10 @@ OnceKeyAt text c (keyed.Of number body) = KeyHere text c number body
 OnceKeyAt text c keyed.Missing = NoOnceKey (rest text c)
 
 -- ---- words of a table
+-- a list that stands in words from a place on
+abbrev pub Standing : List ℕ → ℕ → List ℕ → Type 0
+Standing w i xs = (k : ℕ) → k < length xs → getD w (i + k) 0 ≡ getD xs k 0
+
 -- n words were written at a place, word k being f k; no other word was touched
 pub record Wrote (w : List ℕ) (at n : ℕ) (f : ℕ → ℕ) (after : List ℕ) : Type 0 where
   pub size : length after ≡ length w
@@ -233,3 +239,37 @@ oneAbove (x ∷ xs) = max (suc x) (oneAbove xs)
 unfoldable pub noGapIn : List ℕ → Bool
 unfolding oneAbove all any upTo
 noGapIn ps = all (λ p. any (λ q. eqb p q) ps) (upTo (oneAbove ps))
+
+-- ---- rows of a table, each by the place where it begins
+-- an atom that is in no part yet
+abbrev pub bareAtom : ℕ → ℕ → List ℕ → Atom
+bareAtom r p args = record { role = r; pred = p; part = 0; args = args }
+
+-- whether an atom's predicate and arguments fit, told of the numbers that were kept of its arguments
+pub record Fitting (w : List ℕ) (predicates bound predicate : ℕ) (kept : List ℕ) (count : ℕ) (told : Bool) : Type 0 where
+  pub is : (arities ns : List ℕ) → length arities ≡ predicates → Standing w 6 arities →
+      all (λ n. leb n 4) arities ≡ true → length kept ≡ 4 → Listed ns count kept → told ≡ argsFit arities bound predicate ns
+  pub known : told ≡ true → predicate < predicates
+  pub enough : told ≡ true → count ≤ length kept
+  pub low : told ≡ true → (k : ℕ) → k < count → getD kept k 0 < bound
+
+-- a row whose predicate has at most four arguments
+pub record RowIn (w : List ℕ) (row : ℕ) : Type 0 where
+  pub inside : row + 8 ≤ length w
+  pub known : 6 + getD w (row + 2) 0 < length w
+  pub few : getD w (6 + getD w (row + 2) 0) 0 ≤ 4
+
+unfoldable pub rowNames : List ℕ → ℕ → ℕ → Bool
+unfolding any wordsAt
+rowNames w row x = any (λ y. eqb x y) (wordsAt w (row + 4) (getD w (6 + getD w (row + 2) 0) 0))
+
+unfoldable pub rowSame : List ℕ → ℕ → ℕ → Bool
+unfolding eqList wordsAt
+rowSame w a b =
+    eqList (wordsAt w (a + 1) 2) (wordsAt w (b + 1) 2) && eqList (wordsAt w (a + 4) 4) (wordsAt w (b + 4) 4)
+
+-- the part words of n rows were written, and no other word
+pub record PartsPut (w : List ℕ) (first n : ℕ) (parts after : List ℕ) : Type 0 where
+  pub size : length after ≡ length w
+  pub put : (k : ℕ) → k < n → getD after (first + 8 * k + 3) 0 ≡ getD parts k 0
+  pub other : (j : ℕ) → ((k : ℕ) → k < n → j ≡ first + 8 * k + 3 → ⊥) → getD after j 0 ≡ getD w j 0

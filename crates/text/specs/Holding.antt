@@ -1,0 +1,114 @@
+-- How the code holds the draft of a task while it reads: counts beside the table, and the words that the table has so
+-- far. And what the code's turn at a line says of the definitions' turn.
+use Prim.Native.Nat.{ℕ, suc, _+_, _*_, _≤_, _<_}
+use mathlib.Core.Path.{_≡_}
+use mathlib.Core.Bool.{true}
+use mathlib.Core.List.{List, [], _∷_, _++_, map}
+use mathlib.Core.Option.{Option}
+use lib.ListN.{length, getD, drop}
+use lib.Dec.{leb}
+use Rattle.task.specs.Limits.{tableWords}
+use Rattle.task.specs.Lists.{all, concatMap}
+use Rattle.task.specs.Task.{Task, Schema, argsFit, schemaAtoms, initial, goalRole}
+use Rattle.task.specs.Table.{atomWords, factWords, schemasFrom}
+use Rattle.text.specs.declared.cursor.Cursor.{Cursor}
+use Rattle.text.specs.declared.counts.Counts.{Counts}
+use Rattle.text.specs.declared.counts.Turn.{Turn}
+use Rattle.text.specs.declared.counts.Turn.the-variants as turn
+use Rattle.text.specs.Lines.{Taken}
+use Rattle.text.specs.Reading.{Reading, refusedAt, atEnd, lineAt}
+use Rattle.text.specs.Text.{Line, Draft, noSchema, takeLine}
+use Rattle.text.specs.Code.{rest, Standing, NextLine, phaseNumber}
+
+-- ---- counts
+-- the limits of document 01
+pub record Few (c : Counts) : Type 0 where
+  pub predicates : c .predicates ≤ 400
+  pub schemas : c .schemas ≤ 200
+  pub params : c .params ≤ 12
+  pub objects : c .objects ≤ 1000
+  pub atoms : c .atoms ≤ 64
+  pub total : c .closed + c .atoms ≤ 1000
+  pub initial : c .initial ≤ 500
+  pub goal : c .goal ≤ 100
+
+-- where the next atom's row comes
+abbrev pub rowAt : Counts → ℕ
+rowAt c = 206 + c .predicates + 8 * (((c .closed + c .atoms) + c .initial) + c .goal)
+
+-- ---- a draft in counts and words
+-- the words of the atoms that are read
+unfoldable pub rowsOf : Draft → List ℕ
+unfolding schemasFrom concatMap atomWords factWords
+rowsOf d =
+    schemasFrom 0 (d .task .schemas) ++
+    (concatMap (atomWords (length (d .task .schemas))) (d .current .atoms) ++
+    (concatMap (factWords initial) (d .task .init) ++ concatMap (factWords goalRole) (d .task .goal)))
+
+-- "Fixed order": what cannot have come yet, by the number of the place in the order
+pub record Order (d : Draft) (phase : ℕ) : Type 0 where
+  pub no-arity : phase < 3 → d .task .arities ≡ []
+  pub no-schema : phase < 3 → d .task .schemas ≡ []
+  pub not-open : phase < 3 → d .current ≡ noSchema
+  pub closed : 6 < phase → d .current ≡ noSchema
+  pub no-init : phase < 8 → d .task .init ≡ []
+  pub no-goal : phase < 9 → d .task .goal ≡ []
+
+pub record Holds (d : Draft) (w : List ℕ) (c : Counts) : Type 0 where
+  pub phase : c .phase ≡ phaseNumber (d .phase)
+  pub objects : c .objects ≡ d .task .objects
+  pub predicates : c .predicates ≡ length (d .task .arities)
+  pub schemas : c .schemas ≡ length (d .task .schemas)
+  pub params : c .params ≡ d .current .params
+  pub closed : c .closed ≡ schemaAtoms (d .task .schemas)
+  pub atoms : c .atoms ≡ length (d .current .atoms)
+  pub initial : c .initial ≡ length (d .task .init)
+  pub goal : c .goal ≡ length (d .task .goal)
+  pub few : Few c
+  pub order : Order d (c .phase)
+  pub low : all (λ n. leb n 4) (d .task .arities) ≡ true
+  pub fit : all (λ a. argsFit (d .task .arities) (d .current .params) (a .pred) (a .args)) (d .current .atoms) ≡ true
+  pub init-fit : all (λ f. argsFit (d .task .arities) (d .task .objects) (f .pred) (f .args)) (d .task .init) ≡ true
+  pub goal-fit : all (λ f. argsFit (d .task .arities) (d .task .objects) (f .pred) (f .args)) (d .task .goal) ≡ true
+  pub long : tableWords ≤ length w
+  pub arities-stand : Standing w 6 (d .task .arities)
+  pub params-stand : Standing w (6 + length (d .task .arities)) (map (λ s. s .params) (d .task .schemas))
+  pub rows-stand : Standing w (206 + length (d .task .arities)) (rowsOf d)
+  pub rows-length : length (rowsOf d) ≡ 8 * (((c .closed + c .atoms) + c .initial) + c .goal)
+
+-- some draft is held so
+pub record Drafted (w : List ℕ) (c : Counts) : Type 0 where
+  pub draft : Draft
+  pub holds : Holds draft w c
+
+-- "words past 13,406 are never touched"
+pub record Touched (w after : List ℕ) : Type 0 where
+  pub size : length after ≡ length w
+  pub beyond : (j : ℕ) → tableWords ≤ j → getD after j 0 ≡ getD w j 0
+
+-- ---- turns
+abbrev pub Next : Type 0
+Next = Draft → List ℕ → Reading Task
+
+-- a line that is refused
+abbrev pub Refuses : Draft → Option (Taken Line) → ℕ → Type 0
+Refuses d l k = (n : ℕ) (next : Next) → lineAt n (takeLine d) l next ≡ refusedAt k n
+
+-- a line behind which reading goes on, with a draft that the code holds again
+pub record GoesOn (text : List ℕ) (from : Cursor) (d : Draft) (l : Option (Taken Line)) (w : List ℕ)
+    (read : Counts) (at : Cursor) : Type 0 where
+  pub draft : Draft
+  pub is : (n : ℕ) (next : Next) → lineAt n (takeLine d) l next ≡ next draft (rest text at)
+  pub holds : Holds draft w read
+  pub line : NextLine text from at
+
+-- a line that ends reading
+pub record Finishes (text : List ℕ) (from : Cursor) (d : Draft) (l : Option (Taken Line)) (at : Cursor) : Type 0 where
+  pub is : (n : ℕ) (next : Next) → lineAt n (takeLine d) l next ≡ atEnd (d .task) (suc n) (rest text at)
+  pub line : NextLine text from at
+
+-- what the code does at a line whose body begins at a cursor, with the words before it and after it
+abbrev pub Turned : List ℕ → Cursor → Draft → Option (Taken Line) → List ℕ → Turn → List ℕ → Type 0
+Turned text from d l w (turn.GoOn read at) after = GoesOn text from d l after read at
+Turned text from d l w (turn.Finish at) after = Finishes text from d l at × (after ≡ w)
+Turned text from d l w (turn.Refuse k) after = Refuses d l k
