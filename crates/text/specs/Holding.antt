@@ -15,10 +15,12 @@ use Rattle.text.specs.declared.cursor.Cursor.{Cursor}
 use Rattle.text.specs.declared.counts.Counts.{Counts}
 use Rattle.text.specs.declared.counts.Turn.{Turn}
 use Rattle.text.specs.declared.counts.Turn.the-variants as turn
+use Rattle.text.specs.declared.counts.Check.{Check}
+use Rattle.text.specs.declared.counts.Check.the-variants as check
 use Rattle.text.specs.Lines.{Taken}
-use Rattle.text.specs.Reading.{Reading, refusedAt, atEnd, lineAt}
-use Rattle.text.specs.Text.{Line, Draft, noSchema, takeLine}
-use Rattle.text.specs.Code.{rest, Standing, NextLine, phaseNumber}
+use Rattle.text.specs.Reading.{Reading, goOn, refuse, refusedAt, atEnd, lineAt}
+use Rattle.text.specs.Text.{Line, Draft, rolePhase, noSchema, addAtom, takeLine}
+use Rattle.text.specs.Code.{rest, Standing, NextLine, phaseNumber, bareAtom}
 
 -- ---- counts
 -- the limits of document 01
@@ -112,3 +114,38 @@ abbrev pub Turned : List ℕ → Cursor → Draft → Option (Taken Line) → Li
 Turned text from d l w (turn.GoOn read at) after = GoesOn text from d l after read at
 Turned text from d l w (turn.Finish at) after = Finishes text from d l at × (after ≡ w)
 Turned text from d l w (turn.Refuse k) after = Refuses d l k
+
+-- ---- atoms
+-- inside a schema, where an atom of a role may come
+pub record InSchema (c : Counts) (role : ℕ) : Type 0 where
+  pub opened : 3 ≤ c .phase
+  pub before : c .phase ≤ 3 + role
+  pub known : role ≤ 2
+
+-- the draft and the counts with one atom more
+unfoldable pub withAtom : Draft → ℕ → ℕ → List ℕ → Draft
+withAtom d r p args = record {
+  phase = rolePhase r;
+  task = d .task;
+  current = record { params = d .current .params; atoms = d .current .atoms ++ (bareAtom r p args ∷ []) };
+}
+
+abbrev pub oneAtomMore : Counts → ℕ → Counts
+oneAtomMore c r = record {
+  phase = 3 + r;
+  objects = c .objects;
+  predicates = c .predicates;
+  schemas = c .schemas;
+  params = c .params;
+  closed = c .closed;
+  atoms = c .atoms + 1;
+  initial = c .initial;
+  goal = c .goal;
+}
+
+-- an atom was added, or refused
+abbrev pub AtomTurn : Draft → Counts → ℕ → ℕ → List ℕ → Check → List ℕ → Type 0
+AtomTurn d c r p args check.Passes after =
+    (addAtom d r (record { head = p; list = args }) ≡ goOn (withAtom d r p args)) ×
+    Holds (withAtom d r p args) after (oneAtomMore c r)
+AtomTurn d c r p args (check.Refuses k) after = addAtom d r (record { head = p; list = args }) ≡ refuse k

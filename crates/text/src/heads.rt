@@ -1,4 +1,5 @@
 // The lines that have no atom: `task`, `objects`, `arity`, `schema` and `end`.
+use crate::checks::all_below;
 use crate::counts::Counts;
 use crate::counts::Turn;
 use crate::cursor::Cursor;
@@ -6,16 +7,27 @@ use crate::cursor::Number;
 use crate::keys::ARITY;
 use crate::keys::OBJECTS;
 use crate::keys::PRE;
+use crate::keys::SCHEMA;
+use crate::lists::List;
 use crate::lists::number_line;
+use crate::lists::numbers_line;
+use crate::words::put_words;
 ghost use mathlib.Core.Path.{_≡_};
-ghost use mathlib.Core.List.{List};
+ghost use mathlib.Core.List.{List as Many};
 ghost use Prim.Native.Nat.{ℕ};
-ghost use Rattle.text.specs.Lines.{ended, number};
-ghost use Rattle.text.specs.Text.{Draft, taskLine, objectsLine, schemaLine, endLine};
+ghost use Rattle.text.specs.Lines.{ended, number, numbers};
+ghost use Rattle.text.specs.Text.{Draft, taskLine, objectsLine, arityLine, schemaLine, endLine};
 ghost use Rattle.text.specs.Code.{rest, Placed};
-ghost use Rattle.text.specs.Holding.{Holds, Turned};
+ghost use Rattle.text.specs.Holding.{Holds, Drafted, Touched, Turned};
 
 const MOST_OBJECTS: u32 = 1000;
+
+const MOST_PREDICATES: usize = 400;
+
+// One above the highest arity, 4.
+const ABOVE_ARITY: u32 = 5;
+
+const HEAD_WORDS: usize = 6;
 
 const MOST_SCHEMAS: usize = 200;
 
@@ -27,7 +39,7 @@ pub fn task_line(text: &[u8], from: Cursor, counts: Counts) -> Turn
     requires { ⌜ counts .phase ≡ 0 ⌝ }
     ensures { λ r. do
       let bs = now (text .entry)
-      ⌜ ((d : Draft) (w : List ℕ) → Holds d w counts → Turned bs from d (ended taskLine (number (rest bs from))) w r w) ⌝ }
+      ⌜ ((d : Draft) (w : Many ℕ) → Holds d w counts → Turned bs from d (ended taskLine (number (rest bs from))) w r w) ⌝ }
 {
     let Number::Of(n, next) = number_line(text, from) else {
         return Turn::Refuse(3);
@@ -46,7 +58,7 @@ pub fn objects_line(text: &[u8], from: Cursor, counts: Counts) -> Turn
     requires { ⌜ counts .phase ≡ 1 ⌝ }
     ensures { λ r. do
       let bs = now (text .entry)
-      ⌜ ((d : Draft) (w : List ℕ) → Holds d w counts →
+      ⌜ ((d : Draft) (w : Many ℕ) → Holds d w counts →
           Turned bs from d (ended objectsLine (number (rest bs from))) w r w) ⌝ }
 {
     let Number::Of(n, next) = number_line(text, from) else {
@@ -70,7 +82,7 @@ pub fn schema_line(text: &[u8], from: Cursor, counts: Counts) -> Turn
     requires { ⌜ counts .phase ≡ 7 ⌝ }
     ensures { λ r. do
       let bs = now (text .entry)
-      ⌜ ((d : Draft) (w : List ℕ) → Holds d w counts →
+      ⌜ ((d : Draft) (w : Many ℕ) → Holds d w counts →
           Turned bs from d (ended schemaLine (number (rest bs from))) w r w) ⌝ }
 {
     let Number::Of(n, next) = number_line(text, from) else {
@@ -93,7 +105,7 @@ pub fn end_line(text: &[u8], from: Cursor) -> Turn
     requires { ⌜ Placed (now text) from ⌝ }
     ensures { λ r. do
       let bs = now (text .entry)
-      ⌜ ((d : Draft) (w : List ℕ) → Turned bs from d (ended endLine (number (rest bs from))) w r w) ⌝ }
+      ⌜ ((d : Draft) (w : Many ℕ) → Turned bs from d (ended endLine (number (rest bs from))) w r w) ⌝ }
 {
     let Number::Of(n, next) = number_line(text, from) else {
         return Turn::Refuse(3);
@@ -102,4 +114,32 @@ pub fn end_line(text: &[u8], from: Cursor) -> Turn
         return Turn::Refuse(3);
     }
     Turn::Finish(next)
+}
+
+// "`arity` (list)", "P arities (0 to 4)".
+pub fn arity_line(text: &[u8], table: &mut [u16], from: Cursor, counts: Counts) -> Turn
+    requires { ⌜ Placed (now text) from ⌝ }
+    requires { ⌜ Drafted (now table) counts ⌝ }
+    requires { ⌜ counts .phase ≡ 2 ⌝ }
+    ensures { λ r. ⌜ Touched (now (table .entry)) (now (table .exit)) ⌝ }
+    ensures { λ r. do
+      let bs = now (text .entry)
+      ⌜ ((d : Draft) → Holds d (now (table .entry)) counts →
+          Turned bs from d (ended arityLine (numbers (rest bs from))) (now (table .entry)) r (now (table .exit))) ⌝ }
+{
+    let mut arities = [0u32; 400];
+    let List::Of(count, next) = numbers_line(text, from, &mut arities) else {
+        return Turn::Refuse(3);
+    };
+    if MOST_PREDICATES < count {
+        return Turn::Refuse(4);
+    }
+    if !all_below(&arities, count, ABOVE_ARITY) {
+        return Turn::Refuse(4);
+    }
+    put_words(table, HEAD_WORDS, &arities, count);
+    let mut read = counts;
+    read.phase = SCHEMA;
+    read.predicates = count;
+    Turn::GoOn(read, next)
 }
