@@ -54,23 +54,23 @@ no-rows {d = d} h l =
     let o = h .order in
     rw (o .no-schema l, o .not-open l, o .no-init (omega arith), o .no-goal (omega arith)) refl
 
-module _ {d : Draft} {w after : List ℕ} {c : Counts} (h : Holds d w c) (ns kept : List ℕ) where
-  abbrev counted : Counts
-  counted = record {
-    phase = 7;
-    objects = c .objects;
-    predicates = length ns;
-    schemas = c .schemas;
-    params = c .params;
-    closed = c .closed;
-    atoms = c .atoms;
-    initial = c .initial;
-    goal = c .goal;
-  }
+abbrev counted : Counts → ℕ → Counts
+counted c n = record {
+  phase = 7;
+  objects = c .objects;
+  predicates = n;
+  schemas = c .schemas;
+  params = c .params;
+  closed = c .closed;
+  atoms = c .atoms;
+  initial = c .initial;
+  goal = c .goal;
+}
 
-  pub arities-held : c .phase ≡ 2 → length ns ≤ 400 → all (λ n. leb n 4) ns ≡ true → length ns ≤ length kept →
-      Listed ns (length ns) kept → Wrote w 6 (length ns) (λ k. getD kept k 0) after →
-      Holds (atPhase between (withArities (d .task) ns)) after counted
+module _ {d : Draft} {w after : List ℕ} {c : Counts} (h : Holds d w c) (ns kept : List ℕ) (n : ℕ) where
+  pub arities-held : c .phase ≡ 2 → n ≤ 400 → all (λ n. leb n 4) ns ≡ true → n ≤ length kept →
+      Listed ns n kept → Wrote w 6 n (λ k. getD kept k 0) after →
+      Holds (atPhase between (withArities (d .task) ns)) after (counted c n)
   unfolding atPhase phaseNumber withArities all noSchema rowsOf concatMap schemasFrom
   arities-held z l low room listed wrote =
       let o = h .order in
@@ -83,12 +83,13 @@ module _ {d : Draft} {w after : List ℕ} {c : Counts} (h : Holds d w c) (ns kep
       let rows : rowsOf (atPhase between (withArities (d .task) ns)) ≡ [] = no-rows-again s i g in
       let size = wrote .size in
       let long = h .long in
-      let n = ap length none in
+      let nothing = ap length none in
+      let many = listed .counted in
       let m = h .rows-length in
       record {
         phase = refl;
         objects = h .objects;
-        predicates = refl;
+        predicates = sym many;
         schemas = h .schemas;
         params = h .params ∙ ap (λ (s : Schema). s .params) e;
         closed = h .closed;
@@ -118,10 +119,10 @@ module _ {d : Draft} {w after : List ℕ} {c : Counts} (h : Holds d w c) (ns kep
         init-fit = rw i refl;
         goal-fit = rw g refl;
         long = omega arith;
-        arities-stand = stands wrote ns refl (λ k q. listed .held k q (omega arith));
+        arities-stand = stands wrote ns many (λ k q. listed .held k (omega arith) (omega arith));
         params-stand = rw s (λ k q. absurd (omega arith));
         rows-stand = rw rows (λ k q. absurd (omega arith));
-        rows-length = ap length rows ∙ (sym n ∙ m);
+        rows-length = ap length rows ∙ (sym nothing ∙ m);
       }
     where
       fit-none : (ns : List ℕ) → all (λ a. argsFit ns (noSchema .params) (a .pred) (a .args)) (noSchema .atoms) ≡ true

@@ -1,6 +1,6 @@
 -- How the code holds the draft of a task while it reads: counts beside the table, and the words that the table has so
 -- far. And what the code's turn at a line says of the definitions' turn.
-use Prim.Native.Nat.{ℕ, suc, _+_, _*_, _≤_, _<_}
+use Prim.Native.Nat.{ℕ, suc, _+_, _-_, _*_, _≤_, _<_}
 use mathlib.Core.Path.{_≡_}
 use mathlib.Core.Bool.{true}
 use mathlib.Core.List.{List, [], _∷_, _++_, map}
@@ -9,7 +9,7 @@ use lib.ListN.{length, getD, drop}
 use lib.Dec.{leb}
 use Rattle.task.specs.Limits.{tableWords}
 use Rattle.task.specs.Lists.{all, concatMap}
-use Rattle.task.specs.Task.{Task, Schema, argsFit, schemaAtoms, initial, goalRole}
+use Rattle.task.specs.Task.{Task, Fact, argsFit, schemaAtoms, initial, goalRole}
 use Rattle.task.specs.Table.{atomWords, factWords, schemasFrom}
 use Rattle.text.specs.declared.cursor.Cursor.{Cursor}
 use Rattle.text.specs.declared.counts.Counts.{Counts}
@@ -19,8 +19,8 @@ use Rattle.text.specs.declared.counts.Check.{Check}
 use Rattle.text.specs.declared.counts.Check.the-variants as check
 use Rattle.text.specs.Lines.{Taken}
 use Rattle.text.specs.Reading.{Reading, goOn, refuse, refusedAt, atEnd, lineAt}
-use Rattle.text.specs.Text.{Line, Draft, rolePhase, noSchema, addAtom, takeLine}
-use Rattle.text.specs.Code.{rest, Standing, NextLine, phaseNumber, bareAtom}
+use Rattle.text.specs.Text.{Line, Draft, rolePhase, noSchema, addAtom, addFact, takeLine}
+use Rattle.text.specs.Code.{rest, Standing, Wrote, NextLine, phaseNumber, bareAtom}
 
 -- ---- counts
 -- the limits of document 01
@@ -149,3 +149,28 @@ AtomTurn d c r p args check.Passes after =
     (addAtom d r (record { head = p; list = args }) ≡ goOn (withAtom d r p args)) ×
     Holds (withAtom d r p args) after (oneAtomMore c r)
 AtomTurn d c r p args (check.Refuses k) after = addAtom d r (record { head = p; list = args }) ≡ refuse k
+
+-- ---- facts
+-- where a fact of a kind may come, behind `read` of them
+pub record FactPlace (c : Counts) (role read most : ℕ) : Type 0 where
+  pub known : role ≤ 4
+  pub few : read < most → c .initial + c .goal < 600
+  pub counted : read ≤ c .initial + c .goal
+
+-- the facts of a kind that are read, the last ones in the table
+pub record FactsRead (d : Draft) (w : List ℕ) (c : Counts) (role read : ℕ) (fs : List Fact) : Type 0 where
+  pub count : read ≡ length fs
+  pub fit : all (λ f. argsFit (d .task .arities) (d .task .objects) (f .pred) (f .args)) fs ≡ true
+  pub stand : Standing w (206 + c .predicates + 8 * (((c .closed + c .atoms) + c .initial) + c .goal - read))
+      (concatMap (factWords role) fs)
+
+-- a fact was added behind those of its kind, or refused
+abbrev pub FactTurn : Draft → List Fact → Counts → List ℕ → ℕ → ℕ → ℕ → List ℕ → Check → List ℕ → Type 0
+FactTurn d fs c w role most p args check.Passes after =
+    ((grown : List Fact → Draft) → addFact (d .task) most fs (record { head = p; list = args }) grown ≡
+    goOn (grown (fs ++ (record { pred = p; args = args } ∷ [])))) ×
+    (argsFit (d .task .arities) (d .task .objects) p args ≡ true) ×
+    Wrote w (rowAt c) 8 (λ k. getD (factWords role (record { pred = p; args = args })) k 0) after ×
+    (length fs < most)
+FactTurn d fs c w role most p args (check.Refuses k) after =
+    (grown : List Fact → Draft) → addFact (d .task) most fs (record { head = p; list = args }) grown ≡ refuse k
