@@ -113,6 +113,7 @@ module _ {d : Draft} {w after : List ℕ} {c : Counts} (h : Holds d w c) (ns kep
           closed = λ q. refl;
           no-init = λ q. i;
           no-goal = λ q. g;
+          room = λ q r. absurd (omega arith);
         };
         low = low;
         fit = fit-none ns;

@@ -251,6 +251,7 @@ module _ {d : Draft} {w : List ℕ} {c : Counts} (h : Holds d w c) (r p : ℕ) (
           closed = λ q. absurd (omega arith);
           no-init = λ q. i;
           no-goal = λ q. g;
+          room = λ q x. o .room (omega arith) (omega arith);
         };
         low = h .low;
         fit = all-snoc (λ a. argsFit (d .task .arities) (d .current .params) (a .pred) (a .args)) (d .current .atoms) new

@@ -286,6 +286,7 @@ module _ {d : Draft} {w : List ℕ} {c : Counts} (h : Holds d w c) (p : ℕ) (ns
           closed = λ q. refl;
           no-init = λ q. absurd (omega arith);
           no-goal = λ q. g;
+          room = λ q x. absurd (omega arith);
         };
         low = h .low;
         fit = schema-fit s;
@@ -342,6 +343,7 @@ module _ {d : Draft} {w : List ℕ} {c : Counts} (h : Holds d w c) (p : ℕ) (ns
           closed = λ q. refl;
           no-init = λ q. absurd (omega arith);
           no-goal = λ q. absurd (omega arith);
+          room = λ q x. absurd (omega arith);
         };
         low = h .low;
         fit = schema-fit s;

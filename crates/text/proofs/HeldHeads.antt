@@ -93,6 +93,7 @@ module _ {d : Draft} {w : List ℕ} {c : Counts} (h : Holds d w c) where
         closed = λ l. refl;
         no-init = λ l. o .no-init (omega arith);
         no-goal = λ l. o .no-goal (omega arith);
+        room = λ l m. absurd (omega arith);
       })
 
   abbrev withMany : ℕ → Counts
@@ -144,6 +145,7 @@ module _ {d : Draft} {w : List ℕ} {c : Counts} (h : Holds d w c) where
           closed = λ l. refl;
           no-init = λ l. i;
           no-goal = λ l. g;
+          room = λ l m. absurd (omega arith);
         };
         low = h .low;
         fit = subst (λ (s : Schema). all (λ a. argsFit (d .task .arities) (s .params) (a .pred) (a .args)) (s .atoms) ≡ true)
@@ -170,10 +172,10 @@ module _ {d : Draft} {w : List ℕ} {c : Counts} (h : Holds d w c) where
     goal = c .goal;
   }
 
-  pub schema-held : (n : ℕ) → c .phase ≡ 7 → n ≤ 12 →
+  pub schema-held : (n : ℕ) → c .phase ≡ 7 → n ≤ 12 → length (d .task .schemas) < 200 →
       Holds (record { phase = inPre; task = d .task; current = record { params = n; atoms = [] } }) w (opening n)
   unfolding phaseNumber rowsOf all noSchema
-  schema-held n z l =
+  schema-held n z l r =
       let o = h .order in
       let few = h .few in
       let e = o .closed (omega arith) in
@@ -205,6 +207,7 @@ module _ {d : Draft} {w : List ℕ} {c : Counts} (h : Holds d w c) where
           closed = λ l. absurd (omega arith);
           no-init = λ l. o .no-init (omega arith);
           no-goal = λ l. o .no-goal (omega arith);
+          room = λ l m. r;
         };
         low = h .low;
         fit = refl;

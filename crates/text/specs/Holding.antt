@@ -6,7 +6,7 @@ use mathlib.Core.Bool.{true}
 use mathlib.Core.List.{List, [], _∷_, _++_, map}
 use mathlib.Core.Option.{Option}
 use lib.ListN.{length, getD, drop}
-use lib.Dec.{leb}
+use lib.Dec.{ltb, leb}
 use Rattle.task.specs.Limits.{tableWords}
 use Rattle.task.specs.Lists.{all, concatMap}
 use Rattle.task.specs.Task.{Task, Fact, argsFit, schemaAtoms, initial, goalRole}
@@ -19,7 +19,8 @@ use Rattle.text.specs.declared.counts.Check.{Check}
 use Rattle.text.specs.declared.counts.Check.the-variants as check
 use Rattle.text.specs.Lines.{Taken}
 use Rattle.text.specs.Reading.{Reading, goOn, refuse, refusedAt, atEnd, lineAt}
-use Rattle.text.specs.Text.{Line, Draft, rolePhase, noSchema, addAtom, addFact, takeLine}
+use Rattle.text.specs.Text.{Line, between, Draft, rolePhase, noSchema, atPhase, withSchemas, withParts}
+use Rattle.text.specs.Text.{addAtom, closeSchema, addFact, takeLine}
 use Rattle.text.specs.Code.{rest, Standing, Wrote, NextLine, phaseNumber, bareAtom}
 
 -- ---- counts
@@ -55,6 +56,7 @@ pub record Order (d : Draft) (phase : ℕ) : Type 0 where
   pub closed : 6 < phase → d .current ≡ noSchema
   pub no-init : phase < 8 → d .task .init ≡ []
   pub no-goal : phase < 9 → d .task .goal ≡ []
+  pub room : 2 < phase → phase < 7 → length (d .task .schemas) < 200
 
 pub record Holds (d : Draft) (w : List ℕ) (c : Counts) : Type 0 where
   pub phase : c .phase ≡ phaseNumber (d .phase)
@@ -174,3 +176,18 @@ FactTurn d fs c w role most p args check.Passes after =
     (length fs < most)
 FactTurn d fs c w role most p args (check.Refuses k) after =
     (grown : List Fact → Draft) → addFact (d .task) most fs (record { head = p; list = args }) grown ≡ refuse k
+
+-- ---- parts
+-- the draft whose current schema is closed with its parts
+unfoldable pub withClosed : Draft → List ℕ → Draft
+unfolding atPhase withSchemas withParts
+withClosed d ps = atPhase between (withSchemas (d .task) (d .task .schemas ++
+    (record { params = d .current .params; atoms = withParts (d .current .atoms) ps } ∷ [])))
+
+-- the parts close the schema, or are refused
+abbrev pub PartsTurn : Draft → List ℕ → Check → Type 0
+PartsTurn d ps check.Passes =
+    (closeSchema d ps ≡ goOn (withClosed d ps)) ×
+    (length ps ≡ length (d .current .atoms)) ×
+    (all (λ p. ltb p 16) ps ≡ true)
+PartsTurn d ps (check.Refuses k) = closeSchema d ps ≡ refuse k
