@@ -57,3 +57,8 @@ module _ {A : Type 0} (says : A → Line) (d : Draft) (o : Option (Taken A)) whe
 pub need-fails : {D R : Type 0} {b : Bool} (k : ℕ) (t : _) → b ≡ false → need {D = D} {R = R} b k t ≡ refuse k
 unfolding need
 need-fails {D} {R} k t h = ap (λ (x : Bool). need {D = D} {R = R} x k t) h
+
+-- where there is no line the turn is refused
+pub none-refused : (d : Draft) (l : Option (Taken Line)) → l ≡ none → Refuses d l 3
+unfolding lineAt
+none-refused d l h n next = ap (λ (x : Option (Taken Line)). lineAt n (takeLine d) x next) h

@@ -32,6 +32,10 @@ use Rattle.text.specs.Lines.{newline, leadingDigits, Taken, taken, after
 abbrev pub rest : List ℕ → Cursor → List ℕ
 rest text c = drop (c .at) text
 
+-- "Lines count from 1"
+abbrev pub startCursor : Cursor
+startCursor = record { at = 0; line = 1 }
+
 -- a cursor into a text; each line before its own took a byte at least
 pub record Placed (text : List ℕ) (c : Cursor) : Type 0 where
   pub inside : c .at ≤ length text

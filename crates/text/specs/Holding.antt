@@ -35,6 +35,20 @@ pub record Few (c : Counts) : Type 0 where
   pub initial : c .initial ≤ 500
   pub goal : c .goal ≤ 100
 
+-- nothing is read yet
+abbrev pub noCounts : Counts
+noCounts = record {
+  phase = 0;
+  objects = 0;
+  predicates = 0;
+  schemas = 0;
+  params = 0;
+  closed = 0;
+  atoms = 0;
+  initial = 0;
+  goal = 0;
+}
+
 -- where the next atom's row comes
 abbrev pub rowAt : Counts → ℕ
 rowAt c = 206 + c .predicates + 8 * (((c .closed + c .atoms) + c .initial) + c .goal)
@@ -110,6 +124,7 @@ pub record GoesOn (text : List ℕ) (from : Cursor) (d : Draft) (l : Option (Tak
 pub record Finishes (text : List ℕ) (from : Cursor) (d : Draft) (l : Option (Taken Line)) (at : Cursor) : Type 0 where
   pub is : (n : ℕ) (next : Next) → lineAt n (takeLine d) l next ≡ atEnd (d .task) (suc n) (rest text at)
   pub line : NextLine text from at
+  pub closed : 7 ≤ phaseNumber (d .phase)
 
 -- what the code does at a line whose body begins at a cursor, with the words before it and after it
 abbrev pub Turned : List ℕ → Cursor → Draft → Option (Taken Line) → List ℕ → Turn → List ℕ → Type 0

@@ -3,7 +3,7 @@
 use crate::cursor::Cursor;
 ghost use mathlib.Core.Path.{_≡_};
 ghost use Prim.Native.Nat.{_+_, _*_};
-ghost use Rattle.text.specs.Holding.{Few, rowAt};
+ghost use Rattle.text.specs.Holding.{Few, noCounts, rowAt};
 
 pub struct Counts {
     pub phase: u16,
@@ -39,7 +39,9 @@ const ROW_WORDS: usize = 8;
 
 impl Counts {
     // Nothing is read yet.
-    pub fn start() -> Counts {
+    pub fn start() -> Counts
+        ensures { λ r. ⌜ r ≡ noCounts ⌝ }
+    {
         Counts {
             phase: 0,
             objects: 0,

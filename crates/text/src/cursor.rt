@@ -1,6 +1,6 @@
 // "The reader moves through the file by a cursor of byte offset and line": the next digit, a number, bytes that must
 // stand there, and a line's end. Each hands back the cursor behind what it read.
-ghost use Rattle.text.specs.Code.{Placed, DigitAt, NumberAt, WordAt, EndAt};
+ghost use Rattle.text.specs.Code.{Placed, startCursor, DigitAt, NumberAt, WordAt, EndAt};
 ghost use mathlib.Core.Path.{_≡_};
 
 pub struct Cursor {
@@ -32,7 +32,7 @@ const MOST_DIGITS: u32 = 5;
 impl Cursor {
     // "Lines count from 1".
     pub fn start() -> Cursor
-        ensures { λ r. ⌜ (r .at ≡ 0) × (r .line ≡ 1) ⌝ }
+        ensures { λ r. ⌜ r ≡ startCursor ⌝ }
     {
         Cursor { at: 0, line: 1 }
     }

@@ -14,10 +14,10 @@ use crate::lists::numbers_line;
 use crate::words::put_words;
 ghost use mathlib.Core.Path.{_≡_};
 ghost use mathlib.Core.List.{List as Many};
-ghost use Prim.Native.Nat.{ℕ};
+ghost use Prim.Native.Nat.{ℕ, _≤_};
 ghost use Rattle.text.specs.Lines.{ended, number, numbers};
 ghost use Rattle.text.specs.Text.{Draft, taskLine, objectsLine, arityLine, schemaLine, endLine};
-ghost use Rattle.text.specs.Code.{rest, Placed};
+ghost use Rattle.text.specs.Code.{rest, Placed, phaseNumber};
 ghost use Rattle.text.specs.Holding.{Holds, Drafted, Touched, Turned};
 
 const MOST_OBJECTS: u32 = 1000;
@@ -105,7 +105,8 @@ pub fn end_line(text: &[u8], from: Cursor) -> Turn
     requires { ⌜ Placed (now text) from ⌝ }
     ensures { λ r. do
       let bs = now (text .entry)
-      ⌜ ((d : Draft) (w : Many ℕ) → Turned bs from d (ended endLine (number (rest bs from))) w r w) ⌝ }
+      ⌜ ((d : Draft) (w : Many ℕ) → 7 ≤ phaseNumber (d .phase) →
+          Turned bs from d (ended endLine (number (rest bs from))) w r w) ⌝ }
 {
     let Number::Of(n, next) = number_line(text, from) else {
         return Turn::Refuse(3);

@@ -23,22 +23,23 @@ enum-told : tie.Need-enum-told
 enum-told c = search needs
 
 returns : tie.Need-returns
-returns c = λ d w.
+returns c = λ d w closed.
     no-line endLine d _ (subst (NumberLineAt _ _) (c .enum-told .given .1) (c .before .before .number-line .ensures))
 
 returns-2 : tie.Need-returns-2
 returns-2 c =
     let n = c .before .before in
     let read = subst (NumberLineAt _ _) (n .n .given .1) (n .before .before .number-line .ensures) in
-    λ d w. line-refused endLine d _ _ _ (read .is) 3 (end-refused d _ (c .if1 .taken))
+    λ d w closed. line-refused endLine d _ _ _ (read .is) 3 (end-refused d _ (c .if1 .taken))
 
 returns-3 : tie.Need-returns-3
 returns-3 c =
     let n = c .before .before in
     let read = subst (NumberLineAt _ _) (n .n .given .1) (n .before .before .number-line .ensures) in
-    λ d w. (record {
+    λ d w closed. (record {
       is = line-ends endLine d _ _ _ (read .is) _ (end-taken d _ (c .if1 .left));
       line = read .line;
+      closed = closed;
     }, refl)
 
 pub end-line-spec : {M : Type 1} → statement M
