@@ -1,0 +1,134 @@
+-- The code holds the draft again behind an `arity` line: the arities stand at word 6, and nothing stands behind them yet.
+use Prim.Native.Nat.{ℕ, suc, _+_, _*_, _≤_, _<_}
+use mathlib.Core.Path.{_≡_, refl, sym, _∙_, ap, subst}
+use mathlib.Core.Bool.{Bool, true, false, _&&_}
+use mathlib.Core.List.{List, [], _∷_, _++_, map}
+use native.Mathlib.Omega.{arith}
+use lib.ListN.{length, getD, take}
+use lib.Dec.{ltb, leb, leb·suc-suc}
+use borrow.Author.Tests.{le-leb, lt-leb}
+use Rattle.task.specs.Lists.{all, concatMap}
+use Rattle.task.specs.Table.{schemasFrom}
+use Rattle.task.specs.Task.{Schema, argsFit}
+use Rattle.task.proofs.Laws.{and-both}
+use Rattle.task.proofs.WordRows.{and-false}
+use Rattle.text.specs.declared.counts.Counts.{Counts}
+use Rattle.text.specs.Reading.{goOn, refuse}
+use Rattle.text.specs.Text.{between, Draft, noSchema, atPhase, withArities, arityLine, takeLine}
+use Rattle.text.specs.ReadCode.{phaseNumber, Standing, Wrote, Listed}
+use Rattle.text.specs.Holding.{Few, Order, Holds, rowsOf}
+use Rattle.text.proofs.Reading.{need-met}
+use Rattle.text.proofs.LineTurns.{need-fails}
+use Rattle.text.proofs.HeldHeads.{rows-at}
+use Rattle.text.proofs.WroteWords.{stands}
+use Rattle.text.proofs.RowTests.{listed-take}
+
+-- below 5 is at most 4
+pub low-arities : (ns : List ℕ) → all (λ n. ltb n 5) ns ≡ all (λ n. leb n 4) ns
+unfolding all
+low-arities [] = refl
+low-arities (n ∷ ns) =
+    ap (λ (b : Bool). b && all (λ n. ltb n 5) ns) (leb·suc-suc n 4) ∙
+    ap (λ (b : Bool). leb n 4 && b) (low-arities ns)
+
+module _ (d : Draft) (ns : List ℕ) where
+  pub too-many-predicates : 400 < length ns → takeLine d (arityLine ns) ≡ refuse 4
+  unfolding takeLine
+  too-many-predicates l =
+      need-fails 4 _ (ap (λ (b : Bool). b && all (λ n. leb n 4) ns) (lt-leb (length ns) 400 l))
+
+  pub arity-too-high : all (λ n. leb n 4) ns ≡ false → takeLine d (arityLine ns) ≡ refuse 4
+  unfolding takeLine
+  arity-too-high f =
+      need-fails 4 _ (ap (λ (b : Bool). leb (length ns) 400 && b) f ∙ and-false (leb (length ns) 400))
+
+  pub arities-taken : length ns ≤ 400 → all (λ n. leb n 4) ns ≡ true →
+      takeLine d (arityLine ns) ≡ goOn (atPhase between (withArities (d .task) ns))
+  unfolding takeLine
+  arities-taken l f = need-met 4 (and-both _ _ (le-leb (length ns) 400 l) f) refl
+
+-- no atom is read before the arities
+no-rows : {d : Draft} {w : List ℕ} {c : Counts} → Holds d w c → c .phase < 3 → rowsOf d ≡ []
+unfolding rowsOf noSchema concatMap schemasFrom
+no-rows {d = d} h l =
+    let o = h .order in
+    rw (o .no-schema l, o .not-open l, o .no-init (omega arith), o .no-goal (omega arith)) refl
+
+abbrev counted : Counts → ℕ → Counts
+counted c n = record {
+  phase = 7;
+  objects = c .objects;
+  predicates = n;
+  schemas = c .schemas;
+  params = c .params;
+  closed = c .closed;
+  atoms = c .atoms;
+  initial = c .initial;
+  goal = c .goal;
+}
+
+module _ {d : Draft} {w after : List ℕ} {c : Counts} (h : Holds d w c) (ns kept : List ℕ) (n : ℕ) where
+  pub arities-held : c .phase ≡ 2 → n ≤ 400 → all (λ n. leb n 4) ns ≡ true → n ≤ length kept →
+      Listed ns n kept → Wrote w 6 n (λ k. getD kept k 0) after →
+      Holds (atPhase between (withArities (d .task) ns)) after (counted c n)
+  unfolding atPhase phaseNumber withArities all noSchema rowsOf concatMap schemasFrom
+  arities-held z l low room listed wrote =
+      let o = h .order in
+      let few = h .few in
+      let e = o .not-open (omega arith) in
+      let s = o .no-schema (omega arith) in
+      let i = o .no-init (omega arith) in
+      let g = o .no-goal (omega arith) in
+      let none = no-rows h (omega arith) in
+      let rows : rowsOf (atPhase between (withArities (d .task) ns)) ≡ [] = no-rows-again s i g in
+      let size = wrote .size in
+      let long = h .long in
+      let nothing = ap length none in
+      let many = listed .counted in
+      let m = h .rows-length in
+      record {
+        phase = refl;
+        objects = h .objects;
+        predicates = sym many;
+        schemas = h .schemas;
+        params = h .params ∙ ap (λ (s : Schema). s .params) e;
+        closed = h .closed;
+        atoms = h .atoms ∙ ap (λ (s : Schema). length (s .atoms)) e;
+        initial = h .initial;
+        goal = h .goal;
+        few = record {
+          predicates = l;
+          schemas = few .schemas;
+          params = few .params;
+          objects = few .objects;
+          atoms = few .atoms;
+          total = few .total;
+          initial = few .initial;
+          goal = few .goal;
+        };
+        order = record {
+          no-arity = λ q. absurd (omega arith);
+          no-schema = λ q. absurd (omega arith);
+          not-open = λ q. absurd (omega arith);
+          closed = λ q. refl;
+          no-init = λ q. i;
+          no-goal = λ q. g;
+          room = λ q r. absurd (omega arith);
+        };
+        low = low;
+        fit = fit-none ns;
+        init-fit = rw i refl;
+        goal-fit = rw g refl;
+        long = omega arith;
+        arities-stand = stands wrote ns many (λ k q. listed .held k (omega arith) (omega arith));
+        params-stand = rw s (λ k q. absurd (omega arith));
+        rows-stand = rw rows (λ k q. absurd (omega arith));
+        rows-length = ap length rows ∙ (sym nothing ∙ m);
+      }
+    where
+      fit-none : (ns : List ℕ) → all (λ a. argsFit ns (noSchema .params) (a .pred) (a .args)) (noSchema .atoms) ≡ true
+      fit-none ns = refl
+
+      no-rows-again : d .task .schemas ≡ [] → d .task .init ≡ [] → d .task .goal ≡ [] →
+          rowsOf (atPhase between (withArities (d .task) ns)) ≡ []
+      no-rows-again s i g = rw (s, i, g) refl

@@ -1,0 +1,275 @@
+-- The code holds the draft again behind a `part` line: the parts stand in the schema's rows, and its parameter count
+-- behind those of the schemas before it.
+use Prim.Native.Nat.{ℕ, zero, suc, _+_, _*_, _≤_, _<_}
+use mathlib.Core.Path.{_≡_, refl, sym, _∙_, ap, ap₂, subst}
+use mathlib.Core.Bool.{Bool, true, false}
+use mathlib.Core.List.{List, [], _∷_, _++_, map, append-assoc, append-nil}
+use native.Mathlib.Omega.{arith}
+use lib.ListN.{length, getD, set, length-append, length-map, length-set}
+use lib.Seq.{getD-set-same, getD-set-other}
+use lib.Dec.{eqb, leb}
+use borrow.Author.Tests.{eqb-true, eqb-false}
+use Rattle.task.specs.Lists.{all, concatMap, sum}
+use Rattle.task.specs.Task.{Atom, Schema, Task, argsFit, schemaAtoms}
+use Rattle.task.specs.Table.{atomWords, factWords, schemasFrom}
+use Rattle.task.proofs.Laws.{In, in-getD, getD-in, map-append}
+use Rattle.task.proofs.Tables.{At, at-left, at-move, Sized, length-padded, length-atomWords, length-blocks, tableWords-is}
+use Rattle.task.proofs.TablesByWords.{at-join, join-blocks}
+use Rattle.text.specs.declared.counts.Counts.{Counts}
+use Rattle.text.specs.Text.{Draft, between, noSchema, atPhase, withSchemas, withParts}
+use Rattle.text.specs.ReadCode.{Standing, PartsPut, Listed, phaseNumber}
+use Rattle.text.specs.Holding.{Few, rowsOf, Order, Holds, Touched, withClosed}
+use Rattle.text.proofs.TaskWritten.{schemaAtoms-part}
+use Rattle.text.proofs.TaskGrows.{length-closed}
+use Rattle.text.proofs.Parts.{bare, parts-same, all-map}
+use Rattle.text.proofs.HeldAtoms.{atom-sized, atom-stands, schemas-length, atoms-length}
+
+schemasFrom-last : (n : ℕ) (ss : List Schema) (s : Schema) →
+    schemasFrom n (ss ++ (s ∷ [])) ≡ schemasFrom n ss ++ concatMap (atomWords (n + length ss)) (s .atoms)
+unfolding schemasFrom
+schemasFrom-last n [] s =
+    let z : n + 0 ≡ n = omega arith in
+    append-nil (concatMap (atomWords n) (s .atoms)) ∙ ap (λ (k : ℕ). concatMap (atomWords k) (s .atoms)) (sym z)
+schemasFrom-last n (t ∷ ss) s =
+    let z : suc n + length ss ≡ n + suc (length ss) = omega arith in
+    ap (λ (xs : List ℕ). concatMap (atomWords n) (t .atoms) ++ xs) (schemasFrom-last (suc n) ss s) ∙
+    (sym (append-assoc (concatMap (atomWords n) (t .atoms)) (schemasFrom (suc n) ss) _) ∙
+    ap (λ (k : ℕ). (concatMap (atomWords n) (t .atoms) ++ schemasFrom (suc n) ss) ++ concatMap (atomWords k) (s .atoms)) z)
+
+-- atom i with its part
+parts-at : (xs : List Atom) (ps : List ℕ) (i : ℕ) (d : Atom) → length ps ≡ length xs → i < length xs →
+    getD (withParts xs ps) i d ≡
+    record { role = getD xs i d .role; pred = getD xs i d .pred; part = getD ps i 0; args = getD xs i d .args }
+unfolding withParts
+parts-at [] ps i d e l = absurd (omega arith)
+parts-at (x ∷ xs) [] i d e l = absurd (omega arith)
+parts-at (x ∷ xs) (p ∷ ps) zero d e l = refl
+parts-at (x ∷ xs) (p ∷ ps) (suc i) d e l = parts-at xs ps i d (omega arith) (omega arith)
+
+-- a row whose part word is written anew
+row-parted : (w after : List ℕ) (row s : ℕ) (a : Atom) (p : ℕ) → length (a .args) ≤ 4 → At w row (atomWords s a) →
+    getD after (row + 3) 0 ≡ p → ((k : ℕ) → k < 8 → (k ≡ 3 → ⊥) → getD after (row + k) 0 ≡ getD w (row + k) 0) →
+    At after row (atomWords s (record { role = a .role; pred = a .pred; part = p; args = a .args }))
+unfolding atomWords
+row-parted w after row s a p few h e same k l = go k l
+  where
+    size : length (atomWords s a) ≡ 8
+    size = length-atomWords s a few
+
+    kept : (k : ℕ) → k < 8 → (k ≡ 3 → ⊥) → getD after (row + k) 0 ≡ getD (atomWords s a) k 0
+    kept k m n = same k m n ∙ h k (let z = size in omega arith)
+
+    go : (k : ℕ) → k < length (atomWords s (record { role = a .role; pred = a .pred; part = p; args = a .args })) →
+        getD after (row + k) 0 ≡ getD (atomWords s (record { role = a .role; pred = a .pred; part = p; args = a .args })) k 0
+    go zero l = kept 0 (omega arith) (λ q. omega arith)
+    go (suc zero) l = kept 1 (omega arith) (λ q. omega arith)
+    go (suc (suc zero)) l = kept 2 (omega arith) (λ q. omega arith)
+    go (suc (suc (suc zero))) l = e
+    go (suc (suc (suc (suc k)))) l =
+        let z = length-padded 4 (a .args) few in
+        kept (suc (suc (suc (suc k)))) (omega arith) (λ q. omega arith)
+
+module _ {d : Draft} {w mid : List ℕ} {c : Counts} (h : Holds d w c) (ps kept : List ℕ)
+    (same : length ps ≡ length (d .current .atoms)) (listed : (k : ℕ) → k < length ps → getD kept k 0 ≡ getD ps k 0)
+    (put : PartsPut w (206 + c .predicates + 8 * c .closed) (length ps) kept mid) (room : c .schemas < 200) where
+  abbrev S : ℕ
+  S = length (d .task .schemas)
+
+  abbrev first : ℕ
+  first = 206 + c .predicates + 8 * c .closed
+
+  -- the parameter count's place, and the words behind both writes
+  abbrev place : ℕ
+  place = 6 + c .predicates + c .schemas
+
+  abbrev last : List ℕ
+  last = set mid place (c .params)
+
+  abbrev noAtom : Atom
+  noAtom = record { role = 0; pred = 0; part = 0; args = [] }
+
+  abbrev closedAtoms : List Atom
+  closedAtoms = withParts (d .current .atoms) ps
+
+  -- words before the rows, but for the one written
+  early : (j : ℕ) → j < first → (j ≡ place → ⊥) → getD last j 0 ≡ getD w j 0
+  early j l n = getD-set-other mid place j (c .params) 0 n ∙ put .other j (λ k m q. omega arith)
+
+  -- words from the rows on
+  late : (j : ℕ) → 206 + c .predicates ≤ j → getD last j 0 ≡ getD mid j 0
+  late j l = getD-set-other mid place j (c .params) 0 (λ q. omega arith)
+
+  closed-size : (x : Atom) → In x closedAtoms → length (atomWords S x) ≡ 8
+  closed-size x i =
+      let (k, l, e) = getD-in noAtom i in
+      let n = length-closed (d .task) (d .current) ps same in
+      let m : k < length (d .current .atoms) = omega arith in
+      let a = getD (d .current .atoms) k noAtom in
+      let size : Sized (d .task .arities) (a .pred) (a .args) = atom-sized h a (in-getD (d .current .atoms) k noAtom m) in
+      let q : x .args ≡ a .args =
+      ap (λ (y : Atom). y .args) (sym e ∙ parts-at (d .current .atoms) ps k noAtom same m) in
+      length-atomWords S x (subst (λ (xs : List ℕ). length xs ≤ 4) (sym q) (size .short))
+
+  closed-rows : At last first (concatMap (atomWords S) closedAtoms)
+  closed-rows =
+      join-blocks (atomWords S) last first closedAtoms noAtom closed-size (λ i l.
+      let n = length-closed (d .task) (d .current) ps same in
+      let m : i < length (d .current .atoms) = omega arith in
+      let a = getD (d .current .atoms) i noAtom in
+      let size : Sized (d .task .arities) (a .pred) (a .args) = atom-sized h a (in-getD (d .current .atoms) i noAtom m) in
+      subst (λ (x : Atom). At last (first + 8 * i) (atomWords S x)) (sym (parts-at (d .current .atoms) ps i noAtom same m))
+      (row-parted w last (first + 8 * i) S a (getD ps i 0) (size .short) (atom-stands h i noAtom m)
+      (late (first + 8 * i + 3) (omega arith) ∙ (put .put i (omega arith) ∙ listed i (omega arith)))
+      (λ k q n. late (first + 8 * i + k) (omega arith) ∙ put .other (first + 8 * i + k) (λ j r e. apart i j k q n e))))
+    where
+      apart : (i j k : ℕ) → k < 8 → (k ≡ 3 → ⊥) → first + 8 * i + k ≡ first + 8 * j + 3 → ⊥
+      apart i j k q n e = n (omega arith)
+
+  closed-length : length (concatMap (atomWords S) closedAtoms) ≡ 8 * c .atoms
+  closed-length =
+      let n = length-closed (d .task) (d .current) ps same in
+      let m = h .atoms in
+      let l = length-blocks (atomWords S) closedAtoms closed-size in
+      omega arith
+
+  schemaRows : List ℕ
+  schemaRows = schemasFrom 0 (d .task .schemas)
+
+  rows-closed : d .task .init ≡ [] → d .task .goal ≡ [] →
+      rowsOf (withClosed d ps) ≡ schemaRows ++ concatMap (atomWords S) closedAtoms
+  unfolding rowsOf withClosed atPhase withSchemas noSchema concatMap schemaRows
+  rows-closed i g =
+      let z : 0 + S ≡ S = omega arith in
+      rw (i, g, schemasFrom-last 0 (d .task .schemas) (record { params = d .current .params; atoms = closedAtoms }), z)
+      (append-nil _)
+
+  early-rows : At last (206 + length (d .task .arities)) schemaRows
+  unfolding rowsOf schemaRows
+  early-rows k l =
+      let p = h .predicates in
+      let n = schemas-length h in
+      late (206 + length (d .task .arities) + k) (omega arith) ∙
+      (put .other (206 + length (d .task .arities) + k) (λ j m q. omega arith) ∙
+      at-left w (206 + length (d .task .arities)) schemaRows _ (h .rows-stand) k l)
+
+  rows-again : At last (206 + length (d .task .arities)) (schemaRows ++ concatMap (atomWords S) closedAtoms)
+  unfolding schemaRows
+  rows-again =
+      let p = h .predicates in
+      let n = schemas-length h in
+      at-join last (206 + length (d .task .arities)) schemaRows (concatMap (atomWords S) closedAtoms) early-rows
+      (at-move last first (206 + length (d .task .arities) + length schemaRows) (concatMap (atomWords S) closedAtoms)
+      (omega arith) closed-rows)
+
+  params-closed : 13406 ≤ length w →
+      At last (6 + length (d .task .arities)) (map (λ s. s .params) (d .task .schemas) ++ (d .current .params ∷ []))
+  params-closed long =
+      let p = h .predicates in
+      let s = h .schemas in
+      let few = h .few .predicates in
+      let size = put .size in
+      let m = length-map (d .task .schemas) (λ s. s .params) in
+      at-join last (6 + length (d .task .arities)) (map (λ s. s .params) (d .task .schemas)) (d .current .params ∷ [])
+      (λ k l. early (6 + length (d .task .arities) + k) (omega arith) (λ q. omega arith) ∙ h .params-stand k l)
+      (λ k l.
+      let z : 6 + length (d .task .arities) + length (map (λ s. s .params) (d .task .schemas)) + k ≡ place = omega arith in
+      let y : k ≡ 0 = omega arith in
+      ap (λ (i : ℕ). getD last i 0) z ∙
+      (getD-set-same mid place (c .params) 0 (omega arith) ∙
+      (h .params ∙ ap (λ (i : ℕ). getD (d .current .params ∷ []) i 0) (sym y))))
+
+  abbrev closing : Counts
+  closing = record {
+    phase = 7;
+    objects = c .objects;
+    predicates = c .predicates;
+    schemas = c .schemas + 1;
+    params = 0;
+    closed = c .closed + c .atoms;
+    atoms = 0;
+    initial = c .initial;
+    goal = c .goal;
+  }
+
+  pub schema-closed : 13406 ≤ length w → c .phase ≤ 5 → Holds (withClosed d ps) last closing
+  unfolding withClosed atPhase withSchemas noSchema phaseNumber all sum schemaRows
+  schema-closed long place₅ =
+      let o = h .order in
+      let few = h .few in
+      let total = few .total in
+      let i = o .no-init (omega arith) in
+      let g = o .no-goal (omega arith) in
+      let size = put .size in
+      let w-long = h .long in
+      let s = h .schemas in
+      let n = h .closed in
+      let m = h .atoms in
+      let ci = h .initial ∙ ap length i in
+      let cg = h .goal ∙ ap length g in
+      let rows = rows-closed i g in
+      let one : Schema = record { params = d .current .params; atoms = closedAtoms } in
+      let last-size = length-set mid place (c .params) in
+      record {
+        phase = refl;
+        objects = h .objects;
+        predicates = h .predicates;
+        schemas = let z = length-append (d .task .schemas) (one ∷ []) in omega arith;
+        params = refl;
+        closed = let z = schemaAtoms-part (d .task .schemas) one [] in
+            let y = length-closed (d .task) (d .current) ps same in count-closed z y;
+        atoms = refl;
+        initial = h .initial;
+        goal = h .goal;
+        few = record {
+          predicates = few .predicates;
+          schemas = omega arith;
+          params = omega arith;
+          objects = few .objects;
+          atoms = omega arith;
+          total = omega arith;
+          initial = few .initial;
+          goal = few .goal;
+        };
+        order = record {
+          no-arity = λ q. absurd (omega arith);
+          no-schema = λ q. absurd (omega arith);
+          not-open = λ q. absurd (omega arith);
+          closed = λ q. refl;
+          no-init = λ q. i;
+          no-goal = λ q. g;
+          room = λ q x. absurd (omega arith);
+        };
+        low = h .low;
+        fit = refl;
+        init-fit = h .init-fit;
+        goal-fit = h .goal-fit;
+        long = omega arith;
+        arities-stand = λ k l. let p = h .predicates in
+            early (6 + k) (omega arith) (λ q. omega arith) ∙ h .arities-stand k l;
+        params-stand = rw (map-append (λ s. s .params) (d .task .schemas) (one ∷ [])) (params-closed long);
+        rows-stand = subst (Standing last (206 + length (d .task .arities))) (sym rows) rows-again;
+        rows-length = ap length rows ∙ rows-size ci cg;
+      }
+    where
+      count-closed : schemaAtoms (d .task .schemas ++ (record { params = d .current .params; atoms = closedAtoms } ∷ [])) ≡
+          schemaAtoms (d .task .schemas) + (length closedAtoms + schemaAtoms []) → length closedAtoms ≡ length (d .current .atoms) →
+          c .closed + c .atoms ≡
+          schemaAtoms (d .task .schemas ++ (record { params = d .current .params; atoms = closedAtoms } ∷ []))
+      count-closed z y = let n = h .closed in let m = h .atoms in let e : schemaAtoms [] ≡ 0 = refl in omega arith
+
+      rows-size : c .initial ≡ 0 → c .goal ≡ 0 → length (schemaRows ++ concatMap (atomWords S) closedAtoms) ≡
+          8 * ((((c .closed + c .atoms) + 0) + c .initial) + c .goal)
+      rows-size ci cg =
+          let n : length schemaRows ≡ 8 * c .closed = schemas-length h in
+          let m = closed-length in
+          omega (arith, length-append schemaRows (concatMap (atomWords S) closedAtoms))
+
+-- both writes lie inside the table
+pub closing-touched : {w mid : List ℕ} {first n : ℕ} {parts : List ℕ} (place x : ℕ) → PartsPut w first n parts mid →
+    first + 8 * n ≤ 13406 → place < 13406 → Touched w (set mid place x)
+closing-touched {mid = mid} place x put l m = record {
+  size = length-set mid place x ∙ put .size;
+  beyond = λ j q.
+      let z = tableWords-is in
+      getD-set-other mid place j x 0 (λ e. omega arith) ∙ put .other j (λ k r e. omega arith);
+}

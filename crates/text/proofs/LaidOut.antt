@@ -1,0 +1,185 @@
+-- The table of the task that was read: the rows were moved down to their place, zeros follow them, and the six counts
+-- come first, so the first 13,406 words are the task's and the others are as they were.
+use Prim.Native.Nat.{ℕ, suc, _+_, _-_, _*_, _≤_, _<_}
+use mathlib.Core.Path.{_≡_, refl, sym, _∙_, ap, subst}
+use mathlib.Core.Bool.{Bool, true, false}
+use mathlib.Core.List.{List, [], _∷_, _++_, map}
+use native.Mathlib.Omega.{arith}
+use lib.ListN.{length, getD, drop, replicate, length-append, length-map, length-drop, length-replicate, getD-replicate, List·getD-append}
+use lib.Seq.{ext-getD, getD-append-add, getD-drop}
+use lib.Dec.{ltb}
+use borrow.Author.Tests.{ltb-true, ltb-false}
+use Rattle.task.specs.Limits.{tableWords}
+use Rattle.task.specs.Lists.{concatMap, over}
+use Rattle.task.specs.Task.{Task, Schema, schemaAtoms, wellFormed}
+use Rattle.task.specs.Table.{atomWords, factWords, schemasFrom, wordsOf}
+use Rattle.task.proofs.Tables.{At, at-move, sixWords, content, wordsOf-is, words-length, tableWords-is}
+use Rattle.task.proofs.TablesByWords.{at-join, zero-behind}
+use Rattle.text.specs.declared.counts.Counts.{Counts}
+use Rattle.text.specs.Text.{Draft, noSchema}
+use Rattle.text.specs.ReadCode.{Wrote}
+use Rattle.text.specs.Holding.{rowsOf, Holds, Touched}
+use Rattle.text.proofs.WroteWords.{stands, stays-before, stays-behind}
+
+-- words that begin with a list, and else are as they were, are the list over them
+pub over-is : (xs w after : List ℕ) → length after ≡ length w → length xs ≤ length w →
+    ((k : ℕ) → k < length xs → getD after k 0 ≡ getD xs k 0) →
+    ((k : ℕ) → length xs ≤ k → getD after k 0 ≡ getD w k 0) → after ≡ over xs w
+unfolding over
+over-is xs w after e l front back =
+    let n = length-drop (length xs) w in
+    let m = length-append xs (drop (length xs) w) in
+    ext-getD 0 after (xs ++ drop (length xs) w) (omega arith) (λ k q. go k (ltb k (length xs)) refl)
+  where
+    go : (k : ℕ) (b : Bool) → ltb k (length xs) ≡ b → getD after k 0 ≡ getD (xs ++ drop (length xs) w) k 0
+    go k true h =
+        let s = ltb-true k (length xs) h in
+        front k s ∙ sym (List·getD-append xs (drop (length xs) w) 0 k s)
+    go k false h =
+        let s = ltb-false k (length xs) h in
+        let z : length xs + (k - length xs) ≡ k = omega arith in
+        back k s ∙ (ap (λ (i : ℕ). getD w i 0) (sym z) ∙
+        (sym (getD-drop (length xs) w (k - length xs) 0) ∙
+        (sym (getD-append-add xs (drop (length xs) w) (k - length xs) 0) ∙
+        ap (λ (i : ℕ). getD (xs ++ drop (length xs) w) i 0) z)))
+
+-- a table that was cleared, of one whose words beyond are untouched
+pub cleared-is : (lent w after : List ℕ) → tableWords ≤ length lent → Touched lent w →
+    Wrote w 0 tableWords (λ k. 0) after → after ≡ over (replicate tableWords 0) lent
+cleared-is lent w after l t h =
+    let s = t .size in
+    let r = h .size in
+    let n = length-replicate {A = ℕ} tableWords 0 in
+    over-is (replicate tableWords 0) lent after (omega arith) (omega arith)
+    (λ k q.
+    let z : 0 + k ≡ k = omega arith in
+    ap (λ (i : ℕ). getD after i 0) (sym z) ∙
+    (h .put k (omega arith) ∙ sym (getD-replicate tableWords k 0 0 (omega arith))))
+    (λ k q. h .behind k (omega arith) ∙ t .beyond k (omega arith))
+
+-- a list over words is the list over those that have the same words beyond
+pub over-touched : (xs lent w : List ℕ) → length xs ≡ tableWords → tableWords ≤ length lent → Touched lent w →
+    over xs w ≡ over xs lent
+unfolding over
+over-touched xs lent w e l t =
+    let s = t .size in
+    let n = length-drop (length xs) w in
+    let m = length-append xs (drop (length xs) w) in
+    over-is xs lent (xs ++ drop (length xs) w) (omega arith) (omega arith)
+    (λ k q. List·getD-append xs (drop (length xs) w) 0 k q)
+    (λ k q.
+    let z : length xs + (k - length xs) ≡ k = omega arith in
+    ap (λ (i : ℕ). getD (xs ++ drop (length xs) w) i 0) (sym z) ∙
+    (getD-append-add xs (drop (length xs) w) (k - length xs) 0 ∙
+    (getD-drop (length xs) w (k - length xs) 0 ∙ (ap (λ (i : ℕ). getD w i 0) z ∙ t .beyond k (omega arith)))))
+
+module _ {d : Draft} {w : List ℕ} {c : Counts} (h : Holds d w c) (closed : 6 < c .phase) where
+  abbrev to : ℕ
+  to = 6 + c .predicates + c .schemas
+
+  abbrev many : ℕ
+  many = 8 * (((c .closed + c .atoms) + c .initial) + c .goal)
+
+  abbrev head : List ℕ
+  head = c .objects ∷ c .predicates ∷ c .schemas ∷ c .closed ∷ c .initial ∷ c .goal ∷ []
+
+  abbrev rows : List ℕ
+  rows = schemasFrom 0 (d .task .schemas) ++ (concatMap (factWords 3) (d .task .init) ++ concatMap (factWords 4) (d .task .goal))
+
+  rows-are : rowsOf d ≡ rows
+  unfolding rowsOf noSchema concatMap
+  rows-are = rw (h .order .closed closed) refl
+
+  head-is : head ≡ sixWords (d .task)
+  unfolding sixWords
+  head-is = rw (h .objects, h .predicates, h .schemas, h .closed, h .initial, h .goal) refl
+
+  module _ {moved zeroed after : List ℕ} (down : Wrote w to many (λ k. getD w (206 + c .predicates + k) 0) moved)
+      (zeros : Wrote moved (to + many) (13406 - (to + many)) (λ k. 0) zeroed)
+      (heads : Wrote zeroed 0 6 (λ k. getD head k 0) after) where
+    arities-laid : At after 6 (d .task .arities)
+    arities-laid =
+        let p = h .predicates in
+        stays-behind heads 6 (d .task .arities) (omega arith)
+        (stays-before zeros 6 (d .task .arities) (omega arith)
+        (stays-before down 6 (d .task .arities) (omega arith) (h .arities-stand)))
+
+    params-laid : At after (6 + length (d .task .arities)) (map (λ s. s .params) (d .task .schemas))
+    params-laid =
+        let p = h .predicates in
+        let s = h .schemas in
+        let m = length-map (d .task .schemas) (λ s. s .params) in
+        let params = map (λ s. s .params) (d .task .schemas) in
+        stays-behind heads (6 + length (d .task .arities)) params (omega arith)
+        (stays-before zeros (6 + length (d .task .arities)) params (omega arith)
+        (stays-before down (6 + length (d .task .arities)) params (omega arith) (h .params-stand)))
+
+    rows-long : length rows ≡ many
+    rows-long = ap length (sym rows-are) ∙ h .rows-length
+
+    rows-laid : At after to rows
+    rows-laid =
+        let n = rows-long in
+        stays-behind heads to rows (omega arith)
+        (stays-before zeros to rows (omega arith) (λ k l.
+        let p = h .predicates in
+        let z : 206 + c .predicates + k ≡ 206 + length (d .task .arities) + k = omega arith in
+        down .put k (omega arith) ∙ (ap (λ (i : ℕ). getD w i 0) z ∙
+        subst (At w (206 + length (d .task .arities))) rows-are (h .rows-stand) k l)))
+
+    content-laid : At after 0 (content (d .task))
+    unfolding content
+    content-laid =
+        let p = h .predicates in
+        let s = h .schemas in
+        let m = length-map (d .task .schemas) (λ s. s .params) in
+        let params = map (λ s. s .params) (d .task .schemas) in
+        let six = sixWords (d .task) in
+        let e : length six ≡ 6 = ap length (sym head-is) in
+        at-join after 0 six (d .task .arities ++ (params ++ rows)) (subst (At after 0) head-is (stands heads head refl (λ k l. refl)))
+        (at-move after 6 (0 + length six) (d .task .arities ++ (params ++ rows)) (omega arith)
+        (at-join after 6 (d .task .arities) (params ++ rows) arities-laid
+        (at-join after (6 + length (d .task .arities)) params rows params-laid
+        (at-move after to (6 + length (d .task .arities) + length params) rows (omega arith) rows-laid))))
+
+    content-long : length (content (d .task)) ≡ to + many
+    unfolding content
+    content-long =
+        let p = h .predicates in
+        let s = h .schemas in
+        let m = length-map (d .task .schemas) (λ s. s .params) in
+        let n = rows-long in
+        let params = map (λ s. s .params) (d .task .schemas) in
+        let six = sixWords (d .task) in
+        let e : length six ≡ 6 = ap length (sym head-is) in
+        let x = length-append six (d .task .arities ++ (params ++ rows)) in
+        let y = length-append (d .task .arities) (params ++ rows) in
+        let z = length-append params rows in
+        omega arith
+
+    pub laid-out : to + many ≤ 13406 → wellFormed (d .task) ≡ true → after ≡ over (wordsOf (d .task)) w
+    laid-out room well =
+        let t = tableWords-is in
+        let long = h .long in
+        let n = words-length (d .task) well in
+        let s₁ = down .size in
+        let s₂ = zeros .size in
+        let s₃ = heads .size in
+        over-is (wordsOf (d .task)) w after (omega arith) (omega arith) (λ k l. go k (omega arith) (ltb k (to + many)) refl)
+        (λ k l. heads .behind k (omega arith) ∙ (zeros .behind k (omega arith) ∙ down .behind k (omega arith)))
+      where
+        go : (k : ℕ) → k < 13406 → (b : Bool) → ltb k (to + many) ≡ b → getD after k 0 ≡ getD (wordsOf (d .task)) k 0
+        go k l true e =
+            let m = ltb-true k (to + many) e in
+            let n = content-long in
+            let z : 0 + k ≡ k = omega arith in
+            ap (λ (i : ℕ). getD after i 0) (sym z) ∙ (content-laid k (omega arith) ∙
+            (sym (List·getD-append (content (d .task)) (replicate (tableWords - length (content (d .task))) 0) 0 k (omega arith)) ∙
+            ap (λ (xs : List ℕ). getD xs k 0) (sym (wordsOf-is (d .task)))))
+        go k l false e =
+            let m = ltb-false k (to + many) e in
+            let n = content-long in
+            let t = tableWords-is in
+            let z : (to + many) + (k - (to + many)) ≡ k = omega arith in
+            heads .behind k (omega arith) ∙ (ap (λ (i : ℕ). getD zeroed i 0) (sym z) ∙
+            (zeros .put (k - (to + many)) (omega arith) ∙ sym (zero-behind (d .task) k (omega arith) (omega arith))))

@@ -1,0 +1,30 @@
+use Prim.Native.Nat.{ℕ, suc, _+_, _-_, _*_, _≤_, _<_}
+use mathlib.Core.Path.{_≡_, refl, sym, _∙_, ap}
+use native.Mathlib.Omega.{arith}
+use borrow.Author.Needs.{needs}
+use lib.ListN.{length, getD, take}
+use lib.Seq.{getD-take, length-take-le}
+use Rattle.text.proofs.WordTests.{past-end}
+use Rattle.text.proofs.checks.number_or_zero.Statement.{statement}
+use Rattle.text.proofs.checks.number_or_zero.Tie as tie
+use Rattle.text.proofs.checks.number_or_zero.Reads as reads
+use Rattle.text.proofs.checks.number_or_zero.Lts as lts
+
+mul-result : tie.Need-mul-result
+mul-result c = search needs
+
+shared-slice-read-result : tie.Need-shared-slice-read-result
+shared-slice-read-result c = search needs
+
+returns : tie.Need-returns
+returns c = sym (getD-take _ _ _ 0 (c .before .if1 .taken))
+
+returns-2 : tie.Need-returns-2
+returns-2 c =
+    let n = c .before .args .n in
+    let list = c .before .args .list .now in
+    let l = length-take-le n list (c .before .pre) in
+    sym (past-end (take n list) (c .before .args .k) (omega arith))
+
+pub number-or-zero-spec : {M : Type 1} → statement M
+number-or-zero-spec = tie.close (tie.spec mul-result shared-slice-read-result returns returns-2)

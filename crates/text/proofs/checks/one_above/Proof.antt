@@ -1,0 +1,73 @@
+use Prim.Native.Nat.{ℕ, suc, _+_, _-_, _*_, _≤_, _<_}
+use mathlib.Core.Path.{_≡_, refl, sym, _∙_, ap}
+use native.Mathlib.Omega.{arith}
+use mathlib.Core.Logic.{⊎-elim}
+use lib.ListN.{getD, take}
+use lib.Dec.{ltb}
+use borrow.Author.Tests.{ltb-true}
+use Rattle.text.specs.ReadCode.{oneAbove}
+use Rattle.text.proofs.WordTests.{each-first, above-more}
+use Rattle.text.proofs.checks.one_above.Statement.{statement}
+use Rattle.text.proofs.checks.one_above.Tie as tie
+use Rattle.text.proofs.checks.one_above.Reads as reads
+use Rattle.text.proofs.checks.one_above.Lts as lts
+
+abbrev Inv-loop : tie.InvT-loop
+Inv-loop list n above₀ k₀ above k = (k ≤ n) × (above ≡ oneAbove (take k list))
+
+abbrev μ-loop : tie.MeasureT-loop
+μ-loop list n above₀ k₀ above k = n - k
+
+loop-holds : tie.Need-loop-holds Inv-loop μ-loop
+unfolding oneAbove
+loop-holds c = (omega arith, refl)
+
+mul-number : tie.Need-mul-number Inv-loop μ-loop
+mul-number c = omega arith
+
+shared-slice-read-number : tie.Need-shared-slice-read-number Inv-loop μ-loop
+shared-slice-read-number c = omega arith
+
+add-above : tie.Need-add-above Inv-loop μ-loop
+add-above c =
+    let at-loop = c .before .before .before in
+    let start = at-loop .before in
+    let k = at-loop .loop .k in
+    let list = start .args .list .now in
+    let small = ltb-true (getD list k 0) 16
+    (each-first (λ a. ltb a 16) list (start .args .n) (start .pre .0) (start .pre .1) k (c .before .before .loop-test .taken)) in
+    omega arith
+
+add-k : tie.Need-add-k Inv-loop μ-loop
+add-k c = omega arith
+
+loop-less : tie.Need-loop-less Inv-loop μ-loop
+loop-less c = omega arith
+
+loop-again : tie.Need-loop-again Inv-loop μ-loop
+loop-again c =
+    let at-loop = c .before .before .before in
+    let start = at-loop .before in
+    let more = above-more (start .args .list .now) (at-loop .loop .k) (omega arith) in
+    let so-far = at-loop .loop .inv .1 in
+    (omega arith, ⊎-elim (λ w. let e = w .1 in let l = w .0 .taken in omega arith) (λ w. let e = w .1 in let l = w .0 .left in omega arith) (c .if1 .came))
+
+returns : tie.Need-returns Inv-loop μ-loop
+returns c =
+    let e : c .before .loop .k ≡ c .before .before .args .n = omega arith in
+    rw (← e) (c .before .loop .inv .1)
+
+pub one-above-spec : {M : Type 1} → statement M
+one-above-spec =
+    tie.close
+    (tie.spec
+    Inv-loop
+    μ-loop
+    loop-holds
+    mul-number
+    shared-slice-read-number
+    add-above
+    add-k
+    loop-less
+    loop-again
+    returns)

@@ -1,0 +1,56 @@
+use Prim.Native.Nat.{ℕ, suc, _+_, _-_, _*_, _≤_, _<_}
+use mathlib.Core.Path.{_≡_, refl, sym, _∙_, ap, subst}
+use native.Mathlib.Omega.{arith}
+use borrow.Author.Needs.{needs}
+use mathlib.Core.List.{[], _∷_}
+use Rattle.text.specs.ReadCode.{WordAt, WordHere}
+use Rattle.text.proofs.cursor.Cursor.line_end.Statement.{statement}
+use Rattle.text.proofs.cursor.Cursor.line_end.Tie as tie
+use Rattle.text.proofs.cursor.Cursor.line_end.Reads as reads
+use Rattle.text.proofs.cursor.Cursor.line_end.Lts as lts
+use Rattle.text.proofs.cursor.Cursor.word.Reads as word-reads
+
+slice-aggregate-word : tie.Need-slice-aggregate-word
+slice-aggregate-word c = search needs
+
+word-requires : tie.Need-word-requires
+word-requires c κs = search needs
+
+enum-known-next : tie.Need-enum-known-next
+enum-known-next c = search needs
+
+enum-told : tie.Need-enum-told
+enum-told c = search needs
+
+returns : tie.Need-returns
+returns c = subst (WordAt _ _ _) (c .enum-told .given .1) (c .before .before .word .ensures)
+
+add-t10 : tie.Need-add-t10
+add-t10 c =
+    let start = c .before .before .before .before .before .before in
+    let w = subst (WordAt _ _ _) (c .before .next .given .1) (c .before .before .before .word .ensures) in
+    let l = w .line in
+    let i = w .inside in
+    let f = w .far in
+    let p = start .pre .line in
+    let g = start .good in
+    omega arith
+
+returns-2 : tie.Need-returns-2
+returns-2 c =
+    let w = subst (WordAt _ _ _) (c .before .next .given .1) (c .before .before .before .word .ensures) in
+    let l = w .line in
+    let f = w .far in
+    record { is = w .is; on = omega arith; inside = w .inside; line = omega arith }
+
+pub line-end-spec : {M : Type 1} → statement M
+line-end-spec =
+    tie.close
+    (tie.spec
+    slice-aggregate-word
+    word-requires
+    enum-known-next
+    enum-told
+    returns
+    add-t10
+    returns-2)

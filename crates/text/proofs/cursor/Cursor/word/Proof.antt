@@ -1,0 +1,107 @@
+use Prim.Native.Nat.{ℕ, suc, _+_, _-_, _*_, _≤_, _<_}
+use mathlib.Core.Path.{_≡_, refl, sym, _∙_, ap}
+use native.Mathlib.Omega.{arith}
+use mathlib.Core.List.{List}
+use lib.ListN.{length, drop, length-drop}
+use borrow.Author.Needs.{needs}
+use Rattle.text.specs.Lines.{after}
+use Rattle.text.proofs.WordLoop.{after-short, found-here, differs-here, all-found}
+use Rattle.text.proofs.cursor.Cursor.word.Statement.{statement}
+use Rattle.text.proofs.cursor.Cursor.word.Tie as tie
+use Rattle.text.proofs.cursor.Cursor.word.Reads as reads
+use Rattle.text.proofs.cursor.Cursor.word.Lts as lts
+
+abbrev Inv-loop : tie.InvT-loop
+Inv-loop text word at line k₀ k-end k = (k ≤ length word) × (k-end ≡ length word) × (at + length word ≤ length text) × (after word (drop at text) ≡ after (drop k word) (drop (at + k) text))
+
+abbrev μ-loop : tie.MeasureT-loop
+μ-loop text word at line k₀ k-end k = length word - k
+
+sub-if1 : tie.Need-sub-if1 Inv-loop μ-loop
+sub-if1 c = omega arith
+
+returns : tie.Need-returns Inv-loop μ-loop
+returns c =
+    let text = c .before .args .text .now in
+    let at = c .before .args .self .at in
+    let l = length-drop at text in
+    let p = c .before .pre .inside in
+    after-short (c .before .args .word .now) (drop at text) (omega arith)
+
+loop-holds : tie.Need-loop-holds Inv-loop μ-loop
+loop-holds c =
+    let e : c .before .args .self .at + 0 ≡ c .before .args .self .at = omega arith in
+    (omega arith, refl, omega arith, rw e refl)
+
+add-if2 : tie.Need-add-if2 Inv-loop μ-loop
+add-if2 c = omega arith
+
+shared-slice-read-if2 : tie.Need-shared-slice-read-if2 Inv-loop μ-loop
+shared-slice-read-if2 c = omega arith
+
+shared-slice-read-if2-2 : tie.Need-shared-slice-read-if2-2 Inv-loop μ-loop
+shared-slice-read-if2-2 c = omega arith
+
+returns-2 : tie.Need-returns-2 Inv-loop μ-loop
+returns-2 c =
+    let at-loop = c .before .before .before .before in
+    let start = at-loop .before .before in
+    at-loop .loop .inv .3 ∙
+    differs-here (start .args .text .now) (start .args .word .now) (start .args .self .at) (at-loop .loop .k)
+    (omega arith) (omega arith) (c .if2 .taken)
+
+add-k : tie.Need-add-k Inv-loop μ-loop
+add-k c = omega arith
+
+loop-less : tie.Need-loop-less Inv-loop μ-loop
+loop-less c = omega arith
+
+loop-again : tie.Need-loop-again Inv-loop μ-loop
+loop-again c =
+    let at-loop = c .before .before .before .before in
+    let start = at-loop .before .before in (
+      omega arith,
+      refl,
+      omega arith,
+      at-loop .loop .inv .3 ∙
+          found-here (start .args .text .now) (start .args .word .now) (start .args .self .at) (at-loop .loop .k)
+          (omega arith) (omega arith) (c .if2 .left),
+    )
+
+add-t8 : tie.Need-add-t8 Inv-loop μ-loop
+add-t8 c = omega arith
+
+returns-3 : tie.Need-returns-3 Inv-loop μ-loop
+returns-3 c =
+    let at-loop = c .before in
+    let start = at-loop .before .before in
+    let text = start .args .text .now in
+    let word = start .args .word .now in
+    let at = start .args .self .at in
+    let k = at-loop .loop .k in
+    let e : k ≡ length word = omega arith in
+    record {
+      is = at-loop .loop .inv .3 ∙ (all-found text word at k (omega arith) ∙ rw e refl);
+      far = refl;
+      inside = omega arith;
+      line = refl;
+    }
+
+pub word-spec : {M : Type 1} → statement M
+word-spec =
+    tie.close
+    (tie.spec
+    Inv-loop
+    μ-loop
+    sub-if1
+    returns
+    loop-holds
+    add-if2
+    shared-slice-read-if2
+    shared-slice-read-if2-2
+    returns-2
+    add-k
+    loop-less
+    loop-again
+    add-t8
+    returns-3)

@@ -1,0 +1,25 @@
+use Prim.Native.Nat.{ℕ, suc, _+_, _-_, _*_, _≤_, _<_}
+use mathlib.Core.Path.{_≡_, refl, sym, _∙_, ap}
+use native.Mathlib.Omega.{arith}
+use mathlib.Core.Bool.{Bool, cond}
+use borrow.Author.Tests.{lt-ltb, le-ltb}
+use Rattle.text.specs.ReadCode.{lastKey}
+use Rattle.text.proofs.keys.last_key.Statement.{statement}
+use Rattle.text.proofs.keys.last_key.Tie as tie
+use Rattle.text.proofs.keys.last_key.Reads as reads
+use Rattle.text.proofs.keys.last_key.Lts as lts
+
+returns : tie.Need-returns
+unfolding lastKey
+returns c = sym (rw (lt-ltb _ _ (c .if1 .taken)) refl)
+
+returns-2 : tie.Need-returns-2
+unfolding lastKey
+returns-2 c = sym (rw (le-ltb _ _ (c .before .if1 .left), lt-ltb _ _ (c .if2 .taken)) refl)
+
+returns-3 : tie.Need-returns-3
+unfolding lastKey
+returns-3 c = sym (rw (le-ltb _ _ (c .before .if1 .left), le-ltb _ _ (c .if2 .left)) refl)
+
+pub last-key-spec : {M : Type 1} → statement M
+last-key-spec = tie.close (tie.spec returns returns-2 returns-3)

@@ -1,0 +1,61 @@
+use Prim.Native.Nat.{ℕ, suc, _+_, _-_, _*_, _≤_, _<_}
+use mathlib.Core.Path.{_≡_, refl, sym, _∙_, ap, subst}
+use native.Mathlib.Omega.{arith}
+use borrow.Author.Needs.{needs}
+use Rattle.text.specs.ReadCode.{WordAt, ListAt}
+use Rattle.text.proofs.WholeLines.{listing-ends, listing-begins}
+use Rattle.text.proofs.ListLoop.{listed-none}
+use Rattle.text.proofs.lists.listing.Statement.{statement}
+use Rattle.text.proofs.lists.listing.Tie as tie
+use Rattle.text.proofs.lists.listing.Reads as reads
+use Rattle.text.proofs.lists.listing.Lts as lts
+use Rattle.text.proofs.cursor.Cursor.word.Reads as word-reads
+use Rattle.text.proofs.lists.numbers.Reads as numbers-reads
+
+slice-aggregate-word : tie.Need-slice-aggregate-word
+slice-aggregate-word c = search needs
+
+word-requires : tie.Need-word-requires
+word-requires c κs = search needs
+
+enum-told : tie.Need-enum-told
+enum-told c = search needs
+
+enum-told-2 : tie.Need-enum-told-2
+enum-told-2 c = search needs
+
+numbers-requires : tie.Need-numbers-requires
+numbers-requires c κs = search needs
+
+same-length : tie.Need-same-length
+same-length c = search needs
+
+returns : tie.Need-returns
+returns c =
+    let numbers = c .before .before in
+    let told = c .before .before .before .before in
+    rw (listing-begins _ (subst (WordAt _ _ _) (told .enum-told2 .given .1) (told .before .before .word .ensures)))
+    (numbers .numbers .ensures)
+
+returns-2 : tie.Need-returns-2
+returns-2 c =
+    let w = subst (WordAt _ _ _) (c .enum-told .given .1) (c .before .before .word .ensures) in
+    record {
+      ns = _;
+      is = listing-ends _ _ (w .is);
+      listed = listed-none _;
+      onward = record { on = omega arith; inside = c .before .before .before .before .before .before .pre .inside; line = refl };
+    }
+
+pub listing-spec : {M : Type 1} → statement M
+listing-spec =
+    tie.close
+    (tie.spec
+    slice-aggregate-word
+    word-requires
+    enum-told
+    enum-told-2
+    numbers-requires
+    same-length
+    returns
+    returns-2)

@@ -1,0 +1,68 @@
+use Prim.Native.Nat.{ℕ, suc, _+_, _-_, _*_, _≤_, _<_}
+use mathlib.Core.Path.{_≡_, refl, sym, _∙_, ap, subst}
+use native.Mathlib.Omega.{arith}
+use borrow.Author.Needs.{needs}
+use Rattle.text.specs.ReadCode.{NumberAt, EndAt}
+use native.Mathlib.Nat.{le-of-lt}
+use Rattle.text.proofs.WholeLines.{no-body, no-end, line-whole, moved-placed, to-next}
+use Rattle.text.proofs.lists.number_line.Statement.{statement}
+use Rattle.text.proofs.lists.number_line.Tie as tie
+use Rattle.text.proofs.lists.number_line.Reads as reads
+use Rattle.text.proofs.lists.number_line.Lts as lts
+use Rattle.text.proofs.cursor.Cursor.line_end.Reads as line-end-reads
+use Rattle.text.proofs.cursor.Cursor.number.Reads as number-reads
+
+number-requires : tie.Need-number-requires
+number-requires c κs = search needs
+
+enum-known-n : tie.Need-enum-known-n
+enum-known-n c = search needs
+
+enum-told : tie.Need-enum-told
+enum-told c = search needs
+
+returns : tie.Need-returns
+returns c = no-body _ (subst (NumberAt _ _) (c .enum-told .given .1) (c .before .before .number .ensures))
+
+line-end-requires : tie.Need-line-end-requires
+line-end-requires c κs =
+    let n = c .before in
+    moved-placed (n .before .before .before .before .pre)
+    (subst (NumberAt _ _) (n .n .given .1) (n .before .before .number .ensures) .moved)
+
+enum-known-next : tie.Need-enum-known-next
+enum-known-next c = search needs
+
+enum-told-2 : tie.Need-enum-told-2
+enum-told-2 c = search needs
+
+returns-2 : tie.Need-returns-2
+returns-2 c =
+    let n = c .before .before .before .before in
+    no-end _ _ _ (subst (NumberAt _ _) (n .n .given .1) (n .before .before .number .ensures) .is)
+    (subst (EndAt _ _) (c .enum-told2 .given .1) (c .before .before .line-end .ensures))
+
+returns-3 : tie.Need-returns-3
+returns-3 c =
+    let after = c .before .before .before .before .before in
+    let n = subst (NumberAt _ _) (after .n .given .1) (after .before .before .number .ensures) in
+    let e = subst (EndAt _ _) (c .before .next .given .1) (c .before .before .before .line-end .ensures) in
+    record {
+      is = line-whole _ _ _ (n .is) _ (e .is);
+      small = n .small;
+      line = to-next (le-of-lt (n .moved .on)) (n .moved .line) e;
+    }
+
+pub number-line-spec : {M : Type 1} → statement M
+number-line-spec =
+    tie.close
+    (tie.spec
+    number-requires
+    enum-known-n
+    enum-told
+    returns
+    line-end-requires
+    enum-known-next
+    enum-told-2
+    returns-2
+    returns-3)

@@ -1,0 +1,120 @@
+use Prim.Native.Nat.{ℕ, suc, _+_, _-_, _*_, _≤_, _<_}
+use mathlib.Core.Path.{_≡_, refl, sym, _∙_, ap, subst}
+use native.Mathlib.Omega.{arith}
+use borrow.Author.Needs.{needs}
+use lib.ListN.{length, length-set}
+use Rattle.text.specs.ReadCode.{NumberAt, WordAt, NumberHere, WordHere}
+use Rattle.text.proofs.ListLoop.{ListSoFar, list-begins, no-number, list-ends, list-goes-on}
+use Rattle.text.proofs.WholeLines.{moved-placed}
+use Rattle.text.proofs.lists.numbers.Statement.{statement}
+use Rattle.text.proofs.lists.numbers.Tie as tie
+use Rattle.text.proofs.lists.numbers.Reads as reads
+use Rattle.text.proofs.lists.numbers.Lts as lts
+use Rattle.text.proofs.cursor.Cursor.number.Reads as number-reads
+use Rattle.text.proofs.cursor.Cursor.word.Reads as word-reads
+use Rattle.text.proofs.lists.keep.Reads as keep-reads
+
+abbrev Inv-loop : tie.InvT-loop
+Inv-loop text list₀ here₀ count₀ t9 list here count = (length list ≡ length list₀) × ListSoFar text here₀ here count list
+
+abbrev μ-loop : tie.MeasureT-loop
+μ-loop text list₀ here₀ count₀ t9 list here count = length text - here .at
+
+loop-holds : tie.Need-loop-holds Inv-loop μ-loop
+loop-holds c = (refl, list-begins _ _ _ (c .before .before .pre))
+
+number-requires : tie.Need-number-requires Inv-loop μ-loop
+number-requires c κs = tt
+
+enum-known-n : tie.Need-enum-known-n Inv-loop μ-loop
+enum-known-n c = search needs
+
+enum-told : tie.Need-enum-told Inv-loop μ-loop
+enum-told c = search needs
+
+same-length : tie.Need-same-length Inv-loop μ-loop
+same-length c = c .before .before .before .loop .inv .0
+
+returns : tie.Need-returns Inv-loop μ-loop
+returns c =
+    no-number (c .before .before .before .loop .inv .1)
+    (subst (NumberAt _ _) (c .enum-told .given .1) (c .before .before .number .ensures))
+
+keep-requires : tie.Need-keep-requires Inv-loop μ-loop
+keep-requires c κs = tt
+
+add-count : tie.Need-add-count Inv-loop μ-loop
+add-count c = omega arith
+
+slice-aggregate-word : tie.Need-slice-aggregate-word Inv-loop μ-loop
+slice-aggregate-word c = search needs
+
+word-requires : tie.Need-word-requires Inv-loop μ-loop
+word-requires c κs =
+    let n = c .before .before .before .before .before .before in
+    moved-placed (n .before .before .before .loop .inv .1 .placed)
+    (subst (NumberAt _ _) (n .n .given .1) (n .before .before .number .ensures) .moved)
+
+enum-known-next : tie.Need-enum-known-next Inv-loop μ-loop
+enum-known-next c = search needs
+
+enum-told-2 : tie.Need-enum-told-2 Inv-loop μ-loop
+enum-told-2 c = search needs
+
+same-length-2 : tie.Need-same-length-2 Inv-loop μ-loop
+same-length-2 c =
+    let keep = c .before .before .before .before .before .before in
+    keep .keep .kept .0 ∙ c .before .before .before .before .before .before .before .before .before .before .before .before .loop .inv .0
+
+returns-2 : tie.Need-returns-2 Inv-loop μ-loop
+returns-2 c =
+    let keep = c .before .before .before .before .before .before in
+    let n = c .before .before .before .before .before .before .before .before .before in
+    rw (keep .keep .ensures)
+    (list-ends (n .before .before .before .loop .inv .1)
+    (subst (NumberAt _ _) (n .n .given .1) (n .before .before .number .ensures))
+    (subst (WordAt _ _ _) (c .enum-told2 .given .1) (c .before .before .word .ensures)))
+
+loop-less : tie.Need-loop-less Inv-loop μ-loop
+loop-less c =
+    let n = c .before .before .before .before .before .before .before .before .before .before in
+    let w = subst (WordAt _ _ _) (c .before .next .given .1) (c .before .before .before .word .ensures) in
+    let h = subst (NumberAt _ _) (n .n .given .1) (n .before .before .number .ensures) in
+    let f = w .far in
+    let i = w .inside in
+    let m = h .moved .on in
+    omega arith
+
+loop-again : tie.Need-loop-again Inv-loop μ-loop
+loop-again c =
+    let keep = c .before .before .before .before .before .before .before in
+    let n = c .before .before .before .before .before .before .before .before .before .before in (
+      keep .keep .kept .0 ∙ c .before .before .before .before .before .before .before .before .before .before .before .before .before .loop .inv .0,
+      rw (keep .keep .ensures)
+          (list-goes-on (n .before .before .before .loop .inv .1)
+          (subst (NumberAt _ _) (n .n .given .1) (n .before .before .number .ensures))
+          (subst (WordAt _ _ _) (c .before .next .given .1) (c .before .before .before .word .ensures))),
+    )
+
+pub numbers-spec : {M : Type 1} → statement M
+numbers-spec =
+    tie.close
+    (tie.spec
+    Inv-loop
+    μ-loop
+    loop-holds
+    number-requires
+    enum-known-n
+    enum-told
+    same-length
+    returns
+    keep-requires
+    add-count
+    slice-aggregate-word
+    word-requires
+    enum-known-next
+    enum-told-2
+    same-length-2
+    returns-2
+    loop-less
+    loop-again)

@@ -1,0 +1,23 @@
+use Prim.Native.Nat.{ℕ, suc, _+_, _-_, _*_, _≤_, _<_}
+use mathlib.Core.Path.{_≡_, refl, sym, _∙_, ap}
+use native.Mathlib.Omega.{arith}
+use borrow.Author.Needs.{needs}
+use Rattle.task.proofs.Tables.{tableWords-is}
+use Rattle.text.proofs.WroteWords.{wrote-all}
+use Rattle.text.proofs.reader.refused.Statement.{statement}
+use Rattle.text.proofs.reader.refused.Tie as tie
+use Rattle.text.proofs.reader.refused.Reads as reads
+use Rattle.text.proofs.reader.refused.Lts as lts
+use Rattle.text.proofs.words.clear.Reads as clear-reads
+
+clear-requires : tie.Need-clear-requires
+clear-requires c κs = let z = tableWords-is in let l = c .before .before .pre in omega arith
+
+same-length : tie.Need-same-length
+same-length c = search needs
+
+returns : tie.Need-returns
+returns c = (refl, wrote-all (sym tableWords-is) (c .before .before .clear .ensures))
+
+pub refused-spec : {M : Type 1} → statement M
+refused-spec = tie.close (tie.spec clear-requires same-length returns)

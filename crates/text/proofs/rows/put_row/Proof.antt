@@ -1,0 +1,74 @@
+use Prim.Native.Nat.{ℕ, suc, _+_, _-_, _*_, _≤_, _<_}
+use mathlib.Core.Path.{_≡_, refl, sym, _∙_, ap}
+use native.Mathlib.Omega.{arith}
+use borrow.Author.Needs.{needs}
+use mathlib.Core.Path.{subst}
+use mathlib.Core.List.{List}
+use lib.ListN.{getD, take, length}
+use lib.Seq.{length-take-le}
+use Rattle.text.specs.ReadCode.{Wrote}
+use Rattle.text.proofs.RowTests.{small-taken, eight-words, row-words}
+use Rattle.text.proofs.rows.put_row.Statement.{statement}
+use Rattle.text.proofs.rows.put_row.Tie as tie
+use Rattle.text.proofs.rows.put_row.Reads as reads
+use Rattle.text.proofs.rows.put_row.Lts as lts
+use Rattle.text.proofs.checks.number_or_zero.Reads as number-or-zero-reads
+use Rattle.text.proofs.words.put_words.Reads as put-words-reads
+
+number-or-zero-requires : tie.Need-number-or-zero-requires
+number-or-zero-requires c κs = search needs
+
+number-or-zero-requires-2 : tie.Need-number-or-zero-requires-2
+number-or-zero-requires-2 c κs = search needs
+
+number-or-zero-requires-3 : tie.Need-number-or-zero-requires-3
+number-or-zero-requires-3 c κs = search needs
+
+number-or-zero-requires-4 : tie.Need-number-or-zero-requires-4
+number-or-zero-requires-4 c κs = search needs
+
+slice-aggregate-put-words : tie.Need-slice-aggregate-put-words
+slice-aggregate-put-words c = search needs
+
+put-words-requires : tie.Need-put-words-requires
+put-words-requires c κs =
+    let start = c .before .before .before .before .before .before .before .before in
+    let (schema, role, predicate, enough, few) = start .pre .1 .0 in
+    let small = small-taken (start .args .args .now) (start .args .count) enough (start .pre .1 .1) in (
+      start .pre .0,
+      eight-words schema role predicate (omega arith)
+          (rw (c .before .before .before .before .before .number-or-zero .ensures) (small 0))
+          (rw (c .before .before .before .before .number-or-zero2 .ensures) (small 1))
+          (rw (c .before .before .before .number-or-zero3 .ensures) (small 2))
+          (rw (c .before .before .number-or-zero4 .ensures) (small 3)),
+    )
+
+same-length : tie.Need-same-length
+same-length c = search needs
+
+returns : tie.Need-returns
+returns c =
+    let put = c .before .before in
+    let start = c .before .before .before .before .before .before .before .before .before .before .before in
+    let args = start .args in
+    let ns = take (args .count) (args .args .now) in
+    let (schema, role, predicate, enough, few) = start .pre .1 .0 in
+    let l = length-take-le (args .count) (args .args .now) enough in
+    subst (λ (xs : List ℕ). Wrote (args .table .now) (args .at) 8 (λ k. getD xs k 0) (put .put-words .last .0))
+    (row-words (args .schema) (args .role) (args .predicate) ns (omega arith) _ _ _ _
+    (c .before .before .before .before .before .before .before .before .number-or-zero .ensures) (c .before .before .before .before .before .before .before .number-or-zero2 .ensures)
+    (c .before .before .before .before .before .before .number-or-zero3 .ensures) (c .before .before .before .before .before .number-or-zero4 .ensures))
+    (put .put-words .ensures)
+
+pub put-row-spec : {M : Type 1} → statement M
+put-row-spec =
+    tie.close
+    (tie.spec
+    number-or-zero-requires
+    number-or-zero-requires-2
+    number-or-zero-requires-3
+    number-or-zero-requires-4
+    slice-aggregate-put-words
+    put-words-requires
+    same-length
+    returns)

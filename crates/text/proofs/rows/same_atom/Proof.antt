@@ -1,0 +1,51 @@
+use Prim.Native.Nat.{ℕ, suc, _+_, _-_, _*_, _≤_, _<_}
+use mathlib.Core.Path.{_≡_, refl, sym, _∙_, ap}
+use native.Mathlib.Omega.{arith}
+use borrow.Author.Needs.{needs}
+use mathlib.Core.Bool.{Bool, _&&_}
+use borrow.Author.Tests.{not-true, not-false}
+use Rattle.text.specs.ReadCode.{rowSame}
+use Rattle.text.proofs.rows.same_atom.Statement.{statement}
+use Rattle.text.proofs.rows.same_atom.Tie as tie
+use Rattle.text.proofs.rows.same_atom.Reads as reads
+use Rattle.text.proofs.rows.same_atom.Lts as lts
+use Rattle.text.proofs.words.same_words.Reads as same-words-reads
+
+add-same-words : tie.Need-add-same-words
+add-same-words c = search needs
+
+add-same-words-2 : tie.Need-add-same-words-2
+add-same-words-2 c = search needs
+
+same-words-requires : tie.Need-same-words-requires
+same-words-requires c κs = search needs
+
+returns : tie.Need-returns
+unfolding rowSame
+returns c = sym (rw (sym (c .before .same-words .ensures) ∙ not-true _ (c .if1 .taken)) refl)
+
+add-same-words-3 : tie.Need-add-same-words-3
+add-same-words-3 c = search needs
+
+add-same-words-4 : tie.Need-add-same-words-4
+add-same-words-4 c = search needs
+
+same-words-requires-2 : tie.Need-same-words-requires-2
+same-words-requires-2 c κs = search needs
+
+returns-2 : tie.Need-returns-2
+unfolding rowSame
+returns-2 c = c .same-words2 .ensures ∙ sym (rw (sym (c .before .before .same-words .ensures) ∙ not-false _ (c .before .if1 .left)) refl)
+
+pub same-atom-spec : {M : Type 1} → statement M
+same-atom-spec =
+    tie.close
+    (tie.spec
+    add-same-words
+    add-same-words-2
+    same-words-requires
+    returns
+    add-same-words-3
+    add-same-words-4
+    same-words-requires-2
+    returns-2)
