@@ -20,6 +20,16 @@ extern "C" {
 #define SPLITTER_STEP_WORDS 13
 #define SPLITTER_RECORD_WORDS 5
 
+/* Reads a text into a table. The whole text is read: it ends where its bytes do.
+ *
+ * Refusals: 1 a short table, which is left as found. Those of a line have the line's number as place and leave the
+ * table's 13,406 words 0: 3 not a line that the fixed order allows here, text missing (the line lacking) or left
+ * over, 4 a count or an arity outside its limits, 5 a predicate that there is not, a wrong number of arguments or
+ * one too high, 6 an atom repeated or not ascending, 7 (at a part line) a schema without atoms or a parameter in
+ * none, 8 (at a part line) a wrong number of parts, a part of 16 or more, or a gap. Words behind the table's are
+ * never touched. */
+uint32_t splitter_read(const uint8_t *text, size_t text_len, uint16_t *table, size_t table_len, uint64_t *place);
+
 /* Runs a list of steps of the table's task, 13 words each, in a state of `records` ascending 5-word records, which
  * lie at the front of the words lent; there is room for state_len / 5 records. A step runs if all its preconditions
  * hold; then its deletes go out, then its adds come in.

@@ -1,5 +1,6 @@
 //! The proved code beside the reference, both built for release, in one run.
 
+mod reading;
 mod running;
 mod splitting;
 mod tasks;
@@ -8,6 +9,7 @@ mod writing;
 
 fn main() {
     running::bench();
+    reading::bench();
     writing::bench();
     splitting::bench();
 }

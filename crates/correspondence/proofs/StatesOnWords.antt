@@ -208,7 +208,7 @@ module _ {table split : List ℕ} (A : AcceptedSplit table split) where
         ap (λ j. getD w j 0) z ∙ List·getD-append (stateWords e) (replicate (n - length (stateWords e)) 0) 0 k m) i l)
 
     pub procnone-left : LeavesProcnone table (runDone t′ n (ran e)) ↔ (holds e (free t) ≡ true)
-    unfolding toldValue runDone runTold left
+    unfolding runDone runTold left
     procnone-left = (
       λ (i, l, q).
           let f = getD e i noFact in

@@ -1,12 +1,13 @@
 // The entry points for a C host, on slices and numbers; include/splitter.h declares them.
 use task::Place;
 use task::RunAnswer;
+use text::ReadAnswer;
 use text::WriteAnswer;
 use tokens::SplitAnswer;
 ghost use mathlib.Core.Path.{_≡_};
 ghost use Rattle.task.specs.Answers.{placeNumber, toldNumber, toldPlace, toldValue};
 ghost use Rattle.task.specs.Run.{runOutcome};
-ghost use Rattle.text.specs.Outcomes.{writeOutcome};
+ghost use Rattle.text.specs.Outcomes.{readOutcome, writeOutcome};
 ghost use Rattle.tokens.specs.Split.{splitOutcome};
 
 // "Lines count from 1, the others from 0; none is 0."
@@ -69,6 +70,24 @@ pub extern "C" fn splitter_run(
         } => {
             *place = place_number(at);
             *left = kept;
+            number
+        }
+    }
+}
+
+// Reads a text into a table. The answer is 0 for a result, else the refusal's number.
+#[no_mangle]
+pub extern "C" fn splitter_read(text: &[u8], table: &mut [u16], place: &mut u64) -> u32
+    ensures { λ r. ⌜ r ≡ toldNumber (readOutcome (now (text .entry)) (now (table .entry)) .told) ⌝ }
+    ensures { λ r. ⌜ now (table .exit) ≡ readOutcome (now (text .entry)) (now (table .entry)) .buffer ⌝ }
+    ensures { λ r. ⌜ now (place .exit) ≡ toldPlace (readOutcome (now (text .entry)) (now (table .entry)) .told) ⌝ }
+{
+    *place = 0;
+    let answer = text::read(text, table);
+    match answer {
+        ReadAnswer::Read => 0,
+        ReadAnswer::Refused(number, at) => {
+            *place = place_number(at);
             number
         }
     }

@@ -49,7 +49,7 @@ module _ (table out : List ℕ) where
     pub outcome : splitOutcome table out ≡ given
 
   passed : toldNumber (splitOutcome table out .told) ≡ 0 → Passed
-  unfolding splitOutcome inOrder refuseUnless splitCheck toldNumber
+  unfolding splitOutcome inOrder refuseUnless splitCheck
   passed h = go (longEnough table && longEnough out) refl (isTable table) refl (split t) refl
     where
       reached : (b : Bool) → longEnough table && longEnough out ≡ b → (c : Bool) → isTable table ≡ c →

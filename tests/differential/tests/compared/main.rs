@@ -1,6 +1,7 @@
 //! The proved code beside the reference: the same answers, and the same words
 //! afterwards. A module for each entry point that has landed.
 
+mod reading;
 mod running;
 mod splitting;
 mod writing;

@@ -6,6 +6,7 @@ use checks::report;
 use checks::rows::plain_row;
 use checks::vectors::split_program_cases;
 use differential::beside::{compare, short_or_long, shown, table_to_write};
+use differential::reading::read;
 use differential::splitting::split;
 use differential::writing::write;
 use generate::{limits, tables};
@@ -51,14 +52,12 @@ fn splits_at_the_limits() {
     report("splits at the limits compared", 2 * limits.len());
 }
 
-/// What the program prints, put together from the entry points; the reference
-/// reads.
+/// What the program prints, put together from the entry points.
 fn printed(stdin: &[u8]) -> Vec<u8> {
     let mut table = vec![7; TABLE_WORDS];
     let mut out = vec![7; TABLE_WORDS];
     let mut text = vec![b'x'; INPUT_BYTES];
-    let input = &stdin[..stdin.len().min(INPUT_BYTES)];
-    let mut answer = plain_row(reference::read(input, &mut table));
+    let mut answer = read(&stdin[..stdin.len().min(INPUT_BYTES)], &mut table);
     if answer[0] == 0 {
         answer = split(&table, &mut out);
     }
