@@ -34,6 +34,10 @@ class Task:
         """The most parameters that a schema has."""
         return max((schema.parameters for schema in self.schemas), default=0)
 
+    def average(self):
+        """How many parameters the schemas have on average."""
+        return sum(schema.parameters for schema in self.schemas) / max(1, len(self.schemas))
+
     def assignments(self):
         """How many steps there are by the parameters alone: every object for every parameter."""
         return sum(self.objects**schema.parameters for schema in self.schemas)
