@@ -1,15 +1,17 @@
--- A set of numbers kept in one word: its empty set, one number more, and a number asked for, bit by bit.
+-- A set of numbers kept in one word: its empty set, one number more, and a number asked for, bit by bit; and two words
+-- joined.
 use Prim.Native.Nat.{ℕ, zero, suc, _+_, _-_, _*_, _/_, _%_, _^_, _<_}
 use mathlib.Core.Path.{_≡_, refl, sym, _∙_, ap}
-use mathlib.Core.Bool.{Bool, false, _||_}
+use mathlib.Core.Bool.{Bool, false, _&&_, _||_}
 use native.Mathlib.Nat.{mod-lt, zero-div, div-eq-of-lt, div-self, mul-mod-left, one-mul, pow-suc}
 use native.Mathlib.Decide.{decLt}
 use native.Mathlib.Omega.{arith}
 use lib.Dec.{eqb}
-use lib.Bits.{bitAnd, bitOr, or-shr, or-mod, and-mask}
+use lib.Bits.{bitAnd, bitOr, or-shr, or-mod, or-add-and, and-mask, and-le-l, and-le-r}
 use lib.Pow.{pow-pos, pow-lt, pow-add, shl-exact, shl-shr}
-use borrow.Author.Tests.{eq-eqb, ne-eqb}
+use borrow.Author.Tests.{eqb-true, eq-eqb, ne-eqb}
 use Rattle.task.specs.WordTests.{bit}
+use Rattle.task.proofs.Laws.{and-left, and-right, and-both, bool-ext}
 
 pub bit-none : (x : ℕ) → bit 0 x ≡ false
 unfolding bit
@@ -58,3 +60,18 @@ bit-joined mask x l y =
 pub bit-asked : (mask x : ℕ) → eqb (bitAnd (mask / 2 ^ x) 1) 1 ≡ bit mask x
 unfolding bit
 bit-asked mask x = ap (λ (n : ℕ). eqb n 1) (and-mask (mask / 2 ^ x) 1)
+
+-- two words joined are 0 if both are
+pub or-zero : (a b : ℕ) → eqb (bitOr a b) 0 ≡ eqb a 0 && eqb b 0
+or-zero a b =
+    let joined = or-add-and a b in
+    let left = and-le-l a b in
+    let right = and-le-r a b in
+    bool-ext (eqb (bitOr a b) 0) (eqb a 0 && eqb b 0)
+    (λ h.
+    let e = eqb-true (bitOr a b) 0 h in
+    and-both _ _ (eq-eqb a 0 (omega arith)) (eq-eqb b 0 (omega arith)))
+    (λ h.
+    let e = eqb-true a 0 (and-left (eqb a 0) (eqb b 0) h) in
+    let f = eqb-true b 0 (and-right (eqb a 0) (eqb b 0) h) in
+    eq-eqb (bitOr a b) 0 (omega arith))

@@ -16,19 +16,19 @@ pub(crate) fn word(table: &[u16], i: usize) -> usize
     table[i] as usize
 }
 
-// Whether the words from an index to another are all 0.
+// Whether the words from an index to another are all 0. All are joined before one is tested, so that the machine can
+// take several at once.
 pub(crate) fn zeros(table: &[u16], from: usize, to: usize) -> bool
     requires { ⌜ to ≤ length (now table) ⌝ }
     ensures { λ r. ⌜ r ≡ zerosAt (now (table .entry)) from (to - from) ⌝ }
 {
+    let mut joined = 0;
     let mut i = from;
     while i < to {
-        if word(table, i) != 0 {
-            return false;
-        }
+        joined |= table[i];
         i += 1;
     }
-    true
+    joined == 0
 }
 
 // Whether the words from an index to another are all below a bound.

@@ -1,23 +1,26 @@
 -- `task::table::words::zeros` meets its contract.
--- The invariant: the whole test is what is left of it from i on. The measure is how many words are left.
+-- The invariant: the whole test is that the words joined so far are 0, and what is left of it from i on. A word more
+-- is joined by `or-zero`. The measure is how many words are left.
 use Prim.Native.Nat.{ℕ, _-_}
-use mathlib.Core.Path.{_≡_, refl, sym, _∙_}
-use mathlib.Core.Bool.{Bool}
+use mathlib.Core.Path.{_≡_, refl}
+use mathlib.Core.Bool.{Bool, _&&_}
 use mathlib.Core.List.{List}
 use native.Mathlib.Omega.{arith}
+use borrow.Author.Needs.{needs}
 use lib.ListN.{getD}
 use lib.Dec.{eqb}
-use borrow.Author.Tests.{eq-eqb, ne-eqb}
 use Rattle.task.specs.WordTests.{zerosAt}
-use Rattle.task.proofs.Ranges.{all-more, all-fails, all-ends}
+use Rattle.task.proofs.Bits.{or-zero}
+use Rattle.task.proofs.Ranges.{all-joins, all-joined}
 use Rattle.task.proofs.table.words.zeros.Statement.{statement}
 use Rattle.task.proofs.table.words.zeros.Tie as tie
 
 abbrev Inv-loop : tie.InvT-loop
-Inv-loop table from to i₀ i = zerosAt table from (to - from) ≡ zerosAt table i (to - i)
+Inv-loop table from to joined₀ i₀ joined i =
+    zerosAt table from (to - from) ≡ eqb joined 0 && zerosAt table i (to - i)
 
 abbrev μ-loop : tie.MeasureT-loop
-μ-loop table from to i₀ i = to - i
+μ-loop table from to joined₀ i₀ joined i = to - i
 
 abbrev isZero : List ℕ → ℕ → Bool
 isZero w k = eqb (getD w k 0) 0
@@ -25,17 +28,11 @@ isZero w k = eqb (getD w k 0) 0
 loop-holds : tie.Need-loop-holds Inv-loop μ-loop
 loop-holds c = refl
 
-word-requires : tie.Need-word-requires Inv-loop μ-loop
-word-requires c κs = omega arith
+mul-joined : tie.Need-mul-joined Inv-loop μ-loop
+mul-joined c = search needs
 
-returns : tie.Need-returns Inv-loop μ-loop
-unfolding zerosAt
-returns c =
-    let at = c .before .before .before in
-    let given = at .before .before .args in
-    all-fails (isZero (given .table .now)) (at .loop .i) (given .to) (at .loop .inv)
-    (c .before .before .loop-test .taken)
-    (ne-eqb _ _ (λ e. c .if1 .taken (c .before .word .ensures .0 ∙ e)))
+shared-slice-read-joined : tie.Need-shared-slice-read-joined Inv-loop μ-loop
+shared-slice-read-joined c = omega arith
 
 add-i : tie.Need-add-i Inv-loop μ-loop
 add-i c = omega arith
@@ -46,17 +43,17 @@ loop-less c = omega arith
 loop-again : tie.Need-loop-again Inv-loop μ-loop
 unfolding zerosAt
 loop-again c =
-    let at = c .before .before .before in
-    let given = at .before .before .args in
-    all-more (isZero (given .table .now)) (at .loop .i) (given .to) (at .loop .inv)
-    (c .before .before .loop-test .taken)
-    (eq-eqb _ _ (sym (c .before .word .ensures .0) ∙ c .if1 .left))
+    let at = c .before .before in
+    let given = at .before .args in
+    all-joins (isZero (given .table .now)) (at .loop .i) (given .to) (eqb (at .loop .joined) 0) (at .loop .inv)
+    (c .before .loop-test .taken) (or-zero (at .loop .joined) (getD (given .table .now) (at .loop .i) 0))
 
-returns-2 : tie.Need-returns-2 Inv-loop μ-loop
+returns : tie.Need-returns Inv-loop μ-loop
 unfolding zerosAt
-returns-2 c =
-    let given = c .before .before .before .args in
-    all-ends (isZero (given .table .now)) (c .before .loop .i) (given .to) (c .before .loop .inv) (c .loop-test .left)
+returns c =
+    let given = c .before .before .args in
+    all-joined (isZero (given .table .now)) (c .before .loop .i) (given .to) (eqb (c .before .loop .joined) 0)
+    (c .before .loop .inv) (c .loop-test .left)
 
 pub zeros-spec : {M : Type 1} → statement M
 zeros-spec =
@@ -65,9 +62,9 @@ zeros-spec =
     Inv-loop
     μ-loop
     loop-holds
-    word-requires
-    returns
+    mul-joined
+    shared-slice-read-joined
     add-i
     loop-less
     loop-again
-    returns-2)
+    returns)
