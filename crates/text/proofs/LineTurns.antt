@@ -1,8 +1,8 @@
 -- What a line's turn comes to, once its body is read: refused where there is none, and else what the line does to the
 -- draft, as `takeLine` says for the lines of a task.
 use Prim.Native.Nat.{ℕ, suc}
-use mathlib.Core.Path.{_≡_, refl, sym, _∙_, ap}
-use mathlib.Core.Bool.{Bool, true, false}
+use mathlib.Core.Path.{_≡_, refl, _∙_, ap}
+use mathlib.Core.Bool.{Bool, false}
 use mathlib.Core.List.{List, [], _∷_}
 use mathlib.Core.Option.{Option, none, some}
 use Rattle.task.specs.Task.{Task}

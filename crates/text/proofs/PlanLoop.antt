@@ -9,21 +9,20 @@ use mathlib.Core.Logic.{_⊎_, inl, inr}
 use native.Mathlib.Omega.{arith}
 use lib.ListN.{length, getD, length-append, drop-of-length-le}
 use lib.Seq.{drop-cons}
-use lib.Dec.{eqb, ltb}
 use borrow.Author.Tests.{lt-ltb, le-ltb, eq-eqb, ne-eqb}
 use Rattle.task.specs.Lists.{all, concatMap, over}
 use Rattle.task.specs.Task.{Task, wellFormed}
 use Rattle.task.specs.Run.{Step, isStep, stepWords}
-use Rattle.task.proofs.Laws.{In, here, there}
+use Rattle.task.proofs.Laws.{here, there}
 use Rattle.text.specs.declared.cursor.Cursor.{Cursor}
 use Rattle.text.specs.declared.plan.PlanTurn.{PlanTurn}
 use Rattle.text.specs.declared.plan.PlanTurn.the-variants as turn
-use Rattle.text.specs.Lines.{bytes, Taken, after, number, entry, ended}
+use Rattle.text.specs.Lines.{Taken, after, number, entry, ended}
 use Rattle.text.specs.Reading.{goOn, finish, refuse, Reading, read, refusedAt, atEnd, lineAt, readLines}
 use Rattle.text.specs.Plan.{PlanKey, step, end, planKeyName, PlanLine, stepLine, endLine, readPlanBody, takePlanLine}
 use Rattle.text.specs.Plan.{nextPlanLine, readPlan}
 use Rattle.text.specs.ReadCode.{rest, Placed, startCursor, Moved, WordHere, Wrote}
-use Rattle.text.specs.PlanCode.{stepOf, planAnswer, PlanRefuses, PlanFinishes, PlanGoesOn, PlanTurned}
+use Rattle.text.specs.PlanCode.{stepOf, PlanRefuses, PlanFinishes, PlanGoesOn, PlanTurned}
 use Rattle.text.proofs.Taken.{after-read}
 use Rattle.text.proofs.Lines.{keyed, clash, after-clash}
 use Rattle.text.proofs.Reading.{need-met, refused-read}

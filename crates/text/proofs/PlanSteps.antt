@@ -7,7 +7,7 @@ use mathlib.Core.List.{List, [], _∷_, _++_, append-nil}
 use mathlib.Core.Option.{none}
 use native.Mathlib.Omega.{arith}
 use native.Mathlib.Decide.{decLt}
-use lib.ListN.{length, getD, take, set, replicate, length-append, length-set, getD-replicate, List·getD-append}
+use lib.ListN.{length, getD, take, set, replicate, length-set, getD-replicate, List·getD-append}
 use lib.Seq.{getD-append-add, getD-take, length-take-le, getD-set-same, getD-set-other}
 use lib.Dec.{eqb, ltb}
 use borrow.Author.Tests.{leb-true, le-ltb, lt-ltb, eq-eqb, ne-eqb}
@@ -15,7 +15,7 @@ use Rattle.task.specs.Lists.{all, concatMap, over, padded}
 use Rattle.task.specs.Task.{Task, wellFormed}
 use Rattle.task.specs.Table.{taskOf, isTable}
 use Rattle.task.specs.Run.{Step, schemaAt, isStep, stepWords, paramCount, stepsIn, badStep}
-use Rattle.task.proofs.Laws.{In, in-getD, all-in, append-concatMap}
+use Rattle.task.proofs.Laws.{in-getD, all-in, append-concatMap}
 use Rattle.task.proofs.Tests.{task-tests}
 use Rattle.task.proofs.Tables.{of-table}
 use Rattle.task.proofs.TablesByIndex.{table-frame, objects-word}

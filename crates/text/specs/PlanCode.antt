@@ -17,7 +17,7 @@ use Rattle.text.specs.declared.plan.PlanTurn.the-variants as turn
 use Rattle.text.specs.Lines.{Taken, colon, newline, digits, commaed}
 use Rattle.text.specs.Lines.{bytes, equals}
 use Rattle.text.specs.Reading.{Reading, read, refusedAt, atEnd, lineAt}
-use Rattle.text.specs.Plan.{PlanLine, PlanKey, step, planKeyName, takePlanLine}
+use Rattle.text.specs.Plan.{PlanLine, step, planKeyName, takePlanLine}
 use Rattle.text.specs.Code.{spaced}
 use Rattle.text.specs.ReadCode.{rest, Wrote, NextLine}
 

@@ -1,9 +1,7 @@
 -- `text::plan::is_step` meets its contract: schema, number of objects and objects are tested one after another, and each
 -- test that fails makes it no step.
-use Prim.Native.Nat.{ℕ}
-use mathlib.Core.Path.{_≡_, sym, _∙_}
+use mathlib.Core.Path.{sym, _∙_}
 use native.Mathlib.Omega.{arith}
-use lib.ListN.{length}
 use Rattle.task.specs.Table.{taskOf}
 use Rattle.task.proofs.Tables.{of-table}
 use Rattle.task.proofs.TablesByIndex.{table-frame, schemas-word}

@@ -1,7 +1,5 @@
 -- `text::plan::last_line` meets its contract: the turn is what the line's number does, once it is read.
-use Prim.Native.Nat.{ℕ}
 use mathlib.Core.Path.{refl, subst}
-use native.Mathlib.Omega.{arith}
 use borrow.Author.Needs.{needs}
 use Rattle.text.specs.Plan.{endLine, takePlanLine}
 use Rattle.text.specs.ReadCode.{NumberLineAt}

@@ -1,12 +1,11 @@
 -- `text::plan::plan_line` meets its contract: the key at the cursor says whose body the line is; where there is none the
 -- line is refused.
-use Prim.Native.Nat.{ℕ, _<_}
-use mathlib.Core.Path.{_≡_, refl, subst}
+use mathlib.Core.Path.{subst}
 use native.Mathlib.Omega.{arith}
 use Rattle.task.specs.Table.{taskOf}
 use Rattle.text.specs.Lines.{bytes}
 use Rattle.text.specs.Plan.{planKeyName, takePlanLine}
-use Rattle.text.specs.ReadCode.{rest, WordAt}
+use Rattle.text.specs.ReadCode.{WordAt}
 use Rattle.text.proofs.WholeLines.{word-placed}
 use Rattle.text.proofs.LineTurns.{no-line-refused}
 use Rattle.text.proofs.PlanLoop.{next-step, next-end, next-none, word-moved, plan-turned-at}

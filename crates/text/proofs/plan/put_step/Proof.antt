@@ -1,8 +1,7 @@
 -- `text::plan::put_step` meets its contract: the schema is stored, the objects are put behind it, and zeros behind them.
-use Prim.Native.Nat.{ℕ, _+_, _-_, _≤_, _<_}
-use mathlib.Core.Path.{_≡_, _∙_}
+use mathlib.Core.Path.{_∙_}
 use native.Mathlib.Omega.{arith}
-use lib.ListN.{length, length-set}
+use lib.ListN.{length-set}
 use Rattle.text.proofs.PlanSteps.{step-put}
 use borrow.Author.Needs.{needs}
 use Rattle.text.proofs.plan.put_step.Statement.{statement}

@@ -1,7 +1,7 @@
 -- `text::plan::read_plan` meets its contract. The loop's invariant, `PlanSoFar`: reading the whole text is reading on
 -- from the cursor with the steps read so far, whose words lie over the front of the lent ones. A line that is refused and
 -- one that ends reading give the answer; another adds a step. The measure is what is left of the text.
-use Prim.Native.Nat.{ℕ, _+_, _-_, _≤_, _<_}
+use Prim.Native.Nat.{_-_}
 use mathlib.Core.Path.{_≡_, sym, _∙_, ap, subst}
 use native.Mathlib.Omega.{arith}
 use lib.ListN.{length}

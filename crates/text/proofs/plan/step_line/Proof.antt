@@ -1,16 +1,12 @@
 -- `text::plan::step_line` meets its contract: a line that is read is tried by the number of steps, then by its own, and
 -- each refusal is what the line does; a step that passes has its words put behind those of the others.
-use Prim.Native.Nat.{ℕ, _*_}
-use mathlib.Core.Path.{_≡_, sym, _∙_, ap, subst}
-use mathlib.Core.Bool.{true}
-use mathlib.Core.List.{List}
+use mathlib.Core.Path.{_≡_, sym, _∙_, subst}
 use native.Mathlib.Omega.{arith}
-use lib.ListN.{length, getD}
+use lib.ListN.{length}
 use borrow.Author.Tests.{not-true, not-false}
 use Rattle.task.specs.Table.{taskOf}
-use Rattle.task.specs.Run.{isStep, stepWords}
 use Rattle.text.specs.Plan.{stepLine, takePlanLine}
-use Rattle.text.specs.ReadCode.{EntryLineAt, Wrote}
+use Rattle.text.specs.ReadCode.{EntryLineAt}
 use Rattle.text.specs.PlanCode.{stepOf}
 use Rattle.text.proofs.RowTests.{listed-take}
 use Rattle.text.proofs.LineTurns.{no-turn, turn-refused, turn-goes-on}

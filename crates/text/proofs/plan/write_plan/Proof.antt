@@ -1,8 +1,8 @@
 -- `text::plan::write_plan` meets its contract. The invariant of its loop: what is still to come is the lines from step i
 -- on and `end=1`. The measure is the number of steps less i.
 use native.Mathlib.Omega.{arith}
-use Prim.Native.Nat.{ℕ, _+_, _-_, _*_, _/_, _≤_, _<_}
-use mathlib.Core.Path.{_≡_, sym, _∙_, ap}
+use Prim.Native.Nat.{ℕ, _+_, _-_, _*_, _/_, _≤_}
+use mathlib.Core.Path.{_≡_, _∙_, ap}
 use mathlib.Core.List.{List, _++_, append-assoc}
 use lib.ListN.{length, getD}
 use Rattle.task.specs.Table.{taskOf}
