@@ -126,7 +126,7 @@ def planning(task):
     def at(atom, arguments, time):
         return term(f"p{atom.predicate}", *arguments, *([time] if atom.predicate in changing else []))
 
-    lines = ["#const horizon = 1.", "time(1..horizon).", f"object(0..{task.objects - 1})."]
+    lines = ["#const horizon = 1.", "#show.", "time(1..horizon).", f"object(0..{task.objects - 1})."]
     lines += [at(atom, atom.arguments, 0) + "." for atom in task.init]
     steps = []
     for number, schema in enumerate(task.schemas):
