@@ -19,9 +19,7 @@ uint32_t reference_unfold(const uint16_t *, size_t, const uint16_t *, size_t, ui
 uint32_t reference_fold(const uint16_t *, size_t, const uint16_t *, size_t, uint16_t *, size_t, uint64_t *, uint64_t *,
                         uint64_t *);
 
-/* Calls that have landed after the others are fed where the archive has them. */
-uint32_t splitter_unfold(const uint16_t *, size_t, const uint16_t *, size_t, uint16_t *, size_t, uint64_t *,
-                         uint64_t *) __attribute__((weak));
+/* Folding is fed where the archive has it. */
 uint32_t splitter_fold(const uint16_t *, size_t, const uint16_t *, size_t, uint16_t *, size_t, uint64_t *, uint64_t *,
                        uint64_t *) __attribute__((weak));
 
@@ -272,8 +270,7 @@ int LLVMFuzzerTestOneInput(const uint8_t *data, size_t size) {
         run_from(&in);
         break;
     case UNFOLD:
-        if (splitter_unfold != NULL)
-            unfold_steps(&in);
+        unfold_steps(&in);
         break;
     default:
         if (splitter_fold != NULL)
