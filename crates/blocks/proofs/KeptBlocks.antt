@@ -67,7 +67,7 @@ members-are set m n p l h =
 
 -- ---- a step read
 -- its schema is known
-schema-known : (t : Task) (steps : List ℕ) → badStep t steps ≡ none → (i : ℕ) → i < length steps / 13 →
+pub schema-known : (t : Task) (steps : List ℕ) → badStep t steps ≡ none → (i : ℕ) → i < length steps / 13 →
     (13 * i + 13 ≤ length steps) × (getD steps (13 * i) 0 < length (t .schemas))
 unfolding stepAt stepIn
 schema-known t steps good i l =
