@@ -93,8 +93,8 @@ module _ {w : List ℕ} {sizes : Sizes} {starts counts order own : List ℕ}
         long = K .long;
         table = K .table;
         accepted = K .accepted;
-        blocks = blocks-kept t well (K .accepted) firsts counts own long (A .counts-long) (A .own-long) h (K .kept .count)
-            (λ s j x l m. K .kept .params s j x l m
+        blocks = blocks-kept t well (K .accepted) firsts counts own long (A .counts-long) (A .own-long) h
+            (K .kept .count) (λ s j x l m. K .kept .params s j x l m
             ∙ params-are t (wellFormed-is t well) s l x (getD (orders t s) j 0));
       }
 

@@ -1,5 +1,5 @@
--- What splitting finds, the first check of acceptance that fails by what is found, and what splitting does then: refusals
--- 1, 2, 9 and 10 leave all as found.
+-- What splitting finds, the first check of acceptance that fails by what is found, and what splitting does then:
+-- refusals 1, 2, 9 and 10 leave all as found.
 use Prim.Native.Nat.{ℕ}
 use mathlib.Core.Path.{_≡_, refl, _∙_, ap, subst}
 use mathlib.Core.Bool.{Bool, true, false, cond, _&&_}

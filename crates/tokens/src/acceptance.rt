@@ -1,5 +1,5 @@
-// Whether a table's split is accepted: "a split is accepted when splitting gives it as its result". Splitting begins so,
-// and unfolding and folding "first refuse as splitting would, 9 and 10 included".
+// Whether a table's split is accepted: "a split is accepted when splitting gives it as its result". Splitting begins
+// so, and unfolding and folding "first refuse as splitting would, 9 and 10 included".
 ghost use Rattle.tokens.specs.Code.{AreKept, AcceptanceTold};
 use crate::measure;
 use crate::measure::Sizes;

@@ -5,6 +5,7 @@ pub mod beside;
 pub mod reading;
 pub mod running;
 pub mod splitting;
+pub mod unfolding;
 pub mod writing;
 
 /// What a number lent to be written holds before the call.

@@ -1,5 +1,5 @@
--- `tokens::split` meets its contract: words too few for the split are refused first, then what acceptance refuses; a split
--- that is accepted is written.
+-- `tokens::split` meets its contract: words too few for the split are refused first, then what acceptance refuses; a
+-- split that is accepted is written.
 use mathlib.Core.Path.{_≡_, refl, sym, _∙_, ap}
 use mathlib.Core.Bool.{true}
 use borrow.Author.Needs.{needs}

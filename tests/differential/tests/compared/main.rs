@@ -4,6 +4,7 @@
 mod reading;
 mod running;
 mod splitting;
+mod unfolding;
 mod writing;
 
 const HEADER: &str = include_str!("../../../../include/splitter.h");

@@ -1,5 +1,5 @@
--- `blocks::keeping::keep_blocks` meets its contract: what acceptance refuses is refused, and of a split that is accepted the
--- part counts and parameters are kept already, to which the first parts join.
+-- `blocks::keeping::keep_blocks` meets its contract: what acceptance refuses is refused, and of a split that is accepted
+-- the part counts and parameters are kept already, to which the first parts join.
 use mathlib.Core.Path.{refl}
 use borrow.Author.Needs.{needs}
 use Rattle.tokens.specs.Code.{AcceptedKept}

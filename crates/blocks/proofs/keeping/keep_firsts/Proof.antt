@@ -1,5 +1,5 @@
--- `blocks::keeping::keep_firsts` meets its contract. The invariant: the first parts of the first s schemas are kept, and of
--- what comes behind them, which `first` is. The measure is the schemas left.
+-- `blocks::keeping::keep_firsts` meets its contract. The invariant: the first parts of the first s schemas are kept, and
+-- of what comes behind them, which `first` is. The measure is the schemas left.
 use Prim.Native.Nat.{ℕ, _+_, _-_, _≤_, _<_}
 use mathlib.Core.Path.{_≡_, subst}
 use native.Mathlib.Omega.{arith}
@@ -33,7 +33,10 @@ task l = taskOf (start l .args .table .now)
 
 -- the number of schemas is the table's word
 schemas-are : (l : Loop) → length (task l .schemas) ≡ getD (start l .args .table .now) 2 0
-schemas-are l = let w = start l .args .table .now in let e = schemas-word w (table-frame w (start l .pre .0)) in omega arith
+schemas-are l =
+    let w = start l .args .table .now in
+    let e = schemas-word w (table-frame w (start l .pre .0)) in
+    omega arith
 
 few-schemas : (l : Loop) → getD (start l .args .table .now) 2 0 ≤ 200
 few-schemas l = let e = schemas-are l in let f = start l .pre .1 .0 .few-schemas in omega arith

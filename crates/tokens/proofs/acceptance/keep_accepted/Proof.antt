@@ -1,5 +1,5 @@
--- `tokens::acceptance::keep_accepted` meets its contract: each check that fails is the first of those of acceptance; what is
--- kept of the parts says whether one is circular, the sizes whether a limit is passed, and where neither is, all pass.
+-- `tokens::acceptance::keep_accepted` meets its contract: each check that fails is the first of those of acceptance; what
+-- is kept of the parts says whether one is circular, the sizes whether a limit is passed, and where neither is, all pass.
 use Prim.Native.Nat.{ℕ}
 use mathlib.Core.Path.{_≡_, sym, _∙_, ap}
 use mathlib.Core.Bool.{true}
@@ -9,6 +9,7 @@ use lib.ListN.{length}
 use borrow.Author.Needs.{needs}
 use borrow.Author.Tests.{not-true, not-false}
 use Rattle.task.specs.Lists.{first, upTo}
+use Rattle.task.specs.Task.{Task}
 use Rattle.task.specs.Table.{taskOf, longEnough, isTable}
 use Rattle.task.proofs.LongEnough.{too-short, long-enough, has-table-words}
 use Rattle.tokens.specs.Split.{isNone, orderAt}
@@ -41,14 +42,16 @@ words k = start (tested k) .args .table .now
 abbrev keeper : tie.After-enum-told → tie.After-keep-parts
 keeper d = d .before .before
 
+abbrev task : tie.After-enum-told → Task
+task d = taskOf (words (keeper d))
+
 none-circular : (d : tie.After-enum-told) →
-    first (λ s. isNone (orderAt (taskOf (words (keeper d))) s)) (upTo (length (taskOf (words (keeper d)) .schemas))) ≡ none
+    first (λ s. isNone (orderAt (task d) s)) (upTo (length (task d .schemas))) ≡ none
 unfolding circularTold
 none-circular d = sym (keeper d .keep-parts .ensures .1 .0) ∙ ap circularTold (d .enum-told .given .1)
 
 kept : (d : tie.After-enum-told) → let l = keeper d .keep-parts .last in
-    PartsKept (taskOf (words (keeper d))) (length (taskOf (words (keeper d)) .schemas)) (l .1 .0) (l .1 .1 .0) (l .1 .1 .1 .0)
-    (l .1 .1 .1 .1 .0)
+    PartsKept (task d) (length (task d .schemas)) (l .1 .0) (l .1 .1 .0) (l .1 .1 .1 .0) (l .1 .1 .1 .1 .0)
 unfolding circularTold
 kept d = keeper d .keep-parts .ensures .1 .1 (ap circularTold (d .enum-told .given .1))
 
@@ -85,7 +88,8 @@ returns-3 c =
     let k = c .before .before .before in
     let e = tested k in
     let s = sym (k .keep-parts .ensures .1 .0) ∙ ap circularTold (c .before .circular .given .1) in
-    (k .keep-parts .ensures .0, refused-nine (words k) (long (e .before .before)) (table e) (found-circular (taskOf (words k)) s))
+    let circular = found-circular (taskOf (words k)) s in
+    (k .keep-parts .ensures .0, refused-nine (words k) (long (e .before .before)) (table e) circular)
 
 enum-told : tie.Need-enum-told
 enum-told c = search needs
