@@ -35,6 +35,17 @@ after-one n x (folded xs) =
     let e : n + suc (length xs) ≡ n + 1 + length xs = omega arith in ap (λ (n : ℕ). taken.Whole n) e
 after-one n x (misfit i) = refl
 
+-- and back: what is taken apart tells what the list folds to
+pub taken-is-whole : (f : Folding) (n : ℕ) → takenOf f ≡ taken.Whole n → (xs : List Step) × (f ≡ folded xs) × (n ≡ length xs)
+unfolding takenOf
+taken-is-whole (folded xs) n e = (xs, refl, cc)
+taken-is-whole (misfit i) n e = absurd (let z : _≡_ {A = ℕ} 0 1 = cc in omega arith)
+
+pub taken-is-misfit : (f : Folding) (i : ℕ) → takenOf f ≡ taken.Misfit i → f ≡ misfit i
+unfolding takenOf
+taken-is-misfit (folded xs) i e = absurd (let z : _≡_ {A = ℕ} 0 1 = cc in omega arith)
+taken-is-misfit (misfit k) i e = cc
+
 -- a list that folds behind a step folds to that step and more
 pub prepended : (x : Step) (f : Folding) (xs : List Step) → prepend x f ≡ folded xs →
     (ys : List Step) × (f ≡ folded ys) × (xs ≡ x ∷ ys)

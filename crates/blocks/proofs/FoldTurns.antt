@@ -27,7 +27,7 @@ use Rattle.blocks.proofs.FoldMoves.{noneBound, block-begins, block-none
 use Rattle.blocks.proofs.FoldWords.{begun-none, begun-some, step-next, step-none, fits-kept, params-below}
 use Rattle.blocks.proofs.FoldWords.{GoesOn, goes-on, begun-is}
 
-bind-size : (b : Bound) (ps os : List ℕ) → length (bind b ps os) ≡ length b
+pub bind-size : (b : Bound) (ps os : List ℕ) → length (bind b ps os) ≡ length b
 unfolding bind
 bind-size b [] [] = refl
 bind-size b [] (o ∷ os) = refl

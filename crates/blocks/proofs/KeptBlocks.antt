@@ -112,6 +112,12 @@ sum-is {t} {steps} {counts} K =
     map-twice f g [] = refl
     map-twice f g (x ∷ xs) = ap {B = List ℕ} (λ ys. f (g x) ∷ ys) (map-twice f g xs)
 
+-- 13 words a step: refusal 13 by the number of steps, as 13 times that number may pass what a machine counts
+pub by-thirteen : (k n m : ℕ) → n ≡ 13 * k → leb n m ≡ leb k (m / 13)
+by-thirteen k n m e = bool-ext (leb n m) (leb k (m / 13))
+    (λ h. le-leb k (m / 13) (let q = leb-true n m h in omega arith))
+    (λ h. le-leb n m (let q = leb-true k (m / 13) h in omega arith))
+
 module _ {t : Task} {steps firsts counts own : List ℕ} (K : StepsKept t steps firsts counts own) where
   pub counted-kept : StepsCounted t steps counts
   counted-kept = record { kept = K .kept .counted; good = K .good }
@@ -168,7 +174,7 @@ module _ {t : Task} {steps firsts counts own : List ℕ} (K : StepsKept t steps 
       same [] h = refl
       same (i ∷ ks) h = ap₂ (λ (a b : List Step). a ++ b) (h i (here refl)) (same ks (λ j k. h j (there k)))
 
-  -- refusal 13 by the number of steps, as 13 times that number may pass what a machine counts
+  -- refusal 13 by the number of steps
   pub room-for : (lent : List ℕ) →
       fitsIn (listWords (unfoldSteps t (stepsIn t steps))) lent ≡
       leb (length (unfoldSteps t (stepsIn t steps))) (length lent / 13)
@@ -180,8 +186,3 @@ module _ {t : Task} {steps firsts counts own : List ℕ} (K : StepsKept t steps 
       let b = sum-is counted-kept in
       by-thirteen (length (unfoldSteps t (stepsIn t steps))) (length (listWords (unfoldSteps t (stepsIn t steps))))
       (length lent) (omega arith)
-    where
-      by-thirteen : (k n m : ℕ) → n ≡ 13 * k → leb n m ≡ leb k (m / 13)
-      by-thirteen k n m e = bool-ext (leb n m) (leb k (m / 13))
-          (λ h. le-leb k (m / 13) (let q = leb-true n m h in omega arith))
-          (λ h. le-leb n m (let q = leb-true k (m / 13) h in omega arith))

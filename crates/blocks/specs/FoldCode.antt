@@ -10,10 +10,10 @@ use lib.Dec.{eqb, leb}
 use Rattle.task.specs.Lists.{upTo}
 use Rattle.task.specs.Limits.{mostParameters, stepSize}
 use Rattle.task.specs.Task.{Task}
-use Rattle.task.specs.Table.{wordsAt}
+use Rattle.task.specs.Table.{wordsAt, taskOf, longEnough, isTable}
 use Rattle.task.specs.Run.{badStep}
 use Rattle.arcs.specs.Code.{member, members}
-use Rattle.tokens.specs.Split.{splitTask}
+use Rattle.tokens.specs.Split.{splitTask, splitAs, split}
 use Rattle.blocks.specs.declared.folding.Taken.{Taken}
 use Rattle.blocks.specs.declared.folding.Taken.the-variants as taken
 use Rattle.blocks.specs.Blocks.{firstOf, Bound, orZero, fits, beginner, Folding, folded, misfit}
@@ -29,6 +29,12 @@ begunWord (some s) = s + 1
 pub record BeginsKept (t : Task) (begins : List ℕ) : Type 0 where
   pub word : (k : ℕ) → k < firstOf t (length (t .schemas)) →
       getD begins k 0 ≡ begunWord (beginner t k (upTo (length (t .schemas))))
+
+-- ---- a table whose split is accepted
+pub record TableAccepted (w : List ℕ) : Type 0 where
+  pub long : longEnough w ≡ true
+  pub table : isTable w ≡ true
+  pub accepted : split (taskOf w) ≡ splitAs (splitTask (taskOf w))
 
 -- ---- a list of split steps, judged by 12 against the split, with what is kept of the task's parts
 pub record SplitStepsKept (t : Task) (steps firsts counts own begins : List ℕ) : Type 0 where

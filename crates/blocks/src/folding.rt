@@ -1,18 +1,21 @@
 // Folding: a list of split steps is taken apart into whole blocks; it looks at schemas and objects, not at states.
 ghost use Prim.Native.Nat.{ℕ, _+_, _*_, _≤_, _<_};
 ghost use mathlib.Core.Path.{_≡_};
+ghost use mathlib.Core.Bool.{true};
 ghost use mathlib.Core.List.{List, _∷_};
 ghost use mathlib.Core.Option.{none};
 ghost use lib.ListN.{length, getD};
 ghost use Rattle.task.specs.Lists.{over, put};
 ghost use Rattle.task.specs.Limits.{mostParameters, mostParts, mostSchemas, stepSize};
 ghost use Rattle.task.specs.Task.{Task};
-ghost use Rattle.task.specs.Run.{Step, stepsIn};
+ghost use Rattle.task.specs.Table.{taskOf, isTable};
+ghost use Rattle.task.specs.Run.{Step, badStep, badStepFound, stepsIn};
 ghost use Rattle.arcs.specs.Code.{SetBelow, members};
 ghost use Rattle.tokens.specs.Split.{splitTask};
-ghost use Rattle.blocks.specs.Blocks.{Bound, agrees, bind, fits, foldSteps, foldedSteps, folded, listWords};
+ghost use Rattle.blocks.specs.Blocks.{Bound, agrees, bind, fits, foldSteps, folded, listWords};
 ghost use Rattle.blocks.specs.Code.{BlocksKept};
-ghost use Rattle.blocks.specs.FoldCode.{BeginsKept, SplitStepsKept, Held, givenObjects, keptFits, takenOf};
+ghost use Rattle.blocks.specs.FoldCode.{BeginsKept, TableAccepted, SplitStepsKept};
+ghost use Rattle.blocks.specs.FoldCode.{Held, givenObjects, keptFits, takenOf};
 use crate::Counts;
 use crate::Firsts;
 use crate::Owns;
@@ -20,8 +23,12 @@ use crate::unfolding::MOST_PARAMETERS;
 use crate::unfolding::STEP_SIZE;
 use arcs::MOST_PARTS;
 use arcs::sets;
+use task::BadStep;
 use task::Object;
 use task::Parameter;
+use task::limits::TABLE_WORDS;
+use task::steps::bad_step;
+use tokens::SplitAnswer;
 
 // For each schema of the split, of which there are at most 200: which schema's block it begins, by that one's number
 // and one; 0 for none.
@@ -35,6 +42,14 @@ type Found = [u16; MOST_PARAMETERS];
 pub enum Taken {
     Whole(u64),
     Misfit(u64),
+}
+
+// How many schemas a table has.
+pub fn schemas_of(table: &[u16]) -> usize
+    requires { ⌜ isTable (now table) ≡ true ⌝ }
+    ensures { λ r. ⌜ r ≡ length (taskOf (now (table .entry)) .schemas) ⌝ }
+{
+    table[2] as usize
 }
 
 // Which schema's block each schema of the split begins.
@@ -82,6 +97,18 @@ fn own_of(own: &Owns, s: usize, j: usize) -> u16
     ensures { λ r. ⌜ r ≡ getD (now (own .entry)) (16 * s + j) 0 ⌝ }
 {
     own[MOST_PARTS * s + j]
+}
+
+// "folding's list is judged by 12 against the split task": the first bad step, of a table whose split is accepted.
+pub fn bad_split_step(table: &[u16], steps: &[u16]) -> BadStep
+    requires { ⌜ TableAccepted (now table) ⌝ }
+    ensures { λ r. ⌜ badStepFound r ≡ badStep (splitTask (taskOf (now (table .entry)))) (now (steps .entry)) ⌝ }
+{
+    let mut words = [0u16; TABLE_WORDS];
+    match tokens::split(table, &mut words) {
+        SplitAnswer::Split => bad_step(&words, steps),
+        SplitAnswer::Refused(_, _) => BadStep::Nowhere,
+    }
 }
 
 // Whether an object agrees with what was found for its parameter.
