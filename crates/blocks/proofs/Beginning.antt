@@ -1,6 +1,6 @@
--- Which schema's block a split step begins: as the schemas' first parts are noted one after another, each has a number of
--- its own.
-use Prim.Native.Nat.{ℕ, suc, _+_, _≤_, _<_}
+-- Which schema's block a split step begins: as the schemas' first parts are noted one after another, each has a number
+-- of its own.
+use Prim.Native.Nat.{ℕ, suc, _+_, _<_}
 use mathlib.Core.Path.{_≡_, refl, sym, _∙_, ap}
 use mathlib.Core.Bool.{Bool, false, cond}
 use mathlib.Core.List.{List, [], _∷_, _++_}
@@ -14,7 +14,7 @@ use lib.Dec.{eqb}
 use borrow.Author.Tests.{ne-eqb}
 use Rattle.task.specs.Lists.{upTo, upFrom}
 use Rattle.task.specs.Task.{Task}
-use Rattle.task.proofs.Laws.{In, in-upTo, upTo-in, upTo-suc}
+use Rattle.task.proofs.Laws.{in-upTo, upTo-in, upTo-suc}
 use Rattle.blocks.specs.Blocks.{firstOf, beginner}
 use Rattle.blocks.specs.Code.{BlocksKept}
 use Rattle.blocks.specs.FoldCode.{begunWord}

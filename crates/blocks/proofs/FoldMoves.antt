@@ -36,7 +36,8 @@ after-one n x (folded xs) =
 after-one n x (misfit i) = refl
 
 -- and back: what is taken apart tells what the list folds to
-pub taken-is-whole : (f : Folding) (n : ℕ) → takenOf f ≡ taken.Whole n → (xs : List Step) × (f ≡ folded xs) × (n ≡ length xs)
+pub taken-is-whole : (f : Folding) (n : ℕ) → takenOf f ≡ taken.Whole n →
+    (xs : List Step) × (f ≡ folded xs) × (n ≡ length xs)
 unfolding takenOf
 taken-is-whole (folded xs) n e = (xs, refl, cc)
 taken-is-whole (misfit i) n e = absurd (let z : _≡_ {A = ℕ} 0 1 = cc in omega arith)

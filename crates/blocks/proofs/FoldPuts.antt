@@ -1,16 +1,16 @@
 -- The steps of a list that folds, as code puts them: one more at the end of each block.
 use Prim.Native.Nat.{ℕ, _+_, _*_, _/_, _≤_, _<_}
-use mathlib.Core.Path.{_≡_, refl, sym, _∙_, ap, subst}
+use mathlib.Core.Path.{_≡_, refl, sym, _∙_, ap}
 use mathlib.Core.List.{List, [], _∷_, _++_, append-nil, append-assoc}
 use native.Mathlib.Omega.{arith}
 use lib.ListN.{length, length-append}
 use Rattle.task.specs.Lists.{over, put, concatMap}
 use Rattle.task.specs.Task.{Task}
-use Rattle.task.specs.Run.{Step, stepWords, stepsIn, schemaAt, paramCount}
+use Rattle.task.specs.Run.{Step, stepWords, stepsIn, paramCount}
 use Rattle.task.proofs.Put.{put-over}
 use Rattle.tokens.specs.Split.{orders, splitTask}
-use Rattle.blocks.specs.Blocks.{Folding, folded, inside, completed, foldFrom, outside, foldSteps, listWords}
-use Rattle.blocks.specs.FoldCode.{SplitStepsKept, Held}
+use Rattle.blocks.specs.Blocks.{folded, inside, completed, foldFrom, outside, foldSteps, listWords}
+use Rattle.blocks.specs.FoldCode.{SplitStepsKept}
 use Rattle.blocks.proofs.KeptWords.{PutTo, put-none, put-more}
 use Rattle.blocks.proofs.KeptLists.{words-none, words-append}
 use Rattle.blocks.proofs.Holding.{held-words}
@@ -74,7 +74,8 @@ module _ {t : Task} {steps firsts counts own begins : List ℕ}
         let (ys, a, b) = more in
         let size = k .held .size in
         let q = put-more (h .put-to) (s ∷ found) (listWords (h .done ++ (step ∷ [])))
-        (words-append (h .done) (step ∷ []) ∙ ap (λ (ws : List ℕ). listWords (h .done) ++ ws) (words-one step ∙ sym words)) in
+        (words-append (h .done) (step ∷ [])
+        ∙ ap (λ (ws : List ℕ). listWords (h .done) ++ ws) (words-one step ∙ sym words)) in
         let n = length-append (h .done) (step ∷ []) in
         let p = h .place in
         record {

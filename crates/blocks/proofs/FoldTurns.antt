@@ -1,5 +1,5 @@
--- The turns of folding's loops. Between blocks, and in a block before each of its parts, what the whole list folds to is
--- known from what is left of it; a claim F of that is carried from turn to turn.
+-- The turns of folding's loops. Between blocks, and in a block before each of its parts, what the whole list folds to
+-- is known from what is left of it; a claim F of that is carried from turn to turn.
 use Prim.Native.Nat.{ℕ, suc, _+_, _-_, _*_, _/_, _≤_, _<_}
 use mathlib.Core.Path.{_≡_, refl, sym, _∙_, ap, ap₂, subst}
 use mathlib.Core.Bool.{true, false}
@@ -22,8 +22,9 @@ use Rattle.blocks.specs.Blocks.{completed, foldFrom, foldSteps}
 use Rattle.blocks.specs.FoldCode.{SplitStepsKept, Held, givenObjects, keptFits, takenOf}
 use Rattle.blocks.proofs.Holding.{held-none}
 use Rattle.blocks.proofs.Inside.{beginner-in}
-use Rattle.blocks.proofs.FoldMoves.{no-misfit, fitsNext, foldOn, on-past, on-inside, block-goes-on, block-stops}
-use Rattle.blocks.proofs.FoldMoves.{noneBound, block-begins, block-none, list-ends, takenAfter, after-none, after-one}
+use Rattle.blocks.proofs.FoldMoves.{no-misfit, foldOn, on-past, on-inside, block-goes-on, block-stops}
+use Rattle.blocks.proofs.FoldMoves.{noneBound, block-begins, block-none, list-ends, takenAfter}
+use Rattle.blocks.proofs.FoldMoves.{after-none, after-one}
 use Rattle.blocks.proofs.FoldWords.{begun-none, begun-some, step-next, step-none, fits-kept, params-below}
 use Rattle.blocks.proofs.FoldWords.{GoesOn, goes-on, begun-is}
 

@@ -84,7 +84,8 @@ module _ {t : Task} {steps firsts counts own begins : List ℕ}
 
     pub part-params : members set 12 ≡ paramsAt t s j
     unfolding paramsAt paramsOf paramCount
-    part-params = members-are set (schemaAt t s .params) 12 mine (K .kept .few-params s) (λ x. K .kept .params s j x l m)
+    part-params =
+        members-are set (schemaAt t s .params) 12 mine (K .kept .few-params s) (λ x. K .kept .params s j x l m)
 
     -- the objects that the step at i gives, where it is this part
     part-objects : (i : ℕ) → getD steps (13 * i) 0 ≡ firstOf t s + j →

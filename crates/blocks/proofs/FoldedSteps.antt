@@ -1,6 +1,6 @@
 -- What a list folds to are steps of thirteen words each: what is bound in a block has as many places as its schema has
 -- parameters, at most twelve.
-use Prim.Native.Nat.{ℕ, suc, _*_, _/_, _≤_}
+use Prim.Native.Nat.{ℕ, suc, _/_, _≤_}
 use mathlib.Core.Path.{_≡_, refl, sym, _∙_, ap, subst}
 use mathlib.Core.Bool.{Bool, true, false}
 use mathlib.Core.List.{List, [], _∷_}
@@ -13,7 +13,7 @@ use Rattle.task.specs.Task.{Task}
 use Rattle.task.specs.Run.{Step, schemaAt, stepWords, paramCount}
 use Rattle.task.proofs.Laws.{In, here, there, in-empty}
 use Rattle.task.proofs.StepWords.{Thirteen, length-stepWords, length-steps}
-use Rattle.blocks.specs.Blocks.{orZero, Folding, folded, misfit, prepend, beginner, Stage, outside, inside, begun}
+use Rattle.blocks.specs.Blocks.{orZero, folded, beginner, Stage, outside, inside, begun}
 use Rattle.blocks.specs.Blocks.{stageFor, fitsAt, lastAt, advanced, completed, foldEnd, foldFrom, foldSteps}
 use Rattle.blocks.specs.Blocks.{paramsAt, listWords, fitsIn}
 use Rattle.blocks.proofs.FoldBlock.{fold-off, fold-move, fold-finish}
@@ -60,7 +60,8 @@ module _ (t : Task) (few : (s : ℕ) → paramCount t s ≤ 12) where
       empty : folded [] ≡ folded xs → xs ≡ []
       empty q = cc
   fold-thirteen [] (inside s j b) i xs h e = absurd (no-misfit e refl)
-  fold-thirteen (y ∷ ys) g i xs h e = go (fitsAt t st y) refl (lastAt t st) refl (λ g i xs h e. fold-thirteen ys g i xs h e)
+  fold-thirteen (y ∷ ys) g i xs h e =
+      go (fitsAt t st y) refl (lastAt t st) refl (λ g i xs h e. fold-thirteen ys g i xs h e)
     where
       st : Stage
       st = stageFor t g y

@@ -1,9 +1,9 @@
--- The objects found so far, as folding's code holds them: nothing at first, one more at a time, and at a block's end the
--- words of its step.
+-- The objects found so far, as folding's code holds them: nothing at first, one more at a time, and at a block's end
+-- the words of its step.
 use Prim.Native.Nat.{ℕ, zero, suc, _+_, _-_, _≤_, _<_}
 use mathlib.Core.Path.{_≡_, refl, sym, _∙_, ap}
 use mathlib.Core.Bool.{Bool, true, false, _||_}
-use mathlib.Core.List.{List, [], _∷_, _++_, map}
+use mathlib.Core.List.{List, _∷_, _++_, map}
 use mathlib.Core.Option.{Option, none, some}
 use native.Mathlib.Omega.{arith}
 use native.Mathlib.Decide.{ℕ-discrete, decLt}

@@ -5,7 +5,7 @@ use mathlib.Core.Path.{_≡_, sym, _∙_, ap, subst}
 use mathlib.Core.Bool.{true}
 use mathlib.Core.List.{List, []}
 use native.Mathlib.Omega.{arith}
-use lib.ListN.{length, replicate, length-replicate}
+use lib.ListN.{replicate, length-replicate}
 use Rattle.task.specs.declared.Place.{Place}
 use Rattle.task.specs.Answers.{result, refused, toldNumber, Outcome}
 use Rattle.task.specs.Table.{longEnough}

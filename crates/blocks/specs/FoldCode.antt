@@ -1,6 +1,6 @@
--- What folding's code keeps while it goes over a list of split steps, and what its inner functions promise, by the words
--- that they read. No promise of an entry point cites these.
-use Prim.Native.Nat.{ℕ, _+_, _*_, _<_}
+-- What folding's code keeps while it goes over a list of split steps, and what its inner functions promise, by the
+-- words that they read. No promise of an entry point cites these.
+use Prim.Native.Nat.{ℕ, _+_, _<_}
 use mathlib.Core.Path.{_≡_}
 use mathlib.Core.Bool.{Bool, true, false, _&&_}
 use mathlib.Core.List.{List}

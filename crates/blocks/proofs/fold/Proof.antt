@@ -1,6 +1,6 @@
 -- `blocks::fold` meets its contract: each check that fails is the outcome's first, and where all pass the steps of the
 -- blocks are written, as many as were found.
-use Prim.Native.Nat.{ℕ, _*_, _/_, _≤_}
+use Prim.Native.Nat.{ℕ, _/_, _≤_}
 use mathlib.Core.Path.{_≡_, refl, sym, _∙_, ap, ap₂}
 use mathlib.Core.Bool.{true}
 use mathlib.Core.List.{List, [], _∷_}
@@ -78,7 +78,9 @@ list-kept b =
     record {
       kept = kept d .blocks;
       good = good (checked b);
-      begun = b .begins-of .ensures (taskOf (words d)) (counts d) (owns d) (kept d .blocks) (b .before .schemas-of .ensures);
+      begun =
+          b .begins-of .ensures (taskOf (words d)) (counts d) (owns d) (kept d .blocks)
+          (b .before .schemas-of .ensures);
     }
 
 -- the list is taken apart
@@ -88,7 +90,8 @@ noted p = p .before .before .before .before .before
 abbrev table-of : tie.After-take-apart → tie.After-enum-told
 table-of p = accepted (checked (noted p))
 
-apart : (p : tie.After-take-apart) → p .take-apart .result ≡ takenOf (foldingOf (words (table-of p)) (steps (table-of p)))
+apart : (p : tie.After-take-apart) →
+    p .take-apart .result ≡ takenOf (foldingOf (words (table-of p)) (steps (table-of p)))
 apart p = p .take-apart .ensures (taskOf (words (table-of p))) (list-kept (noted p))
 
 -- wholly
@@ -179,7 +182,8 @@ returns-3 c =
     let d = table-of (parted w) in
     let (xs, f, n) = found w in
     let l = c .if1 .taken in
-    let long = room-folded (taskOf (words d)) (kept d .blocks .few-params) (splitStepsIn (words d) (steps d)) xs f (lent d)
+    let long =
+    room-folded (taskOf (words d)) (kept d .blocks .few-params) (splitStepsIn (words d) (steps d)) xs f (lent d)
     ∙ lt-leb (length xs) (length (lent d) / 13) (omega arith) in
     both (fold-no-room (words d) (steps d) (lent d) (kept d) (good (checked (noted (parted w)))) xs f long)
 
@@ -220,7 +224,8 @@ returns-5 c =
     let m = c .before in
     let p = m .before .before in
     let d = table-of p in
-    let f = taken-is-misfit (foldingOf (words d) (steps d)) (m .taken2 .given .0 .0) (sym (apart p) ∙ m .taken2 .given .1) in
+    let f =
+    taken-is-misfit (foldingOf (words d) (steps d)) (m .taken2 .given .0 .0) (sym (apart p) ∙ m .taken2 .given .1) in
     both (fold-misfit (words d) (steps d) (lent d) (kept d) (good (checked (noted p))) f)
 
 pub fold-spec : {M : Type 1} → statement M

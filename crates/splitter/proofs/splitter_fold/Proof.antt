@@ -1,5 +1,5 @@
--- `splitter::splitter_fold` meets its contract: each case of `fold`'s answer tells what the outcome tells, and the numbers
--- written are read off that.
+-- `splitter::splitter_fold` meets its contract: each case of `fold`'s answer tells what the outcome tells, and the
+-- numbers written are read off that.
 use mathlib.Core.Path.{_≡_, sym, _∙_, ap}
 use borrow.Author.Needs.{needs}
 use Rattle.task.specs.Answers.{Told, toldNumber, toldPlace, toldValue}
@@ -42,7 +42,8 @@ unfolding foldAnswerTold
 returns-2 c =
     let r = c .before .before .before .before .before .before .fold in
     let t = tells (r .ensures .0) (c .before .before .answer2 .given .1) in
-    (ap toldNumber t, (r .ensures .1, (c .place-number .ensures ∙ ap toldPlace t, (ap (toldValue 0) t, ap (toldValue 1) t))))
+    let p = c .place-number .ensures ∙ ap toldPlace t in
+    (ap toldNumber t, (r .ensures .1, (p, (ap (toldValue 0) t, ap (toldValue 1) t))))
 
 pub splitter-fold-spec : {M : Type 1} → statement M
 splitter-fold-spec =

@@ -12,7 +12,8 @@ use borrow.Author.Tests.{not-true, not-false}
 use Rattle.arcs.specs.Code.{members}
 use Rattle.blocks.specs.Blocks.{Bound, agrees, fits}
 use Rattle.blocks.specs.FoldCode.{Held, givenObjects}
-use Rattle.blocks.proofs.PartObjects.{paramsFrom, objectsFrom, params-all, objects-all, fits-in, fits-out, fits-none}
+use Rattle.blocks.proofs.PartObjects.{paramsFrom, objectsFrom, params-all, objects-all, fits-in}
+use Rattle.blocks.proofs.PartObjects.{fits-out, fits-none}
 use Rattle.blocks.proofs.folding.agree.Statement.{statement}
 use Rattle.blocks.proofs.folding.agree.Tie as tie
 
@@ -103,17 +104,22 @@ loop-again c =
     let P : ℕ → Type 0 = Left w (a .at) (a .own) (a .bound) (a .found .now) (p + 1) in (
       omega arith,
       ⊎-elim
-          (λ x. subst P (sym (x .4))
-          (omega arith, λ b h.
-          decides
-          (record { before = record { before = record { before = has; if1 = x .0 }; object-at = x .1 }; agrees-with = x .2 })
-          b h
-          ∙ ap (λ (c : Bool). c && fitsFrom b w (l .loop .next + 1) (a .own) (p + 1))
-          (not-false (x .2 .result) (x .3 .left))))
-          (λ x. subst P (sym (x .1))
-          (omega arith, λ b h.
-          l .loop .inv .1 .1 b h
-          ∙ fits-out w (l .loop .next) (a .own) p (turn .loop-test .taken) (sym (has .has .ensures) ∙ x .0 .left) b))
+          (λ x. subst P (sym (x .4)) (
+            omega arith,
+            λ b h.
+                let read : tie.After-object-at Inv-loop μ-loop =
+                record { before = record { before = has; if1 = x .0 }; object-at = x .1 } in
+                decides (record { before = read; agrees-with = x .2 }) b h
+                ∙ ap (λ (c : Bool). c && fitsFrom b w (l .loop .next + 1) (a .own) (p + 1))
+                (not-false (x .2 .result) (x .3 .left)),
+          ))
+          (λ x. subst P (sym (x .1)) (
+            omega arith,
+            λ b h.
+                l .loop .inv .1 .1 b h
+                ∙ fits-out w (l .loop .next) (a .own) p (turn .loop-test .taken)
+                (sym (has .has .ensures) ∙ x .0 .left) b,
+          ))
           (c .if1 .came),
     )
 

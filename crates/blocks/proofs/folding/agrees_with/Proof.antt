@@ -1,6 +1,6 @@
--- `blocks::folding::agrees_with` meets its contract: an object agrees where none is found for its parameter, or that one.
+-- `blocks::folding::agrees_with` meets its contract: an object agrees where none is found for its parameter, or that
+-- one.
 use mathlib.Core.Path.{sym, _∙_}
-use native.Mathlib.Omega.{arith}
 use borrow.Author.Needs.{needs}
 use borrow.Author.Tests.{not-true, not-false}
 use Rattle.blocks.proofs.Holding.{agrees-new, agrees-known}

@@ -1,5 +1,5 @@
 -- `blocks::folding::bad_split_step` meets its contract: the split is given, and what is written is its table.
-use mathlib.Core.Path.{_≡_, sym, _∙_, ap}
+use mathlib.Core.Path.{sym, _∙_, ap}
 use borrow.Author.Needs.{needs}
 use Rattle.task.specs.Task.{Task}
 use Rattle.task.specs.Table.{taskOf}

@@ -1,5 +1,5 @@
--- `blocks::folding::begins_of` meets its contract. The invariant: the first parts of the schemas before s are noted. The
--- measure is the schemas left.
+-- `blocks::folding::begins_of` meets its contract. The invariant: the first parts of the schemas before s are noted.
+-- The measure is the schemas left.
 use Prim.Native.Nat.{ℕ, _+_, _-_, _≤_, _<_}
 use mathlib.Core.Path.{_≡_, refl, sym, _∙_, ap}
 use mathlib.Core.List.{List}

@@ -1,17 +1,18 @@
--- `blocks::folding::join` meets its contract. The invariant: the objects of the parameters before p are found, and those
--- from p on are still to join. The measure is the parameters left.
+-- `blocks::folding::join` meets its contract. The invariant: the objects of the parameters before p are found, and
+-- those from p on are still to join. The measure is the parameters left.
 use Prim.Native.Nat.{ℕ, _+_, _-_, _≤_}
 use mathlib.Core.Path.{_≡_, refl, sym, _∙_, ap, ap₂, subst}
 use mathlib.Core.List.{List}
 use mathlib.Core.Logic.{⊎-elim}
 use mathlib.Core.Option.{some}
 use native.Mathlib.Omega.{arith}
-use lib.ListN.{length, getD, set, length-set}
+use lib.ListN.{length, set, length-set}
 use Rattle.arcs.specs.Code.{SetBelow, members}
 use Rattle.blocks.specs.Blocks.{Bound, bind}
 use Rattle.blocks.specs.FoldCode.{Held, givenObjects}
 use Rattle.blocks.proofs.Holding.{held-joined}
-use Rattle.blocks.proofs.PartObjects.{paramsFrom, objectsFrom, params-all, objects-all, bind-in, bind-out, bind-none}
+use Rattle.blocks.proofs.PartObjects.{paramsFrom, objectsFrom, params-all, objects-all, bind-in}
+use Rattle.blocks.proofs.PartObjects.{bind-out, bind-none}
 use Rattle.blocks.proofs.folding.join.Statement.{statement}
 use Rattle.blocks.proofs.folding.join.Tie as tie
 
@@ -98,8 +99,7 @@ loop-again c =
             omega arith,
             λ b held below.
                 let (d, g, n, e) = h .inv .1 .2 b held below in
-                let k = below p m in
-                (
+                let k = below p m in (
                   set d p (some o),
                   held-joined g p o (x .2 .result) (omega arith) t (x .2 .ensures),
                   length-set d p (some o) ∙ n,

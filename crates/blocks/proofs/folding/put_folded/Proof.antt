@@ -1,6 +1,6 @@
--- `blocks::folding::put_folded` meets its contract. The outer invariant: the steps of the blocks before split step i are
--- put, and the rest of the list folds to the rest of the steps. The inner one: the objects found in the open block are
--- held. Each block passes a split step, so the split steps left fall; inside a block the parts left do.
+-- `blocks::folding::put_folded` meets its contract. The outer invariant: the steps of the blocks before split step i
+-- are put, and the rest of the list folds to the rest of the steps. The inner one: the objects found in the open block
+-- are held. Each block passes a split step, so the split steps left fall; inside a block the parts left do.
 use Prim.Native.Nat.{ℕ, _+_, _-_, _*_, _/_, _≤_, _<_}
 use mathlib.Core.Path.{_≡_, refl, sym, _∙_, ap, subst}
 use mathlib.Core.List.{List, _∷_}
@@ -303,7 +303,8 @@ loop-again c =
     let put-words = c .before .before .put-step .ensures in
     let s = schema (d .before) in (
       l .inv .2,
-      ap length put-words ∙ (length-put (b .before .loop .out) (b .before .loop .next) (s ∷ l .found) ∙ b .before .loop .inv .1),
+      ap length put-words
+          ∙ (length-put (b .before .loop .out) (b .before .loop .next) (s ∷ l .found) ∙ b .before .loop .inv .1),
       λ t firsts xs K f.
           let h = b .before .loop .inv .2 t firsts xs K f in
           let k = l .inv .3 t firsts (h .rest) K (h .left) in

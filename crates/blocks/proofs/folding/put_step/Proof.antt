@@ -1,12 +1,12 @@
--- `blocks::folding::put_step` meets its contract. The invariant: behind the schema the objects of the parameters below p
--- are put. The measure is the parameters left.
+-- `blocks::folding::put_step` meets its contract. The invariant: behind the schema the objects of the parameters below
+-- p are put. The measure is the parameters left.
 use Prim.Native.Nat.{ℕ, _+_, _-_, _≤_}
-use mathlib.Core.Path.{_≡_, refl, sym, _∙_, ap}
-use mathlib.Core.List.{List, [], _∷_}
+use mathlib.Core.Path.{_≡_, refl, _∙_, ap}
+use mathlib.Core.List.{[], _∷_}
 use native.Mathlib.Omega.{arith}
 use native.Mathlib.Numerals.{add-one}
 use lib.ListN.{length, getD, set, take, length-set}
-use lib.Seq.{take-suc, take-all, length-take-le}
+use lib.Seq.{take-suc, take-all}
 use Rattle.task.specs.Lists.{put}
 use Rattle.task.proofs.Put.{put-on}
 use Rattle.blocks.proofs.KeptWords.{PutTo, put-long, put-next}

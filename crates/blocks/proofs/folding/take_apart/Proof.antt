@@ -2,7 +2,7 @@
 -- left of it from split step i on. The inner one: the same in an open block, before position j, with the objects found
 -- held. Each block passes a split step, so the split steps left fall; inside a block the parts left do.
 use Prim.Native.Nat.{ℕ, _+_, _-_, _*_, _/_, _≤_, _<_}
-use mathlib.Core.Path.{_≡_, refl, sym, _∙_, ap₂, subst}
+use mathlib.Core.Path.{_≡_, sym, _∙_, ap₂, subst}
 use mathlib.Core.Bool.{true}
 use mathlib.Core.List.{List}
 use native.Mathlib.Omega.{arith}
@@ -16,8 +16,8 @@ use Rattle.blocks.specs.FoldCode.{SplitStepsKept, Held, givenObjects, ke
 use Rattle.blocks.proofs.Beginning.{first-small}
 use Rattle.blocks.proofs.FoldWords.{step-known, goes-on}
 use Rattle.blocks.proofs.FoldTurns.{leftFrom, InBlock, TakenSo, begun-small, begun-known, none-begins}
-use Rattle.blocks.proofs.FoldTurns.{block-starts, block-broken, block-turns, block-ends, taken-start, taken-whole}
-use Rattle.blocks.proofs.FoldTurns.{taken-misfit, taken-more}
+use Rattle.blocks.proofs.FoldTurns.{block-starts, block-broken, block-turns, block-ends, taken-start}
+use Rattle.blocks.proofs.FoldTurns.{taken-whole, taken-misfit, taken-more}
 use Rattle.blocks.proofs.folding.take_apart.Statement.{statement}
 use Rattle.blocks.proofs.folding.take_apart.Tie as tie
 
