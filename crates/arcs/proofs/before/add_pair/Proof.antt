@@ -27,7 +27,8 @@ returns : tie.Need-returns
 returns c =
     let s = c .before .before .before in (
       s .pre .1 .1,
-      pair-joins-none (first s) (second s) (λ n g. both-ft g (sym (c .before .gives-arc .ensures) ∙ not-true _ (c .if1 .taken))) (s .args .before .now),
+      pair-joins-none (first s) (second s)
+          (λ n g. both-ft g (sym (c .before .gives-arc .ensures) ∙ not-true _ (c .if1 .taken))) (s .args .before .now),
     )
 
 part-of-requires : tie.Need-part-of-requires
