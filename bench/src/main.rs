@@ -1,5 +1,6 @@
 //! The proved code beside the reference, both built for release, in one run.
 
+mod folding;
 mod lists;
 mod reading;
 mod running;
@@ -15,4 +16,5 @@ fn main() {
     writing::bench();
     splitting::bench();
     unfolding::bench();
+    folding::bench();
 }

@@ -1,19 +1,20 @@
 -- The sets of arcs of a stretch of atoms. They grow by an atom at a time: first in the atoms that the arcs go to, which
 -- starts from a pair of atoms, then in those they come from. Joining is carried as a fact about every pair of parts.
-use Prim.Native.Nat.{ℕ, _+_, _≤_, _<_}
+use Prim.Native.Nat.{ℕ, _+_, _-_, _≤_, _<_}
 use mathlib.Core.Path.{_≡_, refl, sym, _∙_, ap}
 use mathlib.Core.Bool.{Bool, true, false, not, _&&_, _||_}
 use mathlib.Core.List.{List, [], _∷_, _++_}
+use native.Mathlib.Omega.{arith}
 use lib.ListN.{length, getD, set, replicate}
 use lib.Dec.{eqb}
 use lib.Seq.{getD-set-same, getD-set-other}
 use borrow.Author.Tests.{eqb-true, eqb-false, eq-eqb, ne-eqb, not-true}
-use Rattle.task.specs.Lists.{any}
-use Rattle.task.specs.Task.{Atom}
+use Rattle.task.specs.Lists.{any, upFrom}
+use Rattle.task.specs.Task.{Atom, precondition, addition}
 use Rattle.task.specs.Table.{atomIn}
-use Rattle.task.proofs.Laws.{and-left, and-right, bool-ext, false-if}
-use Rattle.arcs.specs.Order.{givesArc, arc}
-use Rattle.arcs.specs.Code.{AreArcs, Joins, member, atomsIn, arcsBetween}
+use Rattle.task.proofs.Laws.{and-left, and-right, both-ft, bool-ext, false-if, In, any-in, map-in, upFrom-in}
+use Rattle.arcs.specs.Order.{givesArc, roleBefore, arc}
+use Rattle.arcs.specs.Code.{AreArcs, ArePreconditions, Joins, member, atomsIn, arcsBetween}
 use Rattle.arcs.proofs.BitSets.{member-zero}
 use Rattle.arcs.proofs.Stretches.{zeros-at, atoms-none, atoms-more}
 
@@ -44,15 +45,6 @@ joins-more f g h a b c x y e p q =
     ∙ (or-assoc m (f p q) (g p q) ∙ ap (λ (s : Bool). m || s) (sym (e p q))))
 
 -- ---- arcs between lists of atoms
-between-none-right : (a : Atom) (p q : ℕ) → arcsBetween (a ∷ []) [] p q ≡ false
-unfolding arcsBetween any
-between-none-right a p q = go (not (eqb p q)) (eqb (a .part) p)
-  where
-    go : (n e : Bool) → n && ((e && false) || false) ≡ false
-    go true true = refl
-    go true false = refl
-    go false e = refl
-
 between-none : (bs : List Atom) (p q : ℕ) → arcsBetween [] bs p q ≡ false
 unfolding arcsBetween any
 between-none bs p q = go (not (eqb p q))
@@ -91,6 +83,45 @@ between-more xs a bs p q =
     go false u v = refl
     go true true v = refl
     go true false v = sym (or-false v)
+
+-- ---- atoms that no arc joins
+-- no arc goes to a precondition
+to-precondition : (a b : Atom) → b .role ≡ precondition → givesArc a b ≡ false
+unfolding givesArc roleBefore
+to-precondition a b e =
+    rw e (go (eqb (a .pred) (b .pred)) (eqb (a .role) 0) (eqb (a .role) 2))
+  where
+    go : (n x y : Bool) → n && ((x && false) || (y && false)) ≡ false
+    go false x y = refl
+    go true true true = refl
+    go true true false = refl
+    go true false true = refl
+    go true false false = refl
+
+-- and none comes from an add
+from-addition : (a b : Atom) → a .role ≡ addition → givesArc a b ≡ false
+unfolding givesArc roleBefore
+from-addition a b e = rw e (go (eqb (a .pred) (b .pred)))
+  where
+    go : (n : Bool) → n && false ≡ false
+    go false = refl
+    go true = refl
+
+none-join : (a : Atom) (bs : List Atom) → ((b : Atom) → In b bs → givesArc a b ≡ false) → (sets : List ℕ) →
+    Joins (arcsBetween (a ∷ []) bs) sets sets
+unfolding arcsBetween any
+none-join a bs h sets =
+    joins-none (arcsBetween (a ∷ []) bs) sets
+    (λ p q. false-if (arcsBetween (a ∷ []) bs p q) (λ e.
+    let test : Atom → Bool = λ b. eqb (b .part) q && givesArc a b in
+    let r = and-right (not (eqb p q)) _ e in
+    let s = and-right (eqb (a .part) p) (any test bs) (sym (or-false (eqb (a .part) p && any test bs)) ∙ r) in
+    let (b, m, y) = any-in test bs s in
+    both-ft (and-right (eqb (b .part) q) _ y) (h b m)))
+
+pub addition-joins : (a : Atom) (bs : List Atom) → a .role ≡ addition → (sets : List ℕ) →
+    Joins (arcsBetween (a ∷ []) bs) sets sets
+addition-joins a bs e sets = none-join a bs (λ b m. from-addition a b e) sets
 
 -- the arcs of all atoms have joined empty sets
 pub all-joined : (atoms : List Atom) (n : ℕ) (sets : List ℕ) →
@@ -152,10 +183,14 @@ module _ (a b : Atom) where
 
 -- ---- a stretch that grows by an atom
 module _ (w : List ℕ) (from : ℕ) where
-  pub to-none : (a : Atom) (sets : List ℕ) → Joins (arcsBetween (a ∷ []) (atomsIn w from from)) sets sets
-  to-none a sets =
-      joins-none (arcsBetween (a ∷ []) (atomsIn w from from)) sets
-      (λ p q. rw (atoms-none w from) (between-none-right a p q))
+  pub to-preconditions : (a : Atom) (to : ℕ) → from ≤ to → ArePreconditions w from to → (sets : List ℕ) →
+      Joins (arcsBetween (a ∷ []) (atomsIn w from to)) sets sets
+  unfolding atomsIn
+  to-preconditions a to l h sets =
+      none-join a (atomsIn w from to) (λ b m.
+      let (k, i, e) = map-in (atomIn w) (upFrom from (to - from)) b m in
+      let (x, y) = upFrom-in from (to - from) k i in
+      to-precondition a b (ap (λ (c : Atom). c .role) e ∙ h k x (omega arith))) sets
 
   pub to-more : (a : Atom) (j : ℕ) (x y z : List ℕ) → from ≤ j → Joins (arcsBetween (a ∷ []) (atomsIn w from j)) x y →
       Joins (arcsBetween (a ∷ []) (atomIn w j ∷ [])) y z → Joins (arcsBetween (a ∷ []) (atomsIn w from (j + 1))) x z

@@ -8,7 +8,7 @@ use mathlib.Core.Option.{Option, none, some}
 use lib.ListN.{getD, take}
 use lib.Dec.{eqb}
 use Rattle.task.specs.Lists.{any, filter, upFrom, upTo}
-use Rattle.task.specs.Task.{Atom}
+use Rattle.task.specs.Task.{Atom, precondition}
 use Rattle.task.specs.Table.{atomIn, isTable}
 use Rattle.task.specs.declared.Part.{Part}
 use Rattle.arcs.specs.declared.Order.{Order}
@@ -42,6 +42,10 @@ pub record IsStretch (w : List ℕ) (from to : ℕ) : Type 0 where
 unfoldable pub atomsIn : List ℕ → ℕ → ℕ → List Atom
 unfolding upFrom atomIn
 atomsIn w from to = map (atomIn w) (upFrom from (to - from))
+
+-- each atom of a stretch is a precondition
+abbrev pub ArePreconditions : List ℕ → ℕ → ℕ → Type 0
+ArePreconditions w from to = (k : ℕ) → from ≤ k → k < to → atomIn w k .role ≡ precondition
 
 -- whether one of these atoms and one of others give an arc from part p to part q; the arcs of a list are those between
 -- it and itself

@@ -4,7 +4,7 @@ ghost use mathlib.Core.Path.{_≡_};
 ghost use lib.ListN.{getD};
 ghost use lib.Dec.{eqb};
 ghost use Rattle.task.specs.Limits.{atomSize, mostParts};
-ghost use Rattle.task.specs.Task.{precondition};
+ghost use Rattle.task.specs.Task.{precondition, addition};
 ghost use Rattle.task.specs.Table.{atomBase, atomIn};
 ghost use Rattle.arcs.specs.Order.{roleBefore, givesArc};
 ghost use Rattle.arcs.specs.Code.{IsSchemaAtom};
@@ -76,4 +76,12 @@ pub fn is_precondition(table: &[u16], i: usize) -> bool
     ensures { λ r. ⌜ r ≡ eqb (atomIn (now (table .entry)) i .role) precondition ⌝ }
 {
     word_of(table, i, ROLE) == PRECONDITION
+}
+
+// Whether atom i is an add.
+pub fn is_addition(table: &[u16], i: usize) -> bool
+    requires { ⌜ IsSchemaAtom (now table) i ⌝ }
+    ensures { λ r. ⌜ r ≡ eqb (atomIn (now (table .entry)) i .role) addition ⌝ }
+{
+    word_of(table, i, ROLE) == ADDITION
 }

@@ -1,13 +1,17 @@
 // The arcs between the parts of a stretch of atoms: for each part, the set of parts that have an arc to it.
+ghost use Prim.Native.Nat.{_≤_};
 ghost use mathlib.Core.Path.{_≡_};
 ghost use mathlib.Core.List.{[], _∷_};
 ghost use lib.ListN.{length};
 ghost use Rattle.task.specs.Limits.{mostParts};
 ghost use Rattle.task.specs.Table.{atomIn};
-ghost use Rattle.arcs.specs.Code.{AreArcs, IsSchemaAtom, IsStretch, Joins, atomsIn, arcsBetween};
+ghost use Rattle.arcs.specs.Code.{AreArcs, ArePreconditions, IsSchemaAtom, IsStretch, Joins};
+ghost use Rattle.arcs.specs.Code.{atomsIn, arcsBetween};
 use crate::MOST_PARTS;
 use crate::PartSets;
 use crate::atoms::gives_arc;
+use crate::atoms::is_addition;
+use crate::atoms::is_precondition;
 use crate::atoms::part_of;
 use crate::sets;
 
@@ -20,23 +24,45 @@ fn add_pair(table: &[u16], i: usize, j: usize, before: &mut PartSets)
     ensures { λ _. ⌜ Joins (arcsBetween (atomIn (now (table .entry)) i ∷ []) (atomIn (now (table .entry)) j ∷ []))
         (now (before .entry)) (now (before .exit)) ⌝ }
 {
+    if !gives_arc(table, i, j) {
+        return;
+    }
     let p = part_of(table, i).0 as usize;
     let q = part_of(table, j).0 as usize;
-    if p != q && gives_arc(table, i, j) {
+    if p != q {
         before[q] = sets::with(before[q], p);
     }
 }
 
-// The arcs from atom i join the sets.
-fn add_from(table: &[u16], i: usize, from: usize, to: usize, before: &mut PartSets)
+// Where the preconditions that a stretch begins with end: no arc goes to one of them.
+fn effects_of(table: &[u16], from: usize, to: usize) -> usize
+    requires { ⌜ IsStretch (now table) from to ⌝ }
+    ensures { λ r. ⌜ (from ≤ r) × (r ≤ to) × ArePreconditions (now (table .entry)) from r ⌝ }
+{
+    let mut i = from;
+    while i < to {
+        if !is_precondition(table, i) {
+            return i;
+        }
+        i += 1;
+    }
+    i
+}
+
+// The arcs from atom i join the sets: none comes from an add, and none goes to the preconditions before `effects`.
+fn add_from(table: &[u16], i: usize, from: usize, effects: usize, to: usize, before: &mut PartSets)
     requires { ⌜ IsSchemaAtom (now table) i ⌝ }
     requires { ⌜ IsStretch (now table) from to ⌝ }
+    requires { ⌜ (from ≤ effects) × (effects ≤ to) × ArePreconditions (now table) from effects ⌝ }
     requires { ⌜ length (now before) ≡ mostParts ⌝ }
     ensures { λ _. ⌜ length (now (before .exit)) ≡ mostParts ⌝ }
     ensures { λ _. ⌜ Joins (arcsBetween (atomIn (now (table .entry)) i ∷ []) (atomsIn (now (table .entry)) from to))
         (now (before .entry)) (now (before .exit)) ⌝ }
 {
-    let mut j = from;
+    if is_addition(table, i) {
+        return;
+    }
+    let mut j = effects;
     while j < to {
         add_pair(table, i, j, before);
         j += 1;
@@ -48,10 +74,11 @@ pub fn arcs_of(table: &[u16], from: usize, to: usize) -> PartSets
     requires { ⌜ IsStretch (now table) from to ⌝ }
     ensures { λ r. ⌜ AreArcs (atomsIn (now (table .entry)) from to) r ⌝ }
 {
+    let effects = effects_of(table, from, to);
     let mut before = [0; MOST_PARTS];
     let mut i = from;
     while i < to {
-        add_from(table, i, from, to, &mut before);
+        add_from(table, i, from, effects, to, &mut before);
         i += 1;
     }
     before

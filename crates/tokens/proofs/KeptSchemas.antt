@@ -17,7 +17,7 @@ use Rattle.task.specs.Task.{Task, schemaAtoms, partCount}
 use Rattle.task.specs.Run.{schemaAt}
 use Rattle.task.specs.Table.{taskOf, isTable}
 use Rattle.task.specs.declared.Part.{Part}
-use Rattle.task.proofs.Laws.{getD-map, upFrom-in}
+use Rattle.task.proofs.Laws.{getD-map, in-getD, upFrom-in, upTo-in}
 use Rattle.task.proofs.Tests.{schema-tests, task-tests}
 use Rattle.task.proofs.Tables.{of-table, filter-append, filter-none, upFrom-append}
 use Rattle.task.proofs.TablesByIndex.{table-frame, atoms-word}
@@ -61,6 +61,16 @@ module _ (t : Task) (s : ℕ) (f : Order) (told : orderTold f ≡ orderOf (schem
   unfolding orders orderAt orEmpty
   told-order e = ap orEmpty (told-some e)
 
+  -- each part found is one of the schema's
+  pub found-small : f .found ≡ true → f .count ≤ length (f .parts) → partCount (schemaAt t s .atoms) ≤ 16 →
+      (j : ℕ) → j < f .count → partAt (f .parts) j < 16
+  found-small e l b j k =
+      let n = found-count f l in
+      let laws = orderOf-laws (schemaAt t s) (partsFound f) (told-some e) in
+      let i = in-getD (partsFound f) j 0 (omega arith) in
+      let m = upTo-in (partCount (schemaAt t s .atoms)) (getD (partsFound f) j 0) (laws .from _ i) in
+      omega (arith, found-part f j l k)
+
   told-taken : f .found ≡ true → orderOf (schemaAt t s) ≡ some (orders t s)
   told-taken e = told-some e ∙ ap some (sym (told-order e))
 
@@ -75,14 +85,18 @@ module _ (w : List ℕ) (h : isTable w ≡ true) where
       omega (arith, atoms-word w (table-frame w h))
 
   -- "It has 1 to 16 parts"
+  pub parts-few : (s : ℕ) → s < length (taskOf w .schemas) → partCount (schemaAt (taskOf w) s .atoms) ≤ 16
+  parts-few s l =
+      let t = taskOf w in
+      leb-true (partCount (schemaAt t s .atoms)) 16
+      (schema-tests (t .arities) (schemaAt t s) (schema-fits w h s l) .parts)
+
   pub order-few : (s : ℕ) → s < length (taskOf w .schemas) →
       orderOf (schemaAt (taskOf w) s) ≡ some (orders (taskOf w) s) →
       length (orders (taskOf w) s) ≤ 16
   order-few s l e =
-      let t = taskOf w in
-      let b = leb-true (partCount (schemaAt t s .atoms)) 16
-      (schema-tests (t .arities) (schemaAt t s) (schema-fits w h s l) .parts) in
-      omega (arith, orderOf-laws (schemaAt t s) (orders t s) e .size)
+      let b = parts-few s l in
+      omega (arith, orderOf-laws (schemaAt (taskOf w) s) (orders (taskOf w) s) e .size)
 
   -- ---- schema by schema
   pub parts-none : (starts counts order own : List ℕ) → 0 < length starts →

@@ -1,16 +1,16 @@
 -- How the parameters that are found of a part grow, an argument and then an atom at a time, and where a schema's atoms
 -- end. Parameters are tests over lists that grow at their end.
 use Prim.Native.Nat.{ℕ, suc, _+_, _-_, _≤_, _<_}
-use mathlib.Core.Path.{_≡_, sym, _∙_, ap, subst}
+use mathlib.Core.Path.{_≡_, refl, sym, _∙_, ap, subst}
 use mathlib.Core.Bool.{Bool, true, false, _&&_, _||_}
 use mathlib.Core.List.{List}
 use native.Mathlib.Omega.{arith}
 use native.Mathlib.Decide.{decLt}
 use native.Mathlib.Numerals.{add-one}
-use lib.ListN.{length, getD, take}
-use lib.Seq.{take-suc, take-length}
+use lib.ListN.{length, getD, set, take, replicate}
+use lib.Seq.{take-suc, take-length, getD-set-same, getD-set-other}
 use lib.Dec.{eqb}
-use borrow.Author.Tests.{eq-eqb, ne-eqb}
+use borrow.Author.Tests.{eqb-true, eqb-false, eq-eqb, ne-eqb}
 use Rattle.task.specs.Lists.{any, upFrom}
 use Rattle.task.specs.Task.{Atom, names}
 use Rattle.task.specs.Table.{atomIn, schemaNumberIn, taskOf, isTable}
@@ -19,7 +19,8 @@ use Rattle.task.proofs.States.{names-in}
 use Rattle.task.proofs.TablesByIndex.{table-frame, schemas-word, start-suc, schema-of-atom, atom-lies}
 use Rattle.arcs.specs.Code.{member, IsStretch, atomsIn}
 use Rattle.arcs.proofs.ArcSets.{or-false, or-assoc, any-more}
-use Rattle.arcs.proofs.Stretches.{stretch-atom, atoms-none, atoms-more}
+use Rattle.arcs.proofs.BitSets.{member-zero}
+use Rattle.arcs.proofs.Stretches.{zeros-at, stretch-atom, atoms-none, atoms-more}
 use Rattle.tokens.specs.Code.{startOf}
 use Rattle.tokens.proofs.Sums.{eqb-turn}
 use Rattle.tokens.proofs.AtomWords.{argument-small}
@@ -105,6 +106,35 @@ module _ (w : List ℕ) (from p : ℕ) where
       let n : names x (atomIn w k) ≡ true =
       subst (λ (b : Atom). names x b ≡ true) q (and-right (eqb p (a .part)) _ e) in
       argument-small w k (stretch-atom s k (omega arith)) x (names-in x (atomIn w k) n)
+
+-- ---- the sets of all parts: an atom joins that of its part
+-- what holds of each set, after a store
+pub sets-stored : (P : ℕ → ℕ → Type 0) (sets : List ℕ) (q r : ℕ) → q < length sets → P q r →
+    ((p : ℕ) → (q ≡ p → ⊥) → P p (getD sets p 0)) → (p : ℕ) → P p (getD (set sets q r) p 0)
+sets-stored P sets q r b k h p = go (eqb q p) refl
+  where
+    go : (t : Bool) → eqb q p ≡ t → P p (getD (set sets q r) p 0)
+    go true z =
+        subst (λ (n : ℕ). P n (getD (set sets q r) n 0)) (eqb-true q p z)
+        (subst (P q) (sym (getD-set-same sets q r 0 b)) k)
+    go false z =
+        subst (P p) (sym (getD-set-other sets q p r 0 (λ y. eqb-false q p z (sym y)))) (h p (eqb-false q p z))
+
+module _ (w : List ℕ) (from : ℕ) where
+  -- each part's set has the parameters that its atoms name
+  abbrev pub Named : ℕ → List ℕ → Type 0
+  Named i sets = (p x : ℕ) → member (getD sets p 0) x ≡ inPart p x (atomsIn w from i)
+
+  pub named-nowhere : Named from (replicate 16 0)
+  named-nowhere p x = ap (λ (n : ℕ). member n x) (zeros-at 16 p) ∙ part-none w from p x (member-zero x)
+
+  pub named-further : (i q r : ℕ) (sets : List ℕ) → from ≤ i → q ≡ atomIn w i .part → q < length sets →
+      Named i sets → ((x : ℕ) → member r x ≡ member (getD sets q 0) x || names x (atomIn w i)) →
+      Named (i + 1) (set sets q r)
+  named-further i q r sets l e b h g =
+      sets-stored (λ p v. (x : ℕ) → member v x ≡ inPart p x (atomsIn w from (i + 1))) sets q r b
+      (part-more w from q (getD sets q 0) r i q l e refl (h q) g)
+      (λ p z. part-same w from p (getD sets p 0) i q l e z (h p))
 
 -- ---- where a schema's atoms end
 module _ (w : List ℕ) (h : isTable w ≡ true) (s : ℕ) (l : s < length (taskOf w .schemas)) where

@@ -15,8 +15,9 @@ use Rattle.task.specs.Task.{Atom}
 use Rattle.task.specs.Run.{ofRole}
 use Rattle.task.specs.Table.{atomIn, atomWords}
 use Rattle.task.proofs.Laws.{In, and-left, and-right, upTo-in, map-append, append-concatMap}
-use Rattle.task.proofs.Tables.{filter-append, length-padded}
+use Rattle.task.proofs.Tables.{filter-append, filter-none, length-padded}
 use Rattle.arcs.specs.Code.{member, members, atomsIn}
+use Rattle.arcs.proofs.BitSets.{member-zero}
 use Rattle.arcs.proofs.Stretches.{atoms-none, atoms-more}
 use Rattle.tokens.specs.Writing.{Puts, newNumber, renumbered, oldIn, parIn}
 use Rattle.tokens.proofs.Lists.{filter-same}
@@ -123,6 +124,12 @@ module _ (own par r number which : ℕ) where
   pub pars-none : parsUpTo 0 ≡ []
   unfolding concatMap members filter upTo
   pars-none = refl
+
+  pub pars-empty : which ≡ 0 → (x : ℕ) → parsUpTo x ≡ []
+  unfolding concatMap members
+  pars-empty e x =
+      ap (λ (ks : List ℕ). concatMap (atomWords number) (map (parIn own par r) ks))
+      (filter-none (member which) (upTo x) (λ k i. ap (λ (n : ℕ). member n k) e ∙ member-zero k))
 
   pars-step : (x : ℕ) → map (parIn own par r) (members which (x + 1)) ≡
       map (parIn own par r) (members which x) ++ keepIf (member which x) (parIn own par r x) []

@@ -1,15 +1,17 @@
 -- The numbers of sets of bits: of a difference, how they are listed and counted one number after another, and that a
 -- set of small numbers is a small word. A set from n on is its word divided by 2 ^ n, and is 0 where it has no number.
-use Prim.Native.Nat.{ℕ, _+_, _-_, _*_, _/_, _%_, _^_, _≤_, _<_}
-use mathlib.Core.Path.{_≡_, refl, _∙_, ap}
+use Prim.Native.Nat.{ℕ, zero, suc, _+_, _-_, _*_, _/_, _%_, _^_, _≤_, _<_}
+use mathlib.Core.Path.{_≡_, refl, sym, _∙_, ap, subst}
 use mathlib.Core.Bool.{Bool, true, false, not, _&&_}
 use mathlib.Core.List.{List, [], _∷_, _++_, append-nil}
 use native.Mathlib.Omega.{arith}
 use native.Mathlib.Decide.{decLt}
 use native.Mathlib.Numerals.{add-one}
-use native.Mathlib.Nat.{div-lt-iff-lt-mul, lt-of-le-of-lt}
+use native.Mathlib.Nat.{div-lt-iff-lt-mul, lt-of-le-of-lt, mod-lt, mod-one, pow-suc}
 use lib.ListN.{length, length-append}
-use lib.Bits.{bitAnd}
+use lib.Arith.{mod-mul}
+use lib.Bits.{bitAnd, and-mask}
+use lib.Count.{ones, onesIn, ones-cat, ones-le}
 use lib.Dec.{eqb}
 use lib.Pow.{pow-pos, shr-shr, shr-le}
 use Rattle.task.specs.Lists.{filter, keepIf, upTo, upFrom}
@@ -44,6 +46,36 @@ size-more set n =
     let f = length-append (members set n) (keepIf (member set n) n []) in
     let g = length-keep (member set n) n [] in
     omega arith
+
+-- ---- the numbers of a set, counted as the set digits of its word
+digit : (d : ℕ) → d < 2 → ones d ≡ one (eqb d 1)
+unfolding ones onesIn
+digit zero l = refl
+digit (suc zero) l = refl
+digit (suc (suc d)) l = absurd (omega arith)
+
+size-ones : (set n : ℕ) → ones (set % 2 ^ n) ≡ length (members set n)
+unfolding member
+size-ones set zero = ap ones (mod-one set) ∙ (digit 0 (omega arith) ∙ sym (size-none set))
+size-ones set (suc n) =
+    let twice : 2 ^ suc n ≡ 2 * 2 ^ n = let p = pow-suc 2 n in omega arith in
+    let parted = ap (λ (m : ℕ). set % m) twice ∙ mod-mul set {m = 2} {c = 2 ^ n} (omega arith) (pow-pos n) in
+    let counted = ones-cat n (set / 2 ^ n % 2) (set % 2 ^ n) (mod-lt set (pow-pos n)) in
+    let whole = ap ones parted ∙ counted in
+    let highest = digit (set / 2 ^ n % 2) (mod-lt (set / 2 ^ n) (omega arith)) in
+    let rest = size-ones set n in
+    let more = size-more set n in
+    let same : length (members set (n + 1)) ≡ length (members set (suc n)) =
+    ap (λ (m : ℕ). length (members set m)) (add-one n) in
+    omega arith
+
+-- the code's `u64::count_ones(set & 65535)`
+pub size-counted : (set : ℕ) → ones (bitAnd set 65535) ≡ length (members set 16)
+size-counted set = ap ones (and-mask set 16) ∙ size-ones set 16
+
+pub size-small : (set : ℕ) → ones (bitAnd set 65535) ≤ 16
+size-small set =
+    subst (λ (n : ℕ). ones n ≤ 16) (sym (and-mask set 16)) (ones-le 16 (set % 2 ^ 16) (mod-lt set (pow-pos 16)))
 
 -- a test that takes no number from m on
 pub filter-below : (p : ℕ → Bool) (m n : ℕ) → m ≤ n → ((x : ℕ) → p x ≡ true → x < m) →

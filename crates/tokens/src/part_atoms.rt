@@ -153,6 +153,9 @@ fn par_atoms(here: PartPlace, role: u16, which: u64, out: &mut [u16], at: usize)
     ensures { λ r. ⌜ Puts (now (out .entry)) at (parWords here role which) (now (out .exit)) r ⌝ }
     ensures { λ r. ⌜ r ≤ at + 8 * (here .params) ⌝ }
 {
+    if which == 0 {
+        return at;
+    }
     let params = here.params;
     let mut next = at;
     let mut x = 0;

@@ -4,21 +4,20 @@ ghost use Prim.Native.Nat.{ℕ, suc, _≤_, _<_};
 ghost use mathlib.Core.Path.{_≡_};
 ghost use mathlib.Core.Bool.{true, _&&_, _||_};
 ghost use mathlib.Core.Option.{none};
-ghost use lib.ListN.{length};
+ghost use lib.ListN.{length, getD};
 ghost use lib.Dec.{eqb};
 ghost use Rattle.task.specs.Lists.{any, first, upTo};
 ghost use Rattle.task.specs.Task.{names};
 ghost use Rattle.task.specs.Table.{taskOf, isTable, atomIn};
 ghost use Rattle.arcs.specs.Code.{member, IsSchemaAtom, IsStretch, atomsIn};
 ghost use Rattle.tokens.specs.Split.{isNone, orderAt};
-ghost use Rattle.tokens.specs.Code.{startOf, OrderKept, AreKept, PartsKept, circularTold};
+ghost use Rattle.tokens.specs.Code.{startOf, partAt, OrderKept, AreKept, PartsKept, circularTold};
 use crate::atoms::argument;
 use crate::atoms::argument_count;
 use crate::atoms::schema_of;
 use arcs::Order;
 use arcs::atoms::part_of;
 use arcs::sets::with;
-use task::Part;
 
 // The lowest schema for whose parts no order complies, if there is one.
 pub enum Circular {
@@ -41,22 +40,23 @@ fn with_arguments(table: &[u16], i: usize, set: u64) -> u64
     named
 }
 
-// The parameters that the atoms `from` to `to - 1` in a part name.
-pub fn parameters_of(table: &[u16], from: usize, to: usize, part: Part) -> u64
+// For each part the parameters that the atoms `from` to `to - 1` in it name.
+fn parameter_sets(table: &[u16], from: usize, to: usize) -> [u64; 16]
     requires { ⌜ IsStretch (now table) from to ⌝ }
-    ensures { λ r. ⌜ ((x : ℕ) →
-        member r x ≡ any (λ a. eqb (part .0) (a .part) && names x a) (atomsIn (now (table .entry)) from to)) ⌝ }
-    ensures { λ r. ⌜ r < 4096 ⌝ }
+    ensures { λ r. ⌜ length r ≡ 16 ⌝ }
+    ensures { λ r. ⌜ ((p : ℕ) → getD r p 0 < 4096) ⌝ }
+    ensures { λ r. ⌜ ((p x : ℕ) →
+        member (getD r p 0) x ≡ any (λ a. eqb p (a .part) && names x a) (atomsIn (now (table .entry)) from to)) ⌝ }
 {
-    let mut named = 0;
+    let mut sets = [0; 16];
     let mut i = from;
     while i < to {
-        if part_of(table, i).0 == part.0 {
-            named = with_arguments(table, i, named);
-        }
+        let part = part_of(table, i).0 as usize;
+        let named = sets[part];
+        sets[part] = with_arguments(table, i, named);
         i += 1;
     }
-    named
+    sets
 }
 
 // Where the atoms of schema s, which begin at `from`, end.
@@ -91,6 +91,7 @@ fn keep_order(
     requires { ⌜ s < 200 ⌝ }
     requires { ⌜ (found .count ≤ 16) × (length (found .parts) ≡ 16) ⌝ }
     requires { ⌜ (length (now order) ≡ 3200) × (length (now own) ≡ 3200) ⌝ }
+    requires { ⌜ ((j : ℕ) → j < found .count → partAt (found .parts) j < 16) ⌝ }
     ensures { λ _. ⌜ (length (now (order .exit)) ≡ 3200) × (length (now (own .exit)) ≡ 3200) ⌝ }
     ensures { λ _. ⌜ OrderKept (now (table .entry)) from to s (found .count) (found .parts) (now (order .entry))
         (now (own .entry))
@@ -98,11 +99,13 @@ fn keep_order(
 {
     let parts = found.parts;
     let count = found.count;
+    let sets = parameter_sets(table, from, to);
     let mut j = 0;
     while j < count {
         let part = parts[j];
+        let named = sets[part.0 as usize];
         order[16 * s + j] = part.0;
-        own[16 * s + j] = parameters_of(table, from, to, part) as u16;
+        own[16 * s + j] = named as u16;
         j += 1;
     }
 }

@@ -41,15 +41,7 @@ pub fn size(set: u64) -> usize
     ensures { λ r. ⌜ r ≡ length (members set 16) ⌝ }
     ensures { λ r. ⌜ r ≤ 16 ⌝ }
 {
-    let mut n = 0;
-    let mut k = 0;
-    while k < 16 {
-        if has(set, k) {
-            n += 1;
-        }
-        k += 1;
-    }
-    n
+    u64::count_ones(set & 65535) as usize
 }
 
 // One more than the largest number below 16 in the set, or 0.

@@ -2,8 +2,10 @@
 //! each entry point that has landed, with answers as rows of numbers.
 
 pub mod beside;
+pub mod folding;
 pub mod reading;
 pub mod running;
+pub mod shared_runs;
 pub mod splitting;
 pub mod unfolding;
 pub mod writing;

@@ -1,8 +1,10 @@
 //! The proved code beside the reference: the same answers, and the same words
 //! afterwards. A module for each entry point that has landed.
 
+mod folding;
 mod reading;
 mod running;
+mod shared_runs;
 mod splitting;
 mod unfolding;
 mod writing;

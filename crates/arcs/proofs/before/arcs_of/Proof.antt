@@ -11,25 +11,31 @@ use Rattle.arcs.proofs.before.arcs_of.Statement.{statement}
 use Rattle.arcs.proofs.before.arcs_of.Tie as tie
 
 abbrev Inv-loop : tie.InvT-loop
-Inv-loop table from to before₀ i₀ before i =
+Inv-loop table from to effects before₀ i₀ before i =
     (from ≤ i) × (i ≤ to) × (length before ≡ 16) ×
     Joins (arcsBetween (atomsIn table from i) (atomsIn table from to)) before₀ before
 
 abbrev μ-loop : tie.MeasureT-loop
-μ-loop table from to before₀ i₀ before i = to - i
+μ-loop table from to effects before₀ i₀ before i = to - i
+
+effects-of-requires : tie.Need-effects-of-requires Inv-loop μ-loop
+effects-of-requires c κs = c .before .pre
 
 loop-holds : tie.Need-loop-holds Inv-loop μ-loop
 loop-holds c =
-    let a = c .before .args in
+    let s = c .before .before in
+    let a = s .args in
     let w = a .table .now in
     let all = atomsIn w (a .from) (a .to) in
-    (omega arith, c .before .pre .forward, refl, from-none w (a .from) all (replicate 16 0))
+    (omega arith, s .pre .forward, refl, from-none w (a .from) all (replicate 16 0))
 
 add-from-requires : tie.Need-add-from-requires Inv-loop μ-loop
 add-from-requires c κs =
-    let s = c .before .before .before .before in
-    let h = c .before .before .loop in
-    (stretch-atom (s .pre) (h .i) (c .before .loop-test .taken), (s .pre, h .inv .2))
+    let at = c .before .before in
+    let e = at .before .effects-of .ensures in
+    let s = at .before .before .before in
+    let h = at .loop in
+    (stretch-atom (s .pre) (h .i) (c .before .loop-test .taken), (s .pre, (e, h .inv .2)))
 
 add-i : tie.Need-add-i Inv-loop μ-loop
 add-i c = omega arith
@@ -40,21 +46,21 @@ loop-less c = omega arith
 loop-again : tie.Need-loop-again Inv-loop μ-loop
 loop-again c =
     let h = c .before .before .before .loop in
-    let a = c .before .before .before .before .before .args in
+    let a = c .before .before .before .before .before .before .args in
     let w = a .table .now in
     let all = atomsIn w (a .from) (a .to) in
     let e = c .add-from .ensures in (
       omega arith,
       omega arith,
       e .0,
-      from-more w (a .from) all (h .i) (replicate 16 0) (h .before) (c .add-from .last .1 .1 .1 .1 .0)
+      from-more w (a .from) all (h .i) (replicate 16 0) (h .before) (c .add-from .last .1 .1 .1 .1 .1 .0)
           (h .inv .0) (h .inv .3) (e .1),
     )
 
 returns : tie.Need-returns Inv-loop μ-loop
 returns c =
     let h = c .before .loop in
-    let a = c .before .before .before .args in
+    let a = c .before .before .before .before .args in
     let w = a .table .now in
     let all = atomsIn w (a .from) (a .to) in
     let e : h .i ≡ a .to = omega arith in
@@ -62,4 +68,15 @@ returns c =
     (subst (λ (n : ℕ). Joins (arcsBetween (atomsIn w (a .from) n) all) (replicate 16 0) (h .before)) e (h .inv .3))
 
 pub arcs-of-spec : {M : Type 1} → statement M
-arcs-of-spec = tie.close (tie.spec Inv-loop μ-loop loop-holds add-from-requires add-i loop-less loop-again returns)
+arcs-of-spec =
+    tie.close
+    (tie.spec
+    Inv-loop
+    μ-loop
+    effects-of-requires
+    loop-holds
+    add-from-requires
+    add-i
+    loop-less
+    loop-again
+    returns)

@@ -1,5 +1,5 @@
--- `tokens::part_atoms::par_atoms` meets its contract. The invariant: the pars of the set's parameters below x were put.
--- The measure is the parameters left.
+-- `tokens::part_atoms::par_atoms` meets its contract. An empty set has no pars. The invariant: the pars of the set's
+-- parameters below x were put. The measure is the parameters left.
 use Prim.Native.Nat.{ℕ, _+_, _*_, _-_, _≤_}
 use mathlib.Core.Path.{_≡_, refl, sym, _∙_, subst}
 use mathlib.Core.Logic.{⊎-elim}
@@ -7,7 +7,7 @@ use native.Mathlib.Omega.{arith}
 use lib.ListN.{length}
 use Rattle.tokens.specs.Writing.{Puts}
 use Rattle.tokens.proofs.Runs.{puts-none, puts-is, puts-then, puts-length}
-use Rattle.tokens.proofs.PartWords.{parsUpTo, pars-none, pars-taken, pars-left}
+use Rattle.tokens.proofs.PartWords.{parsUpTo, pars-none, pars-empty, pars-taken, pars-left}
 use Rattle.tokens.proofs.part_atoms.par_atoms.Statement.{statement}
 use Rattle.tokens.proofs.part_atoms.par_atoms.Tie as tie
 
@@ -19,24 +19,34 @@ Inv-loop here role which out₀ at params next₀ x₀ out next x =
 abbrev μ-loop : tie.MeasureT-loop
 μ-loop here role which out₀ at params next₀ x₀ out next x = params - x
 
+returns : tie.Need-returns Inv-loop μ-loop
+returns c =
+    let a = c .before .before .args in (
+      puts-is (puts-none (a .out .now) (a .at)) refl refl _
+          (pars-empty (a .here .own) (a .here .par) (a .role) (a .here .number) (a .which) (c .if1 .taken)
+          (a .here .params)),
+      omega arith,
+    )
+
 loop-holds : tie.Need-loop-holds Inv-loop μ-loop
 loop-holds c =
-    let a = c .before .args in (
+    let a = c .before .before .args in (
       omega arith,
       omega arith,
       refl,
-      puts-is (puts-none (a .out .now) (a .at)) refl refl _ (pars-none (a .here .own) (a .here .par) (a .role) (a .here .number) (a .which)),
+      puts-is (puts-none (a .out .now) (a .at)) refl refl _
+          (pars-none (a .here .own) (a .here .par) (a .role) (a .here .number) (a .which)),
     )
 
 has-requires : tie.Need-has-requires Inv-loop μ-loop
 has-requires c κs = omega arith
 
-cast-t11 : tie.Need-cast-t11 Inv-loop μ-loop
-cast-t11 c = omega arith
+cast-t12 : tie.Need-cast-t12 Inv-loop μ-loop
+cast-t12 c = omega arith
 
 par-atom-requires : tie.Need-par-atom-requires Inv-loop μ-loop
 par-atom-requires c κs =
-    let s = c .before .before .before .before .before .before in
+    let s = c .before .before .before .before .before .before .before in
     (omega arith, (s .pre .1 .0, omega arith))
 
 add-x : tie.Need-add-x Inv-loop μ-loop
@@ -46,14 +56,14 @@ loop-less : tie.Need-loop-less Inv-loop μ-loop
 loop-less c = omega arith
 
 -- a turn puts the par of x, if x is in the set
-turn : (c : tie.Joined1 Inv-loop μ-loop) →
-    let a = c .before .before .before .before .before .args in
+turn : (c : tie.Joined2 Inv-loop μ-loop) →
+    let a = c .before .before .before .before .before .before .args in
     let x = c .before .before .before .loop .x in
-    (c .if1 .next ≤ a .at + 8 * (x + 1)) ×
+    (c .if2 .next ≤ a .at + 8 * (x + 1)) ×
     Puts (a .out .now) (a .at) (parsUpTo (a .here .own) (a .here .par) (a .role) (a .here .number) (a .which) (x + 1))
-    (c .if1 .out) (c .if1 .next)
+    (c .if2 .out) (c .if2 .next)
 turn c =
-    let a = c .before .before .before .before .before .args in
+    let a = c .before .before .before .before .before .before .args in
     let h = c .before .before .before .loop in
     let test = c .before .has .ensures in
     ⊎-elim
@@ -68,7 +78,7 @@ turn c =
       puts-is (h .inv .3) (y .1) (y .2) _
           (pars-left (a .here .own) (a .here .par) (a .role) (a .here .number) (a .which) (h .x) (sym test ∙ y .0 .left)),
     ))
-    (c .if1 .came)
+    (c .if2 .came)
 
 loop-again : tie.Need-loop-again Inv-loop μ-loop
 loop-again c =
@@ -78,16 +88,16 @@ loop-again c =
 same-length : tie.Need-same-length Inv-loop μ-loop
 same-length c = c .before .loop .inv .2
 
-returns : tie.Need-returns Inv-loop μ-loop
-returns c =
-    let s = c .before .before .before in
+returns-2 : tie.Need-returns-2 Inv-loop μ-loop
+returns-2 c =
+    let s = c .before .before .before .before in
     let h = c .before .loop in
     let e : h .x ≡ s .args .here .params = omega arith in (
-      subst (λ (n : ℕ). Puts (s .args .out .now) (s .args .at) (parsUpTo (s .args .here .own) (s .args .here .par) (s .args .role)
-          (s .args .here .number) (s .args .which) n) (h .out) (h .next)) e (h .inv .3),
+      subst (λ (n : ℕ). Puts (s .args .out .now) (s .args .at) (parsUpTo (s .args .here .own) (s .args .here .par)
+          (s .args .role) (s .args .here .number) (s .args .which) n) (h .out) (h .next)) e (h .inv .3),
       omega arith,
     )
 
 pub par-atoms-spec : {M : Type 1} → statement M
-par-atoms-spec = tie.close (tie.spec Inv-loop μ-loop loop-holds has-requires cast-t11 par-atom-requires add-x loop-less
-    loop-again same-length returns)
+par-atoms-spec = tie.close (tie.spec Inv-loop μ-loop returns loop-holds has-requires cast-t12 par-atom-requires add-x
+    loop-less loop-again same-length returns-2)

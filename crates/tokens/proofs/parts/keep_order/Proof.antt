@@ -10,19 +10,36 @@ use Rattle.tokens.proofs.parts.keep_order.Statement.{statement}
 use Rattle.tokens.proofs.parts.keep_order.Tie as tie
 
 abbrev Inv-loop : tie.InvT-loop
-Inv-loop table from to s order₀ own₀ parts count j₀ order own j =
+Inv-loop table from to s order₀ own₀ parts count sets j₀ order own j =
     (j ≤ count) × (length order ≡ 3200) × (length own ≡ 3200) × OrderKept table from to s j parts order₀ own₀ order own
 
 abbrev μ-loop : tie.MeasureT-loop
-μ-loop table from to s order₀ own₀ parts count j₀ order own j = count - j
+μ-loop table from to s order₀ own₀ parts count sets j₀ order own j = count - j
+
+-- the part at position j, and the sets of all parts
+abbrev found-part : tie.After-struct-known Inv-loop μ-loop → ℕ
+found-part c =
+    getD (c .before .before .before .before .before .before .before .args .found .parts)
+    (c .before .before .before .loop .j) (record { 0 = 0 }) .0
+
+part-small : (c : tie.After-struct-known Inv-loop μ-loop) → found-part c < 16
+part-small c =
+    let s = c .before .before .before .before .before .before .before in
+    let j = c .before .before .before .loop .j in
+    let t = c .before .before .loop-test .taken in
+    let f = s .pre .1 .1 .0 in
+    omega (arith, part-is (s .args .found .parts) j (omega (arith, f .0, f .1)), s .pre .1 .1 .1 .1 j t)
+
+parameter-sets-requires : tie.Need-parameter-sets-requires Inv-loop μ-loop
+parameter-sets-requires c κs = c .before .before .pre .0
 
 loop-holds : tie.Need-loop-holds Inv-loop μ-loop
 loop-holds c =
-    let s = c .before .before in
+    let s = c .before .before .before in
     let a = s .args in (
       omega arith,
-      s .pre .1 .1 .1 .0,
-      s .pre .1 .1 .1 .1,
+      s .pre .1 .1 .1 .0 .0,
+      s .pre .1 .1 .1 .0 .1,
       order-none (a .table .now) (a .from) (a .to) (a .s) (a .found .parts) (a .order .now) (a .own .now),
     )
 
@@ -31,6 +48,15 @@ mul-part c = omega arith
 
 array-copy-out-part : tie.Need-array-copy-out-part Inv-loop μ-loop
 array-copy-out-part c = omega arith
+
+cast-named : tie.Need-cast-named Inv-loop μ-loop
+cast-named c = omega (arith, part-small c)
+
+mul-named : tie.Need-mul-named Inv-loop μ-loop
+mul-named c = omega (arith, part-small c)
+
+array-read-named : tie.Need-array-read-named Inv-loop μ-loop
+array-read-named c = omega (arith, part-small c)
 
 mul-order : tie.Need-mul-order Inv-loop μ-loop
 mul-order c = omega arith
@@ -44,11 +70,8 @@ mul-order-2 c = omega arith
 element-write-order : tie.Need-element-write-order Inv-loop μ-loop
 element-write-order c = omega arith
 
-parameters-of-requires : tie.Need-parameters-of-requires Inv-loop μ-loop
-parameters-of-requires c κs = c .before .before .before .before .before .pre .0
-
 cast-own : tie.Need-cast-own Inv-loop μ-loop
-cast-own c = omega arith
+cast-own c = omega (arith, c .before .before .before .before .parameter-sets .ensures .1 .0 (found-part c))
 
 mul-own : tie.Need-mul-own Inv-loop μ-loop
 mul-own c = omega arith
@@ -70,12 +93,13 @@ loop-less c = omega arith
 
 loop-again : tie.Need-loop-again Inv-loop μ-loop
 loop-again c =
-    let s = c .before .before .before .before .before .before in
+    let s = c .before .before .before .before .before .before .before in
     let a = s .args in
     let h = c .before .before .before .loop in
     let k = 16 * a .s + h .j in
-    let p = getD (a .found .parts) (h .j) (record { 0 = 0 }) .0 in
-    let r = c .parameters-of .result in
+    let p = found-part c in
+    let sets = c .before .before .before .before .parameter-sets in
+    let r = getD (sets .result) p 0 in
     let t : h .j < a .found .count = c .before .before .loop-test .taken in
     let l : length (a .found .parts) ≡ 16 = s .pre .1 .1 .0 .1 in
     let f : a .found .count ≤ 16 = s .pre .1 .1 .0 .0 in
@@ -85,12 +109,12 @@ loop-again c =
       length-set (h .own) k r ∙ h .inv .2,
       order-more (a .table .now) (a .from) (a .to) (a .s) (a .found .parts) (a .order .now) (a .own .now) (h .j)
           (h .order)
-          (h .own) p r e (omega arith) (omega arith) (c .parameters-of .ensures .0) (h .inv .3),
+          (h .own) p r e (omega arith) (omega arith) (sets .ensures .1 .1 p) (h .inv .3),
     )
 
 returns : tie.Need-returns Inv-loop μ-loop
 returns c =
-    let a = c .before .before .before .before .args in
+    let a = c .before .before .before .before .before .args in
     let h = c .before .loop in
     let e : h .j ≡ a .found .count = omega arith in (
       (h .inv .1, h .inv .2),
@@ -104,14 +128,17 @@ keep-order-spec =
     (tie.spec
     Inv-loop
     μ-loop
+    parameter-sets-requires
     loop-holds
     mul-part
     array-copy-out-part
+    cast-named
+    mul-named
+    array-read-named
     mul-order
     add-order
     mul-order-2
     element-write-order
-    parameters-of-requires
     cast-own
     mul-own
     add-own

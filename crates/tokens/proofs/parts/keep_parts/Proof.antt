@@ -18,7 +18,7 @@ use Rattle.arcs.proofs.PartLists.{no-none}
 use Rattle.arcs.proofs.Stretches.{schema-atoms, schema-stretch}
 use Rattle.tokens.specs.Code.{startOf, AreKept, PartsKept, circularTold}
 use Rattle.tokens.proofs.KeptSchemas.{schemas-few, atoms-few, parts-none, parts-more, told-none, circular-here}
-use Rattle.tokens.proofs.KeptSchemas.{circular-nowhere}
+use Rattle.tokens.proofs.KeptSchemas.{circular-nowhere, found-small, parts-few}
 use Rattle.tokens.proofs.parts.keep_parts.Statement.{statement}
 use Rattle.tokens.proofs.parts.keep_parts.Tie as tie
 
@@ -127,13 +127,21 @@ keep-order-requires c κs =
     let l = c .before .before .before .before .before .before .before .before in
     let t = c .before .before .before .before .before .before .before .loop-test .taken in
     let e = c .before .before .before .before .before .before .schema-end in
+    let found = c .before .before .before .before .before .order-of in
+    let told = found .ensures .0 (schemaAt (taskOf (words l)) (l .loop .s)) (atoms-are l t (e .result) (e .ensures)) in
+    let yes = not-false (found .result .found) (c .before .before .before .if1 .left) in
+    let n = found .ensures .1 in
     let kept = l .loop .inv .3 in (
       stretch l t (e .result) (e .ensures),
       (
         omega arith,
         (
-          c .before .before .before .before .before .order-of .ensures .1,
-          (kept .order-long, kept .own-long),
+          n,
+          (
+            (kept .order-long, kept .own-long),
+            found-small (taskOf (words l)) (l .loop .s) (found .result) told yes (omega (arith, n .0, n .1))
+                (parts-few (words l) (is-table l) (l .loop .s) (known l t)),
+          ),
         ),
       ),
     )
