@@ -19,10 +19,6 @@ uint32_t reference_unfold(const uint16_t *, size_t, const uint16_t *, size_t, ui
 uint32_t reference_fold(const uint16_t *, size_t, const uint16_t *, size_t, uint16_t *, size_t, uint64_t *, uint64_t *,
                         uint64_t *);
 
-/* Folding is fed where the archive has it. */
-uint32_t splitter_fold(const uint16_t *, size_t, const uint16_t *, size_t, uint16_t *, size_t, uint64_t *, uint64_t *,
-                       uint64_t *) __attribute__((weak));
-
 enum call { READ, WRITE, SPLIT, RUN, UNFOLD, FOLD, CALLS };
 
 struct input {
@@ -273,8 +269,7 @@ int LLVMFuzzerTestOneInput(const uint8_t *data, size_t size) {
         unfold_steps(&in);
         break;
     default:
-        if (splitter_fold != NULL)
-            fold_steps(&in);
+        fold_steps(&in);
     }
     guards_stand(&given_table);
     guards_stand(&given_list);

@@ -4,6 +4,7 @@
  * task, up to its end line, and then the plan. The folder of the programs is the variable PROGRAMS, and they run in
  * the folder FOLDER. */
 #define _GNU_SOURCE
+#include <errno.h>
 #include <fcntl.h>
 #include <spawn.h>
 #include <stdint.h>
@@ -50,10 +51,17 @@ static size_t run(char *program) {
         fail("the program starts");
     posix_spawn_file_actions_destroy(&actions);
     close(ends[1]);
-    for (ssize_t got; (got = read(ends[0], printed + length, sizeof printed - length)) > 0;)
-        length += (size_t)got;
+    /* the fuzzer's own clock interrupts both calls */
+    for (ssize_t got; (got = read(ends[0], printed + length, sizeof printed - length)) != 0;) {
+        if (got < 0 && errno != EINTR)
+            fail("what the program prints can be read");
+        length += got > 0 ? (size_t)got : 0;
+    }
     close(ends[0]);
-    if (waitpid(child, &status, 0) != child || !WIFEXITED(status) || WEXITSTATUS(status) != 0)
+    while (waitpid(child, &status, 0) != child)
+        if (errno != EINTR)
+            fail("the program ends");
+    if (!WIFEXITED(status) || WEXITSTATUS(status) != 0)
         fail("the program ends with status 0");
     return length;
 }
