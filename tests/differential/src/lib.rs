@@ -2,6 +2,7 @@
 //! each entry point that has landed, with answers as rows of numbers.
 
 pub mod beside;
+pub mod programs;
 pub mod reading;
 pub mod running;
 pub mod splitting;

@@ -1,8 +1,10 @@
 //! The proved code beside the reference: the same answers, and the same words
 //! afterwards. A module for each entry point that has landed.
 
+mod programs;
 mod reading;
 mod running;
+mod split_program;
 mod splitting;
 mod writing;
 
