@@ -1,10 +1,12 @@
 //! The proved code beside the reference, both built for release, in one run.
 
+mod lists;
 mod reading;
 mod running;
 mod splitting;
 mod tasks;
 mod timing;
+mod unfolding;
 mod writing;
 
 fn main() {
@@ -12,4 +14,5 @@ fn main() {
     reading::bench();
     writing::bench();
     splitting::bench();
+    unfolding::bench();
 }

@@ -18,7 +18,7 @@ use task::Object;
 use task::Parameter;
 
 // "A step is 13 words: schema, one object per parameter, zeros."
-const STEP_SIZE: usize = 13;
+pub const STEP_SIZE: usize = 13;
 
 const MOST_PARAMETERS: usize = 12;
 

@@ -6,6 +6,7 @@ pub mod programs;
 pub mod reading;
 pub mod running;
 pub mod splitting;
+pub mod unfolding;
 pub mod writing;
 
 /// What a number lent to be written holds before the call.

@@ -6,6 +6,7 @@ mod reading;
 mod running;
 mod split_program;
 mod splitting;
+mod unfolding;
 mod writing;
 
 const HEADER: &str = include_str!("../../../../include/splitter.h");
