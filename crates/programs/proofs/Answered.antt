@@ -2,7 +2,7 @@
 -- and a refusal is the one that is printed.
 use Prim.Native.Nat.{ℕ, _≤_}
 use mathlib.Core.Path.{_≡_, refl, sym, _∙_, ap, ap₂, subst}
-use mathlib.Core.Bool.{Bool, true, _&&_}
+use mathlib.Core.Bool.{true}
 use mathlib.Core.List.{List, [], _∷_}
 use native.Mathlib.Omega.{arith}
 use lib.ListN.{length, replicate, length-replicate}
@@ -15,9 +15,9 @@ use Rattle.task.specs.Limits.{tableWords}
 use Rattle.task.specs.Answers.{placeNumber, Told, result, refused, toldNumber, Outcome}
 use Rattle.task.specs.Task.{Task}
 use Rattle.task.specs.Table.{wordsOf, taskOf, longEnough, isTable}
-use Rattle.task.proofs.Laws.{and-both}
 use Rattle.task.proofs.Put.{take-over}
-use Rattle.task.proofs.Tables.{tableWords-is, words-length}
+use Rattle.task.proofs.LongEnough.{has-table-words}
+use Rattle.task.proofs.Tables.{words-length}
 use Rattle.task.proofs.TablesByIndex.{table-of, table-long}
 use Rattle.text.specs.Reading.{Reading, read, refusedAt}
 use Rattle.text.specs.Text.{write, readText}
@@ -28,16 +28,16 @@ use Rattle.text.proofs.TaskRead.{read-fits}
 use Rattle.text.proofs.ReadLoop.{long-outcome}
 use Rattle.text.proofs.LongestText.{text-most}
 use Rattle.tokens.specs.Split.{Splitting, circular, tooLarge, splitAs, split, splitOutcome}
-use Rattle.tokens.proofs.SplitOutcome.{split-nine, split-ten, split-done}
+use Rattle.tokens.proofs.SplitOutcome.{refused-nine, refused-ten, split-refused as outcome-refused, split-done}
 use Rattle.tokens.proofs.SplitAnswers.{AcceptedSplit, accepted-split}
 use Rattle.programs.specs.Programs.{taken, refusal, printReading, printSplitting, splitProgram}
 
--- ---- a table of zeros, as a function has it before it is written
-zeros-long : (n : ℕ) → tableWords ≤ n → tableWords ≤ length {A = ℕ} (replicate n 0)
-zeros-long n h = let e = length-replicate {A = ℕ} n 0 in omega arith
+-- ---- words of zeros, as a function has them before they are written
+pub zeros-long : (n : ℕ) → n ≤ length {A = ℕ} (replicate n 0)
+zeros-long n = let e = length-replicate {A = ℕ} n 0 in omega arith
 
 pub table-zeros : tableWords ≤ length {A = ℕ} (replicate 13406 0)
-table-zeros = zeros-long 13406 (let e = tableWords-is in omega arith)
+table-zeros = has-table-words (replicate 13406 0) (zeros-long 13406)
 
 -- ---- reading
 -- words that are the table of the task that a text reads as
@@ -74,6 +74,12 @@ read-refused text table long {k} {at} h uses =
         ap₂ refusal number (ap placeNumber line)
 
 -- ---- splitting
+-- a split that is given is printed
+pub split-printed : (prints : Task → List ℕ) (t : Task) {t′ : Task} → split t ≡ splitAs t′ →
+    prints t′ ≡ printSplitting prints (split t)
+unfolding printSplitting
+split-printed prints t e = sym (ap (printSplitting prints) e)
+
 -- words that are the table of a given split
 pub split-given : (table out : List ℕ) {words : List ℕ} → result [] ≡ splitOutcome table out .told →
     words ≡ splitOutcome table out .buffer → AcceptedSplit table words
@@ -87,9 +93,11 @@ pub split-refused : (table out : List ℕ) → isTable table ≡ true → tableW
 unfolding printSplitting longEnough
 split-refused table out is-table out-long {k} {at} h prints = go (split (taskOf table)) refl
   where
-    long : longEnough table && longEnough out ≡ true
-    long = and-both _ _ (le-leb tableWords (length table) (table-long table is-table))
-        (le-leb tableWords (length out) out-long)
+    long : longEnough table ≡ true
+    long = le-leb tableWords (length table) (table-long table is-table)
+
+    room : longEnough out ≡ true
+    room = le-leb tableWords (length out) out-long
 
     told : {o : Outcome} → splitOutcome table out ≡ o → refused k at [] ≡ o .told
     told e = h ∙ ap (λ (o : Outcome). o .told) e
@@ -97,17 +105,17 @@ split-refused table out is-table out-long {k} {at} h prints = go (split (taskOf 
     go : (r : Splitting) → split (taskOf table) ≡ r →
         refusal k (placeNumber at) ≡ printSplitting prints (split (taskOf table))
     go (circular s) e =
-        let nine = told (split-nine table out long is-table e) in
+        let nine = told (outcome-refused table out room (refused-nine table long is-table e)) in
         let number : k ≡ 9 = cc in
         let schema : at ≡ place.Schema s = cc in
         ap₂ refusal number (ap placeNumber schema) ∙ sym (ap (printSplitting prints) e)
     go tooLarge e =
-        let ten = told (split-ten table out long is-table e) in
+        let ten = told (outcome-refused table out room (refused-ten table long is-table e)) in
         let number : k ≡ 10 = cc in
         let nowhere : at ≡ place.Nowhere = cc in
         ap₂ refusal number (ap placeNumber nowhere) ∙ sym (ap (printSplitting prints) e)
     go (splitAs t) e =
-        let done = told (split-done table out long is-table e) in
+        let done = told (split-done table out room long is-table e) in
         absurd (let z : _≡_ {A = ℕ} 0 1 = cc in omega arith)
 
 -- ---- writing
@@ -122,11 +130,6 @@ task-written table out is-table room =
 -- ---- the program `split`
 abbrev pub printsSplit : Task → List ℕ
 printsSplit t = printSplitting write (split t)
-
-pub split-printed : (table words : List ℕ) → AcceptedSplit table words →
-    write (taskOf words) ≡ printsSplit (taskOf table)
-unfolding printSplitting
-split-printed table words a = sym (ap (printSplitting write) (a .accepted))
 
 pub text-split : (text words : List ℕ) → TableRead (taken text) words → printsSplit (taskOf words) ≡ splitProgram text
 unfolding splitProgram printReading

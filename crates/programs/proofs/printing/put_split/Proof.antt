@@ -3,6 +3,7 @@
 use mathlib.Core.Path.{_≡_, sym, _∙_, ap}
 use native.Mathlib.Omega.{arith}
 use borrow.Author.Needs.{needs}
+use Rattle.task.specs.Table.{taskOf}
 use Rattle.tokens.specs.Split.{splitAnswerTold}
 use Rattle.text.specs.Text.{write}
 use Rattle.tokens.proofs.SplitAnswers.{AcceptedSplit}
@@ -54,7 +55,7 @@ returns : tie.Need-returns
 returns c =
     let g = c .before .before .before .before .before in
     let k = g .before .before .before in
-    prints-same (split-printed (start k .args .table .now) (k .split .last .1 .0) (given g))
+    prints-same (split-printed write (taskOf (start k .args .table .now)) (given g .accepted))
     (c .before .before .put-task .ensures)
 
 same-length-2 : tie.Need-same-length-2
