@@ -6,6 +6,7 @@ mod reading;
 mod running;
 mod split_program;
 mod splitting;
+mod unfold_program;
 mod unfolding;
 mod writing;
 
