@@ -3,6 +3,7 @@
 
 pub mod beside;
 pub mod folding;
+pub mod programs;
 pub mod reading;
 pub mod running;
 pub mod shared_runs;

@@ -2,10 +2,13 @@
 //! afterwards. A module for each entry point that has landed.
 
 mod folding;
+mod programs;
 mod reading;
 mod running;
 mod shared_runs;
+mod split_program;
 mod splitting;
+mod unfold_program;
 mod unfolding;
 mod writing;
 
