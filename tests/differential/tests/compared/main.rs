@@ -1,5 +1,5 @@
 //! The proved code beside the reference: the same answers, and the same words
-//! afterwards. A module for each entry point that has landed.
+//! afterwards. A module for each entry point.
 
 mod folding;
 mod programs;
