@@ -1,5 +1,5 @@
--- What a caller of `read_plan` knows by its answer: the plan with its number of steps, whose words are good steps of the
--- task; or the line that was refused.
+-- What a caller of `read_plan` knows by its answer: the plan with its number of steps, whose words are good steps of
+-- the task; or the line that was refused.
 use Prim.Native.Nat.{ℕ, _*_}
 use mathlib.Core.Path.{_≡_, refl, sym, _∙_, ap, subst}
 use mathlib.Core.Bool.{true}
@@ -32,7 +32,8 @@ read-by (refusedAt k m) n h = absurd (let z : _≡_ {A = ℕ} 0 1 = cc in omega 
 -- of its two promises
 pub answer-read : (t : Task) → wellFormed t ≡ true → (text lent after : List ℕ) (n : ℕ) →
     answer.Read n ≡ planAnswer (readPlan t text) →
-    ((xs : List Step) → readPlan t text ≡ read xs → after ≡ over (concatMap stepWords xs) lent) → PlanRead t text n after
+    ((xs : List Step) → readPlan t text ≡ read xs → after ≡ over (concatMap stepWords xs) lent) →
+    PlanRead t text n after
 answer-read t well text lent after n told stored =
     let (xs, is, count) = read-by (readPlan t text) n told in
     let e : take (13 * length xs) (over (concatMap stepWords xs) lent) ≡ take (13 * n) after =

@@ -19,8 +19,8 @@ use Rattle.text.specs.declared.plan.PlanTurn.{PlanTurn}
 use Rattle.text.specs.declared.plan.PlanTurn.the-variants as turn
 use Rattle.text.specs.Lines.{Taken, after, number, entry, ended}
 use Rattle.text.specs.Reading.{goOn, finish, refuse, Reading, read, refusedAt, atEnd, lineAt, readLines}
-use Rattle.text.specs.Plan.{PlanKey, step, end, planKeyName, PlanLine, stepLine, endLine, readPlanBody, takePlanLine}
-use Rattle.text.specs.Plan.{nextPlanLine, readPlan}
+use Rattle.text.specs.Plan.{PlanKey, step, end, planKeyName, PlanLine, stepLine, endLine, readPlanBody}
+use Rattle.text.specs.Plan.{takePlanLine, nextPlanLine, readPlan}
 use Rattle.text.specs.ReadCode.{rest, Placed, startCursor, Moved, WordHere, Wrote}
 use Rattle.text.specs.PlanCode.{stepOf, PlanRefuses, PlanFinishes, PlanGoesOn, PlanTurned}
 use Rattle.text.proofs.Taken.{after-read}
@@ -55,7 +55,8 @@ module _ (xs : List Step) (bs : List ℕ) where
 
   pub next-end : (rest : List ℕ) → Unkeyed step → Keyed end rest → nextPlanLine xs bs ≡ ended endLine (number rest)
   unfolding nextPlanLine readPlanBody
-  next-end rest n e = one-line planKeyName readPlanBody bs end rest e {ks = planKeys xs} (there (here refl)) (λ j i. others j)
+  next-end rest n e =
+      one-line planKeyName readPlanBody bs end rest e {ks = planKeys xs} (there (here refl)) (λ j i. others j)
     where
       others : (j : PlanKey) → (j ≡ end) ⊎ Unkeyed j
       others step = inr n
@@ -168,7 +169,8 @@ module _ (t : Task) (text lent : List ℕ) where
           good = all-snoc (isStep t) (s .steps) (g .last) (s .good) (g .is-step);
           words = one-more t well (s .steps) (s .good) (g .last) (g .is-step) c (s .words) (g .put);
           so-far = so-turned ∙ (g .is (at .line) onward ∙
-              ap (λ (i : ℕ). readLines nextPlanLine (takePlanLine t) i (s .steps ++ (g .last ∷ [])) (rest text next)) (sym z));
+              ap (λ (i : ℕ). readLines nextPlanLine (takePlanLine t) i (s .steps ++ (g .last ∷ [])) (rest text next))
+              (sym z));
         }
 
     module _ {next : Cursor} (f : PlanFinishes t text at (s .steps) here-line next) where

@@ -1,4 +1,5 @@
--- A plan's text by the words of its steps, as code writes it: a line for each step, then `end=1`; and how long it can be.
+-- A plan's text by the words of its steps, as code writes it: a line for each step, then `end=1`; and how long it can
+-- be.
 use Prim.Native.Nat.{ℕ, _+_, _*_, _/_, _≤_, _<_}
 use mathlib.Core.Path.{_≡_, refl, sym, _∙_, ap}
 use mathlib.Core.Bool.{true}

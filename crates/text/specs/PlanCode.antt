@@ -54,7 +54,8 @@ module _ (t : Task) (text : List ℕ) (from : Cursor) (xs : List Step) (l : Opti
     pub line : NextLine text from at
 
 -- what the code does at a line behind the steps xs, with the words before it and after it
-abbrev pub PlanTurned : Task → List ℕ → Cursor → List Step → Option (Taken PlanLine) → List ℕ → PlanTurn → List ℕ → Type 0
+abbrev pub PlanTurned : Task → List ℕ → Cursor → List Step → Option (Taken PlanLine) → List ℕ → PlanTurn → List ℕ →
+    Type 0
 PlanTurned t text from xs l w (turn.GoOn at) after = PlanGoesOn t text from xs l at w after
 PlanTurned t text from xs l w (turn.Finish at) after = PlanFinishes t text from xs l at × (after ≡ w)
 PlanTurned t text from xs l w (turn.Refuse k) after = PlanRefuses t text from xs l k

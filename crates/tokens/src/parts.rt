@@ -17,6 +17,7 @@ use crate::atoms::argument_count;
 use crate::atoms::schema_of;
 use arcs::Order;
 use arcs::atoms::part_of;
+use arcs::orders::order_of;
 use arcs::sets::with;
 
 // The lowest schema for whose parts no order complies, if there is one.
@@ -134,7 +135,7 @@ pub fn keep_parts(
     starts[0] = 0;
     while s < schemas {
         let to = schema_end(table, s, from);
-        let found = arcs::order_of(table, from, to);
+        let found = order_of(table, from, to);
         if !found.found {
             return Circular::At(s as u64);
         }

@@ -1,11 +1,14 @@
 //! The proved code beside the reference: the same answers, and the same words
-//! afterwards. A module for each entry point that has landed.
+//! afterwards. A module for each entry point.
 
 mod folding;
+mod programs;
 mod reading;
 mod running;
 mod shared_runs;
+mod split_program;
 mod splitting;
+mod unfold_program;
 mod unfolding;
 mod writing;
 

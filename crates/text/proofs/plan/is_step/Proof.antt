@@ -1,5 +1,5 @@
--- `text::plan::is_step` meets its contract: schema, number of objects and objects are tested one after another, and each
--- test that fails makes it no step.
+-- `text::plan::is_step` meets its contract: schema, number of objects and objects are tested one after another, and
+-- each test that fails makes it no step.
 use mathlib.Core.Path.{sym, _∙_}
 use native.Mathlib.Omega.{arith}
 use Rattle.task.specs.Table.{taskOf}
@@ -72,8 +72,10 @@ returns-3 c =
     let e = schemas-word w (table-frame w (start .pre .0)) in
     let f = c .before .before .before .before .before .wide .ensures in
     let l = c .before .before .before .before .if1 .left in
-    step-judged w (start .pre .0) (start .args .schema) (start .args .count) (start .args .objects .now) _ (start .pre .1)
-    (omega arith) (sym (c .before .before .before .param-count .ensures) ∙ c .before .before .if2 .left) (c .all-below .ensures)
+    step-judged w (start .pre .0) (start .args .schema) (start .args .count) (start .args .objects .now) _
+    (start .pre .1) (omega arith)
+    (sym (c .before .before .before .param-count .ensures) ∙ c .before .before .if2 .left)
+    (c .all-below .ensures)
 
 pub is-step-spec : {M : Type 1} → statement M
 is-step-spec =

@@ -35,7 +35,8 @@ returns-3 c =
     let line = subst (NumberLineAt _ _) (n .n .given .1) (n .before .before .number-line .ensures) in
     λ t xs w. (
       record {
-        is = λ k next. turn-ends endLine _ (takePlanLine t xs) _ _ (line .is) k next xs (end-taken t xs _ (c .if1 .left));
+        is = λ k next.
+            turn-ends endLine _ (takePlanLine t xs) _ _ (line .is) k next xs (end-taken t xs _ (c .if1 .left));
         line = line .line;
       },
       refl,

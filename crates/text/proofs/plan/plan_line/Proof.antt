@@ -1,5 +1,5 @@
--- `text::plan::plan_line` meets its contract: the key at the cursor says whose body the line is; where there is none the
--- line is refused.
+-- `text::plan::plan_line` meets its contract: the key at the cursor says whose body the line is; where there is none
+-- the line is refused.
 use mathlib.Core.Path.{subst}
 use native.Mathlib.Omega.{arith}
 use Rattle.task.specs.Table.{taskOf}
@@ -25,7 +25,8 @@ enum-known-body c = search needs
 step-line-requires : tie.Need-step-line-requires
 step-line-requires c κs =
     let start = c .before .before .before .before .before .before .before .before .before in
-    let word = subst (WordAt _ _ _) (c .before .before .body .given .1) (c .before .before .before .before .word .ensures) in
+    let at-word = c .before .before .before .before in
+    let word = subst (WordAt _ _ _) (c .before .before .body .given .1) (at-word .word .ensures) in
     (start .pre .0, (word-placed (start .pre .1 .0) word, start .pre .1 .1))
 
 same-length : tie.Need-same-length
@@ -35,7 +36,8 @@ returns : tie.Need-returns
 unfolding bytes planKeyName
 returns c =
     let start = c .before .before .before .before .before .before .before .before .before .before .before .before in
-    let word = subst (WordAt _ _ _) (c .before .before .before .before .before .body .given .1) (c .before .before .before .before .before .before .before .word .ensures) in
+    let at-word = c .before .before .before .before .before .before .before in
+    let word = subst (WordAt _ _ _) (c .before .before .before .before .before .body .given .1) (at-word .word .ensures) in
     let done = c .before .before .step-line in
     λ xs e.
     plan-turned-at (taskOf (start .args .table .now)) (start .args .text .now) (start .args .from) _ xs _ _
@@ -63,9 +65,11 @@ last-line-requires c κs =
 returns-2 : tie.Need-returns-2
 unfolding bytes planKeyName
 returns-2 c =
-    let start = c .before .before .before .before .before .before .before .before .before .before .before .before .before in
-    let none = subst (WordAt _ _ _) (c .before .before .before .before .before .before .enum-told .given .1) (c .before .before .before .before .before .before .before .before .word .ensures) in
-    let word = subst (WordAt _ _ _) (c .before .before .body2 .given .1) (c .before .before .before .before .word2 .ensures) in
+    let at-end = c .before .before .before .before in
+    let at-step = at-end .before .before .before .before in
+    let start = at-step .before .before .before .before .before in
+    let none = subst (WordAt _ _ _) (at-end .before .before .enum-told .given .1) (at-step .word .ensures) in
+    let word = subst (WordAt _ _ _) (c .before .before .body2 .given .1) (at-end .word2 .ensures) in
     λ xs e.
     let t = taskOf (start .args .table .now) in
     plan-turned-at t (start .args .text .now) (start .args .from) _ xs _ _
@@ -79,7 +83,8 @@ returns-3 : tie.Need-returns-3
 unfolding bytes planKeyName
 returns-3 c =
     let start = c .before .before .before .before .before .before .before .before .before .before .before in
-    let none = subst (WordAt _ _ _) (c .before .before .before .before .enum-told .given .1) (c .before .before .before .before .before .before .word .ensures) in
+    let at-step = c .before .before .before .before .before .before in
+    let none = subst (WordAt _ _ _) (c .before .before .before .before .enum-told .given .1) (at-step .word .ensures) in
     let neither = subst (WordAt _ _ _) (c .enum-told2 .given .1) (c .before .before .word2 .ensures) in
     λ xs e. no-line-refused (takePlanLine (taskOf (start .args .table .now)) xs) _ (next-none xs _ none neither)
 

@@ -1,4 +1,5 @@
--- `text::plan::put_step` meets its contract: the schema is stored, the objects are put behind it, and zeros behind them.
+-- `text::plan::put_step` meets its contract: the schema is stored, the objects are put behind it, and zeros behind
+-- them.
 use mathlib.Core.Path.{_∙_}
 use native.Mathlib.Omega.{arith}
 use lib.ListN.{length-set}
@@ -57,7 +58,8 @@ returns c =
     let start = c .before .before .before .before .before .before .before .before .before .before in
     let args = start .args in
     let (schema, few, enough) = start .pre .1 .0 in
-    step-put (args .steps .now) (args .at) (args .schema) (args .count) (args .objects .now) _ _ (start .pre .0) few enough
+    step-put (args .steps .now) (args .at) (args .schema) (args .count) (args .objects .now) _ _ (start .pre .0) few
+    enough
     (c .before .before .before .before .before .before .put-words .ensures) (c .before .before .clear .ensures)
 
 pub put-step-spec : {M : Type 1} → statement M

@@ -22,7 +22,8 @@ objects c = commaed (spaced (c .args .words .now) (c .args .base + 1) 1 (c .args
 -- what is still to come of the line, in a text and from a place on
 abbrev Left : tie.Start → List ℕ → List ℕ → ℕ → Type 0
 Left c left text next =
-    Going (c .args .text .now) (c .args .at) (stepText (c .args .words .now) (c .args .base) (c .args .params)) left text next
+    Going (c .args .text .now) (c .args .at) (stepText (c .args .words .now) (c .args .base) (c .args .params)) left text
+    next
 
 begin : (c : tie.Start) →
     Left c (stepKey ++ (schema c ++ (colon ∷ (objects c ++ (newline ∷ []))))) (c .args .text .now) (c .args .at)
@@ -101,7 +102,9 @@ same-length : tie.Need-same-length
 same-length c = search needs
 
 returns : tie.Need-returns
-returns c = going-last (behind-objects (c .before .before .before .before .before .before)) (c .before .before .put-byte2 .ensures)
+returns c =
+    let at-end = c .before .before in
+    going-last (behind-objects (at-end .before .before .before .before)) (at-end .put-byte2 .ensures)
 
 pub put-step-line-spec : {M : Type 1} → statement M
 put-step-line-spec =

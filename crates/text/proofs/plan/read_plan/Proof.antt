@@ -1,6 +1,6 @@
 -- `text::plan::read_plan` meets its contract. The loop's invariant, `PlanSoFar`: reading the whole text is reading on
--- from the cursor with the steps read so far, whose words lie over the front of the lent ones. A line that is refused and
--- one that ends reading give the answer; another adds a step. The measure is what is left of the text.
+-- from the cursor with the steps read so far, whose words lie over the front of the lent ones. A line that is refused
+-- and one that ends reading give the answer; another adds a step. The measure is what is left of the text.
 use Prim.Native.Nat.{_-_}
 use mathlib.Core.Path.{_≡_, sym, _∙_, ap, subst}
 use native.Mathlib.Omega.{arith}
@@ -52,7 +52,8 @@ module _ (c : tie.After-plan-line Inv-loop μ-loop) where
   sofar = head .loop .inv
 
   turned : (r : PlanTurn) → c .plan-line .result ≡ r →
-      PlanTurned (taskOf (entry head .args .table .now)) (entry head .args .text .now) (head .loop .cursor) (sofar .steps)
+      PlanTurned (taskOf (entry head .args .table .now)) (entry head .args .text .now) (head .loop .cursor)
+      (sofar .steps)
       (nextPlanLine (sofar .steps) (rest (entry head .args .text .now) (head .loop .cursor))) (head .loop .steps) r
       (c .plan-line .last .1 .1 .1 .0)
   turned r e =
@@ -87,7 +88,8 @@ returns-2 : tie.Need-returns-2 Inv-loop μ-loop
 unfolding planAnswer
 returns-2 c =
     let at-line = c .before .before .before .before .before .before .before in
-    let is = plan-left-over _ _ _ (sofar at-line) (turned at-line _ (c .before .before .before .next .given .1) .0) (c .if1 .taken) in
+    let done = turned at-line _ (c .before .before .before .next .given .1) in
+    let is = plan-left-over _ _ _ (sofar at-line) (done .0) (c .if1 .taken) in
     (sym (ap planAnswer is), refused-stores _ _ _ _ _ _ is)
 
 same-length-3 : tie.Need-same-length-3 Inv-loop μ-loop

@@ -38,7 +38,8 @@ returns-2 : tie.Need-returns-2
 returns-2 c =
     let line = c .before .before in
     let start = line .before .before .before .before .before .before .before .before in
-    let found = subst (EntryLineAt _ _ _) (line .schema .given .1) (line .before .before .before .entry-line .ensures) in
+    let read = line .before .before .before .entry-line in
+    let found = subst (EntryLineAt _ _ _) (line .schema .given .1) (read .ensures) in
     λ xs e n next.
     let t = taskOf (start .args .table .now) in
     let many = c .if1 .taken in
@@ -54,7 +55,8 @@ returns-3 : tie.Need-returns-3
 returns-3 c =
     let line = c .before .before .before .before .before in
     let start = line .before .before .before .before .before .before .before .before in
-    let found = subst (EntryLineAt _ _ _) (line .schema .given .1) (line .before .before .before .entry-line .ensures) in
+    let read = line .before .before .before .entry-line in
+    let found = subst (EntryLineAt _ _ _) (line .schema .given .1) (read .ensures) in
     λ xs e n next.
     let t = taskOf (start .args .table .now) in
     let few = c .before .before .before .if1 .left in
@@ -72,12 +74,14 @@ put-step-requires : tie.Need-put-step-requires
 put-step-requires c κs =
     let line = c .before .before .before .before .before .before .before in
     let start = line .before .before .before .before .before .before .before .before in
-    let found = subst (EntryLineAt _ _ _) (line .schema .given .1) (line .before .before .before .entry-line .ensures) in
-    let is = sym (c .before .before .before .is-step .ensures (found .ns) (found .listed)) ∙ not-false _ (c .before .before .if2 .left) in
+    let read = line .before .before .before .entry-line in
+    let found = subst (EntryLineAt _ _ _) (line .schema .given .1) (read .ensures) in
+    let tried = c .before .before .before .is-step in
+    let is = sym (tried .ensures (found .ns) (found .listed)) ∙ not-false _ (c .before .before .if2 .left) in
     let few = c .before .before .before .before .before .if1 .left in
     let long = start .pre .1 .1 in
-    let e = line .before .before .before .entry-line .kept .1 .1 .0 in
-    let size : length (line .before .before .before .entry-line .last .1 .1 .0) ≡ 12 = omega arith in
+    let e = read .kept .1 .1 .0 in
+    let size : length (read .last .1 .1 .0) ≡ 12 = omega arith in
     let kept = step-kept (start .args .table .now) (start .pre .0) _ _ _ (found .ns) size (found .listed) is in
     (omega arith, ((kept .schema, kept .few, kept .enough), kept .small))
 
@@ -88,11 +92,14 @@ returns-4 : tie.Need-returns-4
 returns-4 c =
     let line = c .before .before .before .before .before .before .before .before .before .before in
     let start = line .before .before .before .before .before .before .before .before in
-    let found = subst (EntryLineAt _ _ _) (line .schema .given .1) (line .before .before .before .entry-line .ensures) in
-    let is = sym (c .before .before .before .before .before .before .is-step .ensures (found .ns) (found .listed)) ∙ not-false _ (c .before .before .before .before .before .if2 .left) in
+    let read = line .before .before .before .entry-line in
+    let found = subst (EntryLineAt _ _ _) (line .schema .given .1) (read .ensures) in
+    let passed = c .before .before .before .before .before in
+    let tried = passed .before .is-step in
+    let is = sym (tried .ensures (found .ns) (found .listed)) ∙ not-false _ (passed .if2 .left) in
     let few = c .before .before .before .before .before .before .before .before .if1 .left in
-    let e = line .before .before .before .entry-line .kept .1 .1 .0 in
-    let size : length (line .before .before .before .entry-line .last .1 .1 .0) ≡ 12 = omega arith in
+    let e = read .kept .1 .1 .0 in
+    let size : length (read .last .1 .1 .0) ≡ 12 = omega arith in
     let kept = step-kept (start .args .table .now) (start .pre .0) _ _ _ (found .ns) size (found .listed) is in
     λ xs e.
     let t = taskOf (start .args .table .now) in

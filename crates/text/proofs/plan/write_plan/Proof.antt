@@ -1,5 +1,5 @@
--- `text::plan::write_plan` meets its contract. The invariant of its loop: what is still to come is the lines from step i
--- on and `end=1`. The measure is the number of steps less i.
+-- `text::plan::write_plan` meets its contract. The invariant of its loop: what is still to come is the lines from step
+-- i on and `end=1`. The measure is the number of steps less i.
 use native.Mathlib.Omega.{arith}
 use Prim.Native.Nat.{ℕ, _+_, _-_, _*_, _/_, _≤_}
 use mathlib.Core.Path.{_≡_, _∙_, ap}
@@ -11,8 +11,8 @@ use Rattle.task.proofs.Tables.{of-table}
 use Rattle.task.proofs.Put.{put-over}
 use Rattle.text.specs.Plan.{writePlan}
 use Rattle.text.specs.PlanCode.{stepText}
-use Rattle.text.proofs.Puts.{puts-same, Going, going-start, going-long, going-left, going-room, going-on, going-last}
-use Rattle.text.proofs.Puts.{last-room}
+use Rattle.text.proofs.Puts.{puts-same, Going, going-start, going-long, going-left, going-room, going-on}
+use Rattle.text.proofs.Puts.{last-room, going-last}
 use Rattle.text.proofs.Onwards.{onwards, onwards-next, onwards-none}
 use Rattle.text.proofs.WholeText.{endBytes}
 use Rattle.text.proofs.PlanWritten.{lineAtStep, plan-onwards, StepThere, step-there}
@@ -58,8 +58,10 @@ module _ (c : tie.In-loop Inv-loop μ-loop) where
 
   -- what is to come is the line of step i, then those from i + 1 on, then the end
   to-come :
-      Going (start (c .before) .args .text .now) 0 (writePlan (stepsIn (taskOf (start (c .before) .args .table .now)) words))
-      (lines i ++ (onwards lines (i + 1) (length words / 13) ++ endBytes)) (c .before .loop .text) (c .before .loop .next)
+      Going (start (c .before) .args .text .now) 0
+      (writePlan (stepsIn (taskOf (start (c .before) .args .table .now)) words))
+      (lines i ++ (onwards lines (i + 1) (length words / 13) ++ endBytes))
+      (c .before .loop .text) (c .before .loop .next)
   to-come =
       going-left
       (ap (λ (bs : List ℕ). bs ++ endBytes) (onwards-next lines i (length words / 13) (c .loop-test .taken)) ∙
@@ -102,7 +104,8 @@ put-step-line-requires c κs =
     let e = params-read (c .before) in
     let inside = there at .inside in
     let few = there at .few in
-    let r = going-room (lines at (i at)) (onwards (lines at) (i at + 1) (length (words at) / 13) ++ endBytes) (to-come at) in
+    let later = onwards (lines at) (i at + 1) (length (words at) / 13) ++ endBytes in
+    let r = going-room (lines at (i at)) later (to-come at) in
     let l = ap length (line-read (c .before)) in
     (omega arith, omega arith)
 
@@ -116,7 +119,8 @@ loop-again : tie.Need-loop-again Inv-loop μ-loop
 loop-again c =
     let at = c .before .before .before .before .before .before .before in
     let l = at .loop-test .taken in
-    (omega arith, going-on (to-come at) (puts-same (line-read (c .before .before .before .before)) (c .before .before .put-step-line .ensures)))
+    let put = puts-same (line-read (c .before .before .before .before)) (c .before .before .put-step-line .ensures) in
+    (omega arith, going-on (to-come at) put)
 
 -- behind the last step only the end is to come
 ending : (c : tie.After-loop Inv-loop μ-loop) →
@@ -144,7 +148,8 @@ returns : tie.Need-returns Inv-loop μ-loop
 returns c =
     let start = start (c .before .before .before .before .before .before) in
     let plan = writePlan (stepsIn (taskOf (start .args .table .now)) (start .args .words .now)) in
-    let puts = going-last (ending (c .before .before .before .before .before)) (c .before .before .put-bytes .ensures) in
+    let at-end = ending (c .before .before .before .before .before) in
+    let puts = going-last at-end (c .before .before .put-bytes .ensures) in
     let place = puts .place in
     (omega arith, puts .stored ∙ put-over plan (start .args .text .now) (start .pre .1 .1))
 

@@ -1,4 +1,4 @@
--- `arcs::order_of` meets its contract. The invariant: the order is the parts placed, then the order of the unplaced
+-- `arcs::orders::order_of` meets its contract. The invariant: the order is the parts placed, then the order of the unplaced
 -- ones. The measure is the parts left.
 use Prim.Native.Nat.{ℕ, _-_, _≤_}
 use mathlib.Core.Path.{_≡_, refl, sym, _∙_, ap, subst}
@@ -11,8 +11,8 @@ use Rattle.task.specs.Task.{Atom}
 use Rattle.arcs.specs.Code.{AreArcs, AreCounts, SetBelow, atomsIn, chosen, orderTold}
 use Rattle.arcs.proofs.Placing.{Placed, placed-none, placed-more, placed-stuck, placed-all, order-is}
 use Rattle.arcs.proofs.Placing.{below-all, below-without}
-use Rattle.arcs.proofs.order_of.Statement.{statement}
-use Rattle.arcs.proofs.order_of.Tie as tie
+use Rattle.arcs.proofs.orders.order_of.Statement.{statement}
+use Rattle.arcs.proofs.orders.order_of.Tie as tie
 
 abbrev Inv-loop : tie.InvT-loop
 Inv-loop table from to before preconditions count parts₀ unplaced₀ placed₀ parts unplaced placed =

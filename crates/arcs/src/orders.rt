@@ -1,0 +1,48 @@
+// The order taken of a schema's parts: arcs and preconditions are found once, then parts are placed one by one.
+ghost use Prim.Native.Nat.{_≤_};
+ghost use mathlib.Core.Path.{_≡_};
+ghost use lib.ListN.{length};
+ghost use Rattle.task.specs.Task.{Schema};
+ghost use Rattle.arcs.specs.Order.{orderOf};
+ghost use Rattle.arcs.specs.Code.{IsStretch, atomsIn, orderTold};
+use crate::MOST_PARTS;
+use crate::Order;
+use crate::before::arcs_of;
+use crate::choice::Choice;
+use crate::choice::choose;
+use crate::counts::part_count;
+use crate::counts::preconditions_of;
+use crate::sets::below;
+use crate::sets::without;
+use task::Part;
+
+// The order taken of the parts of the schema whose atoms are atoms `from` to `to - 1` of the table.
+pub fn order_of(table: &[u16], from: usize, to: usize) -> Order
+    requires { ⌜ IsStretch (now table) from to ⌝ }
+    ensures { λ r. ⌜ ((s : Schema) → s .atoms ≡ atomsIn (now (table .entry)) from to → orderTold r ≡ orderOf s) ⌝ }
+    ensures { λ r. ⌜ (r .count ≤ 16) × (length (r .parts) ≡ 16) ⌝ }
+{
+    let before = arcs_of(table, from, to);
+    let preconditions = preconditions_of(table, from, to);
+    let count = part_count(table, from, to);
+    let mut parts = [Part(0); MOST_PARTS];
+    let mut unplaced = below(count);
+    let mut placed = 0;
+    while placed < count {
+        let Choice::Ready(part) = choose(&before, &preconditions, unplaced, count) else {
+            return Order {
+                parts,
+                count: 0,
+                found: false,
+            };
+        };
+        parts[placed] = part;
+        unplaced = without(unplaced, part.0 as usize);
+        placed += 1;
+    }
+    Order {
+        parts,
+        count,
+        found: true,
+    }
+}
