@@ -59,6 +59,28 @@ uint32_t splitter_write(const uint16_t *table, size_t table_len, uint8_t *text, 
  * found. Words behind the split's are never touched. */
 uint32_t splitter_split(const uint16_t *table, size_t table_len, uint16_t *split, size_t split_len, uint64_t *place);
 
+/* Unfolds a list of steps of the table's task, 13 words each, into steps of its split: each step's block, which is its
+ * parts in order with its objects, one after another over the front of the words lent. The table is that of the task,
+ * not of its split.
+ *
+ * `split_steps` is how many split steps are written, 13 words each. Refusals: 1, 2, 9 and 10 as in splitting, 12 no
+ * step of the task or an incomplete one (place: its number), 13 the unfolding is longer than the words lent. Each
+ * leaves the words as found, with `split_steps` 0. Words behind an unfolding are left as found too. */
+uint32_t splitter_unfold(const uint16_t *table, size_t table_len, const uint16_t *steps, size_t steps_len,
+                         uint16_t *out, size_t out_len, uint64_t *place, uint64_t *split_steps);
+
+/* Folds a list of steps of the split of the table's task, 13 words each: takes it apart into whole blocks, and writes the
+ * step of each, 13 words each, over the front of the words lent. It looks at schemas and objects, not at states. The
+ * table is that of the task, not of its split.
+ *
+ * `split_steps` is how many split steps were lent, `steps` how many steps are written. Refusals: 1, 2, 9 and 10 as in
+ * splitting, 12 no step of the split or an incomplete one (place: its number), 14 the first step that fits no block, or
+ * the step count where the last block is unfinished (place: that number), 13 the steps are longer than the words lent;
+ * 14 comes before 13. Each leaves the words as found, with both counts 0. Words behind the steps are left as found
+ * too. */
+uint32_t splitter_fold(const uint16_t *table, size_t table_len, const uint16_t *split, size_t split_len, uint16_t *out,
+                       size_t out_len, uint64_t *place, uint64_t *split_steps, uint64_t *steps);
+
 #ifdef __cplusplus
 }
 #endif

@@ -1,10 +1,13 @@
 //! The proved code beside the reference, both built for release, in one run.
 
+mod folding;
+mod lists;
 mod reading;
 mod running;
 mod splitting;
 mod tasks;
 mod timing;
+mod unfolding;
 mod writing;
 
 fn main() {
@@ -12,4 +15,6 @@ fn main() {
     reading::bench();
     writing::bench();
     splitting::bench();
+    unfolding::bench();
+    folding::bench();
 }

@@ -194,7 +194,7 @@ module _ (t : Task) where
   Reached (inside s j b) pre = Inside t s j b pre
 
   module _ (filled : (s : ℕ) → s < length (t .schemas) → 0 < length (orders t s)) where
-    beginner-in : (k : ℕ) (ss : List ℕ) (s : ℕ) → beginner t k ss ≡ some s → In s ss
+    pub beginner-in : (k : ℕ) (ss : List ℕ) (s : ℕ) → beginner t k ss ≡ some s → In s ss
     unfolding beginner
     beginner-in k [] s e = absurd (let z : _≡_ {A = ℕ} 0 1 = cc in omega arith)
     beginner-in k (q ∷ ss) s e = go (eqb k (firstOf t q)) (beginner-in k ss s) e

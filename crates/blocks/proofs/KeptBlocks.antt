@@ -67,7 +67,7 @@ members-are set m n p l h =
 
 -- ---- a step read
 -- its schema is known
-schema-known : (t : Task) (steps : List ℕ) → badStep t steps ≡ none → (i : ℕ) → i < length steps / 13 →
+pub schema-known : (t : Task) (steps : List ℕ) → badStep t steps ≡ none → (i : ℕ) → i < length steps / 13 →
     (13 * i + 13 ≤ length steps) × (getD steps (13 * i) 0 < length (t .schemas))
 unfolding stepAt stepIn
 schema-known t steps good i l =
@@ -111,6 +111,12 @@ sum-is {t} {steps} {counts} K =
     map-twice : {A : Type 0} (f : A → ℕ) (g : ℕ → A) (xs : List ℕ) → map f (map g xs) ≡ map (λ i. f (g i)) xs
     map-twice f g [] = refl
     map-twice f g (x ∷ xs) = ap {B = List ℕ} (λ ys. f (g x) ∷ ys) (map-twice f g xs)
+
+-- 13 words a step: refusal 13 by the number of steps, as 13 times that number may pass what a machine counts
+pub by-thirteen : (k n m : ℕ) → n ≡ 13 * k → leb n m ≡ leb k (m / 13)
+by-thirteen k n m e = bool-ext (leb n m) (leb k (m / 13))
+    (λ h. le-leb k (m / 13) (let q = leb-true n m h in omega arith))
+    (λ h. le-leb n m (let q = leb-true k (m / 13) h in omega arith))
 
 module _ {t : Task} {steps firsts counts own : List ℕ} (K : StepsKept t steps firsts counts own) where
   pub counted-kept : StepsCounted t steps counts
@@ -168,7 +174,7 @@ module _ {t : Task} {steps firsts counts own : List ℕ} (K : StepsKept t steps 
       same [] h = refl
       same (i ∷ ks) h = ap₂ (λ (a b : List Step). a ++ b) (h i (here refl)) (same ks (λ j k. h j (there k)))
 
-  -- refusal 13 by the number of steps, as 13 times that number may pass what a machine counts
+  -- refusal 13 by the number of steps
   pub room-for : (lent : List ℕ) →
       fitsIn (listWords (unfoldSteps t (stepsIn t steps))) lent ≡
       leb (length (unfoldSteps t (stepsIn t steps))) (length lent / 13)
@@ -180,8 +186,3 @@ module _ {t : Task} {steps firsts counts own : List ℕ} (K : StepsKept t steps 
       let b = sum-is counted-kept in
       by-thirteen (length (unfoldSteps t (stepsIn t steps))) (length (listWords (unfoldSteps t (stepsIn t steps))))
       (length lent) (omega arith)
-    where
-      by-thirteen : (k n m : ℕ) → n ≡ 13 * k → leb n m ≡ leb k (m / 13)
-      by-thirteen k n m e = bool-ext (leb n m) (leb k (m / 13))
-          (λ h. le-leb k (m / 13) (let q = leb-true n m h in omega arith))
-          (λ h. le-leb n m (let q = leb-true k (m / 13) h in omega arith))

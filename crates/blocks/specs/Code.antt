@@ -2,6 +2,7 @@
 -- they read. No promise of an entry point cites these.
 use Prim.Native.Nat.{ℕ, _+_, _*_, _≤_, _<_}
 use mathlib.Core.Path.{_≡_}
+use mathlib.Core.Bool.{true}
 use mathlib.Core.List.{List, map}
 use mathlib.Core.Option.{none}
 use lib.ListN.{length, getD}
@@ -9,9 +10,13 @@ use lib.Dec.{eqb}
 use Rattle.task.specs.Lists.{any, concatMap, sum, upTo}
 use Rattle.task.specs.Limits.{mostParameters, mostParts, mostSchemas, stepSize}
 use Rattle.task.specs.Task.{Task}
+use Rattle.task.specs.Table.{taskOf, longEnough, isTable}
 use Rattle.task.specs.Run.{Step, paramCount, badStep}
 use Rattle.arcs.specs.Code.{member, members}
-use Rattle.tokens.specs.Split.{orders}
+use Rattle.tokens.specs.Split.{orders, splitTask, splitAs, split}
+use Rattle.tokens.specs.Code.{RefusedAs}
+use Rattle.blocks.specs.declared.keeping.Keeping.{Keeping}
+use Rattle.blocks.specs.declared.keeping.Keeping.the-variants as keeping
 use Rattle.blocks.specs.Blocks.{firstOf, paramsAt}
 
 -- ---- what is kept of each schema
@@ -34,6 +39,18 @@ pub record BlocksKept (t : Task) (firsts counts own : List ℕ) : Type 0 where
   pub params : (s j x : ℕ) → s < length (t .schemas) → j < length (orders t s) →
       member (getD own (16 * s + j) 0) x ≡ any (eqb x) (paramsAt t s j)
   pub few-params : (s : ℕ) → paramCount t s ≤ mostParameters
+
+-- a table whose split is accepted, and what is kept of its blocks
+pub record TableKept (w firsts counts own : List ℕ) : Type 0 where
+  pub long : longEnough w ≡ true
+  pub table : isTable w ≡ true
+  pub accepted : split (taskOf w) ≡ splitAs (splitTask (taskOf w))
+  pub blocks : BlocksKept (taskOf w) firsts counts own
+
+-- what each case of keeping says
+unfoldable pub KeepingTold : List ℕ → Keeping → List ℕ → List ℕ → List ℕ → Type 0
+KeepingTold w keeping.Kept firsts counts own = TableKept w firsts counts own
+KeepingTold w (keeping.Refused n at) firsts counts own = RefusedAs w n at
 
 -- ---- unfolding
 -- steps of a task whose part counts are kept

@@ -18,9 +18,9 @@ use task::Object;
 use task::Parameter;
 
 // "A step is 13 words: schema, one object per parameter, zeros."
-const STEP_SIZE: usize = 13;
+pub const STEP_SIZE: usize = 13;
 
-const MOST_PARAMETERS: usize = 12;
+pub const MOST_PARAMETERS: usize = 12;
 
 // The object that the step whose words begin at `at` has for a parameter.
 fn object_of(steps: &[u16], at: usize, parameter: Parameter) -> Object

@@ -1,1 +1,49 @@
-// What the two programs print, as functions of their input bytes.
+// What the two programs print, as functions of their input bytes: `split` and `unfold` read, call these, and write.
+mod plans;
+mod printing;
+
+use plans::put_plan;
+use printing::bytes_taken;
+use printing::put_refusal;
+use printing::put_split;
+use task::limits::TABLE_WORDS;
+use text::ReadAnswer;
+ghost use mathlib.Core.Path.{_≡_};
+ghost use lib.ListN.{length};
+ghost use Rattle.task.specs.Lists.{over};
+ghost use Rattle.programs.specs.Programs.{splitProgram, unfoldProgram};
+
+// No text of a table is longer, so this much holds whatever `split` prints.
+pub const TEXT_BYTES: usize = 68834;
+
+// No unfolding of 100 steps is longer, nor is a refusal: this much holds whatever `unfold` prints.
+pub const PLAN_BYTES: usize = 134406;
+
+// "The program `split` prints the split of the task on standard input, or `refused=` number, colon, place": from the
+// text to the bytes printed, and their number.
+pub fn split_text(text: &[u8], out: &mut [u8; TEXT_BYTES]) -> usize
+    ensures { λ r. ⌜ now (out .exit) ≡ over (splitProgram (now (text .entry))) (now (out .entry)) ⌝ }
+    ensures { λ r. ⌜ r ≡ length (splitProgram (now (text .entry))) ⌝ }
+{
+    let n = bytes_taken(text);
+    let mut table = [0u16; TABLE_WORDS];
+    match text::read(&text[..n], &mut table) {
+        ReadAnswer::Read => put_split(&table, out),
+        ReadAnswer::Refused(number, place) => put_refusal(out, number, place),
+    }
+}
+
+// "A second program reads the files `task` and `plan` .. and prints the unfolding so": from the two texts to the bytes
+// printed, and their number. "`task` is read first, unfolding comes last".
+pub fn unfold_texts(task: &[u8], plan: &[u8], out: &mut [u8; PLAN_BYTES]) -> usize
+    ensures { λ r. ⌜ now (out .exit) ≡
+        over (unfoldProgram (now (task .entry)) (now (plan .entry))) (now (out .entry)) ⌝ }
+    ensures { λ r. ⌜ r ≡ length (unfoldProgram (now (task .entry)) (now (plan .entry))) ⌝ }
+{
+    let n = bytes_taken(task);
+    let mut table = [0u16; TABLE_WORDS];
+    match text::read(&task[..n], &mut table) {
+        ReadAnswer::Read => put_plan(&table, plan, out),
+        ReadAnswer::Refused(number, place) => put_refusal(out, number, place),
+    }
+}

@@ -1,4 +1,6 @@
 // The entry points for a C host, on slices and numbers; include/splitter.h declares them.
+use blocks::FoldAnswer;
+use blocks::UnfoldAnswer;
 use task::Place;
 use task::RunAnswer;
 use text::ReadAnswer;
@@ -9,6 +11,7 @@ ghost use Rattle.task.specs.Answers.{placeNumber, toldNumber, toldPlace, toldVa
 ghost use Rattle.task.specs.Run.{runOutcome};
 ghost use Rattle.text.specs.Outcomes.{readOutcome, writeOutcome};
 ghost use Rattle.tokens.specs.Split.{splitOutcome};
+ghost use Rattle.blocks.specs.Blocks.{foldOutcome, unfoldOutcome};
 
 // "Lines count from 1, the others from 0; none is 0."
 fn place_number(place: Place) -> u64
@@ -133,6 +136,80 @@ pub extern "C" fn splitter_split(table: &[u16], split: &mut [u16], place: &mut u
     match answer {
         SplitAnswer::Split => 0,
         SplitAnswer::Refused(number, at) => {
+            *place = place_number(at);
+            number
+        }
+    }
+}
+
+// Unfolds the steps of a table's task. The answer is 0 for a result, else the refusal's number.
+#[no_mangle]
+pub extern "C" fn splitter_unfold(
+    table: &[u16],
+    steps: &[u16],
+    out: &mut [u16],
+    place: &mut u64,
+    split_steps: &mut u64,
+) -> u32
+    ensures { λ r. ⌜ r ≡
+        toldNumber (unfoldOutcome (now (table .entry)) (now (steps .entry)) (now (out .entry)) .told) ⌝ }
+    ensures { λ r. ⌜ now (out .exit) ≡
+        unfoldOutcome (now (table .entry)) (now (steps .entry)) (now (out .entry)) .buffer ⌝ }
+    ensures { λ r. ⌜ now (place .exit) ≡
+        toldPlace (unfoldOutcome (now (table .entry)) (now (steps .entry)) (now (out .entry)) .told) ⌝ }
+    ensures { λ r. ⌜ now («split_steps» .exit) ≡
+        toldValue 0 (unfoldOutcome (now (table .entry)) (now (steps .entry)) (now (out .entry)) .told) ⌝ }
+{
+    *place = 0;
+    *split_steps = 0;
+    let answer = blocks::unfold(table, steps, out);
+    match answer {
+        UnfoldAnswer::Unfolded(count) => {
+            *split_steps = count;
+            0
+        }
+        UnfoldAnswer::Refused(number, at) => {
+            *place = place_number(at);
+            number
+        }
+    }
+}
+
+// Folds a list of steps of the split of a table's task. The answer is 0 for a result, else the refusal's number.
+#[no_mangle]
+pub extern "C" fn splitter_fold(
+    table: &[u16],
+    split: &[u16],
+    out: &mut [u16],
+    place: &mut u64,
+    split_steps: &mut u64,
+    steps: &mut u64,
+) -> u32
+    ensures { λ r. ⌜ r ≡
+        toldNumber (foldOutcome (now (table .entry)) (now (split .entry)) (now (out .entry)) .told) ⌝ }
+    ensures { λ r. ⌜ now (out .exit) ≡
+        foldOutcome (now (table .entry)) (now (split .entry)) (now (out .entry)) .buffer ⌝ }
+    ensures { λ r. ⌜ now (place .exit) ≡
+        toldPlace (foldOutcome (now (table .entry)) (now (split .entry)) (now (out .entry)) .told) ⌝ }
+    ensures { λ r. ⌜ now («split_steps» .exit) ≡
+        toldValue 0 (foldOutcome (now (table .entry)) (now (split .entry)) (now (out .entry)) .told) ⌝ }
+    ensures { λ r. ⌜ now (steps .exit) ≡
+        toldValue 1 (foldOutcome (now (table .entry)) (now (split .entry)) (now (out .entry)) .told) ⌝ }
+{
+    *place = 0;
+    *split_steps = 0;
+    *steps = 0;
+    let answer = blocks::fold(table, split, out);
+    match answer {
+        FoldAnswer::Folded {
+            split_steps: read,
+            steps: found,
+        } => {
+            *split_steps = read;
+            *steps = found;
+            0
+        }
+        FoldAnswer::Refused(number, at) => {
             *place = place_number(at);
             number
         }

@@ -138,7 +138,7 @@ no-sixth inInit e = omega arith
 no-sixth inGoal e = omega arith
 
 -- ---- a turn at a body is the turn at its line
-next-from : {text : List ℕ} {from body at : Cursor} → Moved text from body → NextLine text body at → NextLine text from at
+pub next-from : {text : List ℕ} {from body at : Cursor} → Moved text from body → NextLine text body at → NextLine text from at
 next-from m n =
     let a = m .on in
     let b = n .on in

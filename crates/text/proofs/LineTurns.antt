@@ -1,17 +1,18 @@
--- What a line's turn comes to, once its body is read: refused where there is none, and else what `takeLine` does.
+-- What a line's turn comes to, once its body is read: refused where there is none, and else what the line does to the
+-- draft, as `takeLine` says for the lines of a task.
 use Prim.Native.Nat.{ℕ, suc}
-use mathlib.Core.Path.{_≡_, refl, sym, _∙_, ap}
-use mathlib.Core.Bool.{Bool, true, false}
+use mathlib.Core.Path.{_≡_, refl, _∙_, ap}
+use mathlib.Core.Bool.{Bool, false}
 use mathlib.Core.List.{List, [], _∷_}
 use mathlib.Core.Option.{Option, none, some}
 use Rattle.task.specs.Task.{Task}
 use Rattle.text.specs.Lines.{newline, Taken, taken, andThen, after, ended}
-use Rattle.text.specs.Reading.{goOn, finish, refuse, need, atEnd, turnAt, lineAt, refusedAt}
-use Rattle.text.specs.Text.{Line, Draft, TaskTurn, takeLine}
+use Rattle.text.specs.Reading.{Turn, goOn, finish, refuse, need, Reading, atEnd, turnAt, lineAt, refusedAt}
+use Rattle.text.specs.Text.{Line, Draft, takeLine}
 use Rattle.text.specs.ReadCode.{whole}
 use Rattle.text.specs.Holding.{Next, Refuses}
 
-module _ {A : Type 0} (says : A → Line) (d : Draft) (o : Option (Taken A)) where
+module _ {A L : Type 0} (says : A → L) (o : Option (Taken A)) where
   -- what a line says is made of its whole body
   ended-whole : ended says o ≡ andThen (whole o) (λ a. taken (says (a .value)) (a .rest))
   unfolding ended
@@ -26,32 +27,49 @@ module _ {A : Type 0} (says : A → Line) (d : Draft) (o : Option (Taken A)) whe
       go none = refl
       go (some a) = behind a (after (newline ∷ []) (a .rest))
 
-  pub no-line : whole o ≡ none → Refuses d (ended says o) 3
-  unfolding andThen lineAt
-  no-line h n next =
-      ap (λ (l : Option (Taken Line)). lineAt n (takeLine d) l next)
-      (ended-whole ∙ ap (λ (x : Option (Taken A)). andThen x (λ a. taken (says (a .value)) (a .rest))) h)
-
-  module _ (a : A) (left : List ℕ) (h : whole o ≡ taken a left) where
-    turn-is : (n : ℕ) (next : Next) → lineAt n (takeLine d) (ended says o) next ≡ turnAt n (takeLine d (says a)) left next
+  module _ {D R : Type 0} (takes : L → Turn D R) where
+    pub no-turn : whole o ≡ none → (n : ℕ) (next : D → List ℕ → Reading R) →
+        lineAt n takes (ended says o) next ≡ refusedAt 3 n
     unfolding andThen lineAt
-    turn-is n next =
-        ap (λ (l : Option (Taken Line)). lineAt n (takeLine d) l next)
+    no-turn h n next =
+        ap (λ (l : Option (Taken L)). lineAt n takes l next)
         (ended-whole ∙ ap (λ (x : Option (Taken A)). andThen x (λ a. taken (says (a .value)) (a .rest))) h)
 
+    module _ (a : A) (left : List ℕ) (h : whole o ≡ taken a left) (n : ℕ) (next : D → List ℕ → Reading R) where
+      turn-is : lineAt n takes (ended says o) next ≡ turnAt n (takes (says a)) left next
+      unfolding andThen lineAt
+      turn-is =
+          ap (λ (l : Option (Taken L)). lineAt n takes l next)
+          (ended-whole ∙ ap (λ (x : Option (Taken A)). andThen x (λ a. taken (says (a .value)) (a .rest))) h)
+
+      pub turn-refused : (k : ℕ) → takes (says a) ≡ refuse k → lineAt n takes (ended says o) next ≡ refusedAt k n
+      unfolding turnAt
+      turn-refused k e = turn-is ∙ ap (λ (t : Turn D R). turnAt n t left next) e
+
+      pub turn-goes-on : (d : D) → takes (says a) ≡ goOn d → lineAt n takes (ended says o) next ≡ next d left
+      unfolding turnAt
+      turn-goes-on d e = turn-is ∙ ap (λ (t : Turn D R). turnAt n t left next) e
+
+      pub turn-ends : (r : R) → takes (says a) ≡ finish r → lineAt n takes (ended says o) next ≡ atEnd r (suc n) left
+      unfolding turnAt
+      turn-ends r e = turn-is ∙ ap (λ (t : Turn D R). turnAt n t left next) e
+
+-- ---- lines of a task
+module _ {A : Type 0} (says : A → Line) (d : Draft) (o : Option (Taken A)) where
+  pub no-line : whole o ≡ none → Refuses d (ended says o) 3
+  no-line h = no-turn says o (takeLine d) h
+
+  module _ (a : A) (left : List ℕ) (h : whole o ≡ taken a left) where
     pub line-refused : (k : ℕ) → takeLine d (says a) ≡ refuse k → Refuses d (ended says o) k
-    unfolding turnAt
-    line-refused k e n next = turn-is n next ∙ ap (λ (t : TaskTurn). turnAt n t left next) e
+    line-refused k e n next = turn-refused says o (takeLine d) a left h n next k e
 
     pub line-goes-on : (e : Draft) → takeLine d (says a) ≡ goOn e → (n : ℕ) (next : Next) →
         lineAt n (takeLine d) (ended says o) next ≡ next e left
-    unfolding turnAt
-    line-goes-on e q n next = turn-is n next ∙ ap (λ (t : TaskTurn). turnAt n t left next) q
+    line-goes-on e q n next = turn-goes-on says o (takeLine d) a left h n next e q
 
     pub line-ends : (t : Task) → takeLine d (says a) ≡ finish t → (n : ℕ) (next : Next) →
         lineAt n (takeLine d) (ended says o) next ≡ atEnd t (suc n) left
-    unfolding turnAt
-    line-ends t q n next = turn-is n next ∙ ap (λ (x : TaskTurn). turnAt n x left next) q
+    line-ends t q n next = turn-ends says o (takeLine d) a left h n next t q
 
 -- a test that fails refuses
 pub need-fails : {D R : Type 0} {b : Bool} (k : ℕ) (t : _) → b ≡ false → need {D = D} {R = R} b k t ≡ refuse k
@@ -59,6 +77,10 @@ unfolding need
 need-fails {D} {R} k t h = ap (λ (x : Bool). need {D = D} {R = R} x k t) h
 
 -- where there is no line the turn is refused
-pub none-refused : (d : Draft) (l : Option (Taken Line)) → l ≡ none → Refuses d l 3
+pub no-line-refused : {L D R : Type 0} (takes : L → Turn D R) (l : Option (Taken L)) → l ≡ none → (n : ℕ)
+    (next : D → List ℕ → Reading R) → lineAt n takes l next ≡ refusedAt 3 n
 unfolding lineAt
-none-refused d l h n next = ap (λ (x : Option (Taken Line)). lineAt n (takeLine d) x next) h
+no-line-refused {L} takes l h n next = ap (λ (x : Option (Taken L)). lineAt n takes x next) h
+
+pub none-refused : (d : Draft) (l : Option (Taken Line)) → l ≡ none → Refuses d l 3
+none-refused d l h = no-line-refused (takeLine d) l h

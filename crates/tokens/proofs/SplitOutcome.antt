@@ -1,11 +1,12 @@
--- What splitting does by the first check that fails, and what it does where all pass: refusals 1, 2, 9 and 10 leave all as
--- found.
+-- What splitting finds, the first check of acceptance that fails by what is found, and what splitting does then:
+-- refusals 1, 2, 9 and 10 leave all as found.
 use Prim.Native.Nat.{ℕ}
-use mathlib.Core.Path.{_≡_, refl, _∙_, ap}
+use mathlib.Core.Path.{_≡_, refl, _∙_, ap, subst}
 use mathlib.Core.Bool.{Bool, true, false, cond, _&&_}
 use mathlib.Core.List.{List, [], _∷_}
 use mathlib.Core.Option.{Option, none, some}
 use lib.ListN.{length}
+use Rattle.task.specs.declared.Place.{Place}
 use Rattle.task.specs.declared.Place.the-variants as place
 use Rattle.task.specs.Lists.{first, upTo, over}
 use Rattle.task.specs.Answers.{result, Check, Outcome, refuseUnless, inOrder}
@@ -13,6 +14,10 @@ use Rattle.task.specs.Task.{Task}
 use Rattle.task.specs.Table.{taskOf, wordsOf, longEnough, isTable}
 use Rattle.tokens.specs.Split.{orderAt, isNone, circular, tooLarge, splitAs, settle, split}
 use Rattle.tokens.specs.Split.{splitTask, withinLimits, splitCheck, splitOutcome}
+use Rattle.tokens.specs.declared.measure.Sizes.{Sizes}
+use Rattle.tokens.specs.declared.acceptance.Acceptance.{Acceptance}
+use Rattle.tokens.specs.declared.acceptance.Acceptance.the-variants as acceptance
+use Rattle.tokens.specs.Code.{acceptedThen, RefusedAs, AcceptedKept, AcceptanceTold}
 use Rattle.task.proofs.Answers.{asFound, check-passes, check-refuses, passes-on, refuses-at}
 
 -- ---- what splitting gives, by what is found of the orders and the sizes
@@ -35,49 +40,88 @@ module _ (t : Task) where
   pub found-split : lowest ≡ none → withinLimits (splitTask t) ≡ true → split t ≡ splitAs (splitTask t)
   found-split e h = settled e ∙ ap (λ (b : Bool). cond b (splitAs (splitTask t)) tooLarge) h
 
--- ---- the outcome, check by check
-module _ (w out : List ℕ) where
-  abbrev t : Task
-  t = taskOf w
+-- ---- the checks of acceptance
+module _ (w : List ℕ) where
+  abbrev splitThen : List Check → List Check
+  splitThen more = splitCheck (split (taskOf w)) ∷ more
 
+  abbrev tableThen : List Check → List Check
+  tableThen more = refuseUnless (isTable w) 2 ∷ splitThen more
+
+  pub refused-short : longEnough w ≡ false → RefusedAs w 1 place.Nowhere
+  refused-short h more found done = check-refuses 1 (tableThen more) found done h
+
+  module _ (long : longEnough w ≡ true) where
+    pub refused-no-table : isTable w ≡ false → RefusedAs w 2 place.Nowhere
+    refused-no-table h more found done =
+        check-passes 1 (tableThen more) found done long ∙ check-refuses 2 (splitThen more) found done h
+
+    module _ (table : isTable w ≡ true) where
+      -- the split decides
+      decided : (more : List Check) (found : List ℕ) (done : Outcome) →
+          inOrder (acceptedThen w more) found done ≡ inOrder (splitThen more) found done
+      decided more found done =
+          check-passes 1 (tableThen more) found done long ∙ check-passes 2 (splitThen more) found done table
+
+      pub refused-nine : {s : ℕ} → split (taskOf w) ≡ circular s → RefusedAs w 9 (place.Schema s)
+      unfolding splitCheck
+      refused-nine e more found done = decided more found done ∙ refuses-at more found done (ap splitCheck e)
+
+      pub refused-ten : split (taskOf w) ≡ tooLarge → RefusedAs w 10 place.Nowhere
+      unfolding splitCheck
+      refused-ten e more found done = decided more found done ∙ refuses-at more found done (ap splitCheck e)
+
+      pub accepted-passes : {t′ : Task} → split (taskOf w) ≡ splitAs t′ →
+          (more : List Check) (found : List ℕ) (done : Outcome) →
+          inOrder (acceptedThen w more) found done ≡ inOrder more found done
+      unfolding splitCheck
+      accepted-passes e more found done = decided more found done ∙ passes-on more found done (ap splitCheck e)
+
+-- ---- what the answer tells
+pub told-accepted : {w : List ℕ} {r : Acceptance} {sizes : Sizes} {starts counts order own : List ℕ} →
+    r ≡ acceptance.Accepted sizes → AcceptanceTold w r starts counts order own →
+    AcceptedKept w sizes starts counts order own
+unfolding AcceptanceTold
+told-accepted {w} {r} {sizes} {starts} {counts} {order} {own} e h =
+    subst (λ (r : Acceptance). AcceptanceTold w r starts counts order own) e h
+
+pub told-refused : (w starts counts order own : List ℕ) {r : Acceptance} {n : ℕ} {at : Place} →
+    r ≡ acceptance.Refused n at → AcceptanceTold w r starts counts order own → RefusedAs w n at
+unfolding AcceptanceTold
+told-refused w starts counts order own e h =
+    subst (λ (r : Acceptance). AcceptanceTold w r starts counts order own) e h
+
+-- ---- the outcome of splitting
+module _ (w out : List ℕ) where
   -- what is done where no check fails
   abbrev pub done : Outcome
-  done = record { told = result []; buffer = over (wordsOf (splitTask t)) out }
+  done = record { told = result []; buffer = over (wordsOf (splitTask (taskOf w))) out }
 
-  abbrev splitted : List Check
-  splitted = splitCheck (split t) ∷ []
-
-  abbrev tableCheck : List Check
-  tableCheck = refuseUnless (isTable w) 2 ∷ splitted
-
-  outcome-is : splitOutcome w out ≡ inOrder (refuseUnless (longEnough w && longEnough out) 1 ∷ tableCheck) out done
+  -- the table's length is told by the first check, together with that of the words lent for the split
+  checked : {b : Bool} → longEnough w && longEnough out ≡ b →
+      splitOutcome w out ≡ inOrder (refuseUnless b 1 ∷ tableThen w []) out done
   unfolding splitOutcome
-  outcome-is = refl
+  checked h = ap (λ (b : Bool). inOrder (refuseUnless b 1 ∷ tableThen w []) out done) h
 
-  pub split-short : longEnough w && longEnough out ≡ false → splitOutcome w out ≡ asFound 1 place.Nowhere out
-  split-short h = outcome-is ∙ check-refuses 1 tableCheck out done h
+  pub split-short : longEnough out ≡ false → splitOutcome w out ≡ asFound 1 place.Nowhere out
+  split-short h = checked (and-false (longEnough w) h) ∙ check-refuses 1 (tableThen w []) out done refl
+    where
+      and-false : (a : Bool) {b : Bool} → b ≡ false → a && b ≡ false
+      and-false true h = h
+      and-false false h = refl
 
-  long : longEnough w && longEnough out ≡ true → splitOutcome w out ≡ inOrder tableCheck out done
-  long h = outcome-is ∙ check-passes 1 tableCheck out done h
+  module _ (long : longEnough out ≡ true) where
+    begins : splitOutcome w out ≡ inOrder (acceptedThen w []) out done
+    begins = checked (and-true (longEnough w) long)
+      where
+        and-true : (a : Bool) {b : Bool} → b ≡ true → a && b ≡ a
+        and-true true h = h
+        and-true false h = refl
 
-  pub split-no-table : longEnough w && longEnough out ≡ true → isTable w ≡ false →
-      splitOutcome w out ≡ asFound 2 place.Nowhere out
-  split-no-table h k = long h ∙ check-refuses 2 splitted out done k
+    pub split-refused : {n : ℕ} {at : Place} → RefusedAs w n at → splitOutcome w out ≡ asFound n at out
+    split-refused h = begins ∙ h [] out done
 
-  table : longEnough w && longEnough out ≡ true → isTable w ≡ true → splitOutcome w out ≡ inOrder splitted out done
-  table h k = long h ∙ check-passes 2 splitted out done k
-
-  pub split-nine : longEnough w && longEnough out ≡ true → isTable w ≡ true → {s : ℕ} → split t ≡ circular s →
-      splitOutcome w out ≡ asFound 9 (place.Schema s) out
-  unfolding splitCheck
-  split-nine h k e = table h k ∙ refuses-at [] out done (ap splitCheck e)
-
-  pub split-ten : longEnough w && longEnough out ≡ true → isTable w ≡ true → split t ≡ tooLarge →
-      splitOutcome w out ≡ asFound 10 place.Nowhere out
-  unfolding splitCheck
-  split-ten h k e = table h k ∙ refuses-at [] out done (ap splitCheck e)
-
-  pub split-done : longEnough w && longEnough out ≡ true → isTable w ≡ true → {t′ : Task} → split t ≡ splitAs t′ →
-      splitOutcome w out ≡ done
-  unfolding splitCheck inOrder
-  split-done h k e = table h k ∙ passes-on [] out done (ap splitCheck e)
+    pub split-done : longEnough w ≡ true → isTable w ≡ true → {t′ : Task} → split (taskOf w) ≡ splitAs t′ →
+        splitOutcome w out ≡ done
+    unfolding inOrder
+    split-done h k e = begins ∙ accepted-passes w h k e [] out done

@@ -9,19 +9,23 @@ use lib.ListN.{length, getD, take}
 use lib.Dec.{eqb, leb}
 use Rattle.task.specs.Lists.{all, any, every, concatMap, sum, upTo}
 use Rattle.task.specs.Limits.{mostPredicates, mostSchemas, mostSchemaAtoms, mostAtoms, mostInitial, mostGoal}
+use Rattle.task.specs.Answers.{refused, Outcome, Check, refuseUnless, inOrder}
 use Rattle.task.specs.Task.{Schema, Task, names, schemaAtoms}
 use Rattle.task.specs.declared.Part.{Part}
+use Rattle.task.specs.declared.Place.{Place}
 use Rattle.task.specs.Run.{schemaAt}
-use Rattle.task.specs.Table.{taskOf, isTable}
+use Rattle.task.specs.Table.{taskOf, longEnough, isTable}
 use Rattle.arcs.specs.Order.{orderOf}
 use Rattle.arcs.specs.Code.{member, atomsIn}
 use Rattle.tokens.specs.Split.{has, laterParts, sharedBound, maximum, parCount, orders, firstHere, lastHere}
-use Rattle.tokens.specs.Split.{laterHere, splitSchema, splitTask, withinLimits}
+use Rattle.tokens.specs.Split.{laterHere, splitSchema, splitTask, withinLimits, splitAs, split, splitCheck}
 use Rattle.tokens.specs.declared.pars.Pars.{Pars}
 use Rattle.tokens.specs.declared.measure.Sizes.{Sizes}
 use Rattle.tokens.specs.declared.measure.Measured.{Measured}
 use Rattle.tokens.specs.declared.parts.Circular.{Circular}
 use Rattle.tokens.specs.declared.parts.Circular.the-variants as circle
+use Rattle.tokens.specs.declared.acceptance.Acceptance.{Acceptance}
+use Rattle.tokens.specs.declared.acceptance.Acceptance.the-variants as acceptance
 
 -- where the atoms of schema s begin among the schema atoms
 abbrev pub startOf : Task → ℕ → ℕ
@@ -143,3 +147,27 @@ pub record SizesTold (t : Task) (r : Sizes) : Type 0 where
 unfoldable pub circularTold : Circular → Option ℕ
 circularTold (circle.At s) = some s
 circularTold circle.Nowhere = none
+
+-- ---- acceptance
+-- the checks of a table that splitting, unfolding and folding make first, and those behind them
+abbrev pub acceptedThen : List ℕ → List Check → List Check
+acceptedThen w more =
+    refuseUnless (longEnough w) 1 ∷ refuseUnless (isTable w) 2 ∷ splitCheck (split (taskOf w)) ∷ more
+
+-- one of them refuses, whatever stands behind them, and leaves all as found
+abbrev pub RefusedAs : List ℕ → ℕ → Place → Type 0
+RefusedAs w n at = (more : List Check) (found : List ℕ) (done : Outcome) →
+    inOrder (acceptedThen w more) found done ≡ record { told = refused n at []; buffer = found }
+
+-- or all pass: what is kept of the parts, and the sizes of the split
+pub record AcceptedKept (w : List ℕ) (sizes : Sizes) (starts counts order own : List ℕ) : Type 0 where
+  pub long : longEnough w ≡ true
+  pub table : isTable w ≡ true
+  pub accepted : split (taskOf w) ≡ splitAs (splitTask (taskOf w))
+  pub kept : PartsKept (taskOf w) (length (taskOf w .schemas)) starts counts order own
+  pub sized : SizesTold (taskOf w) sizes
+
+-- what each case of the answer says
+unfoldable pub AcceptanceTold : List ℕ → Acceptance → List ℕ → List ℕ → List ℕ → List ℕ → Type 0
+AcceptanceTold w (acceptance.Accepted sizes) starts counts order own = AcceptedKept w sizes starts counts order own
+AcceptanceTold w (acceptance.Refused n at) starts counts order own = RefusedAs w n at

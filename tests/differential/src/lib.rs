@@ -1,10 +1,14 @@
 //! The proved code through its C interface, `include/splitter.h`: a module for
-//! each entry point that has landed, with answers as rows of numbers.
+//! each entry point, with answers as rows of numbers; and the two programs.
 
 pub mod beside;
+pub mod folding;
+pub mod programs;
 pub mod reading;
 pub mod running;
+pub mod shared_runs;
 pub mod splitting;
+pub mod unfolding;
 pub mod writing;
 
 /// What a number lent to be written holds before the call.

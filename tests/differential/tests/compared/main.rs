@@ -1,9 +1,15 @@
 //! The proved code beside the reference: the same answers, and the same words
-//! afterwards. A module for each entry point that has landed.
+//! afterwards. A module for each entry point.
 
+mod folding;
+mod programs;
 mod reading;
 mod running;
+mod shared_runs;
+mod split_program;
 mod splitting;
+mod unfold_program;
+mod unfolding;
 mod writing;
 
 const HEADER: &str = include_str!("../../../../include/splitter.h");

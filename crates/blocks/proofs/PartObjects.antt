@@ -1,0 +1,128 @@
+-- The objects of a part among a step's words, parameter after parameter: at one in the part's set the next word is its
+-- object, and at any other nothing is read.
+use Prim.Native.Nat.{ℕ, suc, _+_, _-_, _≤_, _<_}
+use mathlib.Core.Path.{_≡_, refl, sym, _∙_, ap, ap₂}
+use mathlib.Core.Bool.{Bool, true, false, _&&_}
+use mathlib.Core.List.{List, [], _∷_}
+use mathlib.Core.Option.{none, some}
+use native.Mathlib.Omega.{arith}
+use native.Mathlib.Numerals.{add-one}
+use lib.ListN.{length, getD, set}
+use lib.Dec.{eqb}
+use borrow.Author.Tests.{eq-eqb, ne-eqb, le-leb, lt-leb}
+use Rattle.task.specs.Lists.{filter, keepIf, upTo, upFrom}
+use Rattle.task.specs.Table.{wordsAt}
+use Rattle.task.proofs.WordRows.{wordsAt-next}
+use Rattle.arcs.specs.Code.{member, members}
+use Rattle.blocks.specs.Blocks.{Bound, agrees, fits, bind}
+use Rattle.blocks.specs.FoldCode.{givenObjects, keptFits}
+
+-- the parameters of a set from p on
+unfoldable pub paramsFrom : ℕ → ℕ → List ℕ
+paramsFrom own p = filter (member own) (upFrom p (12 - p))
+
+pub params-all : (own : ℕ) → members own 12 ≡ paramsFrom own 0
+unfolding members upTo paramsFrom
+params-all own = refl
+
+pub params-none : (own : ℕ) → paramsFrom own 12 ≡ []
+unfolding paramsFrom filter upFrom
+params-none own = refl
+
+params-step : (own p : ℕ) (b : Bool) → p < 12 → member own p ≡ b →
+    paramsFrom own p ≡ keepIf b p (paramsFrom own (p + 1))
+unfolding paramsFrom filter upFrom
+params-step own p b l h =
+    let e : 12 - p ≡ suc (12 - (p + 1)) = omega arith in
+    ap (λ (n : ℕ). filter (member own) (upFrom p n)) e
+    ∙ (ap (λ (k : ℕ). keepIf (member own p) p (filter (member own) (upFrom k (12 - (p + 1))))) (sym (add-one p))
+    ∙ ap (λ (c : Bool). keepIf c p (filter (member own) (upFrom (p + 1) (12 - (p + 1))))) h)
+
+-- their objects, from a word on
+unfoldable pub objectsFrom : List ℕ → ℕ → ℕ → ℕ → List ℕ
+objectsFrom steps next own p = wordsAt steps next (length (paramsFrom own p))
+
+pub objects-all : (steps : List ℕ) (at own : ℕ) → givenObjects steps at own ≡ objectsFrom steps (at + 1) own 0
+unfolding givenObjects objectsFrom
+objects-all steps at own = ap (λ (ps : List ℕ). wordsAt steps (at + 1) (length ps)) (params-all own)
+
+module _ (steps : List ℕ) (next own p : ℕ) (l : p < 12) where
+  -- p is in the set
+  module _ (h : member own p ≡ true) where
+    params-in : paramsFrom own p ≡ p ∷ paramsFrom own (p + 1)
+    unfolding keepIf
+    params-in = params-step own p true l h
+
+    objects-in : objectsFrom steps next own p ≡ getD steps next 0 ∷ objectsFrom steps (next + 1) own (p + 1)
+    unfolding objectsFrom
+    objects-in =
+        ap (λ (ps : List ℕ). wordsAt steps next (length ps)) params-in
+        ∙ wordsAt-next steps next (length (paramsFrom own (p + 1)))
+
+    pub fits-in : (b : Bound) → fits b (paramsFrom own p) (objectsFrom steps next own p) ≡
+        agrees (getD b p none) (getD steps next 0) &&
+        fits b (paramsFrom own (p + 1)) (objectsFrom steps (next + 1) own (p + 1))
+    unfolding fits
+    fits-in b = ap₂ (fits b) params-in objects-in
+
+    pub bind-in : (b : Bound) → bind b (paramsFrom own p) (objectsFrom steps next own p) ≡
+        bind (set b p (some (getD steps next 0))) (paramsFrom own (p + 1)) (objectsFrom steps (next + 1) own (p + 1))
+    unfolding bind
+    bind-in b = ap₂ (bind b) params-in objects-in
+
+  -- p is not in the set
+  module _ (h : member own p ≡ false) where
+    params-out : paramsFrom own p ≡ paramsFrom own (p + 1)
+    unfolding keepIf
+    params-out = params-step own p false l h
+
+    objects-out : objectsFrom steps next own p ≡ objectsFrom steps next own (p + 1)
+    unfolding objectsFrom
+    objects-out = ap (λ (ps : List ℕ). wordsAt steps next (length ps)) params-out
+
+    pub fits-out : (b : Bound) → fits b (paramsFrom own p) (objectsFrom steps next own p) ≡
+        fits b (paramsFrom own (p + 1)) (objectsFrom steps next own (p + 1))
+    fits-out b = ap₂ (fits b) params-out objects-out
+
+    pub bind-out : (b : Bound) → bind b (paramsFrom own p) (objectsFrom steps next own p) ≡
+        bind b (paramsFrom own (p + 1)) (objectsFrom steps next own (p + 1))
+    bind-out b = ap₂ (bind b) params-out objects-out
+
+-- ---- behind the last parameter nothing is left
+module _ (steps : List ℕ) (next own : ℕ) where
+  objects-none : objectsFrom steps next own 12 ≡ []
+  unfolding objectsFrom wordsAt upFrom
+  objects-none = ap (λ (ps : List ℕ). wordsAt steps next (length ps)) (params-none own)
+
+  pub fits-none : (b : Bound) → fits b (paramsFrom own 12) (objectsFrom steps next own 12) ≡ true
+  unfolding fits
+  fits-none b = ap₂ (fits b) (params-none own) objects-none
+
+  pub bind-none : (b : Bound) → bind b (paramsFrom own 12) (objectsFrom steps next own 12) ≡ b
+  unfolding bind
+  bind-none b = ap₂ (bind b) (params-none own) objects-none
+
+-- ---- whether a list goes on with a part
+module _ (steps : List ℕ) (at number own : ℕ) (b : Bound) where
+  abbrev agreeing : Bool
+  agreeing = fits b (members own 12) (givenObjects steps at own)
+
+  -- it has ended
+  pub fits-short : length steps < at + 13 → keptFits steps at number own b ≡ false
+  unfolding keptFits
+  fits-short l =
+      ap (λ (c : Bool). c && (eqb (getD steps at 0) number && agreeing)) (lt-leb (at + 13) (length steps) l)
+
+  -- another schema comes
+  pub fits-other : at + 13 ≤ length steps → (getD steps at 0 ≡ number → ⊥) → keptFits steps at number own b ≡ false
+  unfolding keptFits
+  fits-other l n =
+      ap₂ (λ (c d : Bool). c && (d && agreeing)) (le-leb (at + 13) (length steps) l)
+      (ne-eqb (getD steps at 0) number n)
+
+  -- this one comes, and the objects decide
+  pub fits-same : at + 13 ≤ length steps → getD steps at 0 ≡ number → keptFits steps at number own b ≡ agreeing
+  unfolding keptFits
+  fits-same l e =
+      ap₂ (λ (c d : Bool). c && (d && agreeing)) (le-leb (at + 13) (length steps) l)
+      (eq-eqb (getD steps at 0) number e)

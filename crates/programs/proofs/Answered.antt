@@ -1,0 +1,141 @@
+-- What the entry points answer, as the programs use it: a text that was read lies as a table, a split that was given too,
+-- and a refusal is the one that is printed.
+use Prim.Native.Nat.{ℕ, _≤_}
+use mathlib.Core.Path.{_≡_, refl, sym, _∙_, ap, ap₂, subst}
+use mathlib.Core.Bool.{true}
+use mathlib.Core.List.{List, [], _∷_}
+use native.Mathlib.Omega.{arith}
+use lib.ListN.{length, replicate, length-replicate}
+use lib.Dec.{leb}
+use borrow.Author.Tests.{le-leb}
+use Rattle.task.specs.declared.Place.{Place}
+use Rattle.task.specs.declared.Place.the-variants as place
+use Rattle.task.specs.Lists.{over}
+use Rattle.task.specs.Limits.{tableWords}
+use Rattle.task.specs.Answers.{placeNumber, Told, result, refused, toldNumber, Outcome}
+use Rattle.task.specs.Task.{Task}
+use Rattle.task.specs.Table.{wordsOf, taskOf, longEnough, isTable}
+use Rattle.task.proofs.Put.{take-over}
+use Rattle.task.proofs.LongEnough.{has-table-words}
+use Rattle.task.proofs.Tables.{words-length}
+use Rattle.task.proofs.TablesByIndex.{table-of, table-long}
+use Rattle.text.specs.Reading.{Reading, read, refusedAt}
+use Rattle.text.specs.Text.{write, readText}
+use Rattle.text.specs.Outcomes.{readDone, readOutcome, writeOutcome}
+use Rattle.text.specs.Code.{longestText}
+use Rattle.text.proofs.Outcomes.{read-result, ReadResult, result-read, write-result, writtenOver}
+use Rattle.text.proofs.TaskRead.{read-fits}
+use Rattle.text.proofs.ReadLoop.{long-outcome}
+use Rattle.text.proofs.LongestText.{text-most}
+use Rattle.tokens.specs.Split.{Splitting, circular, tooLarge, splitAs, split, splitOutcome}
+use Rattle.tokens.proofs.SplitOutcome.{refused-nine, refused-ten, split-refused as outcome-refused, split-done}
+use Rattle.tokens.proofs.SplitAnswers.{AcceptedSplit, accepted-split}
+use Rattle.programs.specs.Programs.{taken, refusal, printReading, printSplitting, splitProgram}
+
+-- ---- words of zeros, as a function has them before they are written
+pub zeros-long : (n : ℕ) → n ≤ length {A = ℕ} (replicate n 0)
+zeros-long n = let e = length-replicate {A = ℕ} n 0 in omega arith
+
+pub table-zeros : tableWords ≤ length {A = ℕ} (replicate 13406 0)
+table-zeros = has-table-words (replicate 13406 0) (zeros-long 13406)
+
+-- ---- reading
+-- words that are the table of the task that a text reads as
+pub record TableRead (text words : List ℕ) : Type 0 where
+  pub is-table : isTable words ≡ true
+  pub reads : readText text ≡ read (taskOf words)
+
+pub table-read : (text table : List ℕ) {words : List ℕ} → result [] ≡ readOutcome text table .told →
+    words ≡ readOutcome text table .buffer → TableRead text words
+table-read text table h e =
+    let r = result-read text table [] (sym h) in
+    let t = r .task in
+    let fits = read-fits text t (r .was-read) in
+    let w = over (wordsOf t) table in
+    let lies : readOutcome text table .buffer ≡ w =
+    ap (λ (o : Outcome). o .buffer) (read-result text table t (r .long) (r .was-read)) in
+    let (is-table, same) = table-of w t fits (take-over (wordsOf t) table tableWords (words-length t fits)) in
+    subst (TableRead text) (sym (e ∙ lies)) (record { is-table = is-table; reads = r .was-read ∙ ap read (sym same) })
+
+-- a refusal is printed with its line
+pub read-refused : (text table : List ℕ) → tableWords ≤ length table → {k : ℕ} {at : Place} →
+    refused k at [] ≡ readOutcome text table .told → (uses : Task → List ℕ) →
+    refusal k (placeNumber at) ≡ printReading uses (readText text)
+unfolding readDone printReading
+read-refused text table long {k} {at} h uses =
+    go (readText text) (h ∙ ap (λ (o : Outcome). o .told) (long-outcome text table long))
+  where
+    go : (r : Reading Task) → refused k at [] ≡ readDone table r .told →
+        refusal k (placeNumber at) ≡ printReading uses r
+    go (read t) e = absurd (let z : _≡_ {A = ℕ} 0 1 = cc in omega arith)
+    go (refusedAt n l) e =
+        let number : k ≡ n = cc in
+        let line : at ≡ place.Line l = cc in
+        ap₂ refusal number (ap placeNumber line)
+
+-- ---- splitting
+-- a split that is given is printed
+pub split-printed : (prints : Task → List ℕ) (t : Task) {t′ : Task} → split t ≡ splitAs t′ →
+    prints t′ ≡ printSplitting prints (split t)
+unfolding printSplitting
+split-printed prints t e = sym (ap (printSplitting prints) e)
+
+-- words that are the table of a given split
+pub split-given : (table out : List ℕ) {words : List ℕ} → result [] ≡ splitOutcome table out .told →
+    words ≡ splitOutcome table out .buffer → AcceptedSplit table words
+split-given table out h e =
+    subst (AcceptedSplit table) (sym e) (accepted-split table out (sym (ap toldNumber h)))
+
+-- a refusal is printed with its schema, or none
+pub split-refused : (table out : List ℕ) → isTable table ≡ true → tableWords ≤ length out →
+    {k : ℕ} {at : Place} → refused k at [] ≡ splitOutcome table out .told → (prints : Task → List ℕ) →
+    refusal k (placeNumber at) ≡ printSplitting prints (split (taskOf table))
+unfolding printSplitting longEnough
+split-refused table out is-table out-long {k} {at} h prints = go (split (taskOf table)) refl
+  where
+    long : longEnough table ≡ true
+    long = le-leb tableWords (length table) (table-long table is-table)
+
+    room : longEnough out ≡ true
+    room = le-leb tableWords (length out) out-long
+
+    told : {o : Outcome} → splitOutcome table out ≡ o → refused k at [] ≡ o .told
+    told e = h ∙ ap (λ (o : Outcome). o .told) e
+
+    go : (r : Splitting) → split (taskOf table) ≡ r →
+        refusal k (placeNumber at) ≡ printSplitting prints (split (taskOf table))
+    go (circular s) e =
+        let nine = told (outcome-refused table out room (refused-nine table long is-table e)) in
+        let number : k ≡ 9 = cc in
+        let schema : at ≡ place.Schema s = cc in
+        ap₂ refusal number (ap placeNumber schema) ∙ sym (ap (printSplitting prints) e)
+    go tooLarge e =
+        let ten = told (outcome-refused table out room (refused-ten table long is-table e)) in
+        let number : k ≡ 10 = cc in
+        let nowhere : at ≡ place.Nowhere = cc in
+        ap₂ refusal number (ap placeNumber nowhere) ∙ sym (ap (printSplitting prints) e)
+    go (splitAs t) e =
+        let done = told (split-done table out room long is-table e) in
+        absurd (let z : _≡_ {A = ℕ} 0 1 = cc in omega arith)
+
+-- ---- writing
+-- where the bytes lent hold every text, what is written is the task's
+pub task-written : (table out : List ℕ) → isTable table ≡ true → longestText ≤ length out →
+    writeOutcome table out ≡ writtenOver (write (taskOf table)) out
+unfolding longEnough
+task-written table out is-table room =
+    write-result table out (le-leb tableWords (length table) (table-long table is-table)) is-table
+    (let most = text-most table is-table in le-leb (length (write (taskOf table))) (length out) (omega arith))
+
+-- ---- the program `split`
+abbrev pub printsSplit : Task → List ℕ
+printsSplit t = printSplitting write (split t)
+
+pub text-split : (text words : List ℕ) → TableRead (taken text) words → printsSplit (taskOf words) ≡ splitProgram text
+unfolding splitProgram printReading
+text-split text words r = sym (ap (printReading printsSplit) (r .reads))
+
+pub text-refused : (text bytes : List ℕ) → bytes ≡ printReading printsSplit (readText (taken text)) →
+    bytes ≡ splitProgram text
+unfolding splitProgram
+text-refused text bytes h = h

@@ -1,0 +1,230 @@
+-- A plan read, unfolded and written: its steps are those of the task and few, so their blocks fit the words lent, and are
+-- steps of the split, whose plan fits the bytes lent.
+use Prim.Native.Nat.{ℕ, _+_, _*_, _/_, _≤_, _<_}
+use mathlib.Core.Path.{_≡_, refl, sym, _∙_, ap, ap₂, subst}
+use mathlib.Core.Bool.{Bool, true}
+use mathlib.Core.List.{List, [], _∷_, map}
+use mathlib.Core.Option.{none}
+use native.Mathlib.Omega.{arith}
+use lib.ListN.{length, take}
+use borrow.Author.Tests.{le-leb}
+use Rattle.task.specs.declared.Place.{Place}
+use Rattle.task.specs.declared.Place.the-variants as place
+use Rattle.task.specs.Lists.{all, concatMap, sum, over}
+use Rattle.task.specs.Limits.{tableWords}
+use Rattle.task.specs.Answers.{placeNumber, result, refused, Outcome, Check, refuseUnless, refuseStep, inOrder}
+use Rattle.task.specs.Task.{Task, wellFormed}
+use Rattle.task.specs.Table.{taskOf, longEnough, isTable}
+use Rattle.task.specs.Run.{Step, isStep, stepWords, stepsIn, badStep}
+use Rattle.task.proofs.Answers.{check-passes, step-passes}
+use Rattle.task.proofs.Put.{take-over}
+use Rattle.task.proofs.Tables.{of-table}
+use Rattle.task.proofs.TablesByIndex.{table-long}
+use Rattle.task.proofs.StepWords.{length-stepsIn}
+use Rattle.task.proofs.BadSteps.{steps-whole}
+use Rattle.tokens.specs.Split.{orders, splitAs, split}
+use Rattle.tokens.proofs.Accepted.{split-is}
+use Rattle.tokens.proofs.SplitOutcome.{accepted-passes}
+use Rattle.tokens.proofs.SplitAnswers.{AcceptedSplit}
+use Rattle.blocks.specs.Blocks.{unfoldSteps, listWords, fitsIn, unfoldOutcome}
+use Rattle.blocks.proofs.SplitParts.{few-parts}
+use Rattle.blocks.proofs.Unfolded.{partsOf, length-unfold}
+use Rattle.blocks.proofs.BlockAnswers.{length-list, list-good, list-read, unfoldedOver, unfoldingOf}
+use Rattle.correspondence.proofs.Given.{head-step, tail-steps}
+use Rattle.correspondence.proofs.StatesOnWords.{the-given}
+use Rattle.correspondence.proofs.UnfoldedSteps.{unfolded-steps}
+use Rattle.text.specs.declared.plan.PlanAnswer.{PlanAnswer}
+use Rattle.text.specs.declared.plan.PlanAnswer.the-variants as answer
+use Rattle.text.specs.Reading.{Reading, read, refusedAt}
+use Rattle.text.specs.Text.{readText}
+use Rattle.text.specs.Plan.{readPlan, writePlan}
+use Rattle.text.specs.PlanCode.{planAnswer, longestPlan}
+use Rattle.text.specs.Code.{longestText}
+use Rattle.text.proofs.PlanSteps.{PlanWords, plan-words}
+use Rattle.text.proofs.PlanWritten.{plan-fits}
+use Rattle.programs.specs.Programs.{taken, refusal, printReading, printSplitting, unfoldProgram}
+use Rattle.programs.specs.Code.{SplitTable, PlanSteps}
+use Rattle.programs.proofs.Answered.{TableRead}
+use Rattle.programs.proofs.Printed.{printed-within}
+
+-- bytes that hold every unfolding hold every text
+pub text-room : {n : ℕ} → longestPlan ≤ n → longestText ≤ n
+unfolding longestPlan longestText
+text-room h = omega arith
+
+-- ---- a plan that was read
+pub plan-refused : (t : Task) (text : List ℕ) {k : ℕ} {at : Place} →
+    answer.Refused k at ≡ planAnswer (readPlan t text) → (uses : List Step → List ℕ) →
+    refusal k (placeNumber at) ≡ printReading uses (readPlan t text)
+unfolding planAnswer printReading
+plan-refused t text {k} {at} h uses = go (readPlan t text) h
+  where
+    go : (r : Reading (List Step)) → answer.Refused k at ≡ planAnswer r → refusal k (placeNumber at) ≡ printReading uses r
+    go (read xs) e = absurd (let z : _≡_ {A = ℕ} 0 1 = cc in omega arith)
+    go (refusedAt n l) e =
+        let number : k ≡ n = cc in
+        let line : at ≡ place.Line l = cc in
+        ap₂ refusal number (ap placeNumber line)
+
+-- the steps that were read, and their words
+pub record PlanRead (table text words : List ℕ) (n : ℕ) : Type 0 where
+  pub reads : readPlan (taskOf table) text ≡ read (stepsIn (taskOf table) (take (13 * n) words))
+  pub plan : PlanSteps table (take (13 * n) words)
+  pub few : n ≤ 100
+  pub inside : 13 * n ≤ length words
+
+pub plan-read : (table text lent : List ℕ) {words : List ℕ} {n : ℕ} → isTable table ≡ true →
+    answer.Read n ≡ planAnswer (readPlan (taskOf table) text) →
+    ((xs : List Step) → readPlan (taskOf table) text ≡ read xs → words ≡ over (concatMap stepWords xs) lent) →
+    PlanRead table text words n
+unfolding planAnswer
+plan-read table text lent {words} {n} is-table h holds = go (readPlan (taskOf table) text) refl
+  where
+    go : (r : Reading (List Step)) → readPlan (taskOf table) text ≡ r → PlanRead table text words n
+    go (refusedAt k l) e =
+        let q = h ∙ ap planAnswer e in
+        absurd (let z : _≡_ {A = ℕ} 0 1 = cc in omega arith)
+    go (read xs) e =
+        let q = h ∙ ap planAnswer e in
+        let count : n ≡ length xs = cc in
+        let lies : take (13 * n) words ≡ take (13 * length xs) (over (concatMap stepWords xs) lent) =
+        ap₂ (λ (k : ℕ) (w : List ℕ). take (13 * k) w) count (holds xs e) in
+        let p = subst (PlanWords (taskOf table) xs) (sym lies)
+        (plan-words (taskOf table) (of-table table is-table .0) text lent xs e) in
+        let few = p .few in
+        let long = steps-whole (taskOf table) (take (13 * n) words) (p .good) .0 in
+        let size = ap length (p .steps) in
+        let are = ap length (p .are) in
+        record {
+          reads = e ∙ ap read (sym (p .steps));
+          plan = record { good = p .good; few = omega arith };
+          few = omega arith;
+          inside = printed-within (concatMap stepWords xs) lent (holds xs e) (omega arith);
+        }
+
+-- ---- blocks
+-- what a table and its split's table are known to be
+pub accepted : {table words : List ℕ} → SplitTable table words → AcceptedSplit table words
+unfolding longEnough
+accepted {table} {words} s = record {
+  long = le-leb tableWords (length table) (table-long table (s .is-table));
+  is-table = s .is-table;
+  well = of-table table (s .is-table) .0;
+  accepted = s .accepted;
+  split-long = le-leb tableWords (length words) (table-long words (s .split-table));
+  split-table = s .split-table;
+  split-well-formed = of-table words (s .split-table) .0;
+}
+
+-- no block has more than 16 parts
+blocks-most : (t : Task) → ((s : ℕ) → s < length (t .schemas) → length (orders t s) ≤ 16) → (xs : List Step) →
+    all (isStep t) xs ≡ true → sum (map (partsOf t) xs) ≤ 16 * length xs
+unfolding sum
+blocks-most t few [] h = omega arith
+blocks-most t few (x ∷ xs) h =
+    let first = few (x .schema) (head-step t x xs h .known) in
+    let more = blocks-most t few xs (tail-steps t x xs h) in
+    omega arith
+
+-- the words of the blocks are those of steps of the split, whose plan fits the bytes lent
+pub record BlocksWritten (table words steps after : List ℕ) (n : ℕ) : Type 0 where
+  pub few : n ≤ 1600
+  pub good : badStep (taskOf words) (take (13 * n) after) ≡ none
+  pub are : stepsIn (taskOf words) (take (13 * n) after) ≡ unfoldingOf table steps
+  pub fits : length (writePlan (stepsIn (taskOf words) (take (13 * n) after))) ≤ longestPlan
+  pub inside : 13 * n ≤ length after
+
+module _ (table words steps out : List ℕ) (s : SplitTable table words) (p : PlanSteps table steps)
+    (room : 20800 ≤ length out) where
+  abbrev t : Task
+  t = taskOf table
+
+  abbrev t′ : Task
+  t′ = taskOf words
+
+  abbrev xs : List Step
+  xs = stepsIn t steps
+
+  abbrev ys : List Step
+  ys = unfoldingOf table steps
+
+  split-steps : all (isStep t′) ys ≡ true
+  split-steps = unfolded-steps (the-given (accepted s)) xs (steps-whole t steps (p .good) .1)
+
+  well′ : wellFormed t′ ≡ true
+  well′ = accepted s .split-well-formed
+
+  long : length (listWords ys) ≡ 13 * length ys
+  long = length-list t′ well′ ys split-steps
+
+  few-steps : length ys ≤ 1600
+  few-steps =
+      let to-split = s .accepted ∙ ap splitAs (split-is t t′ (s .accepted)) in
+      let most = blocks-most t (λ k l. few-parts t (accepted s .well) to-split k l) xs (steps-whole t steps (p .good) .1) in
+      let n = length-stepsIn t steps in
+      let few = p .few in
+      let e = length-unfold t xs in
+      omega arith
+
+  abbrev roomCheck : List Check
+  roomCheck = refuseUnless (fitsIn (listWords ys) out) 13 ∷ []
+
+  outcome : unfoldOutcome table steps out ≡ unfoldedOver ys out
+  unfolding unfoldOutcome inOrder fitsIn
+  outcome =
+      let n = long in
+      let k = few-steps in
+      accepted-passes table (accepted s .long) (s .is-table) (s .accepted)
+      (refuseStep 12 (badStep t steps) ∷ roomCheck) out (unfoldedOver ys out) ∙
+      (step-passes 12 roomCheck out (unfoldedOver ys out) (p .good) ∙
+      check-passes 13 [] out (unfoldedOver ys out) (le-leb (length (listWords ys)) (length out) (omega arith)))
+
+  -- unfolding is never refused here
+  pub never-refused : {k : ℕ} {at : Place} → refused k at [] ≡ unfoldOutcome table steps out .told → ⊥
+  never-refused h =
+      let told = h ∙ ap (λ (o : Outcome). o .told) outcome in
+      let z : _≡_ {A = ℕ} 0 1 = cc in
+      omega arith
+
+  pub blocks-written : {after : List ℕ} {n : ℕ} → result (n ∷ []) ≡ unfoldOutcome table steps out .told →
+      after ≡ unfoldOutcome table steps out .buffer → BlocksWritten table words steps after n
+  blocks-written {after} {n} h b =
+      let told = h ∙ ap (λ (o : Outcome). o .told) outcome in
+      let count : n ≡ length ys = cc in
+      let lies : after ≡ over (listWords ys) out = b ∙ ap (λ (o : Outcome). o .buffer) outcome in
+      let size : length (listWords ys) ≡ 13 * n = (let l = long in omega arith) in
+      let e : take (13 * n) after ≡ listWords ys =
+      ap (take (13 * n)) lies ∙ take-over (listWords ys) out (13 * n) size in
+      let good = ap (badStep t′) e ∙ list-good t′ well′ ys split-steps in
+      let words-long = ap length e in
+      let few = few-steps in
+      record {
+        few = omega arith;
+        good = good;
+        are = ap (stepsIn t′) e ∙ list-read t′ well′ ys split-steps;
+        fits = plan-fits t′ well′ (take (13 * n) after) good (omega arith);
+        inside = printed-within (listWords ys) out lies (sym size);
+      }
+
+-- ---- the program `unfold`
+-- what is printed of a task and steps of it, and of a task and the text of a plan
+abbrev pub printsSteps : Task → List Step → List ℕ
+printsSteps t steps = printSplitting (λ t′. writePlan (unfoldSteps t steps)) (split t)
+
+abbrev pub printsPlan : List ℕ → Task → List ℕ
+printsPlan plan t = printReading (printsSteps t) (readPlan t (taken plan))
+
+pub plan-printed : (uses : List Step → List ℕ) (t : Task) (text : List ℕ) {xs : List Step} → readPlan t text ≡ read xs →
+    uses xs ≡ printReading uses (readPlan t text)
+unfolding printReading
+plan-printed uses t text e = sym (ap (printReading uses) e)
+
+pub texts-unfold : (task plan words : List ℕ) → TableRead (taken task) words →
+    printsPlan plan (taskOf words) ≡ unfoldProgram task plan
+unfolding unfoldProgram printReading
+texts-unfold task plan words r = sym (ap (printReading (printsPlan plan)) (r .reads))
+
+pub texts-refused : (task plan bytes : List ℕ) → bytes ≡ printReading (printsPlan plan) (readText (taken task)) →
+    bytes ≡ unfoldProgram task plan
+unfolding unfoldProgram
+texts-refused task plan bytes h = h

@@ -1,0 +1,87 @@
+-- `programs::printing::put_split` meets its contract: a split that is given lies as a table, whose text is put; a refusal is
+-- the one that is printed.
+use mathlib.Core.Path.{_≡_, sym, _∙_, ap}
+use native.Mathlib.Omega.{arith}
+use borrow.Author.Needs.{needs}
+use Rattle.task.specs.Table.{taskOf}
+use Rattle.tokens.specs.Split.{splitAnswerTold}
+use Rattle.text.specs.Text.{write}
+use Rattle.tokens.proofs.SplitAnswers.{AcceptedSplit}
+use Rattle.programs.proofs.Answered.{table-zeros, split-given, split-printed, split-refused}
+use Rattle.programs.proofs.Printed.{prints-same}
+use Rattle.programs.proofs.printing.put_split.Statement.{statement}
+use Rattle.programs.proofs.printing.put_split.Tie as tie
+use Rattle.programs.proofs.printing.put_split.Reads as reads
+use Rattle.programs.proofs.printing.put_split.Lts as lts
+
+abbrev start : tie.After-split → tie.Start
+start c = c .before .before .before .before
+
+given : (c : tie.After-enum-told) → let k = c .before .before .before in
+    AcceptedSplit (start k .args .table .now) (k .split .last .1 .0)
+unfolding splitAnswerTold
+given c =
+    let k = c .before .before .before in
+    split-given (start k .args .table .now) _
+    (sym (ap splitAnswerTold (c .enum-told .given .1)) ∙ k .split .ensures .0) (k .split .ensures .1)
+
+slice-aggregate-split : tie.Need-slice-aggregate-split
+slice-aggregate-split c = search needs
+
+split-requires : tie.Need-split-requires
+split-requires c κs = search needs
+
+enum-told : tie.Need-enum-told
+enum-told c = search needs
+
+slice-aggregate-put-task : tie.Need-slice-aggregate-put-task
+slice-aggregate-put-task c = search needs
+
+put-task-requires : tie.Need-put-task-requires
+put-task-requires c κs =
+    let k = c .before .before .before .before .before in
+    (given (c .before .before) .split-table, start k .pre .1)
+
+enum-known-number : tie.Need-enum-known-number
+enum-known-number c = search needs
+
+put-refusal-requires : tie.Need-put-refusal-requires
+put-refusal-requires c κs = search needs
+
+same-length : tie.Need-same-length
+same-length c = search needs
+
+returns : tie.Need-returns
+returns c =
+    let g = c .before .before .before .before .before in
+    let k = g .before .before .before in
+    prints-same (split-printed write (taskOf (start k .args .table .now)) (given g .accepted))
+    (c .before .before .put-task .ensures)
+
+same-length-2 : tie.Need-same-length-2
+same-length-2 c = search needs
+
+returns-2 : tie.Need-returns-2
+unfolding splitAnswerTold
+returns-2 c =
+    let n = c .before .before .before .before .before in
+    let k = n .before .before .before in
+    let told = sym (ap splitAnswerTold (n .number .given .1)) ∙ k .split .ensures .0 in
+    prints-same (split-refused (start k .args .table .now) _ (start k .pre .0) table-zeros told write)
+    (c .before .before .put-refusal .ensures)
+
+pub put-split-spec : {M : Type 1} → statement M
+put-split-spec =
+    tie.close
+    (tie.spec
+    slice-aggregate-split
+    split-requires
+    enum-told
+    slice-aggregate-put-task
+    put-task-requires
+    enum-known-number
+    put-refusal-requires
+    same-length
+    returns
+    same-length-2
+    returns-2)

@@ -1,0 +1,64 @@
+-- `programs::printing::put_task` meets its contract: where the bytes lent hold every text, writing gives a result.
+use Prim.Native.Nat.{ℕ}
+use mathlib.Core.Path.{_≡_, sym, _∙_, ap}
+use mathlib.Core.List.{[], _∷_}
+use native.Mathlib.Omega.{arith}
+use borrow.Author.Needs.{needs}
+use Rattle.task.specs.Answers.{Outcome}
+use Rattle.text.specs.Outcomes.{writeOutcome, writeAnswerTold}
+use Rattle.text.specs.Text.{write}
+use Rattle.task.specs.Table.{taskOf}
+use Rattle.text.proofs.Outcomes.{writtenOver}
+use Rattle.programs.proofs.Answered.{task-written}
+use Rattle.programs.proofs.printing.put_task.Statement.{statement}
+use Rattle.programs.proofs.printing.put_task.Tie as tie
+
+abbrev start : tie.After-slice-known2 → tie.Start
+start c = c .before .before .before .before .before .before
+
+is : (c : tie.After-slice-known2) → let a = start c .args in
+    writeOutcome (a .table .now) (a .out .now) ≡ writtenOver (write (taskOf (a .table .now))) (a .out .now)
+is c = let s = start c in task-written (s .args .table .now) (s .args .out .now) (s .pre .0) (s .pre .1)
+
+write-requires : tie.Need-write-requires
+write-requires c κs = search needs
+
+enum-known-bytes : tie.Need-enum-known-bytes
+enum-known-bytes c = search needs
+
+enum-known-number : tie.Need-enum-known-number
+enum-known-number c = search needs
+
+same-length : tie.Need-same-length
+same-length c = search needs
+
+returns : tie.Need-returns
+unfolding writeAnswerTold
+returns c =
+    let w = c .before .before .before .before .before .write in
+    let o = is (c .before .before .before) in
+    let told = sym (ap writeAnswerTold (c .before .bytes .given .1)) ∙ (w .ensures .0 ∙ ap (λ (o : Outcome). o .told) o) in
+    record { bytes = w .ensures .1 ∙ ap (λ (o : Outcome). o .buffer) o; count = cc }
+
+same-length-2 : tie.Need-same-length-2
+same-length-2 c = search needs
+
+returns-2 : tie.Need-returns-2
+unfolding writeAnswerTold
+returns-2 c =
+    let w = c .before .before .before .before .before .write in
+    let o = is (c .before .before .before) in
+    let told = sym (ap writeAnswerTold (c .before .number .given .1)) ∙ (w .ensures .0 ∙ ap (λ (o : Outcome). o .told) o) in
+    absurd (let z : _≡_ {A = ℕ} 0 1 = cc in omega arith)
+
+pub put-task-spec : {M : Type 1} → statement M
+put-task-spec =
+    tie.close
+    (tie.spec
+    write-requires
+    enum-known-bytes
+    enum-known-number
+    same-length
+    returns
+    same-length-2
+    returns-2)

@@ -1,0 +1,118 @@
+-- A plan's text by the words of its steps, as code writes it: a line for each step, then `end=1`; and how long it can
+-- be.
+use Prim.Native.Nat.{ℕ, _+_, _*_, _/_, _≤_, _<_}
+use mathlib.Core.Path.{_≡_, refl, sym, _∙_, ap}
+use mathlib.Core.Bool.{true}
+use mathlib.Core.List.{List, [], _∷_, _++_, map, append-assoc}
+use mathlib.Core.Option.{none}
+use native.Mathlib.Omega.{arith}
+use lib.ListN.{length, getD, length-append}
+use Rattle.task.specs.Lists.{upTo, concatMap}
+use Rattle.task.specs.Task.{Task, wellFormed}
+use Rattle.task.specs.Table.{wordsAt}
+use Rattle.task.specs.Run.{Step, stepIn, paramCount, stepAt, stepsIn, badStep}
+use Rattle.task.proofs.Laws.{In, append-concatMap}
+use Rattle.task.proofs.States.{isStep-is}
+use Rattle.task.proofs.StepWords.{length-stepsIn, params-few, step-here}
+use Rattle.task.proofs.BadSteps.{good-steps, steps-good}
+use Rattle.text.specs.Lines.{bytes, equals, colon, newline, digits, commaed, entryBytes, line}
+use Rattle.text.specs.Plan.{step, planKeyName, PlanLine, stepLine, endLine, writePlanLine, stepEntry, planLines}
+use Rattle.text.specs.Plan.{writePlan}
+use Rattle.text.specs.Code.{spaced}
+use Rattle.text.specs.PlanCode.{stepText, longestPlan}
+use Rattle.text.proofs.DigitSteps.{at-most-five}
+use Rattle.text.proofs.AtomLines.{spaced-words, commaed-most}
+use Rattle.text.proofs.Onwards.{onwards, onwards-all}
+use Rattle.text.proofs.Pieces.{pieces-map, pieces-same, pieces-most}
+use Rattle.text.proofs.WholeText.{endBytes}
+
+-- ---- lines
+abbrev pub stepPiece : Step → List ℕ
+stepPiece x = writePlanLine (stepLine (stepEntry x))
+
+pub plan-pieces : (xs : List Step) → writePlan xs ≡ concatMap stepPiece xs ++ endBytes
+unfolding writePlan planLines concatMap writePlanLine
+plan-pieces xs =
+    let said : Step → PlanLine = λ x. stepLine (stepEntry x) in
+    append-concatMap writePlanLine (map said xs) (endLine 1 ∷ []) ∙
+    ap (λ (bs : List ℕ). bs ++ endBytes) (pieces-map writePlanLine said xs)
+
+-- ---- by words
+-- a step's key, and its =
+abbrev pub stepKey : List ℕ
+stepKey = 115 ∷ 116 ∷ 101 ∷ 112 ∷ 61 ∷ []
+
+pub stepText-is : (w : List ℕ) (b n : ℕ) → stepText w b n ≡
+    stepKey ++ (digits (getD w b 0) ++ (colon ∷ (commaed (spaced w (b + 1) 1 n) ++ (newline ∷ []))))
+unfolding stepText
+stepText-is w b n = refl
+
+module _ (t : Task) (w : List ℕ) where
+  -- the line of step i
+  abbrev pub lineAtStep : ℕ → List ℕ
+  lineAtStep i = stepText w (13 * i) (paramCount t (getD w (13 * i) 0))
+
+  step-line-is : (i : ℕ) → stepPiece (stepAt t w i) ≡ lineAtStep i
+  unfolding writePlanLine stepEntry stepText stepAt stepIn line entryBytes
+  step-line-is i =
+      let n = paramCount t (getD w (13 * i) 0) in
+      let ds = digits (getD w (13 * i) 0) in
+      let e = ap commaed (spaced-words w (13 * i + 1) n) in
+      ap (λ (bs : List ℕ). bytes (planKeyName step) ++ (equals ∷ bs))
+      (append-assoc ds (colon ∷ commaed (wordsAt w (13 * i + 1) n)) (newline ∷ []) ∙
+      ap (λ (bs : List ℕ). ds ++ (colon ∷ (bs ++ (newline ∷ [])))) (sym e))
+
+  pub plan-onwards : writePlan (stepsIn t w) ≡ onwards lineAtStep 0 (length w / 13) ++ endBytes
+  unfolding stepsIn
+  plan-onwards =
+      plan-pieces (stepsIn t w) ∙ ap (λ (bs : List ℕ). bs ++ endBytes)
+      (pieces-map stepPiece (stepAt t w) (upTo (length w / 13)) ∙
+      (pieces-same (λ i. stepPiece (stepAt t w i)) lineAtStep (upTo (length w / 13)) (λ i l. step-line-is i) ∙
+      sym (onwards-all lineAtStep (length w / 13))))
+
+  -- a good step's words are there, and so are its schema's parameters
+  pub record StepThere (i : ℕ) : Type 0 where
+    pub inside : 13 * i + 13 ≤ length w
+    pub known : getD w (13 * i) 0 < length (t .schemas)
+    pub few : paramCount t (getD w (13 * i) 0) ≤ 12
+
+  pub step-there : wellFormed t ≡ true → badStep t w ≡ none → (i : ℕ) → i < length w / 13 → StepThere i
+  unfolding stepAt stepIn
+  step-there well good i l =
+      let here = step-here t w i (good-steps t w good i (omega arith)) in
+      record {
+        inside = here .whole;
+        known = isStep-is t (stepAt t w i) (here .step) .known;
+        few = params-few t well (getD w (13 * i) 0);
+      }
+
+-- ---- how long it can be
+step-most : (x : Step) → length (x .objects) ≤ 12 → length (stepPiece x) ≤ 84
+unfolding writePlanLine stepEntry line entryBytes
+step-most x h =
+    let ds = digits (x .schema) in
+    let cs = commaed (x .objects) in
+    let d = at-most-five (x .schema) in
+    let l = commaed-most (x .objects) in
+    let a = length-append (ds ++ (colon ∷ cs)) (newline ∷ []) in
+    omega (arith, length-append ds (colon ∷ cs))
+
+pub plan-most : (xs : List Step) → length xs ≤ 1600 → ((x : Step) → In x xs → length (x .objects) ≤ 12) →
+    length (writePlan xs) ≤ longestPlan
+unfolding longestPlan
+plan-most xs l h =
+    let e = ap length (plan-pieces xs) in
+    let a = length-append (concatMap stepPiece xs) endBytes in
+    let m = pieces-most stepPiece 84 xs (λ x i. step-most x (h x i)) in
+    omega arith
+
+-- of good steps of a task, no more than a plan of 100 unfolds to
+pub plan-fits : (t : Task) → wellFormed t ≡ true → (w : List ℕ) → badStep t w ≡ none → length w ≤ 20800 →
+    length (writePlan (stepsIn t w)) ≤ longestPlan
+unfolding paramCount
+plan-fits t well w good l =
+    let n = length-stepsIn t w in
+    plan-most (stepsIn t w) (omega arith) (λ x i.
+    let c = isStep-is t x (steps-good t w good x i) .count in
+    let f = params-few t well (x .schema) in
+    omega arith)

@@ -1,0 +1,47 @@
+-- `text::plan::last_line` meets its contract: the turn is what the line's number does, once it is read.
+use mathlib.Core.Path.{refl, subst}
+use borrow.Author.Needs.{needs}
+use Rattle.text.specs.Plan.{endLine, takePlanLine}
+use Rattle.text.specs.ReadCode.{NumberLineAt}
+use Rattle.text.proofs.LineTurns.{no-turn, turn-refused, turn-ends}
+use Rattle.text.proofs.PlanLoop.{end-taken, end-wrong}
+use Rattle.text.proofs.plan.last_line.Statement.{statement}
+use Rattle.text.proofs.plan.last_line.Tie as tie
+
+number-line-requires : tie.Need-number-line-requires
+number-line-requires c κs = search needs
+
+enum-known-n : tie.Need-enum-known-n
+enum-known-n c = search needs
+
+enum-told : tie.Need-enum-told
+enum-told c = search needs
+
+returns : tie.Need-returns
+returns c = λ t xs w.
+    no-turn endLine _ (takePlanLine t xs)
+    (subst (NumberLineAt _ _) (c .enum-told .given .1) (c .before .before .number-line .ensures))
+
+returns-2 : tie.Need-returns-2
+returns-2 c =
+    let n = c .before .before in
+    let line = subst (NumberLineAt _ _) (n .n .given .1) (n .before .before .number-line .ensures) in
+    λ t xs w k next.
+    turn-refused endLine _ (takePlanLine t xs) _ _ (line .is) k next 3 (end-wrong t xs _ (c .if1 .taken))
+
+returns-3 : tie.Need-returns-3
+returns-3 c =
+    let n = c .before .before in
+    let line = subst (NumberLineAt _ _) (n .n .given .1) (n .before .before .number-line .ensures) in
+    λ t xs w. (
+      record {
+        is = λ k next.
+            turn-ends endLine _ (takePlanLine t xs) _ _ (line .is) k next xs (end-taken t xs _ (c .if1 .left));
+        line = line .line;
+      },
+      refl,
+    )
+
+pub last-line-spec : {M : Type 1} → statement M
+last-line-spec =
+    tie.close (tie.spec number-line-requires enum-known-n enum-told returns returns-2 returns-3)

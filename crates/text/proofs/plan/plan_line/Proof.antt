@@ -1,0 +1,108 @@
+-- `text::plan::plan_line` meets its contract: the key at the cursor says whose body the line is; where there is none
+-- the line is refused.
+use mathlib.Core.Path.{subst}
+use native.Mathlib.Omega.{arith}
+use Rattle.task.specs.Table.{taskOf}
+use Rattle.text.specs.Lines.{bytes}
+use Rattle.text.specs.Plan.{planKeyName, takePlanLine}
+use Rattle.text.specs.ReadCode.{WordAt}
+use Rattle.text.proofs.WholeLines.{word-placed}
+use Rattle.text.proofs.LineTurns.{no-line-refused}
+use Rattle.text.proofs.PlanLoop.{next-step, next-end, next-none, word-moved, plan-turned-at}
+use borrow.Author.Needs.{needs}
+use Rattle.text.proofs.plan.plan_line.Statement.{statement}
+use Rattle.text.proofs.plan.plan_line.Tie as tie
+
+slice-aggregate-word : tie.Need-slice-aggregate-word
+slice-aggregate-word c = search needs
+
+word-requires : tie.Need-word-requires
+word-requires c κs = search needs
+
+enum-known-body : tie.Need-enum-known-body
+enum-known-body c = search needs
+
+step-line-requires : tie.Need-step-line-requires
+step-line-requires c κs =
+    let start = c .before .before .before .before .before .before .before .before .before in
+    let at-word = c .before .before .before .before in
+    let word = subst (WordAt _ _ _) (c .before .before .body .given .1) (at-word .word .ensures) in
+    (start .pre .0, (word-placed (start .pre .1 .0) word, start .pre .1 .1))
+
+same-length : tie.Need-same-length
+same-length c = search needs
+
+returns : tie.Need-returns
+unfolding bytes planKeyName
+returns c =
+    let start = c .before .before .before .before .before .before .before .before .before .before .before .before in
+    let at-word = c .before .before .before .before .before .before .before in
+    let word = subst (WordAt _ _ _) (c .before .before .before .before .before .body .given .1) (at-word .word .ensures) in
+    let done = c .before .before .step-line in
+    λ xs e.
+    plan-turned-at (taskOf (start .args .table .now)) (start .args .text .now) (start .args .from) _ xs _ _
+    (start .args .steps .now) (done .result) (done .last .1 .1 .1 .0) (word-moved _ (omega arith) word)
+    (next-step xs _ _ (word .is)) (done .ensures xs e)
+
+enum-told : tie.Need-enum-told
+enum-told c = search needs
+
+slice-aggregate-word-2 : tie.Need-slice-aggregate-word-2
+slice-aggregate-word-2 c = search needs
+
+word-requires-2 : tie.Need-word-requires-2
+word-requires-2 c κs = search needs
+
+enum-known-body-2 : tie.Need-enum-known-body-2
+enum-known-body-2 c = search needs
+
+last-line-requires : tie.Need-last-line-requires
+last-line-requires c κs =
+    let start = c .before .before .before .before .before .before .before .before .before .before .before .before in
+    let word = subst (WordAt _ _ _) (c .before .body2 .given .1) (c .before .before .before .word2 .ensures) in
+    word-placed (start .pre .1 .0) word
+
+returns-2 : tie.Need-returns-2
+unfolding bytes planKeyName
+returns-2 c =
+    let at-end = c .before .before .before .before in
+    let at-step = at-end .before .before .before .before in
+    let start = at-step .before .before .before .before .before in
+    let none = subst (WordAt _ _ _) (at-end .before .before .enum-told .given .1) (at-step .word .ensures) in
+    let word = subst (WordAt _ _ _) (c .before .before .body2 .given .1) (at-end .word2 .ensures) in
+    λ xs e.
+    let t = taskOf (start .args .table .now) in
+    plan-turned-at t (start .args .text .now) (start .args .from) _ xs _ _
+    (start .args .steps .now) (c .last-line .result) (start .args .steps .now) (word-moved _ (omega arith) word)
+    (next-end xs _ _ none (word .is)) (c .last-line .ensures t xs (start .args .steps .now))
+
+enum-told-2 : tie.Need-enum-told-2
+enum-told-2 c = search needs
+
+returns-3 : tie.Need-returns-3
+unfolding bytes planKeyName
+returns-3 c =
+    let start = c .before .before .before .before .before .before .before .before .before .before .before in
+    let at-step = c .before .before .before .before .before .before in
+    let none = subst (WordAt _ _ _) (c .before .before .before .before .enum-told .given .1) (at-step .word .ensures) in
+    let neither = subst (WordAt _ _ _) (c .enum-told2 .given .1) (c .before .before .word2 .ensures) in
+    λ xs e. no-line-refused (takePlanLine (taskOf (start .args .table .now)) xs) _ (next-none xs _ none neither)
+
+pub plan-line-spec : {M : Type 1} → statement M
+plan-line-spec =
+    tie.close
+    (tie.spec
+    slice-aggregate-word
+    word-requires
+    enum-known-body
+    step-line-requires
+    same-length
+    returns
+    enum-told
+    slice-aggregate-word-2
+    word-requires-2
+    enum-known-body-2
+    last-line-requires
+    returns-2
+    enum-told-2
+    returns-3)

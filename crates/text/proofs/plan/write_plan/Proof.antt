@@ -1,0 +1,175 @@
+-- `text::plan::write_plan` meets its contract. The invariant of its loop: what is still to come is the lines from step
+-- i on and `end=1`. The measure is the number of steps less i.
+use native.Mathlib.Omega.{arith}
+use Prim.Native.Nat.{ℕ, _+_, _-_, _*_, _/_, _≤_}
+use mathlib.Core.Path.{_≡_, _∙_, ap}
+use mathlib.Core.List.{List, _++_, append-assoc}
+use lib.ListN.{length, getD}
+use Rattle.task.specs.Table.{taskOf}
+use Rattle.task.specs.Run.{paramCount, stepsIn}
+use Rattle.task.proofs.Tables.{of-table}
+use Rattle.task.proofs.Put.{put-over}
+use Rattle.text.specs.Plan.{writePlan}
+use Rattle.text.specs.PlanCode.{stepText}
+use Rattle.text.proofs.Puts.{puts-same, Going, going-start, going-long, going-left, going-room, going-on}
+use Rattle.text.proofs.Puts.{last-room, going-last}
+use Rattle.text.proofs.Onwards.{onwards, onwards-next, onwards-none}
+use Rattle.text.proofs.WholeText.{endBytes}
+use Rattle.text.proofs.PlanWritten.{lineAtStep, plan-onwards, StepThere, step-there}
+use borrow.Author.Needs.{needs}
+use Rattle.text.proofs.plan.write_plan.Statement.{statement}
+use Rattle.text.proofs.plan.write_plan.Tie as tie
+
+abbrev Inv-loop : tie.InvT-loop
+Inv-loop table words text₀ next₀ count i₀ t text next i =
+    (i ≤ length words / 13) ×
+    Going text₀ 0 (writePlan (stepsIn (taskOf table) words))
+    (onwards (lineAtStep (taskOf table) words) i (length words / 13) ++ endBytes) text next
+
+abbrev μ-loop : tie.MeasureT-loop
+μ-loop table words text₀ next₀ count i₀ t text next i = length words / 13 - i
+
+loop-holds : tie.Need-loop-holds Inv-loop μ-loop
+loop-holds c =
+    let start = c .before .before .before in
+    let t = taskOf (start .args .table .now) in
+    let room = start .pre .1 .1 in
+    (omega arith, going-left (plan-onwards t (start .args .words .now)) (going-start (omega arith)))
+
+-- the function's entry, from the loop's head
+abbrev start : tie.At-loop Inv-loop μ-loop → tie.Start Inv-loop μ-loop
+start c = c .before .before .before .before
+
+module _ (c : tie.In-loop Inv-loop μ-loop) where
+  abbrev words : List ℕ
+  words = start (c .before) .args .words .now
+
+  abbrev lines : ℕ → List ℕ
+  lines = lineAtStep (taskOf (start (c .before) .args .table .now)) words
+
+  abbrev i : ℕ
+  i = c .before .loop .i
+
+  there : StepThere (taskOf (start (c .before) .args .table .now)) words i
+  there =
+      let start = start (c .before) in
+      step-there (taskOf (start .args .table .now)) words (of-table (start .args .table .now) (start .pre .0) .0)
+      (start .pre .1 .0) i (c .loop-test .taken)
+
+  -- what is to come is the line of step i, then those from i + 1 on, then the end
+  to-come :
+      Going (start (c .before) .args .text .now) 0
+      (writePlan (stepsIn (taskOf (start (c .before) .args .table .now)) words))
+      (lines i ++ (onwards lines (i + 1) (length words / 13) ++ endBytes))
+      (c .before .loop .text) (c .before .loop .next)
+  to-come =
+      going-left
+      (ap (λ (bs : List ℕ). bs ++ endBytes) (onwards-next lines i (length words / 13) (c .loop-test .taken)) ∙
+      append-assoc (lines i) (onwards lines (i + 1) (length words / 13)) endBytes)
+      (c .before .loop .inv .1)
+
+mul-base : tie.Need-mul-base Inv-loop μ-loop
+mul-base c = let h = there c .inside in omega arith
+
+mul-wide : tie.Need-mul-wide Inv-loop μ-loop
+mul-wide c = let h = there c .inside in omega arith
+
+shared-slice-read-wide : tie.Need-shared-slice-read-wide Inv-loop μ-loop
+shared-slice-read-wide c = let h = there (c .before) .inside in omega arith
+
+wide-requires : tie.Need-wide-requires Inv-loop μ-loop
+wide-requires c κs = search needs
+
+param-count-requires : tie.Need-param-count-requires Inv-loop μ-loop
+param-count-requires c κs =
+    let h = there (c .before .before) .known in
+    let e = c .wide .ensures in
+    (start (c .before .before .before) .pre .0, omega arith)
+
+-- the parameters are those of the step's schema
+params-read : (c : tie.After-param-count Inv-loop μ-loop) →
+    let at = c .before .before .before in
+    c .param-count .result ≡ paramCount (taskOf (start (at .before) .args .table .now)) (getD (words at) (13 * i at) 0)
+params-read c =
+    c .param-count .ensures ∙
+    ap (paramCount (taskOf (start (c .before .before .before .before) .args .table .now))) (c .before .wide .ensures)
+
+line-read : (c : tie.After-param-count Inv-loop μ-loop) →
+    let at = c .before .before .before in stepText (words at) (13 * i at) (c .param-count .result) ≡ lines at (i at)
+line-read c = ap (stepText (words (c .before .before .before)) (13 * i (c .before .before .before))) (params-read c)
+
+put-step-line-requires : tie.Need-put-step-line-requires Inv-loop μ-loop
+put-step-line-requires c κs =
+    let at = c .before .before .before .before in
+    let e = params-read (c .before) in
+    let inside = there at .inside in
+    let few = there at .few in
+    let later = onwards (lines at) (i at + 1) (length (words at) / 13) ++ endBytes in
+    let r = going-room (lines at (i at)) later (to-come at) in
+    let l = ap length (line-read (c .before)) in
+    (omega arith, omega arith)
+
+add-i : tie.Need-add-i Inv-loop μ-loop
+add-i c = omega arith
+
+loop-less : tie.Need-loop-less Inv-loop μ-loop
+loop-less c = let l = c .before .before .before .before .before .before .before .loop-test .taken in omega arith
+
+loop-again : tie.Need-loop-again Inv-loop μ-loop
+loop-again c =
+    let at = c .before .before .before .before .before .before .before in
+    let l = at .loop-test .taken in
+    let put = puts-same (line-read (c .before .before .before .before)) (c .before .before .put-step-line .ensures) in
+    (omega arith, going-on (to-come at) put)
+
+-- behind the last step only the end is to come
+ending : (c : tie.After-loop Inv-loop μ-loop) →
+    let args = start (c .before) .args in
+    Going (args .text .now) 0 (writePlan (stepsIn (taskOf (args .table .now)) (args .words .now))) endBytes
+    (c .before .loop .text) (c .before .loop .next)
+ending c =
+    let args = start (c .before) .args in
+    let w = args .words .now in
+    going-left
+    (ap (λ (bs : List ℕ). bs ++ endBytes)
+    (onwards-none (lineAtStep (taskOf (args .table .now)) w) (c .before .loop .i) (length w / 13) (c .loop-test .left)))
+    (c .before .loop .inv .1)
+
+slice-aggregate-put-bytes : tie.Need-slice-aggregate-put-bytes Inv-loop μ-loop
+slice-aggregate-put-bytes c = search needs
+
+put-bytes-requires : tie.Need-put-bytes-requires Inv-loop μ-loop
+put-bytes-requires c κs = last-room (ending (c .before .before))
+
+same-length : tie.Need-same-length Inv-loop μ-loop
+same-length c = c .before .before .put-bytes .kept .0 ∙ going-long (ending (c .before .before .before .before .before))
+
+returns : tie.Need-returns Inv-loop μ-loop
+returns c =
+    let start = start (c .before .before .before .before .before .before) in
+    let plan = writePlan (stepsIn (taskOf (start .args .table .now)) (start .args .words .now)) in
+    let at-end = ending (c .before .before .before .before .before) in
+    let puts = going-last at-end (c .before .before .put-bytes .ensures) in
+    let place = puts .place in
+    (omega arith, puts .stored ∙ put-over plan (start .args .text .now) (start .pre .1 .1))
+
+pub write-plan-spec : {M : Type 1} → statement M
+write-plan-spec =
+    tie.close
+    (tie.spec
+    Inv-loop
+    μ-loop
+    loop-holds
+    mul-base
+    mul-wide
+    shared-slice-read-wide
+    wide-requires
+    param-count-requires
+    put-step-line-requires
+    add-i
+    loop-less
+    loop-again
+    slice-aggregate-put-bytes
+    put-bytes-requires
+    same-length
+    returns)

@@ -1,0 +1,74 @@
+-- What the code of a plan's text promises, by the definitions of `Plan`: the turn at a line with the words of the steps
+-- before it and after it, and a step's line by its words.
+use Prim.Native.Nat.{ℕ, suc, _+_, _*_, _<_}
+use mathlib.Core.Path.{_≡_}
+use mathlib.Core.Bool.{true}
+use mathlib.Core.List.{List, [], _∷_, _++_}
+use mathlib.Core.Option.{Option}
+use lib.ListN.{length, getD}
+use Rattle.task.specs.declared.Place.the-variants as place
+use Rattle.task.specs.Task.{Task}
+use Rattle.task.specs.Run.{Step, isStep, stepWords}
+use Rattle.text.specs.declared.cursor.Cursor.{Cursor}
+use Rattle.text.specs.declared.plan.PlanAnswer.{PlanAnswer}
+use Rattle.text.specs.declared.plan.PlanAnswer.the-variants as answer
+use Rattle.text.specs.declared.plan.PlanTurn.{PlanTurn}
+use Rattle.text.specs.declared.plan.PlanTurn.the-variants as turn
+use Rattle.text.specs.Lines.{Taken, colon, newline, digits, commaed}
+use Rattle.text.specs.Lines.{bytes, equals}
+use Rattle.text.specs.Reading.{Reading, read, refusedAt, atEnd, lineAt}
+use Rattle.text.specs.Plan.{PlanLine, step, planKeyName, takePlanLine}
+use Rattle.text.specs.Code.{spaced}
+use Rattle.text.specs.ReadCode.{rest, Wrote, NextLine}
+
+-- a step as it is read: "schema, colon, objects"
+abbrev pub stepOf : ℕ → List ℕ → Step
+stepOf s os = record { schema = s; objects = os }
+
+-- how many steps were read; or a refusal, "each with its line"
+unfoldable pub planAnswer : Reading (List Step) → PlanAnswer
+planAnswer (read xs) = answer.Read (length xs)
+planAnswer (refusedAt k n) = answer.Refused k (place.Line n)
+
+-- ---- turns
+abbrev pub PlanNext : Type 0
+PlanNext = List Step → List ℕ → Reading (List Step)
+
+module _ (t : Task) (text : List ℕ) (from : Cursor) (xs : List Step) (l : Option (Taken PlanLine)) where
+  -- a line that is refused
+  abbrev pub PlanRefuses : ℕ → Type 0
+  PlanRefuses k = (n : ℕ) (next : PlanNext) → lineAt n (takePlanLine t xs) l next ≡ refusedAt k n
+
+  -- a line that ends reading
+  pub record PlanFinishes (at : Cursor) : Type 0 where
+    pub is : (n : ℕ) (next : PlanNext) → lineAt n (takePlanLine t xs) l next ≡ atEnd xs (suc n) (rest text at)
+    pub line : NextLine text from at
+
+  -- a line behind which reading goes on, with a step more whose words were put behind those of the others
+  pub record PlanGoesOn (at : Cursor) (w after : List ℕ) : Type 0 where
+    pub last : Step
+    pub is-step : isStep t last ≡ true
+    pub room : length xs < 100
+    pub is : (n : ℕ) (next : PlanNext) → lineAt n (takePlanLine t xs) l next ≡ next (xs ++ (last ∷ [])) (rest text at)
+    pub put : Wrote w (13 * length xs) 13 (λ k. getD (stepWords last) k 0) after
+    pub line : NextLine text from at
+
+-- what the code does at a line behind the steps xs, with the words before it and after it
+abbrev pub PlanTurned : Task → List ℕ → Cursor → List Step → Option (Taken PlanLine) → List ℕ → PlanTurn → List ℕ →
+    Type 0
+PlanTurned t text from xs l w (turn.GoOn at) after = PlanGoesOn t text from xs l at w after
+PlanTurned t text from xs l w (turn.Finish at) after = PlanFinishes t text from xs l at × (after ≡ w)
+PlanTurned t text from xs l w (turn.Refuse k) after = PlanRefuses t text from xs l k
+
+-- ---- writing
+-- the line of a step with so many objects, whose words begin at b
+unfoldable pub stepText : List ℕ → ℕ → ℕ → List ℕ
+unfolding bytes planKeyName digits commaed spaced
+stepText w b params =
+    bytes (planKeyName step) ++ (equals ∷ (digits (getD w b 0) ++ (colon ∷ (commaed (spaced w (b + 1) 1 params) ++
+    (newline ∷ [])))))
+
+-- no unfolding of a plan is longer, with five digits for each number: 84 bytes for each of 1,600 steps of 12 objects, 6
+-- for `end`; shut, since a list function would count a numeral down
+unfoldable pub longestPlan : ℕ
+longestPlan = 134406

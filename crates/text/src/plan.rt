@@ -1,0 +1,223 @@
+// The text of a plan: "at most 100 `step=` lines, schema, colon, objects; then `end=1`". Read into 13-word steps of a
+// task, or refused at a line; and written from them.
+use crate::checks::all_below;
+use crate::cursor::Behind;
+use crate::cursor::Cursor;
+use crate::cursor::Number;
+use crate::lists::Atom;
+use crate::lists::entry_line;
+use crate::lists::number_line;
+use crate::put::put_byte;
+use crate::put::put_bytes;
+use crate::put::put_list;
+use crate::put::put_number;
+use crate::put::wide;
+use crate::words::clear;
+use crate::words::put_words;
+use task::Place;
+ghost use mathlib.Core.Path.{_≡_};
+ghost use mathlib.Core.Bool.{true};
+ghost use mathlib.Core.List.{List};
+ghost use mathlib.Core.Option.{none};
+ghost use Prim.Native.Nat.{ℕ, _+_, _*_, _≤_, _<_};
+ghost use lib.ListN.{length, getD, take};
+ghost use Rattle.task.specs.Lists.{over, concatMap};
+ghost use Rattle.task.specs.Task.{Task};
+ghost use Rattle.task.specs.Table.{taskOf, isTable};
+ghost use Rattle.task.specs.Run.{Step, isStep, stepWords, paramCount, stepsIn, badStep};
+ghost use Rattle.text.specs.Lines.{ended, number, entry};
+ghost use Rattle.text.specs.Reading.{read};
+ghost use Rattle.text.specs.Plan.{stepLine, endLine, nextPlanLine, readPlan, writePlan};
+ghost use Rattle.text.specs.Code.{Puts};
+ghost use Rattle.text.specs.ReadCode.{rest, Placed, Listed, Wrote};
+ghost use Rattle.text.specs.PlanCode.{stepOf, planAnswer, PlanTurned, stepText};
+
+// What reading a plan answers: how many steps it has, or a refusal.
+pub enum PlanAnswer {
+    Read(u64),
+    Refused(u32, Place),
+}
+
+// What a line does: reading goes on with a step more, has come to its end, or is refused.
+pub enum PlanTurn {
+    GoOn(Cursor),
+    Finish(Cursor),
+    Refuse(u32),
+}
+
+// "at most 100 `step=` lines".
+const MOST_STEPS: usize = 100;
+
+// "A step is 13 words: schema, one object per parameter, zeros".
+const STEP_SIZE: usize = 13;
+
+const MOST_PARAMETERS: usize = 12;
+
+// No text of 1,600 steps of at most 12 objects is longer, and the plan of 100 steps unfolds to no more.
+pub const LONGEST_PLAN: usize = 134406;
+
+// The six counts of a table stand first.
+const HEAD_WORDS: usize = 6;
+
+// How many parameters a schema of the task has.
+fn param_count(table: &[u16], schema: usize) -> usize
+    requires { ⌜ isTable (now table) ≡ true ⌝ }
+    requires { ⌜ schema < length (taskOf (now table) .schemas) ⌝ }
+    ensures { λ r. ⌜ r ≡ paramCount (taskOf (now (table .entry))) schema ⌝ }
+{
+    wide(table[HEAD_WORDS + wide(table[1]) + schema])
+}
+
+// Refusal 5: "a wrong schema, object or number of objects".
+fn is_step(table: &[u16], schema: u32, objects: &[u32], count: usize) -> bool
+    requires { ⌜ isTable (now table) ≡ true ⌝ }
+    requires { ⌜ length (now objects) ≡ 12 ⌝ }
+    ensures { λ r. ⌜ ((ns : List ℕ) → Listed ns count (now (objects .entry)) →
+        r ≡ isStep (taskOf (now (table .entry))) (stepOf schema ns)) ⌝ }
+{
+    let s = schema as usize;
+    if wide(table[2]) <= s {
+        return false;
+    }
+    if param_count(table, s) != count {
+        return false;
+    }
+    all_below(objects, count, table[0] as u32)
+}
+
+// "schema, one object per parameter, zeros": puts a step's words at a place.
+fn put_step(steps: &mut [u16], at: usize, schema: u32, objects: &[u32], count: usize)
+    requires { ⌜ at + 13 ≤ length (now steps) ⌝ }
+    requires { ⌜ (schema < 65536) × (count ≤ 12) × (count ≤ length (now objects)) ⌝ }
+    requires { ⌜ ((k : ℕ) → k < count → getD (now objects) k 0 < 65536) ⌝ }
+    ensures { λ _. ⌜ Wrote (now (steps .entry)) at 13
+        (λ k. getD (stepWords (stepOf schema (take count (now (objects .entry))))) k 0) (now (steps .exit)) ⌝ }
+{
+    steps[at] = schema as u16;
+    put_words(steps, at + 1, objects, count);
+    clear(steps, at + 1 + count, MOST_PARAMETERS - count);
+}
+
+// The body of a `step` line, behind n steps: "a line out of form is 3, a 101st step 4, a wrong schema, object or number
+// of objects 5".
+fn step_line(table: &[u16], text: &[u8], from: Cursor, steps: &mut [u16], n: usize) -> PlanTurn
+    requires { ⌜ isTable (now table) ≡ true ⌝ }
+    requires { ⌜ Placed (now text) from ⌝ }
+    requires { ⌜ 1300 ≤ length (now steps) ⌝ }
+    ensures { λ r. do
+      let bs = now (text .entry)
+      ⌜ ((xs : List Step) → length xs ≡ n →
+          PlanTurned (taskOf (now (table .entry))) bs from xs (ended stepLine (entry (rest bs from)))
+          (now (steps .entry)) r (now (steps .exit))) ⌝ }
+{
+    let mut objects = [0u32; 12];
+    let Atom::Of(schema, count, next) = entry_line(text, from, &mut objects) else {
+        return PlanTurn::Refuse(3);
+    };
+    if MOST_STEPS <= n {
+        return PlanTurn::Refuse(4);
+    }
+    if !is_step(table, schema, &objects, count) {
+        return PlanTurn::Refuse(5);
+    }
+    put_step(steps, STEP_SIZE * n, schema, &objects, count);
+    PlanTurn::GoOn(next)
+}
+
+// The body of an `end` line: "end=1".
+fn last_line(text: &[u8], from: Cursor) -> PlanTurn
+    requires { ⌜ Placed (now text) from ⌝ }
+    ensures { λ r. do
+      let bs = now (text .entry)
+      ⌜ ((t : Task) (xs : List Step) (w : List ℕ) →
+          PlanTurned t bs from xs (ended endLine (number (rest bs from))) w r w) ⌝ }
+{
+    let Number::Of(n, next) = number_line(text, from) else {
+        return PlanTurn::Refuse(3);
+    };
+    if n != 1 {
+        return PlanTurn::Refuse(3);
+    }
+    PlanTurn::Finish(next)
+}
+
+// The turn at a line, behind n steps.
+fn plan_line(table: &[u16], text: &[u8], from: Cursor, steps: &mut [u16], n: usize) -> PlanTurn
+    requires { ⌜ isTable (now table) ≡ true ⌝ }
+    requires { ⌜ Placed (now text) from ⌝ }
+    requires { ⌜ 1300 ≤ length (now steps) ⌝ }
+    ensures { λ r. do
+      let bs = now (text .entry)
+      ⌜ ((xs : List Step) → length xs ≡ n →
+          PlanTurned (taskOf (now (table .entry))) bs from xs (nextPlanLine xs (rest bs from))
+          (now (steps .entry)) r (now (steps .exit))) ⌝ }
+{
+    if let Behind::At(body) = from.word(text, b"step=") {
+        return step_line(table, text, body, steps, n);
+    }
+    if let Behind::At(body) = from.word(text, b"end=") {
+        return last_line(text, body);
+    }
+    PlanTurn::Refuse(3)
+}
+
+// Reads a plan of a table's task: its steps come to stand at the front of the lent words, which have room for 100.
+pub fn read_plan(table: &[u16], text: &[u8], steps: &mut [u16]) -> PlanAnswer
+    requires { ⌜ isTable (now table) ≡ true ⌝ }
+    requires { ⌜ 1300 ≤ length (now steps) ⌝ }
+    ensures told { λ r. ⌜ r ≡ planAnswer (readPlan (taskOf (now (table .entry))) (now (text .entry))) ⌝ }
+    ensures words { λ _. ⌜ ((xs : List Step) → readPlan (taskOf (now (table .entry))) (now (text .entry)) ≡ read xs →
+        now (steps .exit) ≡ over (concatMap stepWords xs) (now (steps .entry))) ⌝ }
+{
+    let mut cursor = Cursor::start();
+    let mut n: usize = 0;
+    loop {
+        match plan_line(table, text, cursor, steps, n) {
+            PlanTurn::Refuse(number) => {
+                return PlanAnswer::Refused(number, Place::Line(cursor.line));
+            }
+            PlanTurn::Finish(next) => {
+                if next.at < text.len() {
+                    return PlanAnswer::Refused(3, Place::Line(next.line));
+                }
+                return PlanAnswer::Read(n as u64);
+            }
+            PlanTurn::GoOn(next) => {
+                n += 1;
+                cursor = next;
+            }
+        }
+    }
+}
+
+// The line of the step whose words begin at `base`: "schema, colon, objects".
+fn put_step_line(text: &mut [u8], at: usize, words: &[u16], base: usize, params: usize) -> usize
+    requires { ⌜ base + 1 + params ≤ length (now words) ⌝ }
+    requires { ⌜ at + length (stepText (now words) base params) ≤ length (now text) ⌝ }
+    ensures { λ r. ⌜ Puts (now (text .entry)) at (stepText (now (words .entry)) base params) (now (text .exit)) r ⌝ }
+{
+    let at_schema = put_bytes(text, at, b"step=");
+    let at_colon = put_number(text, at_schema, words[base]);
+    let at_objects = put_byte(text, at_colon, b':');
+    let at_end = put_list(text, at_objects, words, base + 1, 1, params);
+    put_byte(text, at_end, b'\n')
+}
+
+// Writes the plan whose steps are these words, steps of a table's task, and gives the number of bytes.
+pub fn write_plan(table: &[u16], words: &[u16], text: &mut [u8]) -> usize
+    requires { ⌜ isTable (now table) ≡ true ⌝ }
+    requires { ⌜ badStep (taskOf (now table)) (now words) ≡ none ⌝ }
+    requires { ⌜ length (writePlan (stepsIn (taskOf (now table)) (now words))) ≤ length (now text) ⌝ }
+    ensures size { λ r. ⌜ r ≡ length (writePlan (stepsIn (taskOf (now (table .entry))) (now (words .entry)))) ⌝ }
+    ensures bytes { λ _. ⌜ now (text .exit) ≡
+        over (writePlan (stepsIn (taskOf (now (table .entry))) (now (words .entry)))) (now (text .entry)) ⌝ }
+{
+    let mut next = 0;
+    let count = words.len() / STEP_SIZE;
+    for i in 0..count {
+        let base = STEP_SIZE * i;
+        let params = param_count(table, wide(words[base]));
+        next = put_step_line(text, next, words, base, params);
+    }
+    put_bytes(text, next, b"end=1\n")
+}

@@ -1,0 +1,125 @@
+/* Folds a plan found in the split of a task, and runs its moves in the task itself.
+ *
+ *     moves TASK PLAN
+ *
+ * TASK is the task's text, PLAN the split steps as `step=` lines (schema, colon, objects). Prints the moves as `step=`
+ * lines, the atoms of the state that they leave as `state=` lines, and `goal=1` if the goal is met there, else
+ * `goal=0`. A refusal is printed as the call's name, `refused=`, number, colon, place; then the exit status is 1. */
+#include <stdio.h>
+#include <stdlib.h>
+#include <string.h>
+
+#include "splitter.h"
+
+/* No step adds more atoms than a schema has. */
+enum { MOST_ADDED = 64 };
+
+static void *lend(size_t bytes) {
+    void *lent = calloc(bytes > 0 ? bytes : 1, 1);
+    if (lent == NULL) {
+        fprintf(stderr, "out of memory\n");
+        exit(EXIT_FAILURE);
+    }
+    return lent;
+}
+
+/* The bytes of a file, with a 0 behind them. */
+static char *contents(const char *path, size_t *length) {
+    size_t room = 1 << 16;
+    char *bytes = lend(room);
+    FILE *stream = fopen(path, "rb");
+    if (stream == NULL) {
+        perror(path);
+        exit(EXIT_FAILURE);
+    }
+    *length = 0;
+    for (size_t got; (got = fread(bytes + *length, 1, room - 1 - *length, stream)) > 0;) {
+        *length += got;
+        if (*length == room - 1 && (bytes = realloc(bytes, room *= 2)) == NULL)
+            exit(EXIT_FAILURE);
+    }
+    fclose(stream);
+    bytes[*length] = 0;
+    return bytes;
+}
+
+static void accept(const char *call, uint32_t number, uint64_t place) {
+    if (number != 0) {
+        printf("%s refused=%u:%llu\n", call, (unsigned)number, (unsigned long long)place);
+        exit(EXIT_FAILURE);
+    }
+}
+
+/* The steps of a plan as words, 13 for each `step=` line. */
+static uint16_t *steps_of(const char *plan, size_t length, size_t *count) {
+    uint16_t *steps = lend((length / strlen("step=") + 1) * SPLITTER_STEP_WORDS * sizeof *steps);
+    *count = 0;
+    for (const char *line = plan; (line = strstr(line, "step=")) != NULL;) {
+        uint16_t *step = steps + SPLITTER_STEP_WORDS * (*count)++;
+        char *end;
+        step[0] = (uint16_t)strtoul(line + strlen("step="), &end, 10);
+        for (int at = 1; at < SPLITTER_STEP_WORDS && (*end == ':' || *end == ',') && end[1] != '\n'; at++)
+            step[at] = (uint16_t)strtoul(end + 1, &end, 10);
+        line = end;
+    }
+    return steps;
+}
+
+/* The initial atoms as records; they stand behind the schemas' atoms, 8 words each. */
+static void initial_state(const uint16_t *table, uint16_t *state) {
+    const uint16_t *atom = table + 6 + table[1] + table[2] + 8 * table[3];
+    for (size_t at = 0; at < table[4]; at++, atom += 8, state += SPLITTER_RECORD_WORDS) {
+        state[0] = atom[2];
+        memcpy(state + 1, atom + 4, 4 * sizeof *state);
+    }
+}
+
+/* A line with a key, a number, and the numbers behind it. */
+static void print(const char *key, const uint16_t *words, size_t numbers) {
+    printf("%s=%u:", key, words[0]);
+    for (size_t at = 0; at < numbers; at++)
+        printf(at == 0 ? "%u" : ",%u", words[1 + at]);
+    printf("\n");
+}
+
+int main(int count, char **arguments) {
+    if (count != 3) {
+        fprintf(stderr, "usage: moves TASK PLAN\n");
+        return EXIT_FAILURE;
+    }
+    size_t bytes, plan_bytes, found;
+    uint64_t place, split_steps, moves, left, goal;
+    char *text = contents(arguments[1], &bytes), *plan = contents(arguments[2], &plan_bytes);
+    uint16_t *table = lend(SPLITTER_TABLE_WORDS * sizeof *table);
+    accept("splitter_read",
+           splitter_read((const uint8_t *)text, bytes, table, SPLITTER_TABLE_WORDS, &place), place);
+
+    uint16_t *split_list = steps_of(plan, plan_bytes, &found);
+    size_t words = SPLITTER_STEP_WORDS * found;
+    uint16_t *steps = lend(words * sizeof *steps);
+    accept("splitter_fold",
+           splitter_fold(table, SPLITTER_TABLE_WORDS, split_list, words, steps, words, &place, &split_steps, &moves),
+           place);
+
+    size_t room = (table[4] + MOST_ADDED * moves) * SPLITTER_RECORD_WORDS;
+    uint16_t *state = lend(room * sizeof *state);
+    initial_state(table, state);
+    accept("splitter_run",
+           splitter_run(table, SPLITTER_TABLE_WORDS, steps, SPLITTER_STEP_WORDS * moves, state, room, table[4], &place,
+                        &left, &goal),
+           place);
+
+    const uint16_t *arities = table + 6, *parameters = arities + table[1];
+    for (const uint16_t *step = steps; step < steps + SPLITTER_STEP_WORDS * moves; step += SPLITTER_STEP_WORDS)
+        print("step", step, parameters[step[0]]);
+    for (const uint16_t *atom = state; atom < state + SPLITTER_RECORD_WORDS * left; atom += SPLITTER_RECORD_WORDS)
+        print("state", atom, arities[atom[0]]);
+    printf("goal=%llu\n", (unsigned long long)goal);
+    free(text);
+    free(plan);
+    free(table);
+    free(split_list);
+    free(steps);
+    free(state);
+    return EXIT_SUCCESS;
+}

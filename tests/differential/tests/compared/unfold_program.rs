@@ -1,0 +1,92 @@
+//! The program `unfold` as a process.
+
+use super::programs::{long_text, refused};
+use checks::vectors::unfold_program_cases;
+use checks::{changed_move, report, MOVE};
+use differential::programs::Program;
+use generate::tasks::any_task;
+use generate::texts;
+use generate::{steps, Random};
+use reference::programs::{unfold_program, INPUT_BYTES};
+use reference::table::Task;
+use reference::text::Plan;
+
+type File = Option<Vec<u8>>;
+
+fn unfold(program: &Program, task: Option<&[u8]>, plan: Option<&[u8]>) -> Vec<u8> {
+    program.printed_with(&[("task", task), ("plan", plan)])
+}
+
+/// A plan of the task, sometimes of more steps than a plan takes.
+fn plan_text(random: &mut Random, task: &Task) -> Vec<u8> {
+    let length = random.pick(&[0, 1, 2, 5, 20, 99, 100, 101]);
+    let steps = steps::list(random, task, length);
+    let plan = Plan {
+        task,
+        steps: &steps,
+    };
+    plan.to_string().into_bytes()
+}
+
+/// The files `task` and `plan`: sound, damaged or missing.
+fn files(random: &mut Random) -> [File; 2] {
+    let task = any_task(random);
+    let texts = [task.to_string().into_bytes(), plan_text(random, &task)];
+    texts.map(|text| match random.below(12) {
+        0 => None,
+        1 => Some(Vec::new()),
+        2..=4 => Some(texts::damaged(random, &text)),
+        _ => Some(text),
+    })
+}
+
+#[test]
+fn unfold_files() {
+    let program = Program::named("unfold");
+    let compared = |[task, plan]: [File; 2]| {
+        let (task, plan) = (task.as_deref(), plan.as_deref());
+        refused(unfold(&program, task, plan), unfold_program(task, plan))
+    };
+    let mut random = Random::new(188);
+    let cases = 800;
+    let refusals = (0..cases).filter(|_| compared(files(&mut random))).count();
+    report("unfold as a process, refused", refusals);
+    report("unfold as a process, not refused", cases - refusals);
+    assert!((100..cases - 100).contains(&refusals));
+    let circular = changed_move("part=0,0,1,1,2,0,1", "part=0,0,1,1,0,0,1");
+    for task in [MOVE, &circular] {
+        for plan in [
+            None,
+            Some(b"end=1\n".to_vec()),
+            Some(b"step=0:0,1,2\nend=1\n".to_vec()),
+        ] {
+            compared([Some(task.into()), plan]);
+        }
+    }
+    assert!(compared([None, None]));
+}
+
+/// "A program takes the first 65,536 bytes of an input", of each of its files.
+#[test]
+fn takes_so_many_bytes() {
+    let program = Program::named("unfold");
+    for (bytes, refusals) in [
+        (INPUT_BYTES, ["4:3", "5:1"]),
+        (INPUT_BYTES + 2, ["3:3", "3:1"]),
+    ] {
+        let task = long_text("task=1\nobjects=10\narity=0", bytes);
+        let plan = long_text("step=10:0", bytes);
+        let found = [
+            unfold(&program, Some(&task), Some(&plan)),
+            unfold(&program, Some(MOVE.as_bytes()), Some(&plan)),
+        ];
+        let expected = refusals.map(|refusal| format!("refused={refusal}\n").into_bytes());
+        assert_eq!(found, expected);
+    }
+}
+
+#[test]
+fn vectors() {
+    let program = Program::named("unfold");
+    unfold_program_cases(|task, plan| unfold(&program, task, plan));
+}

@@ -1,0 +1,171 @@
+//! The reference behind the names `reference_read` to `reference_fold`, lent
+//! and answered as `include/splitter.h` says, and its two programs.
+
+use reference::{programs, Answer};
+use std::slice::{from_raw_parts, from_raw_parts_mut};
+
+/// The number of an answer; its place is written.
+fn told<Value>(answer: &Answer<Value>, place: &mut u64) -> u32 {
+    match answer {
+        Ok(_) => {
+            *place = 0;
+            0
+        }
+        Err(refusal) => {
+            *place = refusal.place.number();
+            refusal.number()
+        }
+    }
+}
+
+/// # Safety
+/// Each pointer is lent with its length, as `include/splitter.h` says.
+#[no_mangle]
+pub unsafe extern "C" fn reference_read(
+    text: *const u8,
+    text_len: usize,
+    table: *mut u16,
+    table_len: usize,
+    place: &mut u64,
+) -> u32 {
+    let answer = reference::read(
+        from_raw_parts(text, text_len),
+        from_raw_parts_mut(table, table_len),
+    );
+    told(&answer, place)
+}
+
+/// # Safety
+/// As for reading.
+#[no_mangle]
+pub unsafe extern "C" fn reference_write(
+    table: *const u16,
+    table_len: usize,
+    text: *mut u8,
+    text_len: usize,
+    place: &mut u64,
+    bytes: &mut u64,
+) -> u32 {
+    let answer = reference::write(
+        from_raw_parts(table, table_len),
+        from_raw_parts_mut(text, text_len),
+    );
+    *bytes = *answer.as_ref().unwrap_or(&0);
+    told(&answer, place)
+}
+
+/// # Safety
+/// As for reading.
+#[no_mangle]
+pub unsafe extern "C" fn reference_split(
+    table: *const u16,
+    table_len: usize,
+    split: *mut u16,
+    split_len: usize,
+    place: &mut u64,
+) -> u32 {
+    let answer = reference::split(
+        from_raw_parts(table, table_len),
+        from_raw_parts_mut(split, split_len),
+    );
+    told(&answer, place)
+}
+
+/// # Safety
+/// As for reading.
+#[no_mangle]
+pub unsafe extern "C" fn reference_run(
+    table: *const u16,
+    table_len: usize,
+    steps: *const u16,
+    steps_len: usize,
+    state: *mut u16,
+    state_len: usize,
+    records: u64,
+    place: &mut u64,
+    left: &mut u64,
+    goal: &mut u64,
+) -> u32 {
+    let answer = reference::run(
+        from_raw_parts(table, table_len),
+        from_raw_parts(steps, steps_len),
+        from_raw_parts_mut(state, state_len),
+        records,
+    );
+    (*left, *goal) = match &answer {
+        Ok(ran) => (ran.records, u64::from(ran.goal_met)),
+        Err(refusal) => (refusal.records, 0),
+    };
+    told(&answer, place)
+}
+
+/// # Safety
+/// As for reading.
+#[no_mangle]
+pub unsafe extern "C" fn reference_unfold(
+    table: *const u16,
+    table_len: usize,
+    steps: *const u16,
+    steps_len: usize,
+    out: *mut u16,
+    out_len: usize,
+    place: &mut u64,
+    split_steps: &mut u64,
+) -> u32 {
+    let answer = reference::unfold(
+        from_raw_parts(table, table_len),
+        from_raw_parts(steps, steps_len),
+        from_raw_parts_mut(out, out_len),
+    );
+    *split_steps = *answer.as_ref().unwrap_or(&0);
+    told(&answer, place)
+}
+
+/// # Safety
+/// As for reading.
+#[no_mangle]
+pub unsafe extern "C" fn reference_fold(
+    table: *const u16,
+    table_len: usize,
+    split: *const u16,
+    split_len: usize,
+    out: *mut u16,
+    out_len: usize,
+    place: &mut u64,
+    split_steps: &mut u64,
+    steps: &mut u64,
+) -> u32 {
+    let answer = reference::fold(
+        from_raw_parts(table, table_len),
+        from_raw_parts(split, split_len),
+        from_raw_parts_mut(out, out_len),
+    );
+    (*split_steps, *steps) = match &answer {
+        Ok(folded) => (folded.split_steps, folded.steps),
+        Err(_) => (0, 0),
+    };
+    told(&answer, place)
+}
+
+/// What a program printed is lent to be compared; 1 if it is what the
+/// reference prints, for `split`, or for `unfold` where there is a plan.
+///
+/// # Safety
+/// As for reading; `plan` may be null.
+#[no_mangle]
+pub unsafe extern "C" fn reference_prints(
+    task: *const u8,
+    task_len: usize,
+    plan: *const u8,
+    plan_len: usize,
+    printed: *const u8,
+    printed_len: usize,
+) -> u32 {
+    let task = from_raw_parts(task, task_len);
+    let expected = if plan.is_null() {
+        programs::split_program(task)
+    } else {
+        programs::unfold_program(Some(task), Some(from_raw_parts(plan, plan_len)))
+    };
+    u32::from(expected == from_raw_parts(printed, printed_len))
+}

@@ -1,0 +1,100 @@
+/* Feeds the programs `split` and `unfold` as processes, and compares what they print with what the reference prints.
+ *
+ * An input's first byte chooses the program. `split` has the rest on its standard input; for `unfold` the rest is the
+ * task, up to its end line, and then the plan. The folder of the programs is the variable PROGRAMS, and they run in
+ * the folder FOLDER. */
+#define _GNU_SOURCE
+#include <errno.h>
+#include <fcntl.h>
+#include <spawn.h>
+#include <stdint.h>
+#include <stdio.h>
+#include <stdlib.h>
+#include <string.h>
+#include <sys/wait.h>
+#include <unistd.h>
+
+enum { MOST_PRINTED = 1 << 20 };
+
+uint32_t reference_prints(const uint8_t *task, size_t task_len, const uint8_t *plan, size_t plan_len,
+                          const uint8_t *printed, size_t printed_len);
+
+static char programs[2][4096];
+static uint8_t printed[MOST_PRINTED];
+
+static void fail(const char *what) {
+    fprintf(stderr, "not so: %s\n", what);
+    abort();
+}
+
+static void save(const char *name, const uint8_t *bytes, size_t length) {
+    int file = open(name, O_CREAT | O_TRUNC | O_WRONLY, 0600);
+    if (file < 0 || write(file, bytes, length) != (ssize_t)length)
+        fail("a file can be written");
+    close(file);
+}
+
+/* Runs a program with the file `input` as its standard input; how many bytes it printed. */
+static size_t run(char *program) {
+    char *arguments[] = {program, NULL}, *environment[] = {NULL};
+    posix_spawn_file_actions_t actions;
+    int ends[2], status;
+    size_t length = 0;
+    pid_t child;
+    if (pipe2(ends, O_CLOEXEC) != 0)
+        fail("there is a pipe");
+    posix_spawn_file_actions_init(&actions);
+    posix_spawn_file_actions_addopen(&actions, 0, "input", O_RDONLY, 0);
+    posix_spawn_file_actions_adddup2(&actions, ends[1], 1);
+    posix_spawn_file_actions_adddup2(&actions, ends[1], 2);
+    if (posix_spawn(&child, program, &actions, NULL, arguments, environment) != 0)
+        fail("the program starts");
+    posix_spawn_file_actions_destroy(&actions);
+    close(ends[1]);
+    /* the fuzzer's own clock interrupts both calls */
+    for (ssize_t got; (got = read(ends[0], printed + length, sizeof printed - length)) != 0;) {
+        if (got < 0 && errno != EINTR)
+            fail("what the program prints can be read");
+        length += got > 0 ? (size_t)got : 0;
+    }
+    close(ends[0]);
+    while (waitpid(child, &status, 0) != child)
+        if (errno != EINTR)
+            fail("the program ends");
+    if (!WIFEXITED(status) || WEXITSTATUS(status) != 0)
+        fail("the program ends with status 0");
+    return length;
+}
+
+int LLVMFuzzerInitialize(int *count, char ***arguments) {
+    const char *folder = getenv("PROGRAMS"), *own = getenv("FOLDER");
+    (void)count, (void)arguments;
+    if (folder == NULL || own == NULL || chdir(own) != 0)
+        fail("PROGRAMS and FOLDER are folders");
+    snprintf(programs[0], sizeof *programs, "%s/split", folder);
+    snprintf(programs[1], sizeof *programs, "%s/unfold", folder);
+    save("input", NULL, 0);
+    return 0;
+}
+
+int LLVMFuzzerTestOneInput(const uint8_t *data, size_t size) {
+    static const char end[] = "\nend=1\n";
+    if (size == 0)
+        return 0;
+    const uint8_t *task = data + 1, *plan = NULL;
+    size_t length = size - 1, plan_length = 0;
+    if (data[0] % 2 == 1) {
+        const uint8_t *at = memmem(task, length, end, sizeof end - 1);
+        plan = at == NULL ? task + length : at + sizeof end - 1;
+        plan_length = (size_t)(task + length - plan);
+        length -= plan_length;
+        save("task", task, length);
+        save("plan", plan, plan_length);
+    } else {
+        save("input", task, length);
+    }
+    size_t told = run(programs[data[0] % 2]);
+    if (reference_prints(task, length, plan, plan_length, printed, told) != 1)
+        fail("the program prints what the reference prints");
+    return 0;
+}
