@@ -190,15 +190,14 @@ static void make_table(struct input *in) {
     lend(&given_table, task, 2 * in->read_table, in->at_front);
 }
 
-/* The list of steps; for folding, if asked, its unfolding with a word changed. */
+/* The list of steps; for folding, if asked and they are steps, their unfolding with a word changed. */
 static void make_list(struct input *in) {
     size_t words = in->steps < in->left / 2 ? in->steps : in->left / 2;
     for (size_t at = 0; at < words; at++)
         list[at] = word(in);
-    if (in->call == FOLD && in->unfolded) {
-        uint64_t place, split_steps;
-        if (reference_unfold(task, TABLE, list, words, beside, MOST_WORDS, &place, &split_steps) != 0)
-            return;
+    uint64_t place, split_steps;
+    if (in->call == FOLD && in->unfolded
+        && reference_unfold(task, TABLE, list, words, beside, MOST_WORDS, &place, &split_steps) == 0) {
         words = SPLITTER_STEP_WORDS * split_steps;
         memcpy(list, beside, 2 * words);
         if (words > 0 && in->state != 0)
