@@ -1,18 +1,17 @@
--- What the entry points answer, as the programs use it: a text that was read lies as a table, a split that was given too,
--- and a refusal is the one that is printed.
+-- What the entry points answer, as the programs use it: a text that was read lies as a table, a split that was given
+-- too, and a refusal is the one that is printed.
 use Prim.Native.Nat.{ℕ, _≤_}
 use mathlib.Core.Path.{_≡_, refl, sym, _∙_, ap, ap₂, subst}
 use mathlib.Core.Bool.{true}
-use mathlib.Core.List.{List, [], _∷_}
+use mathlib.Core.List.{List, []}
 use native.Mathlib.Omega.{arith}
 use lib.ListN.{length, replicate, length-replicate}
-use lib.Dec.{leb}
 use borrow.Author.Tests.{le-leb}
 use Rattle.task.specs.declared.Place.{Place}
 use Rattle.task.specs.declared.Place.the-variants as place
 use Rattle.task.specs.Lists.{over}
 use Rattle.task.specs.Limits.{tableWords}
-use Rattle.task.specs.Answers.{placeNumber, Told, result, refused, toldNumber, Outcome}
+use Rattle.task.specs.Answers.{placeNumber, result, refused, toldNumber, Outcome}
 use Rattle.task.specs.Task.{Task}
 use Rattle.task.specs.Table.{wordsOf, taskOf, longEnough, isTable}
 use Rattle.task.proofs.Put.{take-over}
@@ -23,7 +22,7 @@ use Rattle.text.specs.Reading.{Reading, read, refusedAt}
 use Rattle.text.specs.Text.{write, readText}
 use Rattle.text.specs.Outcomes.{readDone, readOutcome, writeOutcome}
 use Rattle.text.specs.Code.{longestText}
-use Rattle.text.proofs.Outcomes.{read-result, ReadResult, result-read, write-result, writtenOver}
+use Rattle.text.proofs.Outcomes.{read-result, result-read, write-result, writtenOver}
 use Rattle.text.proofs.TaskRead.{read-fits}
 use Rattle.text.proofs.ReadLoop.{long-outcome}
 use Rattle.text.proofs.LongestText.{text-most}

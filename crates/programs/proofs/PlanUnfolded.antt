@@ -1,8 +1,8 @@
--- A plan read, unfolded and written: its steps are those of the task and few, so their blocks fit the words lent, and are
--- steps of the split, whose plan fits the bytes lent.
-use Prim.Native.Nat.{ℕ, _+_, _*_, _/_, _≤_, _<_}
+-- A plan read, unfolded and written: its steps are those of the task and few, so their blocks fit the words lent, and
+-- are steps of the split, whose plan fits the bytes lent.
+use Prim.Native.Nat.{ℕ, _*_, _≤_, _<_}
 use mathlib.Core.Path.{_≡_, refl, sym, _∙_, ap, ap₂, subst}
-use mathlib.Core.Bool.{Bool, true}
+use mathlib.Core.Bool.{true}
 use mathlib.Core.List.{List, [], _∷_, map}
 use mathlib.Core.Option.{none}
 use native.Mathlib.Omega.{arith}
@@ -33,7 +33,6 @@ use Rattle.blocks.proofs.BlockAnswers.{length-list, list-good, list-read, unfol
 use Rattle.correspondence.proofs.Given.{head-step, tail-steps}
 use Rattle.correspondence.proofs.StatesOnWords.{the-given}
 use Rattle.correspondence.proofs.UnfoldedSteps.{unfolded-steps}
-use Rattle.text.specs.declared.plan.PlanAnswer.{PlanAnswer}
 use Rattle.text.specs.declared.plan.PlanAnswer.the-variants as answer
 use Rattle.text.specs.Reading.{Reading, read, refusedAt}
 use Rattle.text.specs.Text.{readText}
@@ -59,7 +58,8 @@ pub plan-refused : (t : Task) (text : List ℕ) {k : ℕ} {at : Place} →
 unfolding planAnswer printReading
 plan-refused t text {k} {at} h uses = go (readPlan t text) h
   where
-    go : (r : Reading (List Step)) → answer.Refused k at ≡ planAnswer r → refusal k (placeNumber at) ≡ printReading uses r
+    go : (r : Reading (List Step)) → answer.Refused k at ≡ planAnswer r →
+        refusal k (placeNumber at) ≡ printReading uses r
     go (read xs) e = absurd (let z : _≡_ {A = ℕ} 0 1 = cc in omega arith)
     go (refusedAt n l) e =
         let number : k ≡ n = cc in
@@ -160,7 +160,8 @@ module _ (table words steps out : List ℕ) (s : SplitTable table words) (p : Pl
   few-steps : length ys ≤ 1600
   few-steps =
       let to-split = s .accepted ∙ ap splitAs (split-is t t′ (s .accepted)) in
-      let most = blocks-most t (λ k l. few-parts t (accepted s .well) to-split k l) xs (steps-whole t steps (p .good) .1) in
+      let are-steps = steps-whole t steps (p .good) .1 in
+      let most = blocks-most t (few-parts t (accepted s .well) to-split) xs are-steps in
       let n = length-stepsIn t steps in
       let few = p .few in
       let e = length-unfold t xs in

@@ -1,5 +1,5 @@
--- `programs::split_text` meets its contract: a text that is read lies as a table, whose split is printed; a refusal is the
--- one that is printed.
+-- `programs::split_text` meets its contract: a text that is read lies as a table, whose split is printed; a refusal is
+-- the one that is printed.
 use Prim.Native.Nat.{ℕ}
 use mathlib.Core.Path.{_≡_, sym, _∙_, ap, subst}
 use mathlib.Core.List.{List}
@@ -16,8 +16,6 @@ use Rattle.programs.proofs.Answered.{printsSplit, text-split, text-refu
 use Rattle.programs.proofs.Printed.{prints-same}
 use Rattle.programs.proofs.split_text.Statement.{statement}
 use Rattle.programs.proofs.split_text.Tie as tie
-use Rattle.programs.proofs.split_text.Reads as reads
-use Rattle.programs.proofs.split_text.Lts as lts
 
 abbrev start : tie.After-read → tie.Start
 start c = c .before .before .before .before .before
@@ -70,7 +68,8 @@ returns : tie.Need-returns
 returns c =
     let g = c .before .before .before in
     let k = g .before .before .before in
-    let p = prints-same (text-split (start k .args .text .now) (k .read .last .1 .0) (table g)) (c .put-split .ensures) in
+    let same = text-split (start k .args .text .now) (k .read .last .1 .0) (table g) in
+    let p = prints-same same (c .put-split .ensures) in
     (p .bytes, p .count)
 
 returns-2 : tie.Need-returns-2

@@ -1,5 +1,5 @@
--- `programs::unfold_texts` meets its contract: a task that is read lies as a table, of which the plan is read and printed; a
--- refusal is the one that is printed.
+-- `programs::unfold_texts` meets its contract: a task that is read lies as a table, of which the plan is read and
+-- printed; a refusal is the one that is printed.
 use Prim.Native.Nat.{ℕ}
 use mathlib.Core.Path.{_≡_, sym, _∙_, ap, subst}
 use mathlib.Core.List.{List}
@@ -70,7 +70,8 @@ returns c =
     let g = c .before .before .before in
     let k = g .before .before .before in
     let a = start k .args in
-    let p = prints-same (texts-unfold (a .task .now) (a .plan .now) (k .read .last .1 .0) (table g)) (c .put-plan .ensures) in
+    let same = texts-unfold (a .task .now) (a .plan .now) (k .read .last .1 .0) (table g) in
+    let p = prints-same same (c .put-plan .ensures) in
     (p .bytes, p .count)
 
 returns-2 : tie.Need-returns-2

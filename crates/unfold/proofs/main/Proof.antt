@@ -1,5 +1,5 @@
 -- `unfold::main` meets its contract: what `unfold_texts` printed lies within the bytes lent to it.
-use Prim.Native.Nat.{ℕ, _≤_}
+use Prim.Native.Nat.{_≤_}
 use mathlib.Core.Path.{sym}
 use lib.ListN.{length}
 use lib.Seq.{length-take-le}

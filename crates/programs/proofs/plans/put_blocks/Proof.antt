@@ -1,9 +1,8 @@
--- `programs::plans::put_blocks` meets its contract: the blocks of few steps fit the words, so unfolding gives a result; it
--- lies as steps of the split, whose plan is written.
-use Prim.Native.Nat.{ℕ, _*_}
-use mathlib.Core.Path.{_≡_, sym, _∙_, ap}
+-- `programs::plans::put_blocks` meets its contract: the blocks of few steps fit the words, so unfolding gives a result;
+-- it lies as steps of the split, whose plan is written.
+use Prim.Native.Nat.{_*_}
+use mathlib.Core.Path.{sym, _∙_, ap}
 use native.Mathlib.Omega.{arith}
-use lib.ListN.{length, take}
 use lib.Seq.{length-take-le}
 use Rattle.blocks.specs.Blocks.{unfoldAnswerTold}
 use Rattle.text.specs.Plan.{writePlan}

@@ -4,7 +4,7 @@ use Prim.Native.Nat.{ℕ, _*_}
 use mathlib.Core.Path.{_≡_, sym, _∙_, ap}
 use mathlib.Core.List.{List}
 use native.Mathlib.Omega.{arith}
-use lib.ListN.{length, take}
+use lib.ListN.{take}
 use lib.Seq.{length-take-le}
 use Rattle.task.specs.Table.{taskOf}
 use Rattle.text.specs.Plan.{readPlan}
@@ -24,7 +24,8 @@ is-taken : (c : tie.After-read-plan) → let b = c .before .before .before .byte
 is-taken c = c .before .before .before .bytes-taken .ensures .1
 
 plan : (c : tie.After-known-told) → let k = c .before .before .before .before in
-    PlanRead (start k .args .table .now) (take (k .before .before .before .bytes-taken .result) (start k .args .plan .now))
+    let b = k .before .before .before .bytes-taken in
+    PlanRead (start k .args .table .now) (take (b .result) (start k .args .plan .now))
     (k .read-plan .last .1 .1 .0) (c .before .count .given .0 .0)
 plan c =
     let k = c .before .before .before .before in

@@ -1,7 +1,7 @@
--- `programs::plans::put_unfolding` meets its contract: a split that is given lies as a table, against which the blocks are
--- written; a refusal is the one that is printed.
+-- `programs::plans::put_unfolding` meets its contract: a split that is given lies as a table, against which the blocks
+-- are written; a refusal is the one that is printed.
 use Prim.Native.Nat.{ℕ}
-use mathlib.Core.Path.{_≡_, sym, _∙_, ap}
+use mathlib.Core.Path.{sym, _∙_, ap}
 use mathlib.Core.List.{List}
 use Rattle.task.specs.Task.{Task}
 use Rattle.task.specs.Table.{taskOf}

@@ -1,10 +1,10 @@
--- `programs::printing::put_digits` meets its contract, one digit a call: those of a tenth of the number are put by a call
--- of itself, and the last behind them. The measure is the number of digits allowed, which falls by one.
+-- `programs::printing::put_digits` meets its contract, one digit a call: those of a tenth of the number are put by a
+-- call of itself, and the last behind them. The measure is the number of digits allowed, which falls by one.
 use native.Mathlib.Omega.{arith}
 use Prim.Native.Nat.{ℕ, _+_, _-_, _/_, _%_, _<_}
 use native.Mathlib.Nat.{pos-of-ne-zero}
-use mathlib.Core.Path.{_≡_, sym, _∙_, ap}
-use mathlib.Core.List.{List, [], _∷_}
+use mathlib.Core.Path.{sym, _∙_, ap}
+use mathlib.Core.List.{[], _∷_}
 use lib.ListN.{length, length-append}
 use borrow.Author.Needs.{needs}
 use borrow.Fn.Kinds.{In}
@@ -87,9 +87,9 @@ put-digits-returns-2 : (t : ℕ) → put-digits-lts.Need-returns-2 (
 put-digits-returns-2 t c =
     let e = c .before .before .before .before .before .before in
     let s = e .before .before in
-    let byte = c .before .before .before .digit .ensures in
-    let digit = ap (λ (x : ℕ). x ∷ []) byte ∙ sym (last-digit (s .args .most) (s .args .n) (e .if1 .left) (omega arith)) in
-    puts-same digit (c .before .before .put-byte .ensures)
+    let byte = ap (λ (x : ℕ). x ∷ []) (c .before .before .before .digit .ensures) in
+    let digit = last-digit (s .args .most) (s .args .n) (e .if1 .left) (omega arith) in
+    puts-same (byte ∙ sym digit) (c .before .before .put-byte .ensures)
 
 put-digits-sub-put-digits : (t : ℕ) → put-digits-lts.Need-sub-put-digits (
   digit-reads.Asked,

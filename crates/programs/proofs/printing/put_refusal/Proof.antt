@@ -1,7 +1,7 @@
--- `programs::printing::put_refusal` meets its contract: the key, the number, the colon, the place and byte 10 are put one
--- behind another. A lemma for each says what is still to come behind it.
+-- `programs::printing::put_refusal` meets its contract: the key, the number, the colon, the place and byte 10 are put
+-- one behind another. A lemma for each says what is still to come behind it.
 use Prim.Native.Nat.{ℕ, _+_, _≤_}
-use mathlib.Core.Path.{_≡_, sym, ap, subst}
+use mathlib.Core.Path.{ap}
 use mathlib.Core.List.{List, [], _∷_, _++_}
 use lib.ListN.{length}
 use borrow.Author.Needs.{needs}

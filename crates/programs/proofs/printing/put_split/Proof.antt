@@ -1,7 +1,6 @@
--- `programs::printing::put_split` meets its contract: a split that is given lies as a table, whose text is put; a refusal is
--- the one that is printed.
-use mathlib.Core.Path.{_≡_, sym, _∙_, ap}
-use native.Mathlib.Omega.{arith}
+-- `programs::printing::put_split` meets its contract: a split that is given lies as a table, whose text is put; a
+-- refusal is the one that is printed.
+use mathlib.Core.Path.{sym, _∙_, ap}
 use borrow.Author.Needs.{needs}
 use Rattle.task.specs.Table.{taskOf}
 use Rattle.tokens.specs.Split.{splitAnswerTold}
@@ -11,8 +10,6 @@ use Rattle.programs.proofs.Answered.{table-zeros, split-given, split-pr
 use Rattle.programs.proofs.Printed.{prints-same}
 use Rattle.programs.proofs.printing.put_split.Statement.{statement}
 use Rattle.programs.proofs.printing.put_split.Tie as tie
-use Rattle.programs.proofs.printing.put_split.Reads as reads
-use Rattle.programs.proofs.printing.put_split.Lts as lts
 
 abbrev start : tie.After-split → tie.Start
 start c = c .before .before .before .before

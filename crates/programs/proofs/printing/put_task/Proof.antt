@@ -1,7 +1,6 @@
 -- `programs::printing::put_task` meets its contract: where the bytes lent hold every text, writing gives a result.
 use Prim.Native.Nat.{ℕ}
 use mathlib.Core.Path.{_≡_, sym, _∙_, ap}
-use mathlib.Core.List.{[], _∷_}
 use native.Mathlib.Omega.{arith}
 use borrow.Author.Needs.{needs}
 use Rattle.task.specs.Answers.{Outcome}
@@ -37,7 +36,8 @@ unfolding writeAnswerTold
 returns c =
     let w = c .before .before .before .before .before .write in
     let o = is (c .before .before .before) in
-    let told = sym (ap writeAnswerTold (c .before .bytes .given .1)) ∙ (w .ensures .0 ∙ ap (λ (o : Outcome). o .told) o) in
+    let result = sym (ap writeAnswerTold (c .before .bytes .given .1)) ∙ w .ensures .0 in
+    let told = result ∙ ap (λ (o : Outcome). o .told) o in
     record { bytes = w .ensures .1 ∙ ap (λ (o : Outcome). o .buffer) o; count = cc }
 
 same-length-2 : tie.Need-same-length-2
@@ -48,7 +48,8 @@ unfolding writeAnswerTold
 returns-2 c =
     let w = c .before .before .before .before .before .write in
     let o = is (c .before .before .before) in
-    let told = sym (ap writeAnswerTold (c .before .number .given .1)) ∙ (w .ensures .0 ∙ ap (λ (o : Outcome). o .told) o) in
+    let refused = sym (ap writeAnswerTold (c .before .number .given .1)) ∙ w .ensures .0 in
+    let told = refused ∙ ap (λ (o : Outcome). o .told) o in
     absurd (let z : _≡_ {A = ℕ} 0 1 = cc in omega arith)
 
 pub put-task-spec : {M : Type 1} → statement M
