@@ -12,6 +12,8 @@ use lib.Dec.{eqb}
 use borrow.Author.Tests.{eq-eqb, ne-eqb, le-leb, lt-leb}
 use Rattle.task.specs.Lists.{filter, keepIf, upTo, upFrom}
 use Rattle.task.specs.Table.{wordsAt}
+use Rattle.task.proofs.Laws.{upFrom-in}
+use Rattle.task.proofs.Tables.{filter-none}
 use Rattle.task.proofs.WordRows.{wordsAt-next}
 use Rattle.arcs.specs.Code.{member, members}
 use Rattle.blocks.specs.Blocks.{Bound, agrees, fits, bind}
@@ -87,6 +89,24 @@ module _ (steps : List ℕ) (next own p : ℕ) (l : p < 12) where
     pub bind-out : (b : Bound) → bind b (paramsFrom own p) (objectsFrom steps next own p) ≡
         bind b (paramsFrom own (p + 1)) (objectsFrom steps next own (p + 1))
     bind-out b = ap₂ (bind b) params-out objects-out
+
+-- ---- where the set has no number from p on, nothing is left
+module _ (steps : List ℕ) (next own p : ℕ) (h : (k : ℕ) → p ≤ k → member own k ≡ false) where
+  params-end : paramsFrom own p ≡ []
+  unfolding paramsFrom
+  params-end = filter-none (member own) (upFrom p (12 - p)) (λ k i. h k (upFrom-in p (12 - p) k i .0))
+
+  objects-end : objectsFrom steps next own p ≡ []
+  unfolding objectsFrom wordsAt upFrom
+  objects-end = ap (λ (ps : List ℕ). wordsAt steps next (length ps)) params-end
+
+  pub fits-end : (b : Bound) → fits b (paramsFrom own p) (objectsFrom steps next own p) ≡ true
+  unfolding fits
+  fits-end b = ap₂ (fits b) params-end objects-end
+
+  pub bind-end : (b : Bound) → bind b (paramsFrom own p) (objectsFrom steps next own p) ≡ b
+  unfolding bind
+  bind-end b = ap₂ (bind b) params-end objects-end
 
 -- ---- behind the last parameter nothing is left
 module _ (steps : List ℕ) (next own : ℕ) where

@@ -1,7 +1,7 @@
 // Folding: a list of split steps is taken apart into whole blocks; it looks at schemas and objects, not at states.
 ghost use Prim.Native.Nat.{ℕ, _+_, _*_, _≤_, _<_};
 ghost use mathlib.Core.Path.{_≡_};
-ghost use mathlib.Core.Bool.{true};
+ghost use mathlib.Core.Bool.{true, false};
 ghost use mathlib.Core.List.{List, _∷_};
 ghost use mathlib.Core.Option.{none};
 ghost use lib.ListN.{length, getD};
@@ -10,7 +10,7 @@ ghost use Rattle.task.specs.Limits.{mostParameters, mostParts, mostSchemas, ste
 ghost use Rattle.task.specs.Task.{Task};
 ghost use Rattle.task.specs.Table.{taskOf, isTable};
 ghost use Rattle.task.specs.Run.{Step, badStep, badStepFound, stepsIn};
-ghost use Rattle.arcs.specs.Code.{SetBelow, members};
+ghost use Rattle.arcs.specs.Code.{SetBelow, member, members};
 ghost use Rattle.tokens.specs.Split.{splitTask};
 ghost use Rattle.blocks.specs.Blocks.{Bound, agrees, bind, fits, foldSteps, folded, listWords};
 ghost use Rattle.blocks.specs.Code.{BlocksKept};
@@ -107,6 +107,7 @@ pub fn bad_split_step(table: &[u16], steps: &[u16]) -> BadStep
     let mut words = [0u16; TABLE_WORDS];
     match tokens::split(table, &mut words) {
         SplitAnswer::Split => bad_step(&words, steps),
+        // An accepted split is given, so this way is never gone.
         SplitAnswer::Refused(_, _) => BadStep::Nowhere,
     }
 }
@@ -132,6 +133,14 @@ fn object_at(steps: &[u16], at: usize) -> Object
     Object(steps[at])
 }
 
+// Whether a set has no number from p on, so that a loop over its numbers ends there.
+fn none_from(set: u64, p: usize) -> bool
+    requires { ⌜ p < 64 ⌝ }
+    ensures { λ r. ⌜ (r ≡ true → (k : ℕ) → p ≤ k → member set k ≡ false) ⌝ }
+{
+    set >> p == 0
+}
+
 // Whether the objects of the step whose words begin at `at` agree with those found for a part's parameters.
 fn agree(steps: &[u16], at: usize, own: u16, bound: u64, found: &Found) -> bool
     requires { ⌜ at + stepSize ≤ length (now steps) ⌝ }
@@ -141,6 +150,9 @@ fn agree(steps: &[u16], at: usize, own: u16, bound: u64, found: &Found) -> bool
     let set = own as u64;
     let mut next = at + 1;
     for p in 0..MOST_PARAMETERS {
+        if none_from(set, p) {
+            return true;
+        }
         if sets::has(set, p) {
             if !agrees_with(bound, found, Parameter(p as u16), object_at(steps, next)) {
                 return false;
@@ -162,6 +174,9 @@ fn join(steps: &[u16], at: usize, own: u16, bound: u64, found: &mut Found) -> u6
     let mut known = bound;
     let mut next = at + 1;
     for p in 0..MOST_PARAMETERS {
+        if none_from(set, p) {
+            return known;
+        }
         if sets::has(set, p) {
             let object = object_at(steps, next);
             found[p] = object.0;

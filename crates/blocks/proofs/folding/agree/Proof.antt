@@ -13,7 +13,7 @@ use Rattle.arcs.specs.Code.{members}
 use Rattle.blocks.specs.Blocks.{Bound, agrees, fits}
 use Rattle.blocks.specs.FoldCode.{Held, givenObjects}
 use Rattle.blocks.proofs.PartObjects.{paramsFrom, objectsFrom, params-all, objects-all, fits-in}
-use Rattle.blocks.proofs.PartObjects.{fits-out, fits-none}
+use Rattle.blocks.proofs.PartObjects.{fits-out, fits-end, fits-none}
 use Rattle.blocks.proofs.folding.agree.Statement.{statement}
 use Rattle.blocks.proofs.folding.agree.Tie as tie
 
@@ -43,11 +43,22 @@ loop-holds c =
       (omega arith, λ b h. ap₂ (fits b) (params-all (a .own)) (objects-all (a .steps .now) (a .at) (a .own))),
     )
 
+none-from-requires : tie.Need-none-from-requires Inv-loop μ-loop
+none-from-requires c κs = omega arith
+
+-- no parameter is left
+returns : tie.Need-returns Inv-loop μ-loop
+returns c = λ b h.
+    let l = c .before .before .before in
+    let a = l .before .before .args in
+    sym (l .loop .inv .1 .1 b h
+    ∙ fits-end (a .steps .now) (l .loop .next) (a .own) (l .loop .p) (c .before .none-from .ensures (c .if1 .taken)) b)
+
 has-requires : tie.Need-has-requires Inv-loop μ-loop
 has-requires c κs = omega arith
 
-cast-t12 : tie.Need-cast-t12 Inv-loop μ-loop
-cast-t12 c = omega arith
+cast-t13 : tie.Need-cast-t13 Inv-loop μ-loop
+cast-t13 c = omega arith
 
 object-at-requires : tie.Need-object-at-requires Inv-loop μ-loop
 object-at-requires c κs = omega arith
@@ -57,7 +68,7 @@ agrees-with-requires c κs = omega arith
 
 -- the object of p decides first, then those behind it
 decides : (c : tie.After-agrees-with Inv-loop μ-loop) →
-    let l = c .before .before .before .before .before in
+    let l = c .before .before .before .before .before .before .before in
     let a = l .before .before .args in
     (b : Bound) → Held b (a .bound) (a .found .now) →
     fits b (members (a .own) 12) (givenObjects (a .steps .now) (a .at) (a .own)) ≡
@@ -65,7 +76,7 @@ decides : (c : tie.After-agrees-with Inv-loop μ-loop) →
 decides c b h =
     let o = c .before in
     let has = o .before .before in
-    let turn = has .before in
+    let turn = has .before .before .before in
     let l = turn .before in
     let a = l .before .before .args in
     let p = l .loop .p in
@@ -73,16 +84,16 @@ decides c b h =
     let rest = fitsFrom b w (l .loop .next + 1) (a .own) (p + 1) in
     let e = ap (agrees (getD b p none)) (sym (o .object-at .ensures)) ∙ sym (c .agrees-with .ensures b h) in
     l .loop .inv .1 .1 b h
-    ∙ (fits-in w (l .loop .next) (a .own) p (turn .loop-test .taken) (sym (has .has .ensures) ∙ o .before .if1 .taken) b
+    ∙ (fits-in w (l .loop .next) (a .own) p (turn .loop-test .taken) (sym (has .has .ensures) ∙ o .before .if2 .taken) b
     ∙ ap (λ (c : Bool). c && rest) e)
 
-returns : tie.Need-returns Inv-loop μ-loop
-returns c = λ b h.
-    let l = c .before .before .before .before .before .before in
+returns-2 : tie.Need-returns-2 Inv-loop μ-loop
+returns-2 c = λ b h.
+    let l = c .before .before .before .before .before .before .before .before in
     let a = l .before .before .args in
     let rest = fitsFrom b (a .steps .now) (l .loop .next + 1) (a .own) (l .loop .p + 1) in
     sym (decides (c .before) b h
-    ∙ ap (λ (c : Bool). c && rest) (not-true (c .before .agrees-with .result) (c .if2 .taken)))
+    ∙ ap (λ (c : Bool). c && rest) (not-true (c .before .agrees-with .result) (c .if3 .taken)))
 
 add-next-2 : tie.Need-add-next-2 Inv-loop μ-loop
 add-next-2 c = omega arith
@@ -96,7 +107,7 @@ loop-less c = omega arith
 loop-again : tie.Need-loop-again Inv-loop μ-loop
 loop-again c =
     let has = c .before in
-    let turn = has .before in
+    let turn = has .before .before .before in
     let l = turn .before in
     let a = l .before .before .args in
     let w = a .steps .now in
@@ -108,7 +119,7 @@ loop-again c =
             omega arith,
             λ b h.
                 let read : tie.After-object-at Inv-loop μ-loop =
-                record { before = record { before = has; if1 = x .0 }; object-at = x .1 } in
+                record { before = record { before = has; if2 = x .0 }; object-at = x .1 } in
                 decides (record { before = read; agrees-with = x .2 }) b h
                 ∙ ap (λ (c : Bool). c && fitsFrom b w (l .loop .next + 1) (a .own) (p + 1))
                 (not-false (x .2 .result) (x .3 .left)),
@@ -120,11 +131,11 @@ loop-again c =
                 ∙ fits-out w (l .loop .next) (a .own) p (turn .loop-test .taken)
                 (sym (has .has .ensures) ∙ x .0 .left) b,
           ))
-          (c .if1 .came),
+          (c .if2 .came),
     )
 
-returns-2 : tie.Need-returns-2 Inv-loop μ-loop
-returns-2 c = λ b h.
+returns-3 : tie.Need-returns-3 Inv-loop μ-loop
+returns-3 c = λ b h.
     let l = c .before in
     let a = l .before .before .args in
     let w = a .steps .now in
@@ -134,5 +145,5 @@ returns-2 c = λ b h.
 
 pub agree-spec : {M : Type 1} → statement M
 agree-spec =
-    tie.close (tie.spec Inv-loop μ-loop add-next loop-holds has-requires cast-t12 object-at-requires
-    agrees-with-requires returns add-next-2 add-p loop-less loop-again returns-2)
+    tie.close (tie.spec Inv-loop μ-loop add-next loop-holds none-from-requires returns has-requires cast-t13
+    object-at-requires agrees-with-requires returns-2 add-next-2 add-p loop-less loop-again returns-3)

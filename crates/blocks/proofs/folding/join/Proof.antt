@@ -12,7 +12,7 @@ use Rattle.blocks.specs.Blocks.{Bound, bind}
 use Rattle.blocks.specs.FoldCode.{Held, givenObjects}
 use Rattle.blocks.proofs.Holding.{held-joined}
 use Rattle.blocks.proofs.PartObjects.{paramsFrom, objectsFrom, params-all, objects-all, bind-in}
-use Rattle.blocks.proofs.PartObjects.{bind-out, bind-none}
+use Rattle.blocks.proofs.PartObjects.{bind-out, bind-end, bind-none}
 use Rattle.blocks.proofs.folding.join.Statement.{statement}
 use Rattle.blocks.proofs.folding.join.Tie as tie
 
@@ -54,6 +54,20 @@ loop-holds c =
       ),
     )
 
+none-from-requires : tie.Need-none-from-requires Inv-loop μ-loop
+none-from-requires c κs = omega arith
+
+-- no parameter is left
+returns : tie.Need-returns Inv-loop μ-loop
+returns c = λ b held below.
+    let l = c .before .before .before in
+    let h = l .loop in
+    let a = l .before .before .args in
+    let none = c .before .none-from .ensures (c .if1 .taken) in
+    let (d, g, n, e) = h .inv .1 .2 b held below in
+    subst (λ (f : Bound). Held f (h .known) (h .found))
+    (sym (e ∙ bind-end (a .steps .now) (h .next) (a .own) (h .p) none d)) g
+
 has-requires : tie.Need-has-requires Inv-loop μ-loop
 has-requires c κs = omega arith
 
@@ -81,7 +95,7 @@ loop-less c = omega arith
 loop-again : tie.Need-loop-again Inv-loop μ-loop
 loop-again c =
     let has = c .before in
-    let turn = has .before in
+    let turn = has .before .before .before in
     let l = turn .before in
     let h = l .loop in
     let a = l .before .before .args in
@@ -118,11 +132,11 @@ loop-again c =
                 let (d, g, n, e) = h .inv .1 .2 b held below in
                 (d, g, n, e ∙ bind-out w (h .next) (a .own) p t m d),
           ))
-          (c .if1 .came),
+          (c .if2 .came),
     )
 
-returns : tie.Need-returns Inv-loop μ-loop
-returns c = λ b held below.
+returns-2 : tie.Need-returns-2 Inv-loop μ-loop
+returns-2 c = λ b held below.
     let h = c .before .loop in
     let a = c .before .before .before .args in
     let w = a .steps .now in
@@ -133,5 +147,5 @@ returns c = λ b held below.
 
 pub join-spec : {M : Type 1} → statement M
 join-spec =
-    tie.close (tie.spec Inv-loop μ-loop add-next loop-holds has-requires object-at-requires mul-found
-    element-write-found with-requires add-next-2 add-p loop-less loop-again returns)
+    tie.close (tie.spec Inv-loop μ-loop add-next loop-holds none-from-requires returns has-requires object-at-requires
+    mul-found element-write-found with-requires add-next-2 add-p loop-less loop-again returns-2)
