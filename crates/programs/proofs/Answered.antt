@@ -11,7 +11,7 @@ use Rattle.task.specs.declared.Place.{Place}
 use Rattle.task.specs.declared.Place.the-variants as place
 use Rattle.task.specs.Lists.{over}
 use Rattle.task.specs.Limits.{tableWords}
-use Rattle.task.specs.Answers.{placeNumber, result, refused, toldNumber, Outcome}
+use Rattle.task.specs.Answers.{placeNumber, result, refused, Outcome}
 use Rattle.task.specs.Task.{Task}
 use Rattle.task.specs.Table.{wordsOf, taskOf, longEnough, isTable}
 use Rattle.task.proofs.Put.{take-over}
@@ -28,7 +28,6 @@ use Rattle.text.proofs.ReadLoop.{long-outcome}
 use Rattle.text.proofs.LongestText.{text-most}
 use Rattle.tokens.specs.Split.{Splitting, circular, tooLarge, splitAs, split, splitOutcome}
 use Rattle.tokens.proofs.SplitOutcome.{refused-nine, refused-ten, split-refused as outcome-refused, split-done}
-use Rattle.tokens.proofs.SplitAnswers.{AcceptedSplit, accepted-split}
 use Rattle.programs.specs.Programs.{taken, refusal, printReading, printSplitting, splitProgram}
 
 -- ---- words of zeros, as a function has them before they are written
@@ -78,12 +77,6 @@ pub split-printed : (prints : Task → List ℕ) (t : Task) {t′ : Task} → sp
     prints t′ ≡ printSplitting prints (split t)
 unfolding printSplitting
 split-printed prints t e = sym (ap (printSplitting prints) e)
-
--- words that are the table of a given split
-pub split-given : (table out : List ℕ) {words : List ℕ} → result [] ≡ splitOutcome table out .told →
-    words ≡ splitOutcome table out .buffer → AcceptedSplit table words
-split-given table out h e =
-    subst (AcceptedSplit table) (sym e) (accepted-split table out (sym (ap toldNumber h)))
 
 -- a refusal is printed with its schema, or none
 pub split-refused : (table out : List ℕ) → isTable table ≡ true → tableWords ≤ length out →

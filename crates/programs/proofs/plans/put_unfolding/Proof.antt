@@ -10,7 +10,8 @@ use Rattle.tokens.specs.Split.{splitAnswerTold}
 use Rattle.tokens.proofs.SplitAnswers.{AcceptedSplit}
 use Rattle.blocks.specs.Blocks.{unfoldSteps}
 use Rattle.text.specs.Plan.{writePlan}
-use Rattle.programs.proofs.Answered.{table-zeros, split-given, split-printed, split-refused}
+use Rattle.blocks.proofs.SplitWritten.{split-given}
+use Rattle.programs.proofs.Answered.{table-zeros, split-printed, split-refused}
 use Rattle.programs.proofs.Printed.{prints-same}
 use Rattle.programs.proofs.PlanUnfolded.{text-room}
 use borrow.Author.Needs.{needs}

@@ -6,7 +6,8 @@ use Rattle.task.specs.Table.{taskOf}
 use Rattle.tokens.specs.Split.{splitAnswerTold}
 use Rattle.text.specs.Text.{write}
 use Rattle.tokens.proofs.SplitAnswers.{AcceptedSplit}
-use Rattle.programs.proofs.Answered.{table-zeros, split-given, split-printed, split-refused}
+use Rattle.blocks.proofs.SplitWritten.{split-given}
+use Rattle.programs.proofs.Answered.{table-zeros, split-printed, split-refused}
 use Rattle.programs.proofs.Printed.{prints-same}
 use Rattle.programs.proofs.printing.put_split.Statement.{statement}
 use Rattle.programs.proofs.printing.put_split.Tie as tie
