@@ -1,14 +1,15 @@
 -- The line of an atom by the words of the table, as code writes it: key, predicate, colon, arguments, byte 10; and how
 -- long it can be.
-use Prim.Native.Nat.{ℕ, zero, suc, _+_, _*_, _≤_, _<_}
+use Prim.Native.Nat.{ℕ, zero, suc, _+_, _-_, _*_, _≤_, _<_}
 use mathlib.Core.Path.{_≡_, refl, sym, _∙_, ap, ap₂}
 use mathlib.Core.List.{List, [], _∷_, _++_, map, append-assoc}
+use native.Mathlib.Nat.{mul-suc}
 use native.Mathlib.Omega.{arith}
 use native.Mathlib.Decide.{decLt}
 use lib.ListN.{length, getD, length-append, length-map}
 use Rattle.task.specs.Lists.{upTo, upFrom}
 use Rattle.task.specs.Table.{wordsAt, arityIn}
-use Rattle.task.proofs.Laws.{length-upTo}
+use Rattle.task.proofs.Laws.{In, here, there, length-upTo}
 use Rattle.text.specs.Lines.{bytes, equals, colon, newline, digits, commaed, entryBytes, line}
 use Rattle.text.specs.Text.{keyName}
 use Rattle.text.specs.Code.{spaced, AtomInside, entryAt, atomKey, keyBytes, atomText, atomsText}
@@ -67,15 +68,27 @@ pub length-spaced : (w : List ℕ) (from step n : ℕ) → length (spaced w from
 unfolding spaced
 length-spaced w from step n = length-map (upTo n) (λ k. getD w (from + step * k) 0) ∙ length-upTo n
 
--- at most five digits and a comma each
-pub commaed-most : (ns : List ℕ) → length (commaed ns) ≤ 6 * length ns
+-- numbers of at most d digits
+abbrev pub Within : ℕ → List ℕ → Type 0
+Within d ns = (n : ℕ) → In n ns → length (digits n) ≤ d
+
+-- of at most k such numbers each has its digits and a comma, but for the last
+pub commaed-within : (d k : ℕ) (ns : List ℕ) → length ns ≤ k → Within d ns → length (commaed ns) ≤ suc d * k - 1
 unfolding commaed
-commaed-most [] = omega arith
-commaed-most (n ∷ []) = let d = at-most-five n in omega arith
-commaed-most (n ∷ m ∷ ns) =
-    let d = at-most-five n in
-    let r = commaed-most (m ∷ ns) in
+commaed-within d k [] l h = omega arith
+commaed-within d zero (n ∷ ns) l h = absurd (omega arith)
+commaed-within d (suc k) (n ∷ []) l h = let e = h n (here refl) in let m = mul-suc (suc d) k in omega arith
+commaed-within d (suc zero) (n ∷ m ∷ ns) l h = absurd (omega arith)
+commaed-within d (suc (suc k)) (n ∷ m ∷ ns) l h =
+    let e = h n (here refl) in
+    let r = commaed-within d (suc k) (m ∷ ns) (omega arith) (λ x i. h x (there i)) in
+    let o = mul-suc (suc d) k in
+    let p = mul-suc (suc d) (suc k) in
     omega (arith, length-append (digits n) (44 ∷ commaed (m ∷ ns)))
+
+-- no number has more than five digits
+pub commaed-most : (ns : List ℕ) → length (commaed ns) ≤ 6 * length ns
+commaed-most ns = let m = commaed-within 5 (length ns) ns (omega arith) (λ n i. at-most-five n) in omega arith
 
 pub spaced-most : (w : List ℕ) (from step n : ℕ) → length (commaed (spaced w from step n)) ≤ 6 * n
 spaced-most w from step n =

@@ -1,9 +1,10 @@
 -- Numbers as code finds their digits: the last digit of a number, and those of a tenth of it before; so how many
 -- digits a number has is found by comparing.
-use Prim.Native.Nat.{ℕ, zero, suc, _+_, _*_, _/_, _%_, _≤_, _<_}
+use Prim.Native.Nat.{ℕ, zero, suc, _+_, _*_, _/_, _%_, _^_, _≤_, _<_}
 use mathlib.Core.Path.{_≡_, sym, _∙_, ap}
 use mathlib.Core.Bool.{Bool, true, false}
 use mathlib.Core.List.{List, [], _∷_, _++_}
+use native.Mathlib.Nat.{one-le-pow}
 use native.Mathlib.Omega.{arith}
 use native.Mathlib.Decide.{decLt}
 use lib.ListN.{length, length-append}
@@ -44,28 +45,13 @@ pub digits-longer : (n : ℕ) → 10 ≤ n → n < 100000 → length (digits n) 
 digits-longer n l h =
     ap length (digits-step n l h) ∙ length-append (digits (n / 10)) ((48 + n % 10) ∷ [])
 
-pub two-digits-long : (n : ℕ) → 10 ≤ n → n < 100 → length (digits n) ≡ 2
-two-digits-long n l h =
-    let e = digits-longer n l (omega arith) in
-    let r = one-digit-long (n / 10) (omega arith) in
-    omega arith
-
-pub three-digits-long : (n : ℕ) → 100 ≤ n → n < 1000 → length (digits n) ≡ 3
-three-digits-long n l h =
-    let e = digits-longer n (omega arith) (omega arith) in
-    let r = two-digits-long (n / 10) (omega arith) (omega arith) in
-    omega arith
-
-pub four-digits-long : (n : ℕ) → 1000 ≤ n → n < 10000 → length (digits n) ≡ 4
-four-digits-long n l h =
-    let e = digits-longer n (omega arith) (omega arith) in
-    let r = three-digits-long (n / 10) (omega arith) (omega arith) in
-    omega arith
-
-pub five-digits-long : (n : ℕ) → 10000 ≤ n → n < 100000 → length (digits n) ≡ 5
-five-digits-long n l h =
-    let e = digits-longer n (omega arith) h in
-    let r = four-digits-long (n / 10) (omega arith) (omega arith) in
+-- a number from 10 ^ d on, and below ten times that, has one digit more than d
+pub digits-long : (d n : ℕ) → 10 ^ d ≤ n → n < 10 ^ suc d → n < 100000 → length (digits n) ≡ suc d
+digits-long zero n l h small = one-digit-long n (omega arith)
+digits-long (suc d) n l h small =
+    let p = one-le-pow d 10 (omega arith) in
+    let e = digits-longer n (omega arith) small in
+    let r = digits-long d (n / 10) (omega arith) (omega arith) (omega arith) in
     omega arith
 
 -- a number has a digit, and one of ten or more has two
@@ -90,3 +76,21 @@ within-long (suc f) n = go (ltb n 10) (within-long f (n / 10))
 pub at-most-five : (n : ℕ) → length (digits n) ≤ 5
 unfolding digits
 at-most-five n = within-long 5 n
+
+-- a number below 10 ^ d has at most d digits
+within-width : (f d n : ℕ) → n < 10 ^ suc d → length (digitsWithin f n) ≤ suc d
+unfolding digitsWithin
+within-width zero d n h = omega arith
+within-width (suc f) zero n h = let e = ap length (digits-one f n (omega arith)) in omega arith
+within-width (suc f) (suc d) n h = elim (decLt n 10) [
+  | yes l ↦ let e = ap length (digits-one f n l) in omega arith
+  | no l ↦
+      let r = within-width f d (n / 10) (omega arith) in
+      let e = ap length (digits-more f n (omega arith)) in
+      omega (arith, length-append (digitsWithin f (n / 10)) ((48 + n % 10) ∷ []))
+]
+
+pub digits-most : (d : ℕ) → 1 ≤ d → (n : ℕ) → n < 10 ^ d → length (digits n) ≤ d
+unfolding digits
+digits-most zero some n h = absurd (omega arith)
+digits-most (suc d) some n h = within-width 5 d n h
