@@ -44,7 +44,7 @@ uint32_t splitter_run(const uint16_t *table, size_t table_len, const uint16_t *s
                       uint16_t *state, size_t state_len, uint64_t records,
                       uint64_t *place, uint64_t *left, uint64_t *goal);
 
-/* Writes the text of the table's task over the front of the bytes lent; `bytes` is how many it has. 68,834 bytes are
+/* Writes the text of the table's task over the front of the bytes lent; `bytes` is how many it has. 41,832 bytes are
  * enough for every task.
  *
  * Refusals: 1 a short table, 2 no table, 11 the text is longer than the bytes lent. None has a place, and each

@@ -16,7 +16,7 @@ use Rattle.task.specs.Task.{Task}
 use Rattle.task.specs.Table.{wordsOf, taskOf, longEnough, isTable}
 use Rattle.task.proofs.Put.{take-over}
 use Rattle.task.proofs.LongEnough.{has-table-words}
-use Rattle.task.proofs.Tables.{words-length}
+use Rattle.task.proofs.Tables.{words-length, of-table}
 use Rattle.task.proofs.TablesByIndex.{table-of, table-long}
 use Rattle.text.specs.Reading.{Reading, read, refusedAt}
 use Rattle.text.specs.Text.{write, readText}
@@ -117,7 +117,8 @@ pub task-written : (table out : List ℕ) → isTable table ≡ true → longest
 unfolding longEnough
 task-written table out is-table room =
     write-result table out (le-leb tableWords (length table) (table-long table is-table)) is-table
-    (let most = text-most table is-table in le-leb (length (write (taskOf table))) (length out) (omega arith))
+    (let most = text-most (taskOf table) (of-table table is-table .0) in
+    le-leb (length (write (taskOf table))) (length out) (omega arith))
 
 -- ---- the program `split`
 abbrev pub printsSplit : Task → List ℕ

@@ -7,14 +7,15 @@ use printing::bytes_taken;
 use printing::put_refusal;
 use printing::put_split;
 use task::limits::TABLE_WORDS;
+use text::LONGEST_TEXT;
 use text::ReadAnswer;
 ghost use mathlib.Core.Path.{_≡_};
 ghost use lib.ListN.{length};
 ghost use Rattle.task.specs.Lists.{over};
 ghost use Rattle.programs.specs.Programs.{splitProgram, unfoldProgram};
 
-// No text of a table is longer, so this much holds whatever `split` prints.
-pub const TEXT_BYTES: usize = 68834;
+// No text of a task is longer, so this much holds whatever `split` prints.
+pub const TEXT_BYTES: usize = LONGEST_TEXT;
 
 // No unfolding of 100 steps is longer, nor is a refusal: this much holds whatever `unfold` prints.
 pub const PLAN_BYTES: usize = 134406;

@@ -1,26 +1,31 @@
--- How long the text of a table can be. With at most five digits a number, an atom's line takes at most 36 bytes; the
--- limits of a table bound the rest.
-use Prim.Native.Nat.{ℕ, zero, suc, _+_, _*_, _≤_}
+-- How long the text of a task can be. A number below 10 ^ d has at most d digits, so the limits of a task bound its
+-- lines: predicates have three digits, parameters, parts and parameter counts two, objects as arguments three and their
+-- count four, arities one. With four arguments at most, the line of a schema's atom takes 20 bytes, and that of an
+-- initial or goal atom 25; the limits on how many there are bound the whole.
+use Prim.Native.Nat.{ℕ, zero, suc, _+_, _*_, _^_, _≤_}
 use mathlib.Core.Path.{_≡_, refl, ap}
 use mathlib.Core.Bool.{true}
 use mathlib.Core.List.{List, [], _∷_, _++_, map}
 use native.Mathlib.Omega.{arith}
 use lib.ListN.{length, length-append, length-map}
-use borrow.Author.Tests.{leb-true}
-use Rattle.task.specs.Lists.{sum, concatMap}
-use Rattle.task.specs.Task.{Atom, Fact, Schema, schemaAtoms}
-use Rattle.task.specs.Table.{taskOf, isTable}
-use Rattle.task.proofs.Laws.{In, here, there, append-concatMap}
-use Rattle.task.proofs.Tests.{task-tests}
-use Rattle.task.proofs.Tables.{of-table}
+use lib.Dec.{ltb, leb}
+use borrow.Author.Tests.{ltb-true, leb-true}
+use Rattle.task.specs.Lists.{all, sum, concatMap}
+use Rattle.task.specs.Limits.{mostObjects, mostPredicates, mostSchemas, mostSchemaAtoms, mostInitial, mostGoal}
+use Rattle.task.specs.Limits.{mostArity, mostParameters, mostParts}
+use Rattle.task.specs.Task.{Atom, Fact, Schema, Task, argsFit, factsFit, schemaFits, schemaAtoms, wellFormed}
+use Rattle.task.proofs.Laws.{In, here, there, all-in, append-concatMap}
+use Rattle.task.proofs.Tests.{SchemaTests, schema-tests, fits, fact-tests, TaskTests, task-tests}
+use Rattle.task.proofs.States.{argsFit-fitting}
+use Rattle.task.proofs.Tables.{sized}
 use Rattle.text.specs.Lines.{Entry, newline, colon, digits, commaed, entryBytes, bytes}
 use Rattle.text.specs.Text.{roleKey, Line, taskLine, objectsLine, schemaLine, endLine, arityLine, partLine}
 use Rattle.text.specs.Text.{atomLine, writeLine, factEntry, atomEntry, schemaLines, write}
 use Rattle.text.specs.Code.{longestText}
-use Rattle.text.proofs.DigitSteps.{at-most-five}
-use Rattle.text.proofs.AtomLines.{commaed-most}
+use Rattle.text.proofs.DigitSteps.{digits-most}
+use Rattle.text.proofs.AtomLines.{Within, commaed-within}
+use Rattle.text.proofs.Parts.{count-below}
 use Rattle.text.proofs.Pieces.{pieces-map, pieces-most}
-use Rattle.text.proofs.TableAtoms.{frame}
 use Rattle.text.proofs.TableText.{schemaPiece, initPiece, goalPiece, write-is}
 
 -- ---- lines
@@ -31,94 +36,133 @@ length-line key body =
     let f = length-append body (newline ∷ []) in
     omega arith
 
-entry-most : (e : Entry) → length (e .list) ≤ 4 → length (entryBytes e) ≤ 30
-unfolding entryBytes
-entry-most e h =
-    let d = at-most-five (e .head) in
-    let l = commaed-most (e .list) in
-    omega (arith, length-append (digits (e .head)) (colon ∷ commaed (e .list)))
-
-atom-most : (r : ℕ) (e : Entry) → length (e .list) ≤ 4 → length (writeLine (atomLine r e)) ≤ 35
-unfolding writeLine roleKey
-atom-most zero e h = let l = length-line (bytes "pre") (entryBytes e) in let m = entry-most e h in omega arith
-atom-most (suc zero) e h = let l = length-line (bytes "add") (entryBytes e) in let m = entry-most e h in omega arith
-atom-most (suc (suc r)) e h = let l = length-line (bytes "del") (entryBytes e) in let m = entry-most e h in omega arith
-
-init-most : (f : Fact) → length (f .args) ≤ 4 → length (initPiece f) ≤ 36
-unfolding writeLine factEntry
-init-most f h =
-    let l = length-line (bytes "init") (entryBytes (factEntry f)) in
-    let m = entry-most (factEntry f) h in
-    omega arith
-
-goal-most : (f : Fact) → length (f .args) ≤ 4 → length (goalPiece f) ≤ 36
-unfolding writeLine factEntry
-goal-most f h =
-    let l = length-line (bytes "goal") (entryBytes (factEntry f)) in
-    let m = entry-most (factEntry f) h in
-    omega arith
-
-schemaLine-most : (n : ℕ) → length (writeLine (schemaLine n)) ≤ 13
-unfolding writeLine
-schemaLine-most n = let l = length-line (bytes "schema") (digits n) in let d = at-most-five n in omega arith
-
-objectsLine-most : (n : ℕ) → length (writeLine (objectsLine n)) ≤ 14
-unfolding writeLine
-objectsLine-most n = let l = length-line (bytes "objects") (digits n) in let d = at-most-five n in omega arith
-
-arityLine-most : (ns : List ℕ) → length (writeLine (arityLine ns)) ≤ 7 + 6 * length ns
-unfolding writeLine
-arityLine-most ns = let l = length-line (bytes "arity") (commaed ns) in let d = commaed-most ns in omega arith
-
-partLine-most : (ns : List ℕ) → length (writeLine (partLine ns)) ≤ 6 + 6 * length ns
-unfolding writeLine
-partLine-most ns = let l = length-line (bytes "part") (commaed ns) in let d = commaed-most ns in omega arith
-
 taskLine-long : length (writeLine (taskLine 1)) ≡ 7
 unfolding writeLine
 taskLine-long = refl
+
+objectsLine-most : (n : ℕ) → n ≤ mostObjects → length (writeLine (objectsLine n)) ≤ 13
+unfolding writeLine
+objectsLine-most n h =
+    let l = length-line (bytes "objects") (digits n) in
+    let d = digits-most 4 (omega arith) n (omega arith) in
+    omega arith
+
+arityLine-most : (ns : List ℕ) → length ns ≤ mostPredicates → all (λ n. leb n mostArity) ns ≡ true →
+    length (writeLine (arityLine ns)) ≤ 806
+unfolding writeLine
+arityLine-most ns h small =
+    let l = length-line (bytes "arity") (commaed ns) in
+    let each : Within 1 ns =
+    λ n i. let s = leb-true n mostArity (all-in (λ n. leb n mostArity) small i) in
+    digits-most 1 (omega arith) n (omega arith) in
+    let d = commaed-within 1 mostPredicates ns h each in
+    omega arith
+
+schemaLine-most : (n : ℕ) → n ≤ mostParameters → length (writeLine (schemaLine n)) ≤ 10
+unfolding writeLine
+schemaLine-most n h =
+    let l = length-line (bytes "schema") (digits n) in
+    let d = digits-most 2 (omega arith) n (omega arith) in
+    omega arith
+
+partLine-most : (ns : List ℕ) → 1 ≤ length ns → all (λ p. ltb p mostParts) ns ≡ true →
+    length (writeLine (partLine ns)) ≤ 5 + 3 * length ns
+unfolding writeLine
+partLine-most ns some small =
+    let l = length-line (bytes "part") (commaed ns) in
+    let each : Within 2 ns =
+    λ n i. let s = ltb-true n mostParts (all-in (λ p. ltb p mostParts) small i) in
+    digits-most 2 (omega arith) n (omega arith) in
+    let d = commaed-within 2 (length ns) ns (omega arith) each in
+    omega arith
+
+atomLine-most : (r : ℕ) (e : Entry) → length (entryBytes e) ≤ 15 → length (writeLine (atomLine r e)) ≤ 20
+unfolding writeLine roleKey
+atomLine-most zero e h = let l = length-line (bytes "pre") (entryBytes e) in omega arith
+atomLine-most (suc zero) e h = let l = length-line (bytes "add") (entryBytes e) in omega arith
+atomLine-most (suc (suc r)) e h = let l = length-line (bytes "del") (entryBytes e) in omega arith
+
+initLine-most : (f : Fact) → length (entryBytes (factEntry f)) ≤ 19 → length (initPiece f) ≤ 25
+unfolding writeLine
+initLine-most f h = let l = length-line (bytes "init") (entryBytes (factEntry f)) in omega arith
+
+goalLine-most : (f : Fact) → length (entryBytes (factEntry f)) ≤ 19 → length (goalPiece f) ≤ 25
+unfolding writeLine
+goalLine-most f h = let l = length-line (bytes "goal") (entryBytes (factEntry f)) in omega arith
 
 endLine-long : length (writeLine (endLine 1)) ≡ 6
 unfolding writeLine
 endLine-long = refl
 
--- ---- schemas
-schema-most : (s : Schema) → ((a : Atom) → In a (s .atoms) → length (a .args) ≤ 4) →
-    length (schemaPiece s) ≤ 19 + 41 * length (s .atoms)
-unfolding schemaLines concatMap atomEntry
-schema-most s h =
-    let said : Atom → Line = λ a. atomLine (a .role) (atomEntry a) in
-    let parts : List ℕ = map (λ a. a .part) (s .atoms) in
-    let last : List Line = partLine parts ∷ [] in
-    let head = schemaLine-most (s .params) in
-    let whole = length-append (writeLine (schemaLine (s .params)))
-    (concatMap writeLine (map said (s .atoms) ++ last)) in
-    let behind = ap length (append-concatMap writeLine (map said (s .atoms)) last) in
-    let both = length-append (concatMap writeLine (map said (s .atoms))) (concatMap writeLine last) in
-    let end = length-append (writeLine (partLine parts)) [] in
-    let same = ap length (pieces-map writeLine said (s .atoms)) in
-    let each = pieces-most (λ a. writeLine (said a)) 35 (s .atoms) (λ a i. atom-most (a .role) (atomEntry a) (h a i)) in
-    let part = partLine-most parts in
-    let count = length-map (s .atoms) (λ (a : Atom). a .part) in
-    omega arith
+module _ (t : Task) (c : TaskTests t) where
+  -- ---- atoms
+  -- a predicate, a colon, and at most four arguments of at most d digits
+  entry-most : (d : ℕ) → 1 ≤ d → (n : ℕ) → n ≤ 10 ^ d → (e : Entry) →
+      argsFit (t .arities) n (e .head) (e .list) ≡ true → length (entryBytes e) ≤ 7 + 4 * d
+  unfolding entryBytes
+  entry-most d some n few e h =
+      let preds = leb-true (length (t .arities)) mostPredicates (c .preds) in
+      let fit = argsFit-fitting n (t .arities) (e .head) (e .list) h in
+      let known = fit .known in
+      let head = digits-most 3 (omega arith) (e .head) (omega arith) in
+      let short = sized n (t .arities) (e .head) (e .list) (c .arities) h .short in
+      let each : Within d (e .list) = λ x i. let l = fit .small x i in digits-most d some x (omega arith) in
+      let list = commaed-within d mostArity (e .list) short each in
+      omega (arith, length-append (digits (e .head)) (colon ∷ commaed (e .list)))
 
-schemas-most : (ss : List Schema) → ((s : Schema) → In s ss → (a : Atom) → In a (s .atoms) → length (a .args) ≤ 4) →
-    length (concatMap schemaPiece ss) ≤ 19 * length ss + 41 * schemaAtoms ss
-unfolding concatMap sum
-schemas-most [] h = omega arith
-schemas-most (s ∷ ss) h =
-    let a = schema-most s (h s (here refl)) in
-    let r = schemas-most ss (λ y i. h y (there i)) in
-    let e = length-append (schemaPiece s) (concatMap schemaPiece ss) in
-    omega arith
+  atom-most : (s : Schema) → SchemaTests (t .arities) s → (a : Atom) → In a (s .atoms) →
+      length (writeLine (atomLine (a .role) (atomEntry a))) ≤ 20
+  unfolding atomEntry
+  atom-most s q a i =
+      let few = leb-true (s .params) mostParameters (q .params) in
+      atomLine-most (a .role) (atomEntry a) (entry-most 2 (omega arith) (s .params) (omega arith) (atomEntry a)
+      (all-in (λ a. argsFit (t .arities) (s .params) (a .pred) (a .args)) (q .fit) i))
+
+  -- initial and goal atoms
+  fact-most : (fs : List Fact) → factsFit (t .objects) (t .arities) fs ≡ true → (f : Fact) → In f fs →
+      length (entryBytes (factEntry f)) ≤ 19
+  unfolding factEntry
+  fact-most fs h f i =
+      let few = leb-true (t .objects) mostObjects (c .objects) in
+      entry-most 3 (omega arith) (t .objects) (omega arith) (factEntry f)
+      (all-in (fits (t .objects) (t .arities)) (fact-tests (t .objects) (t .arities) fs h .fit) i)
+
+  -- ---- schemas
+  schema-most : (s : Schema) → schemaFits (t .arities) s ≡ true → length (schemaPiece s) ≤ 15 + 23 * length (s .atoms)
+  unfolding schemaLines concatMap
+  schema-most s h =
+      let q = schema-tests (t .arities) s h in
+      let said : Atom → Line = λ a. atomLine (a .role) (atomEntry a) in
+      let parts : List ℕ = map (λ a. a .part) (s .atoms) in
+      let last : List Line = partLine parts ∷ [] in
+      let head = schemaLine-most (s .params) (leb-true (s .params) mostParameters (q .params)) in
+      let whole = length-append (writeLine (schemaLine (s .params)))
+      (concatMap writeLine (map said (s .atoms) ++ last)) in
+      let behind = ap length (append-concatMap writeLine (map said (s .atoms)) last) in
+      let both = length-append (concatMap writeLine (map said (s .atoms))) (concatMap writeLine last) in
+      let end = length-append (writeLine (partLine parts)) [] in
+      let same = ap length (pieces-map writeLine said (s .atoms)) in
+      let each = pieces-most (λ a. writeLine (said a)) 20 (s .atoms) (atom-most s q) in
+      let count = length-map (s .atoms) (λ (a : Atom). a .part) in
+      let some = leb-true 1 (length (s .atoms)) (q .some-atom) in
+      let part = partLine-most parts (omega arith) (count-below mostParts (s .atoms) (q .parts)) in
+      omega arith
+
+  schemas-most : (ss : List Schema) → ((s : Schema) → In s ss → schemaFits (t .arities) s ≡ true) →
+      length (concatMap schemaPiece ss) ≤ 15 * length ss + 23 * schemaAtoms ss
+  unfolding concatMap sum
+  schemas-most [] h = omega arith
+  schemas-most (s ∷ ss) h =
+      let a = schema-most s (h s (here refl)) in
+      let r = schemas-most ss (λ y i. h y (there i)) in
+      let e = length-append (schemaPiece s) (concatMap schemaPiece ss) in
+      omega arith
 
 -- ---- the whole
-pub text-most : (w : List ℕ) → isTable w ≡ true → length (write (taskOf w)) ≤ longestText
+pub text-most : (t : Task) → wellFormed t ≡ true → length (write t) ≤ longestText
 unfolding longestText
-text-most w table =
-    let t = taskOf w in
-    let z = frame w table .sizes in
-    let c = task-tests t (of-table w table .0) in
+text-most t well =
+    let c = task-tests t well in
     let end = writeLine (endLine 1) in
     let goals = concatMap goalPiece (t .goal) in
     let inits = concatMap initPiece (t .init) in
@@ -133,15 +177,14 @@ text-most w table =
     let e₅ = length-append inits (goals ++ end) in
     let e₆ = length-append goals end in
     let m₁ = taskLine-long in
-    let m₂ = objectsLine-most (t .objects) in
-    let m₃ = arityLine-most (t .arities) in
-    let m₄ = schemas-most (t .schemas) (λ s i a j. z .schema s i a j .short) in
-    let m₅ = pieces-most initPiece 36 (t .init) (λ f i. init-most f (z .init f i .short)) in
-    let m₆ = pieces-most goalPiece 36 (t .goal) (λ f i. goal-most f (z .goal f i .short)) in
+    let m₂ = objectsLine-most (t .objects) (leb-true (t .objects) mostObjects (c .objects)) in
+    let m₃ = arityLine-most (t .arities) (leb-true (length (t .arities)) mostPredicates (c .preds)) (c .arities) in
+    let m₄ = schemas-most t c (t .schemas) (λ s i. all-in (schemaFits (t .arities)) (c .fit) i) in
+    let m₅ = pieces-most initPiece 25 (t .init) (λ f i. initLine-most f (fact-most t c (t .init) (c .init) f i)) in
+    let m₆ = pieces-most goalPiece 25 (t .goal) (λ f i. goalLine-most f (fact-most t c (t .goal) (c .goal) f i)) in
     let m₇ = endLine-long in
-    let preds = leb-true (length (t .arities)) 400 (c .preds) in
-    let many = leb-true (length (t .schemas)) 200 (c .schemas) in
-    let atoms = leb-true (schemaAtoms (t .schemas)) 1000 (c .atoms) in
-    let first = leb-true (length (t .init)) 500 (c .inits) in
-    let last = leb-true (length (t .goal)) 100 (c .goals) in
+    let many = leb-true (length (t .schemas)) mostSchemas (c .schemas) in
+    let atoms = leb-true (schemaAtoms (t .schemas)) mostSchemaAtoms (c .atoms) in
+    let first = leb-true (length (t .init)) mostInitial (c .inits) in
+    let last = leb-true (length (t .goal)) mostGoal (c .goals) in
     omega arith

@@ -1,6 +1,6 @@
 -- The whole text of a table, as code writes it: its parts with their lengths, that what they read lies in the table,
 -- and what `write` does with a table for which there is room, or none.
-use Prim.Native.Nat.{ℕ, _+_, _*_, _≤_, _<_}
+use Prim.Native.Nat.{ℕ, _+_, _*_, _^_, _<_}
 use mathlib.Core.Path.{_≡_, refl, _∙_, ap, subst}
 use mathlib.Core.Bool.{true, false}
 use mathlib.Core.List.{List, [], _∷_, _++_}
@@ -13,6 +13,7 @@ use Rattle.task.specs.Lists.{over}
 use Rattle.task.specs.Limits.{tableWords}
 use Rattle.task.specs.Answers.{result, refused, refuseUnless, inOrder}
 use Rattle.task.specs.Table.{atomBase, taskOf, longEnough, isTable}
+use Rattle.task.proofs.Tables.{of-table}
 use Rattle.task.proofs.TablesByIndex.{table-long}
 use Rattle.text.specs.Lines.{bytes, newline, digits, commaed, line}
 use Rattle.text.specs.Text.{endLine, writeLine, write}
@@ -73,13 +74,13 @@ module _ (w : List ℕ) (table : isTable w ≡ true) where
       let a = length-append factsText endBytes in
       omega arith
 
-  -- the whole is small, and so is each part
-  pub write-most : length (write (taskOf w)) ≤ 68834
+  -- a machine counts the whole, and so each part
+  pub write-fits : length (write (taskOf w)) < 2 ^ 64
   unfolding longestText
-  write-most = text-most w table
+  write-fits = let m = text-most (taskOf w) (of-table w table .0) in omega arith
 
-  pub head-most : length (headText w) ≤ 68834
-  head-most = let l = length-write in let m = write-most in omega arith
+  pub head-fits : length (headText w) < 2 ^ 64
+  head-fits = let l = length-write in let m = write-fits in omega arith
 
   pub facts-inside : (k : ℕ) → k < factCount w → AtomInside w (factsBase w + 8 * k)
   unfolding factsBase factCount atomBase

@@ -85,8 +85,8 @@ factsBase w = headWords + getD w 1 0 + getD w 2 0 + atomSize * getD w 3 0
 unfoldable pub factCount : List ℕ → ℕ
 factCount w = getD w 4 0 + getD w 5 0
 
--- no text of a table is longer, with five digits for each number: 7 and 14 bytes for `task` and `objects`, 7 and 6 for
--- each of 400 arities, 19 for each of 200 schemas, 35 for each of 1,000 atoms and 6 for its part, 36 for each of 600
--- initial and goal atoms, 6 for `end`; shut, since a list function would count a numeral down
+-- no text of a task is longer: 7 and 13 bytes for `task` and `objects`, 806 for 400 arities, 15 for each of 200
+-- schemas, 20 for each of 1,000 atoms and 3 for its part, 25 for each of 600 initial and goal atoms, 6 for `end`; shut,
+-- since a list function would count a numeral down
 unfoldable pub longestText : ℕ
-longestText = 68834
+longestText = 41832

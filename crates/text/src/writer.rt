@@ -1,5 +1,6 @@
 // The writer of a task's text: its size is counted first, since refusal 11 leaves "all as found"; then each byte is
 // stored once. A function `x_size` gives the number of bytes that `put_x` puts.
+use crate::LONGEST_TEXT;
 use crate::WriteAnswer;
 use crate::put::list_size;
 use crate::put::number_size;
@@ -26,9 +27,6 @@ ghost use Rattle.text.specs.Code.{headText, schemasText, SchemaRun, fact
 const HEAD_WORDS: usize = 6;
 
 const ATOM_SIZE: usize = 8;
-
-// No text of a table is longer.
-const LONGEST_TEXT: usize = 68834;
 
 // "role (0 precondition, 1 add, 2 delete, 3 initial, 4 goal)": the key of an atom's line, and its =.
 fn key_size(role: u16) -> usize

@@ -6,6 +6,7 @@ use lib.ListN.{length}
 use lib.Dec.{leb}
 use borrow.Author.Tests.{le-leb}
 use Rattle.task.specs.Table.{taskOf}
+use Rattle.task.proofs.Tables.{of-table}
 use Rattle.text.specs.Text.{write}
 use Rattle.text.specs.Code.{longestText}
 use Rattle.text.proofs.LongestText.{text-most}
@@ -17,7 +18,7 @@ returns : tie.Need-returns
 unfolding longestText
 returns c =
     let start = c .before .before in
-    let m = text-most (start .args .table .now) (start .pre) in
+    let m = text-most (taskOf (start .args .table .now)) (of-table (start .args .table .now) (start .pre) .0) in
     sym (le-leb (length (write (taskOf (start .args .table .now)))) (start .args .bytes) (omega arith))
 
 text-size-requires : tie.Need-text-size-requires

@@ -1,13 +1,13 @@
 -- `text::writer::head_size` meets its contract: the sizes of its lines add up.
 use native.Mathlib.Omega.{arith}
-use Prim.Native.Nat.{ℕ, _+_, _≤_}
+use Prim.Native.Nat.{ℕ, _+_, _^_, _<_}
 use mathlib.Core.Path.{_≡_, _∙_, ap}
 use mathlib.Core.List.{List}
 use lib.ListN.{length}
 use Rattle.text.specs.Lines.{commaed}
 use Rattle.text.specs.Code.{spaced, headText}
 use Rattle.text.proofs.SchemaTurns.{head-inside}
-use Rattle.text.proofs.WholeText.{length-headText, arities-inside, head-most}
+use Rattle.text.proofs.WholeText.{length-headText, arities-inside, head-fits}
 use borrow.Author.Needs.{needs}
 use Rattle.text.proofs.writer.head_size.Statement.{statement}
 use Rattle.text.proofs.writer.head_size.Tie as tie
@@ -21,7 +21,7 @@ list-size-requires c κs =
     let table = c .before .before .pre in
     let e = c .count .ensures in
     let l = length-headText w in
-    let m = head-most w table in
+    let m = head-fits w table in
     let a = ap (λ (n : ℕ). length (commaed (spaced w 6 1 n))) e in
     (λ k h. arities-inside w table k (omega arith), omega arith)
 
@@ -46,14 +46,14 @@ words c = c .before .before .before .args .table .now
 
 sizes : (c : tie.After-number-size) →
     (length (headText (words (listed c))) ≡ 23 + c .number-size .result + listed c .list-size .result) ×
-    (length (headText (words (listed c))) ≤ 68834)
+    (length (headText (words (listed c))) < 2 ^ 64)
 sizes c =
     let w = words (listed c) in
     let l = length-headText w in
     let n = c .number-size .ensures in
     let predicates = listed c .before .count .ensures in
     let a = listed c .list-size .ensures ∙ ap (λ (n : ℕ). length (commaed (spaced w 6 1 n))) predicates in
-    (omega arith, head-most w (listed c .before .before .before .pre))
+    (omega arith, head-fits w (listed c .before .before .before .pre))
 
 add-result-2 : tie.Need-add-result-2
 add-result-2 c = let l = sizes c in omega arith

@@ -1,12 +1,12 @@
 -- `text::writer::text_size` meets its contract: the sizes of its parts add up to that of the whole, which is small.
 use native.Mathlib.Omega.{arith}
-use Prim.Native.Nat.{ℕ, _+_, _≤_}
+use Prim.Native.Nat.{ℕ, _+_, _^_, _<_}
 use mathlib.Core.Path.{_≡_, ap₂}
 use lib.ListN.{length}
 use Rattle.task.specs.Table.{taskOf}
 use Rattle.text.specs.Text.{write}
 use Rattle.text.specs.Code.{atomsText}
-use Rattle.text.proofs.WholeText.{length-write, write-most, facts-inside}
+use Rattle.text.proofs.WholeText.{length-write, write-fits, facts-inside}
 use borrow.Author.Needs.{needs}
 use Rattle.text.proofs.writer.text_size.Statement.{statement}
 use Rattle.text.proofs.writer.text_size.Tie as tie
@@ -22,7 +22,7 @@ atoms-size-requires c κs =
     let start = c .before .before .before in
     let w = start .args .table .now in
     let l = length-write w (start .pre) in
-    let m = write-most w (start .pre) in
+    let m = write-fits w (start .pre) in
     let b = ap₂ (λ (b n : ℕ). length (atomsText w b n)) (c .before .facts-base .ensures) (c .fact-count .ensures) in
     let n = c .fact-count .ensures in
     (λ k h. rw (c .before .facts-base .ensures) (facts-inside w (start .pre) k (omega arith)), omega arith)
@@ -34,14 +34,14 @@ schemas-size-requires : tie.Need-schemas-size-requires
 schemas-size-requires c κs =
     let start = c .before .before .before .before .before in
     let l = length-write (start .args .table .now) (start .pre) in
-    let m = write-most (start .args .table .now) (start .pre) in
+    let m = write-fits (start .args .table .now) (start .pre) in
     (start .pre, omega arith)
 
 sizes : (c : tie.After-schemas-size) →
     let w = c .before .before .before .before .before .before .args .table .now in
     (length (write (taskOf w)) ≡
     c .before .head-size .result + (c .schemas-size .result + (c .before .before .atoms-size .result + 6))) ×
-    (length (write (taskOf w)) ≤ 68834)
+    (length (write (taskOf w)) < 2 ^ 64)
 sizes c =
     let start = c .before .before .before .before .before .before in
     let w = start .args .table .now in
@@ -51,7 +51,7 @@ sizes c =
     let a = c .before .before .atoms-size .ensures in
     let b = ap₂ (λ (b n : ℕ). length (atomsText w b n)) (c .before .before .before .before .facts-base .ensures)
     (c .before .before .before .fact-count .ensures) in
-    (omega arith, write-most w (start .pre))
+    (omega arith, write-fits w (start .pre))
 
 add-result : tie.Need-add-result
 add-result c = let l = sizes c in omega arith
