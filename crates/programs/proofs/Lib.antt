@@ -1,4 +1,6 @@
--- Laws that the programs' functions stand on: what the entry points' answers say of what is printed.
+-- Laws that the programs' functions stand on: what the entry points' answers say of what is printed; and that no
+-- accepted task's text is cut.
 pub mod Answered
 pub mod Printed
 pub mod PlanUnfolded
+pub mod Uncut
