@@ -1,10 +1,10 @@
 -- No accepted task's text is cut: a text that reads as a task is the text of that task, and the longest is shorter than
--- what a program takes. So a program answers of an accepted text as of the whole of it.
-use Prim.Native.Nat.{ℕ, _≤_}
+-- what a program takes. So a program answers of an accepted text as of the whole of it, and accepts no text that it cut.
+use Prim.Native.Nat.{ℕ, _≤_, _<_}
 use mathlib.Core.Path.{_≡_, _∙_, ap}
 use mathlib.Core.List.{List}
 use native.Mathlib.Omega.{arith}
-use lib.ListN.{length}
+use lib.ListN.{length, length-take}
 use lib.Seq.{take-all}
 use Rattle.task.specs.Task.{Task}
 use Rattle.text.specs.Reading.{read}
@@ -16,17 +16,24 @@ use Rattle.programs.specs.Programs.{mostBytes, taken, printReading, spli
 use Rattle.programs.proofs.Answered.{printsSplit}
 use Rattle.programs.proofs.PlanUnfolded.{printsPlan}
 
-module _ (bs : List ℕ) (t : Task) (accepted : readText bs ≡ read t) where
-  accepted-short : length bs ≤ mostBytes
-  unfolding mostBytes longestText
-  accepted-short =
-      let most = text-most t (read-fits bs t accepted) in
-      let whole = ap length (written-read bs t accepted) in
-      omega arith
+accepted-short : (bs : List ℕ) (t : Task) → readText bs ≡ read t → length bs < mostBytes
+unfolding mostBytes longestText
+accepted-short bs t accepted =
+    let most = text-most t (read-fits bs t accepted) in
+    let whole = ap length (written-read bs t accepted) in
+    omega arith
 
+-- a text whose first bytes a program accepts has no others
+pub taken-whole : (bs : List ℕ) (t : Task) → readText (taken bs) ≡ read t → taken bs ≡ bs
+unfolding taken
+taken-whole bs t accepted =
+    let short = accepted-short (taken bs) t accepted in
+    take-all mostBytes bs (omega (arith, short, length-take mostBytes bs))
+
+module _ (bs : List ℕ) (t : Task) (accepted : readText bs ≡ read t) where
   pub accepted-uncut : taken bs ≡ bs
   unfolding taken
-  accepted-uncut = take-all mostBytes bs accepted-short
+  accepted-uncut = take-all mostBytes bs (omega (arith, accepted-short bs t accepted))
 
   taken-read : readText (taken bs) ≡ read t
   taken-read = ap readText accepted-uncut ∙ accepted
