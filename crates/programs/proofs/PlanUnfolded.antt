@@ -1,16 +1,16 @@
 -- A plan read, unfolded and written: its steps are those of the task and few, so their blocks fit the words lent, and
 -- are steps of the split, whose plan fits the bytes lent.
-use Prim.Native.Nat.{ℕ, _*_, _≤_, _<_}
+use Prim.Native.Nat.{ℕ, _*_, _≤_}
 use mathlib.Core.Path.{_≡_, refl, sym, _∙_, ap, ap₂, subst}
 use mathlib.Core.Bool.{true}
-use mathlib.Core.List.{List, [], _∷_, map}
+use mathlib.Core.List.{List, [], _∷_}
 use mathlib.Core.Option.{none}
 use native.Mathlib.Omega.{arith}
 use lib.ListN.{length, take}
 use borrow.Author.Tests.{le-leb}
 use Rattle.task.specs.declared.Place.{Place}
 use Rattle.task.specs.declared.Place.the-variants as place
-use Rattle.task.specs.Lists.{all, concatMap, sum, over}
+use Rattle.task.specs.Lists.{all, concatMap, over}
 use Rattle.task.specs.Limits.{tableWords}
 use Rattle.task.specs.Answers.{placeNumber, result, refused, Outcome, Check, refuseUnless, refuseStep, inOrder}
 use Rattle.task.specs.Task.{Task, wellFormed}
@@ -22,17 +22,14 @@ use Rattle.task.proofs.Tables.{of-table}
 use Rattle.task.proofs.TablesByIndex.{table-long}
 use Rattle.task.proofs.StepWords.{length-stepsIn}
 use Rattle.task.proofs.BadSteps.{steps-whole}
-use Rattle.tokens.specs.Split.{orders, splitAs, split}
-use Rattle.tokens.proofs.Accepted.{split-is}
+use Rattle.tokens.specs.Split.{split}
 use Rattle.tokens.proofs.SplitOutcome.{accepted-passes}
 use Rattle.tokens.proofs.SplitAnswers.{AcceptedSplit}
 use Rattle.blocks.specs.Blocks.{unfoldSteps, listWords, fitsIn, unfoldOutcome}
-use Rattle.blocks.proofs.SplitParts.{few-parts}
-use Rattle.blocks.proofs.Unfolded.{partsOf, length-unfold}
 use Rattle.blocks.proofs.BlockAnswers.{length-list, list-good, list-read, unfoldedOver, unfoldingOf}
-use Rattle.correspondence.proofs.Given.{head-step, tail-steps}
 use Rattle.correspondence.proofs.StatesOnWords.{the-given}
 use Rattle.correspondence.proofs.UnfoldedSteps.{unfolded-steps}
+use Rattle.correspondence.proofs.LentLengths.{unfolded-between}
 use Rattle.text.specs.declared.plan.PlanAnswer.the-variants as answer
 use Rattle.text.specs.Reading.{Reading, read, refusedAt}
 use Rattle.text.specs.Text.{readText}
@@ -116,16 +113,6 @@ accepted {table} {words} s = record {
   split-well-formed = of-table words (s .split-table) .0;
 }
 
--- no block has more than 16 parts
-blocks-most : (t : Task) → ((s : ℕ) → s < length (t .schemas) → length (orders t s) ≤ 16) → (xs : List Step) →
-    all (isStep t) xs ≡ true → sum (map (partsOf t) xs) ≤ 16 * length xs
-unfolding sum
-blocks-most t few [] h = omega arith
-blocks-most t few (x ∷ xs) h =
-    let first = few (x .schema) (head-step t x xs h .known) in
-    let more = blocks-most t few xs (tail-steps t x xs h) in
-    omega arith
-
 -- the words of the blocks are those of steps of the split, whose plan fits the bytes lent
 pub record BlocksWritten (table words steps after : List ℕ) (n : ℕ) : Type 0 where
   pub few : n ≤ 1600
@@ -159,12 +146,9 @@ module _ (table words steps out : List ℕ) (s : SplitTable table words) (p : Pl
 
   few-steps : length ys ≤ 1600
   few-steps =
-      let to-split = s .accepted ∙ ap splitAs (split-is t t′ (s .accepted)) in
-      let are-steps = steps-whole t steps (p .good) .1 in
-      let most = blocks-most t (few-parts t (accepted s .well) to-split) xs are-steps in
+      let most = unfolded-between (accepted s) xs (steps-whole t steps (p .good) .1) .1 in
       let n = length-stepsIn t steps in
       let few = p .few in
-      let e = length-unfold t xs in
       omega arith
 
   abbrev roomCheck : List Check
