@@ -4,7 +4,7 @@ ghost use mathlib.Core.Path.{_≡_};
 ghost use mathlib.Core.Bool.{true, false};
 ghost use mathlib.Core.List.{List, _∷_};
 ghost use mathlib.Core.Option.{none};
-ghost use lib.ListN.{length, getD};
+ghost use lib.ListN.{length, getD, set};
 ghost use Rattle.task.specs.Lists.{over, put};
 ghost use Rattle.task.specs.Limits.{mostParameters, mostParts, mostSchemas, stepSize};
 ghost use Rattle.task.specs.Task.{Task};
@@ -112,17 +112,32 @@ pub fn bad_split_step(table: &[u16], steps: &[u16]) -> BadStep
     }
 }
 
+// The object found for a parameter, 0 where none is.
+fn found_for(found: &Found, parameter: Parameter) -> Object
+    requires { ⌜ parameter .0 < mostParameters ⌝ }
+    ensures { λ r. ⌜ r .0 ≡ getD (now (found .entry)) (parameter .0) 0 ⌝ }
+{
+    Object(found[parameter.0 as usize])
+}
+
+// An object is noted as the one found for its parameter.
+fn note(found: &mut Found, parameter: Parameter, object: Object)
+    requires { ⌜ parameter .0 < mostParameters ⌝ }
+    ensures { λ _. ⌜ now (found .exit) ≡ set (now (found .entry)) (parameter .0) (object .0) ⌝ }
+{
+    found[parameter.0 as usize] = object.0;
+}
+
 // Whether an object agrees with what was found for its parameter.
 fn agrees_with(bound: u64, found: &Found, parameter: Parameter, object: Object) -> bool
     requires { ⌜ parameter .0 < mostParameters ⌝ }
     ensures { λ r. ⌜ ((b : Bound) → Held b bound (now (found .entry)) →
         r ≡ agrees (getD b (parameter .0) none) (object .0)) ⌝ }
 {
-    let p = parameter.0 as usize;
-    if !sets::has(bound, p) {
+    if !sets::has(bound, parameter.0 as usize) {
         return true;
     }
-    found[p] == object.0
+    found_for(found, parameter).0 == object.0
 }
 
 // The object that stands at a place among a step's words.
@@ -178,8 +193,7 @@ fn join(steps: &[u16], at: usize, own: u16, bound: u64, found: &mut Found) -> u6
             return known;
         }
         if sets::has(set, p) {
-            let object = object_at(steps, next);
-            found[p] = object.0;
+            note(found, Parameter(p as u16), object_at(steps, next));
             known = sets::with(known, p);
             next += 1;
         }
@@ -255,7 +269,7 @@ fn put_step(out: &mut [u16], to: usize, schema: u16, found: &Found)
 {
     out[to] = schema;
     for p in 0..MOST_PARAMETERS {
-        out[to + 1 + p] = found[p];
+        out[to + 1 + p] = found_for(found, Parameter(p as u16)).0;
     }
 }
 

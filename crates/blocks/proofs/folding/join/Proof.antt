@@ -71,14 +71,14 @@ returns c = λ b held below.
 has-requires : tie.Need-has-requires Inv-loop μ-loop
 has-requires c κs = omega arith
 
+cast-t15 : tie.Need-cast-t15 Inv-loop μ-loop
+cast-t15 c = omega arith
+
 object-at-requires : tie.Need-object-at-requires Inv-loop μ-loop
 object-at-requires c κs = omega arith
 
-mul-found : tie.Need-mul-found Inv-loop μ-loop
-mul-found c = omega arith
-
-element-write-found : tie.Need-element-write-found Inv-loop μ-loop
-element-write-found c = omega arith
+note-requires : tie.Need-note-requires Inv-loop μ-loop
+note-requires c κs = omega arith
 
 with-requires : tie.Need-with-requires Inv-loop μ-loop
 with-requires c κs = omega arith
@@ -106,21 +106,21 @@ loop-again c =
       omega arith,
       ⊎-elim
           (λ x.
-          let o = x .1 .result .0 in
+          let o = x .2 .result .0 in
           let m = sym (has .has .ensures) ∙ x .0 .taken in
-          all-at P (x .3) (x .4) (x .5) (
+          all-at P (x .5 ∙ x .3 .ensures) (x .6) (x .7) (
             length-set (h .found) p o ∙ h .inv .1 .0,
             omega arith,
             λ b held below.
                 let (d, g, n, e) = h .inv .1 .2 b held below in
                 let k = below p m in (
                   set d p (some o),
-                  held-joined g p o (x .2 .result) (omega arith) t (x .2 .ensures),
+                  held-joined g p o (x .4 .result) (omega arith) t (x .4 .ensures),
                   length-set d p (some o) ∙ n,
                   e
                       ∙ (bind-in w (h .next) (a .own) p t m d
                       ∙ ap (λ (v : ℕ). bindFrom (set d p (some v)) w (h .next + 1) (a .own) (p + 1))
-                      (sym (x .1 .ensures))),
+                      (sym (x .2 .ensures))),
                 ),
           ))
           (λ x.
@@ -147,5 +147,5 @@ returns-2 c = λ b held below.
 
 pub join-spec : {M : Type 1} → statement M
 join-spec =
-    tie.close (tie.spec Inv-loop μ-loop add-next loop-holds none-from-requires returns has-requires object-at-requires
-    mul-found element-write-found with-requires add-next-2 add-p loop-less loop-again returns-2)
+    tie.close (tie.spec Inv-loop μ-loop add-next loop-holds none-from-requires returns has-requires cast-t15
+    object-at-requires note-requires with-requires add-next-2 add-p loop-less loop-again returns-2)
