@@ -1,21 +1,20 @@
 -- A plan read, unfolded and written: its steps are those of the task and few, so their blocks fit the words lent, and
 -- are steps of the split, whose plan fits the bytes lent.
 use Prim.Native.Nat.{ℕ, _*_, _≤_}
-use mathlib.Core.Path.{_≡_, refl, sym, _∙_, ap, ap₂, subst}
+use mathlib.Core.Path.{_≡_, sym, _∙_, ap}
 use mathlib.Core.Bool.{true}
 use mathlib.Core.List.{List, [], _∷_}
 use mathlib.Core.Option.{none}
 use native.Mathlib.Omega.{arith}
-use lib.ListN.{length, take}
+use lib.ListN.{length, take, length-take}
 use borrow.Author.Tests.{le-leb}
 use Rattle.task.specs.declared.Place.{Place}
-use Rattle.task.specs.declared.Place.the-variants as place
-use Rattle.task.specs.Lists.{all, concatMap, over}
+use Rattle.task.specs.Lists.{all, over}
 use Rattle.task.specs.Limits.{tableWords}
 use Rattle.task.specs.Answers.{placeNumber, result, refused, Outcome, Check, refuseUnless, refuseStep, inOrder}
 use Rattle.task.specs.Task.{Task, wellFormed}
 use Rattle.task.specs.Table.{taskOf, longEnough, isTable}
-use Rattle.task.specs.Run.{Step, isStep, stepWords, stepsIn, badStep}
+use Rattle.task.specs.Run.{Step, isStep, stepsIn, badStep}
 use Rattle.task.proofs.Answers.{check-passes, step-passes}
 use Rattle.task.proofs.Put.{take-over}
 use Rattle.task.proofs.Tables.{of-table}
@@ -30,13 +29,14 @@ use Rattle.blocks.proofs.BlockAnswers.{length-list, list-good, list-read, unfol
 use Rattle.correspondence.proofs.StatesOnWords.{the-given}
 use Rattle.correspondence.proofs.UnfoldedSteps.{unfolded-steps}
 use Rattle.correspondence.proofs.LentLengths.{unfolded-between}
-use Rattle.text.specs.declared.plan.PlanAnswer.the-variants as answer
-use Rattle.text.specs.Reading.{Reading, read, refusedAt}
+use Rattle.text.specs.Reading.{read}
 use Rattle.text.specs.Text.{readText}
 use Rattle.text.specs.Plan.{readPlan, writePlan}
-use Rattle.text.specs.PlanCode.{planAnswer, longestPlan}
+use Rattle.text.specs.Outcomes.{planOutcome}
+use Rattle.text.specs.PlanCode.{longestPlan}
 use Rattle.text.specs.Code.{longestText}
-use Rattle.text.proofs.PlanSteps.{PlanWords, plan-words}
+use Rattle.text.proofs.PlanSteps.{planWords-is}
+use Rattle.text.proofs.PlanAnswers.{answer-read, answer-refused}
 use Rattle.text.proofs.PlanWritten.{plan-fits}
 use Rattle.programs.specs.Programs.{taken, refusal, printReading, printSplitting, unfoldProgram}
 use Rattle.programs.specs.Code.{SplitTable, PlanSteps}
@@ -49,19 +49,13 @@ unfolding longestPlan longestText
 text-room h = omega arith
 
 -- ---- a plan that was read
-pub plan-refused : (t : Task) (text : List ℕ) {k : ℕ} {at : Place} →
-    answer.Refused k at ≡ planAnswer (readPlan t text) → (uses : List Step → List ℕ) →
-    refusal k (placeNumber at) ≡ printReading uses (readPlan t text)
-unfolding planAnswer printReading
-plan-refused t text {k} {at} h uses = go (readPlan t text) h
-  where
-    go : (r : Reading (List Step)) → answer.Refused k at ≡ planAnswer r →
-        refusal k (placeNumber at) ≡ printReading uses r
-    go (read xs) e = absurd (let z : _≡_ {A = ℕ} 0 1 = cc in omega arith)
-    go (refusedAt n l) e =
-        let number : k ≡ n = cc in
-        let line : at ≡ place.Line l = cc in
-        ap₂ refusal number (ap placeNumber line)
+pub plan-refused : (table text lent : List ℕ) {k : ℕ} {at : Place} →
+    refused k at [] ≡ planOutcome table text lent .told → (uses : List Step → List ℕ) →
+    refusal k (placeNumber at) ≡ printReading uses (readPlan (taskOf table) text)
+unfolding printReading
+plan-refused table text lent {k} {at} told uses =
+    let r = answer-refused table text lent k at told in
+    ap (λ (p : Place). refusal k (placeNumber p)) (r .at) ∙ sym (ap (printReading uses) (r .is))
 
 -- the steps that were read, and their words
 pub record PlanRead (table text words : List ℕ) (n : ℕ) : Type 0 where
@@ -71,33 +65,23 @@ pub record PlanRead (table text words : List ℕ) (n : ℕ) : Type 0 where
   pub inside : 13 * n ≤ length words
 
 pub plan-read : (table text lent : List ℕ) {words : List ℕ} {n : ℕ} → isTable table ≡ true →
-    answer.Read n ≡ planAnswer (readPlan (taskOf table) text) →
-    ((xs : List Step) → readPlan (taskOf table) text ≡ read xs → words ≡ over (concatMap stepWords xs) lent) →
+    result (n ∷ []) ≡ planOutcome table text lent .told → words ≡ planOutcome table text lent .buffer →
     PlanRead table text words n
-unfolding planAnswer
-plan-read table text lent {words} {n} is-table h holds = go (readPlan (taskOf table) text) refl
-  where
-    go : (r : Reading (List Step)) → readPlan (taskOf table) text ≡ r → PlanRead table text words n
-    go (refusedAt k l) e =
-        let q = h ∙ ap planAnswer e in
-        absurd (let z : _≡_ {A = ℕ} 0 1 = cc in omega arith)
-    go (read xs) e =
-        let q = h ∙ ap planAnswer e in
-        let count : n ≡ length xs = cc in
-        let lies : take (13 * n) words ≡ take (13 * length xs) (over (concatMap stepWords xs) lent) =
-        ap₂ (λ (k : ℕ) (w : List ℕ). take (13 * k) w) count (holds xs e) in
-        let p = subst (PlanWords (taskOf table) xs) (sym lies)
-        (plan-words (taskOf table) (of-table table is-table .0) text lent xs e) in
-        let few = p .few in
-        let long = steps-whole (taskOf table) (take (13 * n) words) (p .good) .0 in
-        let size = ap length (p .steps) in
-        let are = ap length (p .are) in
-        record {
-          reads = e ∙ ap read (sym (p .steps));
-          plan = record { good = p .good; few = omega arith };
-          few = omega arith;
-          inside = printed-within (concatMap stepWords xs) lent (holds xs e) (omega arith);
-        }
+plan-read table text lent {words} {n} is-table told left =
+    let r = answer-read table text lent is-table words n told left in
+    let p = r .words in
+    let few = p .few in
+    let count = r .count in
+    let long = steps-whole (taskOf table) (take (13 * n) words) (p .good) .0 in
+    let size = ap length (p .steps) in
+    let front = length-take (13 * n) words in
+    let z = planWords-is in
+    record {
+      reads = r .is ∙ ap read (sym (p .steps));
+      plan = record { good = p .good; few = omega arith };
+      few = omega arith;
+      inside = omega arith;
+    }
 
 -- ---- blocks
 -- what a table and its split's table are known to be
@@ -149,6 +133,7 @@ module _ (table words steps out : List ℕ) (s : SplitTable table words) (p : Pl
       let most = unfolded-between (accepted s) xs (steps-whole t steps (p .good) .1) .1 in
       let n = length-stepsIn t steps in
       let few = p .few in
+      let z = planWords-is in
       omega arith
 
   abbrev roomCheck : List Check

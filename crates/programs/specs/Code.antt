@@ -9,6 +9,7 @@ use Rattle.task.specs.Lists.{over}
 use Rattle.task.specs.Table.{taskOf, isTable}
 use Rattle.task.specs.Run.{badStep}
 use Rattle.tokens.specs.Split.{splitAs, split}
+use Rattle.text.specs.Plan.{planWords}
 
 -- bytes after a text was printed over their front, and how many were printed
 pub record Prints (lent text after : List ℕ) (n : ℕ) : Type 0 where
@@ -24,4 +25,4 @@ pub record SplitTable (table words : List ℕ) : Type 0 where
 -- the words of "at most 100" steps of a table's task
 pub record PlanSteps (table steps : List ℕ) : Type 0 where
   pub good : badStep (taskOf table) steps ≡ none
-  pub few : length steps ≤ 1300
+  pub few : length steps ≤ planWords

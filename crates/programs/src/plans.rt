@@ -1,8 +1,10 @@
 // What `unfold` prints: the blocks of a plan's steps as a plan of the split, or the first refusal.
 use crate::printing::bytes_taken;
 use crate::printing::put_refusal;
+use arcs::MOST_PARTS;
 use blocks::UnfoldAnswer;
 use task::limits::TABLE_WORDS;
+use text::plan::PLAN_WORDS;
 use text::plan::PlanAnswer;
 use text::plan::read_plan;
 use text::plan::write_plan;
@@ -23,10 +25,8 @@ ghost use Rattle.programs.specs.Code.{Prints, SplitTable, PlanSteps};
 // "A step is 13 words".
 const STEP_SIZE: usize = 13;
 
-// The words of 100 steps, "at most 100 `step=` lines", and those of as many blocks of 16 parts.
-const PLAN_WORDS: usize = 1300;
-
-const BLOCK_WORDS: usize = 20800;
+// The words of 100 blocks of 16 parts.
+const BLOCK_WORDS: usize = MOST_PARTS * PLAN_WORDS;
 
 // The blocks of a plan's steps as a plan of the split. The words hold every unfolding, so that it is never refused.
 fn put_blocks(table: &[u16], split_table: &[u16], steps: &[u16], out: &mut [u8]) -> usize

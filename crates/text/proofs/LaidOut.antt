@@ -43,19 +43,23 @@ over-is xs w after e l front back =
         (sym (getD-append-add xs (drop (length xs) w) (k - length xs) 0) ∙
         ap (λ (i : ℕ). getD (xs ++ drop (length xs) w) i 0) z)))
 
--- a table that was cleared, of one whose words beyond are untouched
-pub cleared-is : (lent w after : List ℕ) → tableWords ≤ length lent → Touched lent w →
-    Wrote w 0 tableWords (λ k. 0) after → after ≡ over (replicate tableWords 0) lent
-cleared-is lent w after l t h =
-    let s = t .size in
+-- words whose front was cleared, of words that behind it are as they were lent
+pub cleared-over : (n : ℕ) (lent w after : List ℕ) → n ≤ length lent → length w ≡ length lent →
+    ((j : ℕ) → n ≤ j → getD w j 0 ≡ getD lent j 0) → Wrote w 0 n (λ k. 0) after → after ≡ over (replicate n 0) lent
+cleared-over n lent w after l s beyond h =
     let r = h .size in
-    let n = length-replicate {A = ℕ} tableWords 0 in
-    over-is (replicate tableWords 0) lent after (omega arith) (omega arith)
+    let m = length-replicate {A = ℕ} n 0 in
+    over-is (replicate n 0) lent after (omega arith) (omega arith)
     (λ k q.
     let z : 0 + k ≡ k = omega arith in
     ap (λ (i : ℕ). getD after i 0) (sym z) ∙
-    (h .put k (omega arith) ∙ sym (getD-replicate tableWords k 0 0 (omega arith))))
-    (λ k q. h .behind k (omega arith) ∙ t .beyond k (omega arith))
+    (h .put k (omega arith) ∙ sym (getD-replicate n k 0 0 (omega arith))))
+    (λ k q. h .behind k (omega arith) ∙ beyond k (omega arith))
+
+-- a table that was cleared, of one whose words beyond are untouched
+pub cleared-is : (lent w after : List ℕ) → tableWords ≤ length lent → Touched lent w →
+    Wrote w 0 tableWords (λ k. 0) after → after ≡ over (replicate tableWords 0) lent
+cleared-is lent w after l t h = cleared-over tableWords lent w after l (t .size) (t .beyond) h
 
 -- a list over words is the list over those that have the same words beyond
 pub over-touched : (xs lent w : List ℕ) → length xs ≡ tableWords → tableWords ≤ length lent → Touched lent w →

@@ -1,13 +1,13 @@
 -- The loop over a plan's lines: the line at a cursor by its key, and reading the whole text as reading on from the
 -- cursor with the steps whose words were put. A line that is refused, and one that ends reading, give the answer.
 use Prim.Native.Nat.{ℕ, suc, _+_, _*_, _≤_, _<_}
-use mathlib.Core.Path.{_≡_, refl, sym, _∙_, ap}
+use mathlib.Core.Path.{_≡_, refl, sym, _∙_, ap, subst}
 use mathlib.Core.Bool.{true, false}
 use mathlib.Core.List.{List, [], _∷_, _++_}
 use mathlib.Core.Option.{Option, none, some}
 use mathlib.Core.Logic.{_⊎_, inl, inr}
 use native.Mathlib.Omega.{arith}
-use lib.ListN.{length, getD, length-append, drop-of-length-le}
+use lib.ListN.{length, getD, replicate, length-append, drop-of-length-le}
 use lib.Seq.{drop-cons}
 use borrow.Author.Tests.{lt-ltb, le-ltb, eq-eqb, ne-eqb}
 use Rattle.task.specs.Lists.{all, concatMap, over}
@@ -20,12 +20,12 @@ use Rattle.text.specs.declared.plan.PlanTurn.the-variants as turn
 use Rattle.text.specs.Lines.{Taken, after, number, entry, ended}
 use Rattle.text.specs.Reading.{goOn, finish, refuse, Reading, read, refusedAt, atEnd, lineAt, readLines}
 use Rattle.text.specs.Plan.{PlanKey, step, end, planKeyName, PlanLine, stepLine, endLine, readPlanBody}
-use Rattle.text.specs.Plan.{takePlanLine, nextPlanLine, readPlan}
+use Rattle.text.specs.Plan.{planWords, takePlanLine, nextPlanLine, readPlan}
 use Rattle.text.specs.ReadCode.{rest, Placed, startCursor, Moved, WordHere, Wrote}
 use Rattle.text.specs.PlanCode.{stepOf, PlanRefuses, PlanFinishes, PlanGoesOn, PlanTurned}
 use Rattle.text.proofs.Taken.{after-read}
 use Rattle.text.proofs.Lines.{keyed, clash, after-clash}
-use Rattle.text.proofs.Reading.{need-met, refused-read}
+use Rattle.text.proofs.Reading.{need-met}
 use Rattle.text.proofs.PlanText.{planKeys}
 use Rattle.text.proofs.Growing.{all-snoc}
 use Rattle.text.proofs.ReadersAt.{readPlan-lines, plan-line}
@@ -34,7 +34,8 @@ use Rattle.text.proofs.KeyLines.{no-line, one-line}
 use Rattle.text.proofs.LineTurns.{need-fails}
 use Rattle.text.proofs.WroteWords.{wrote-none}
 use Rattle.text.proofs.Dispatch.{next-from}
-use Rattle.text.proofs.PlanSteps.{one-more, words-over}
+use Rattle.text.proofs.LaidOut.{cleared-over}
+use Rattle.text.proofs.PlanSteps.{planWords-is, one-more, words-over}
 
 -- ---- the line at a cursor
 module _ (xs : List Step) (bs : List ℕ) where
@@ -116,7 +117,7 @@ plan-turned-at t text from body xs l m w (turn.GoOn at) after moved e h = record
 }
 plan-turned-at t text from body xs l m w (turn.Finish at) after moved e (h, q) =
     (record { is = λ n next. rw e (h .is n next); line = next-from moved (h .line) }, q)
-plan-turned-at t text from body xs l m w (turn.Refuse k) after moved e h = λ n next. rw e (h n next)
+plan-turned-at t text from body xs l m w (turn.Refuse k) after moved e (h, q) = (λ n next. rw e (h n next), q)
 
 -- ---- the loop
 module _ (t : Task) (text lent : List ℕ) where
@@ -190,14 +191,17 @@ module _ (t : Task) (text lent : List ℕ) where
       plan-whole l = plan-ends ∙ ap (atEnd (s .steps) (next .line)) (drop-of-length-le text l)
 
     -- the words of the steps, once they are all read
-    pub plan-stored : wellFormed t ≡ true → 1300 ≤ length lent → readPlan t text ≡ read (s .steps) → (xs : List Step) →
-        readPlan t text ≡ read xs → w ≡ over (concatMap stepWords xs) lent
-    plan-stored well long e xs h =
-        let q : s .steps ≡ xs = cc in
+    pub plan-stored : wellFormed t ≡ true → planWords ≤ length lent → w ≡ over (concatMap stepWords (s .steps)) lent
+    plan-stored well long =
         let m = s .few in
-        words-over t well (s .steps) (s .good) (s .count) (omega arith) (s .words) ∙
-        ap (λ (ys : List Step). over (concatMap stepWords ys) lent) q
+        let z = planWords-is in
+        words-over t well (s .steps) (s .good) (s .count) (omega arith) (s .words)
 
-  pub refused-stores : (k n : ℕ) (w : List ℕ) → readPlan t text ≡ refusedAt k n → (xs : List Step) →
-      readPlan t text ≡ read xs → w ≡ over (concatMap stepWords xs) lent
-  refused-stores k n w e xs h = absurd (refused-read (sym e ∙ h))
+    -- the words of 100 steps, once they were cleared behind a line that left them as they were
+    pub plan-cleared : planWords ≤ length lent → {left after : List ℕ} → left ≡ w →
+        Wrote left 0 planWords (λ k. 0) after → after ≡ over (replicate planWords 0) lent
+    plan-cleared long {left} {after} e h =
+        let m = s .few in
+        let z = planWords-is in
+        cleared-over planWords lent w after long (s .words .size) (λ j l. s .words .behind j (omega arith))
+        (subst (λ (v : List ℕ). Wrote v 0 planWords (λ k. 0) after) e h)

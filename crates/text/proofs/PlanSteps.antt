@@ -25,7 +25,7 @@ use Rattle.task.proofs.WordRows.{and-false}
 use Rattle.task.proofs.StepWords.{Thirteen, length-steps, params-few, thirteen}
 use Rattle.task.proofs.BadSteps.{written-steps, steps-written}
 use Rattle.text.specs.Reading.{read}
-use Rattle.text.specs.Plan.{readPlan}
+use Rattle.text.specs.Plan.{planWords, readPlan}
 use Rattle.text.specs.ReadCode.{Listed, Wrote}
 use Rattle.text.specs.PlanCode.{stepOf}
 use Rattle.text.proofs.PlanText.{plan-read-steps}
@@ -97,6 +97,10 @@ step-kept w table s count kept ns size listed h =
     }
 
 -- ---- a step's words are put
+pub planWords-is : planWords ≡ 13 * 100
+unfolding planWords
+planWords-is = refl
+
 module _ (w : List ℕ) (at s count : ℕ) (objects v u : List ℕ) (room : at + 13 ≤ length w) (few : count ≤ 12)
     (enough : count ≤ length objects) (put : Wrote (set w at s) (at + 1) count (λ k. getD objects k 0) v)
     (zeros : Wrote v (at + 1 + count) (12 - count) (λ k. 0) u) where
@@ -195,14 +199,14 @@ module _ (t : Task) (well : wellFormed t ≡ true) (xs : List Step) (steps : all
 
 -- ---- a plan that was read
 -- its words are good steps of the task, the plan's steps
-pub record PlanWords (t : Task) (xs : List Step) (w : List ℕ) : Type 0 where
+pub record GoodPlan (t : Task) (xs : List Step) (w : List ℕ) : Type 0 where
   pub few : length xs ≤ 100
   pub are : w ≡ concatMap stepWords xs
   pub good : badStep t w ≡ none
   pub steps : stepsIn t w ≡ xs
 
 pub plan-words : (t : Task) → wellFormed t ≡ true → (text lent : List ℕ) (xs : List Step) → readPlan t text ≡ read xs →
-    PlanWords t xs (take (13 * length xs) (over (concatMap stepWords xs) lent))
+    GoodPlan t xs (take (13 * length xs) (over (concatMap stepWords xs) lent))
 plan-words t well text lent xs h =
     let (steps, few) = plan-read-steps t text xs h in
     let n = length-steps xs (all-thirteen t well xs steps) in

@@ -1,10 +1,11 @@
 -- 'Text form', the second program's file `plan`: "at most 100 `step=` lines, schema, colon, objects; then `end=1`".
-use Prim.Native.Nat.{ℕ}
+use Prim.Native.Nat.{ℕ, _*_}
 use Prim.Native.String.{String}
 use mathlib.Core.List.{List, [], _∷_, _++_, map}
 use lib.ListN.{length}
 use lib.Dec.{eqb, ltb}
 use Rattle.task.specs.Lists.{concatMap}
+use Rattle.task.specs.Limits.{stepSize}
 use Rattle.task.specs.Task.{Task}
 use Rattle.task.specs.Run.{Step, isStep}
 use Rattle.text.specs.Lines.{Entry, digits, entryBytes, line, Reader, number, entry, ended, readLine}
@@ -13,6 +14,10 @@ use Rattle.text.specs.Reading.{Turn, goOn, finish, need, Reading, readLi
 -- "at most 100 `step=` lines"
 abbrev pub mostPlanSteps : ℕ
 mostPlanSteps = 100
+
+-- the words of so many steps: shut, since a list function would count a numeral down
+unfoldable pub planWords : ℕ
+planWords = stepSize * mostPlanSteps
 
 -- ---- lines
 pub data PlanKey : Type 0 where

@@ -6,17 +6,14 @@ use mathlib.Core.Bool.{true}
 use mathlib.Core.List.{List, [], _∷_, _++_}
 use mathlib.Core.Option.{Option}
 use lib.ListN.{length, getD}
-use Rattle.task.specs.declared.Place.the-variants as place
 use Rattle.task.specs.Task.{Task}
 use Rattle.task.specs.Run.{Step, isStep, stepWords}
 use Rattle.text.specs.declared.cursor.Cursor.{Cursor}
-use Rattle.text.specs.declared.plan.PlanAnswer.{PlanAnswer}
-use Rattle.text.specs.declared.plan.PlanAnswer.the-variants as answer
 use Rattle.text.specs.declared.plan.PlanTurn.{PlanTurn}
 use Rattle.text.specs.declared.plan.PlanTurn.the-variants as turn
 use Rattle.text.specs.Lines.{Taken, colon, newline, digits, commaed}
 use Rattle.text.specs.Lines.{bytes, equals}
-use Rattle.text.specs.Reading.{Reading, read, refusedAt, atEnd, lineAt}
+use Rattle.text.specs.Reading.{Reading, refusedAt, atEnd, lineAt}
 use Rattle.text.specs.Plan.{PlanLine, step, planKeyName, takePlanLine}
 use Rattle.text.specs.Code.{spaced}
 use Rattle.text.specs.ReadCode.{rest, Wrote, NextLine}
@@ -24,11 +21,6 @@ use Rattle.text.specs.ReadCode.{rest, Wrote, NextLine}
 -- a step as it is read: "schema, colon, objects"
 abbrev pub stepOf : ℕ → List ℕ → Step
 stepOf s os = record { schema = s; objects = os }
-
--- how many steps were read; or a refusal, "each with its line"
-unfoldable pub planAnswer : Reading (List Step) → PlanAnswer
-planAnswer (read xs) = answer.Read (length xs)
-planAnswer (refusedAt k n) = answer.Refused k (place.Line n)
 
 -- ---- turns
 abbrev pub PlanNext : Type 0
@@ -58,7 +50,7 @@ abbrev pub PlanTurned : Task → List ℕ → Cursor → List Step → Option (T
     Type 0
 PlanTurned t text from xs l w (turn.GoOn at) after = PlanGoesOn t text from xs l at w after
 PlanTurned t text from xs l w (turn.Finish at) after = PlanFinishes t text from xs l at × (after ≡ w)
-PlanTurned t text from xs l w (turn.Refuse k) after = PlanRefuses t text from xs l k
+PlanTurned t text from xs l w (turn.Refuse k) after = PlanRefuses t text from xs l k × (after ≡ w)
 
 -- ---- writing
 -- the line of a step with so many objects, whose words begin at b

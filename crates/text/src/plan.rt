@@ -21,16 +21,16 @@ ghost use mathlib.Core.List.{List};
 ghost use mathlib.Core.Option.{none};
 ghost use Prim.Native.Nat.{ℕ, _+_, _*_, _≤_, _<_};
 ghost use lib.ListN.{length, getD, take};
-ghost use Rattle.task.specs.Lists.{over, concatMap};
+ghost use Rattle.task.specs.Lists.{over};
 ghost use Rattle.task.specs.Task.{Task};
 ghost use Rattle.task.specs.Table.{taskOf, isTable};
 ghost use Rattle.task.specs.Run.{Step, isStep, stepWords, paramCount, stepsIn, badStep};
 ghost use Rattle.text.specs.Lines.{ended, number, entry};
-ghost use Rattle.text.specs.Reading.{read};
-ghost use Rattle.text.specs.Plan.{stepLine, endLine, nextPlanLine, readPlan, writePlan};
+ghost use Rattle.text.specs.Plan.{planWords, stepLine, endLine, nextPlanLine, writePlan};
+ghost use Rattle.text.specs.Outcomes.{planOutcome, planAnswerTold};
 ghost use Rattle.text.specs.Code.{Puts};
 ghost use Rattle.text.specs.ReadCode.{rest, Placed, Listed, Wrote};
-ghost use Rattle.text.specs.PlanCode.{stepOf, planAnswer, PlanTurned, stepText};
+ghost use Rattle.text.specs.PlanCode.{stepOf, PlanTurned, stepText};
 
 // What reading a plan answers: how many steps it has, or a refusal.
 pub enum PlanAnswer {
@@ -50,6 +50,9 @@ const MOST_STEPS: usize = 100;
 
 // "A step is 13 words: schema, one object per parameter, zeros".
 const STEP_SIZE: usize = 13;
+
+// The words of so many steps.
+pub const PLAN_WORDS: usize = STEP_SIZE * MOST_STEPS;
 
 const MOST_PARAMETERS: usize = 12;
 
@@ -103,7 +106,7 @@ fn put_step(steps: &mut [u16], at: usize, schema: u32, objects: &[u32], count: u
 fn step_line(table: &[u16], text: &[u8], from: Cursor, steps: &mut [u16], n: usize) -> PlanTurn
     requires { ⌜ isTable (now table) ≡ true ⌝ }
     requires { ⌜ Placed (now text) from ⌝ }
-    requires { ⌜ 1300 ≤ length (now steps) ⌝ }
+    requires { ⌜ planWords ≤ length (now steps) ⌝ }
     ensures { λ r. do
       let bs = now (text .entry)
       ⌜ ((xs : List Step) → length xs ≡ n →
@@ -145,7 +148,7 @@ fn last_line(text: &[u8], from: Cursor) -> PlanTurn
 fn plan_line(table: &[u16], text: &[u8], from: Cursor, steps: &mut [u16], n: usize) -> PlanTurn
     requires { ⌜ isTable (now table) ≡ true ⌝ }
     requires { ⌜ Placed (now text) from ⌝ }
-    requires { ⌜ 1300 ≤ length (now steps) ⌝ }
+    requires { ⌜ planWords ≤ length (now steps) ⌝ }
     ensures { λ r. do
       let bs = now (text .entry)
       ⌜ ((xs : List Step) → length xs ≡ n →
@@ -161,24 +164,35 @@ fn plan_line(table: &[u16], text: &[u8], from: Cursor, steps: &mut [u16], n: usi
     PlanTurn::Refuse(3)
 }
 
+// A refused plan leaves the words of 100 steps 0.
+fn refused(steps: &mut [u16], number: u32, line: u64) -> PlanAnswer
+    requires { ⌜ planWords ≤ length (now steps) ⌝ }
+    ensures { λ r. ⌜ r ≡ PlanAnswer.Refused number (Place.Line line) ⌝ }
+    ensures { λ _. ⌜ Wrote (now (steps .entry)) 0 planWords (λ k. 0) (now (steps .exit)) ⌝ }
+{
+    clear(steps, 0, PLAN_WORDS);
+    PlanAnswer::Refused(number, Place::Line(line))
+}
+
 // Reads a plan of a table's task: its steps come to stand at the front of the lent words, which have room for 100.
 pub fn read_plan(table: &[u16], text: &[u8], steps: &mut [u16]) -> PlanAnswer
     requires { ⌜ isTable (now table) ≡ true ⌝ }
-    requires { ⌜ 1300 ≤ length (now steps) ⌝ }
-    ensures told { λ r. ⌜ r ≡ planAnswer (readPlan (taskOf (now (table .entry))) (now (text .entry))) ⌝ }
-    ensures words { λ _. ⌜ ((xs : List Step) → readPlan (taskOf (now (table .entry))) (now (text .entry)) ≡ read xs →
-        now (steps .exit) ≡ over (concatMap stepWords xs) (now (steps .entry))) ⌝ }
+    requires { ⌜ planWords ≤ length (now steps) ⌝ }
+    ensures told { λ r. ⌜ planAnswerTold r ≡
+        planOutcome (now (table .entry)) (now (text .entry)) (now (steps .entry)) .told ⌝ }
+    ensures words { λ _. ⌜ now (steps .exit) ≡
+        planOutcome (now (table .entry)) (now (text .entry)) (now (steps .entry)) .buffer ⌝ }
 {
     let mut cursor = Cursor::start();
     let mut n: usize = 0;
     loop {
         match plan_line(table, text, cursor, steps, n) {
             PlanTurn::Refuse(number) => {
-                return PlanAnswer::Refused(number, Place::Line(cursor.line));
+                return refused(steps, number, cursor.line);
             }
             PlanTurn::Finish(next) => {
                 if next.at < text.len() {
-                    return PlanAnswer::Refused(3, Place::Line(next.line));
+                    return refused(steps, 3, next.line);
                 }
                 return PlanAnswer::Read(n as u64);
             }

@@ -8,6 +8,8 @@ use lib.ListN.{take}
 use lib.Seq.{length-take-le}
 use Rattle.task.specs.Table.{taskOf}
 use Rattle.text.specs.Plan.{readPlan}
+use Rattle.text.specs.Outcomes.{planAnswerTold}
+use Rattle.text.proofs.PlanSteps.{planWords-is}
 use Rattle.programs.specs.Programs.{taken, printReading}
 use Rattle.programs.proofs.Printed.{prints-same}
 use Rattle.programs.proofs.PlanUnfolded.{text-room, PlanRead, plan-read, plan-refused, plan-printed, printsSteps}
@@ -27,10 +29,11 @@ plan : (c : tie.After-known-told) → let k = c .before .before .before .before 
     let b = k .before .before .before .bytes-taken in
     PlanRead (start k .args .table .now) (take (b .result) (start k .args .plan .now))
     (k .read-plan .last .1 .1 .0) (c .before .count .given .0 .0)
+unfolding planAnswerTold
 plan c =
     let k = c .before .before .before .before in
     plan-read (start k .args .table .now) _ _ (start k .pre .0)
-    (sym (c .before .count .given .1) ∙ k .read-plan .ensures .0) (k .read-plan .ensures .1)
+    (sym (ap planAnswerTold (c .before .count .given .1)) ∙ k .read-plan .ensures .0) (k .read-plan .ensures .1)
 
 bytes-taken-requires : tie.Need-bytes-taken-requires
 bytes-taken-requires c κs = search needs
@@ -44,7 +47,7 @@ slice-aggregate-read-plan-2 : tie.Need-slice-aggregate-read-plan-2
 slice-aggregate-read-plan-2 c = search needs
 
 read-plan-requires : tie.Need-read-plan-requires
-read-plan-requires c κs = search needs
+read-plan-requires c κs = let z = planWords-is in search needs
 
 enum-known-count : tie.Need-enum-known-count
 enum-known-count c = search needs
@@ -88,11 +91,13 @@ same-length-2 : tie.Need-same-length-2
 same-length-2 c = search needs
 
 returns-2 : tie.Need-returns-2
+unfolding planAnswerTold
 returns-2 c =
     let n = c .before .before .before .before .before in
     let k = n .before .before .before in
     let t = taskOf (start k .args .table .now) in
-    prints-same (plan-refused t _ (sym (n .number .given .1) ∙ k .read-plan .ensures .0) (printsSteps t) ∙
+    let told = sym (ap planAnswerTold (n .number .given .1)) ∙ k .read-plan .ensures .0 in
+    prints-same (plan-refused (start k .args .table .now) _ _ told (printsSteps t) ∙
     ap (λ (bs : List ℕ). printReading (printsSteps t) (readPlan t bs)) (is-taken k))
     (c .before .before .put-refusal .ensures)
 

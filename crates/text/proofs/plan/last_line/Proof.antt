@@ -18,16 +18,20 @@ enum-told : tie.Need-enum-told
 enum-told c = search needs
 
 returns : tie.Need-returns
-returns c = λ t xs w.
-    no-turn endLine _ (takePlanLine t xs)
-    (subst (NumberLineAt _ _) (c .enum-told .given .1) (c .before .before .number-line .ensures))
+returns c = λ t xs w. (
+  no-turn endLine _ (takePlanLine t xs)
+      (subst (NumberLineAt _ _) (c .enum-told .given .1) (c .before .before .number-line .ensures)),
+  refl,
+)
 
 returns-2 : tie.Need-returns-2
 returns-2 c =
     let n = c .before .before in
     let line = subst (NumberLineAt _ _) (n .n .given .1) (n .before .before .number-line .ensures) in
-    λ t xs w k next.
-    turn-refused endLine _ (takePlanLine t xs) _ _ (line .is) k next 3 (end-wrong t xs _ (c .if1 .taken))
+    λ t xs w. (
+      λ k next. turn-refused endLine _ (takePlanLine t xs) _ _ (line .is) k next 3 (end-wrong t xs _ (c .if1 .taken)),
+      refl,
+    )
 
 returns-3 : tie.Need-returns-3
 returns-3 c =

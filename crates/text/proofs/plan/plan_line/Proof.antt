@@ -1,6 +1,6 @@
 -- `text::plan::plan_line` meets its contract: the key at the cursor says whose body the line is; where there is none
 -- the line is refused.
-use mathlib.Core.Path.{subst}
+use mathlib.Core.Path.{refl, subst}
 use native.Mathlib.Omega.{arith}
 use Rattle.task.specs.Table.{taskOf}
 use Rattle.text.specs.Lines.{bytes}
@@ -86,7 +86,7 @@ returns-3 c =
     let at-step = c .before .before .before .before .before .before in
     let none = subst (WordAt _ _ _) (c .before .before .before .before .enum-told .given .1) (at-step .word .ensures) in
     let neither = subst (WordAt _ _ _) (c .enum-told2 .given .1) (c .before .before .word2 .ensures) in
-    λ xs e. no-line-refused (takePlanLine (taskOf (start .args .table .now)) xs) _ (next-none xs _ none neither)
+    λ xs e. (no-line-refused (takePlanLine (taskOf (start .args .table .now)) xs) _ (next-none xs _ none neither), refl)
 
 pub plan-line-spec : {M : Type 1} → statement M
 plan-line-spec =

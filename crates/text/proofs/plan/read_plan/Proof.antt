@@ -1,19 +1,27 @@
 -- `text::plan::read_plan` meets its contract. The loop's invariant, `PlanSoFar`: reading the whole text is reading on
--- from the cursor with the steps read so far, whose words lie over the front of the lent ones. A line that is refused
--- and one that ends reading give the answer; another adds a step. The measure is what is left of the text.
-use Prim.Native.Nat.{_-_}
+-- from the cursor with the steps read so far, whose words lie over the front of the lent ones. A line that is refused,
+-- which has those words cleared, and one that ends reading give the answer; another adds a step. The measure is what is
+-- left of the text.
+use Prim.Native.Nat.{ℕ, _-_, _≤_}
 use mathlib.Core.Path.{_≡_, sym, _∙_, ap, subst}
+use mathlib.Core.List.{List, [], _∷_}
 use native.Mathlib.Omega.{arith}
 use lib.ListN.{length}
+use Rattle.task.specs.declared.Place.the-variants as place
+use Rattle.task.specs.Answers.{result, Outcome}
 use Rattle.task.specs.Table.{taskOf}
 use Rattle.task.proofs.Tables.{of-table}
 use Rattle.text.specs.declared.plan.PlanTurn.{PlanTurn}
+use Rattle.text.specs.declared.plan.PlanAnswer.{PlanAnswer}
 use Rattle.text.specs.declared.plan.PlanAnswer.the-variants as answer
-use Rattle.text.specs.Plan.{nextPlanLine}
-use Rattle.text.specs.ReadCode.{rest}
-use Rattle.text.specs.PlanCode.{planAnswer, PlanTurned}
+use Rattle.text.specs.Reading.{refusedAt}
+use Rattle.text.specs.Plan.{planWords, nextPlanLine, readPlan}
+use Rattle.text.specs.Outcomes.{planOutcome, planAnswerTold}
+use Rattle.text.specs.ReadCode.{rest, Wrote}
+use Rattle.text.specs.PlanCode.{PlanTurned}
 use Rattle.text.proofs.PlanLoop.{PlanSoFar, plan-begins, plan-refuses, plan-goes, plan-left-over, plan-whole}
-use Rattle.text.proofs.PlanLoop.{plan-stored, refused-stores}
+use Rattle.text.proofs.PlanLoop.{plan-stored, plan-cleared}
+use Rattle.text.proofs.PlanAnswers.{read-outcome, refused-outcome}
 use borrow.Author.Needs.{needs}
 use Rattle.text.proofs.plan.read_plan.Statement.{statement}
 use Rattle.text.proofs.plan.read_plan.Tie as tie
@@ -65,47 +73,82 @@ module _ (c : tie.After-plan-line Inv-loop μ-loop) where
   kept-long : length (c .plan-line .last .1 .1 .1 .0) ≡ length (entry head .args .steps .now)
   kept-long = c .plan-line .kept .1 .1 .1 .0 ∙ sofar .words .size
 
+  still-room : planWords ≤ length (c .plan-line .last .1 .1 .1 .0)
+  still-room =
+      let size = kept-long in
+      let long = entry head .pre .1 in
+      omega arith
+
+  -- a plan that is refused behind the line, once the words were cleared
+  turned-back : {k n : ℕ} {r : PlanAnswer} {after : List ℕ} →
+      let a = entry head .args in
+      readPlan (taskOf (a .table .now)) (a .text .now) ≡ refusedAt k n →
+      c .plan-line .last .1 .1 .1 .0 ≡ head .loop .steps → r ≡ answer.Refused k (place.Line n) →
+      Wrote (c .plan-line .last .1 .1 .1 .0) 0 planWords (λ j. 0) after →
+      (planAnswerTold r ≡ planOutcome (a .table .now) (a .text .now) (a .steps .now) .told) ×
+      (after ≡ planOutcome (a .table .now) (a .text .now) (a .steps .now) .buffer)
+  unfolding planAnswerTold
+  turned-back is same told cleared =
+      let a = entry head .args in
+      let outcome = refused-outcome (a .table .now) (a .text .now) (a .steps .now) _ _ is in (
+        ap planAnswerTold told ∙ sym (ap (λ (o : Outcome). o .told) outcome),
+        plan-cleared _ _ _ sofar (entry head .pre .1) same cleared ∙ sym (ap (λ (o : Outcome). o .buffer) outcome),
+      )
+
 enum-known-number : tie.Need-enum-known-number Inv-loop μ-loop
 enum-known-number c = search needs
 
+refused-requires : tie.Need-refused-requires Inv-loop μ-loop
+refused-requires c κs = still-room (c .before .before .before .before .before .before)
+
 same-length : tie.Need-same-length Inv-loop μ-loop
-same-length c = kept-long (c .before .before .before .before .before)
+same-length c =
+    let done = c .before .before in
+    done .refused .kept .0 ∙ kept-long (done .before .before .before .before .before .before .before)
 
 returns : tie.Need-returns Inv-loop μ-loop
-unfolding planAnswer
 returns c =
-    let at-line = c .before .before .before .before .before in
-    let is = plan-refuses _ _ _ (sofar at-line) _ (turned at-line _ (c .before .number .given .1)) in
-    (sym (ap planAnswer is), refused-stores _ _ _ _ _ _ is)
+    let done = c .before .before in
+    let at-line = done .before .before .before .before .before .before .before in
+    let (refuses, same) = turned at-line _ (done .before .before .before .number .given .1) in
+    turned-back at-line (plan-refuses _ _ _ (sofar at-line) _ refuses) same (done .refused .ensures .0)
+    (done .refused .ensures .1)
 
 enum-known-next : tie.Need-enum-known-next Inv-loop μ-loop
 enum-known-next c = search needs
 
+refused-requires-2 : tie.Need-refused-requires-2 Inv-loop μ-loop
+refused-requires-2 c κs = still-room (c .before .before .before .before .before .before .before .before)
+
 same-length-2 : tie.Need-same-length-2 Inv-loop μ-loop
-same-length-2 c = kept-long (c .before .before .before .before .before .before .before)
+same-length-2 c =
+    let done = c .before .before in
+    done .refused2 .kept .0 ∙ kept-long (done .before .before .before .before .before .before .before .before .before)
 
 returns-2 : tie.Need-returns-2 Inv-loop μ-loop
-unfolding planAnswer
 returns-2 c =
-    let at-line = c .before .before .before .before .before .before .before in
-    let done = turned at-line _ (c .before .before .before .next .given .1) in
-    let is = plan-left-over _ _ _ (sofar at-line) (done .0) (c .if1 .taken) in
-    (sym (ap planAnswer is), refused-stores _ _ _ _ _ _ is)
+    let done = c .before .before in
+    let at-line = done .before .before .before .before .before .before .before .before .before in
+    let (ends, same) = turned at-line _ (done .before .before .before .before .before .next .given .1) in
+    turned-back at-line (plan-left-over _ _ _ (sofar at-line) ends (done .before .before .if1 .taken)) same
+    (done .refused2 .ensures .0) (done .refused2 .ensures .1)
 
 same-length-3 : tie.Need-same-length-3 Inv-loop μ-loop
 same-length-3 c = kept-long (c .before .before .before .before .before .before .before)
 
 returns-3 : tie.Need-returns-3 Inv-loop μ-loop
-unfolding planAnswer
+unfolding planAnswerTold
 returns-3 c =
     let at-line = c .before .before .before .before .before .before .before in
     let start = entry (head at-line) in
+    let args = start .args in
     let s = sofar at-line in
     let done = turned at-line _ (c .before .before .before .next .given .1) in
     let is = plan-whole _ _ _ s (done .0) (c .if1 .left) in
-    let well = of-table (start .args .table .now) (start .pre .0) .0 in (
-      ap answer.Read (sym (s .count)) ∙ sym (ap planAnswer is),
-      λ xs h. done .1 ∙ plan-stored _ _ _ s well (start .pre .1) is xs h,
+    let well = of-table (args .table .now) (start .pre .0) .0 in
+    let outcome = read-outcome (args .table .now) (args .text .now) (args .steps .now) _ is in (
+      ap (λ (n : ℕ). result (n ∷ [])) (sym (s .count)) ∙ sym (ap (λ (o : Outcome). o .told) outcome),
+      done .1 ∙ (plan-stored _ _ _ s well (start .pre .1) ∙ sym (ap (λ (o : Outcome). o .buffer) outcome)),
     )
 
 enum-known-next-2 : tie.Need-enum-known-next-2 Inv-loop μ-loop
@@ -138,9 +181,11 @@ read-plan-spec =
     loop-holds
     plan-line-requires
     enum-known-number
+    refused-requires
     same-length
     returns
     enum-known-next
+    refused-requires-2
     same-length-2
     returns-2
     same-length-3

@@ -1,6 +1,6 @@
 -- `text::plan::step_line` meets its contract: a line that is read is tried by the number of steps, then by its own, and
 -- each refusal is what the line does; a step that passes has its words put behind those of the others.
-use mathlib.Core.Path.{_≡_, sym, _∙_, subst}
+use mathlib.Core.Path.{_≡_, refl, sym, _∙_, subst}
 use native.Mathlib.Omega.{arith}
 use lib.ListN.{length}
 use borrow.Author.Tests.{not-true, not-false}
@@ -10,7 +10,7 @@ use Rattle.text.specs.ReadCode.{EntryLineAt}
 use Rattle.text.specs.PlanCode.{stepOf}
 use Rattle.text.proofs.RowTests.{listed-take}
 use Rattle.text.proofs.LineTurns.{no-turn, turn-refused, turn-goes-on}
-use Rattle.text.proofs.PlanSteps.{step-kept}
+use Rattle.text.proofs.PlanSteps.{planWords-is, step-kept}
 use Rattle.text.proofs.PlanLoop.{step-taken, one-too-many, step-wrong}
 use borrow.Author.Needs.{needs}
 use Rattle.text.proofs.plan.step_line.Statement.{statement}
@@ -31,8 +31,11 @@ enum-told c = search needs
 returns : tie.Need-returns
 returns c =
     let start = c .before .before .before .before .before .before .before .before in
-    λ xs e. no-turn stepLine _ (takePlanLine (taskOf (start .args .table .now)) xs)
-    (subst (EntryLineAt _ _ _) (c .enum-told .given .1) (c .before .before .before .entry-line .ensures))
+    λ xs e. (
+      no-turn stepLine _ (takePlanLine (taskOf (start .args .table .now)) xs)
+          (subst (EntryLineAt _ _ _) (c .enum-told .given .1) (c .before .before .before .entry-line .ensures)),
+      refl,
+    )
 
 returns-2 : tie.Need-returns-2
 returns-2 c =
@@ -40,10 +43,14 @@ returns-2 c =
     let start = line .before .before .before .before .before .before .before .before in
     let read = line .before .before .before .entry-line in
     let found = subst (EntryLineAt _ _ _) (line .schema .given .1) (read .ensures) in
-    λ xs e n next.
+    λ xs e.
     let t = taskOf (start .args .table .now) in
-    let many = c .if1 .taken in
-    turn-refused stepLine _ (takePlanLine t xs) _ _ (found .is) n next 4 (one-too-many t xs _ (found .ns) (omega arith))
+    let many = c .if1 .taken in (
+      λ n next.
+          turn-refused stepLine _ (takePlanLine t xs) _ _ (found .is) n next 4
+          (one-too-many t xs _ (found .ns) (omega arith)),
+      refl,
+    )
 
 slice-aggregate-is-step : tie.Need-slice-aggregate-is-step
 slice-aggregate-is-step c = search needs
@@ -57,12 +64,15 @@ returns-3 c =
     let start = line .before .before .before .before .before .before .before .before in
     let read = line .before .before .before .entry-line in
     let found = subst (EntryLineAt _ _ _) (line .schema .given .1) (read .ensures) in
-    λ xs e n next.
+    λ xs e.
     let t = taskOf (start .args .table .now) in
-    let few = c .before .before .before .if1 .left in
-    turn-refused stepLine _ (takePlanLine t xs) _ _ (found .is) n next 5
-    (step-wrong t xs _ (found .ns) (omega arith)
-    (sym (c .before .is-step .ensures (found .ns) (found .listed)) ∙ not-true _ (c .if2 .taken)))
+    let few = c .before .before .before .if1 .left in (
+      λ n next.
+          turn-refused stepLine _ (takePlanLine t xs) _ _ (found .is) n next 5
+          (step-wrong t xs _ (found .ns) (omega arith)
+          (sym (c .before .is-step .ensures (found .ns) (found .listed)) ∙ not-true _ (c .if2 .taken))),
+      refl,
+    )
 
 mul-put-step : tie.Need-mul-put-step
 mul-put-step c = search needs
@@ -80,6 +90,7 @@ put-step-requires c κs =
     let is = sym (tried .ensures (found .ns) (found .listed)) ∙ not-false _ (c .before .before .if2 .left) in
     let few = c .before .before .before .before .before .if1 .left in
     let long = start .pre .1 .1 in
+    let z = planWords-is in
     let e = read .kept .1 .1 .0 in
     let size : length (read .last .1 .1 .0) ≡ 12 = omega arith in
     let kept = step-kept (start .args .table .now) (start .pre .0) _ _ _ (found .ns) size (found .listed) is in
