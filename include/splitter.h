@@ -2,9 +2,10 @@
  *
  * Each returns 0 for a result, else the number of its refusal (1 to 17). Every number lent by pointer is written:
  * `place` is the refusal's line (from 1), schema or step (from 0), and 0 with a result or where there is no place;
- * values that have no meaning are 0. A slice is lent as a pointer and the number of its elements, bytes or words of 16
- * bits, each two bytes, the low one first; none may overlap another that is written. A pointer is never NULL, also
- * where its length is 0. A table is 13,406 words; words lent behind them are neither judged nor touched. */
+ * values that have no meaning are 0. These numbers are distinct variables, and none lies in a slice that is lent. A slice
+ * is lent as a pointer and the number of its elements, bytes or words of 16 bits, each two bytes, the low one first;
+ * none may overlap another that is written. A pointer is never NULL, also where its length is 0. A table is 13,406
+ * words; words lent behind them are neither judged nor touched. docs/assumptions.md has all that a caller owes. */
 #ifndef SPLITTER_H
 #define SPLITTER_H
 
