@@ -2,10 +2,11 @@
  *
  * Each returns 0 for a result, else the number of its refusal (1 to 17). Every number lent by pointer is written:
  * `place` is the refusal's line (from 1), schema or step (from 0), and 0 with a result or where there is no place;
- * values that have no meaning are 0. These numbers are distinct variables, and none lies in a slice that is lent. A slice
- * is lent as a pointer and the number of its elements, bytes or words of 16 bits, each two bytes, the low one first;
- * none may overlap another that is written. A pointer is never NULL, also where its length is 0. A table is 13,406
- * words; words lent behind them are neither judged nor touched. docs/assumptions.md has all that a caller owes. */
+ * values that have no meaning are 0. These numbers are distinct variables, and none lies in a slice that is lent. A
+ * slice is lent as a pointer and the number of its elements, bytes or words of 16 bits, each two bytes, the low one
+ * first; none may overlap another that is written. A pointer is never NULL, also where its length is 0. A table is
+ * 13,406 words; words lent behind them are neither judged nor touched. docs/assumptions.md has all that a caller
+ * owes. */
 #ifndef SPLITTER_H
 #define SPLITTER_H
 
@@ -70,9 +71,9 @@ uint32_t splitter_split(const uint16_t *table, size_t table_len, uint16_t *split
 uint32_t splitter_unfold(const uint16_t *table, size_t table_len, const uint16_t *steps, size_t steps_len,
                          uint16_t *out, size_t out_len, uint64_t *place, uint64_t *split_steps);
 
-/* Folds a list of steps of the split of the table's task, 13 words each: takes it apart into whole blocks, and writes the
- * step of each, 13 words each, over the front of the words lent. It looks at schemas and objects, not at states. The
- * table is that of the task, not of its split.
+/* Folds a list of steps of the split of the table's task, 13 words each: takes it apart into whole blocks, and writes
+ * the step of each, 13 words each, over the front of the words lent. It looks at schemas and objects, not at states.
+ * The table is that of the task, not of its split.
  *
  * `split_steps` is how many split steps were lent, `steps` how many steps are written. Refusals: 1, 2, 9 and 10 as in
  * splitting, 12 no step of the split or an incomplete one (place: its number), 14 the first step that fits no block, or

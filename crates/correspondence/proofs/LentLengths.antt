@@ -1,6 +1,6 @@
--- 'Lent lengths aside' can always be met: with so much lent, no answer is 1, 13 or 17. A step's block has 1 to 16 parts,
--- so an unfolding is as long as its list or longer, and at most 16 times as long; and with room for all that a list adds,
--- running never outgrows its records.
+-- 'Lent lengths aside' can always be met: with so much lent, no answer is 1, 13 or 17. A step's block has 1 to 16
+-- parts, so an unfolding is as long as its list or longer, and at most 16 times as long; and with room for all that a
+-- list adds, running never outgrows its records.
 use Prim.Native.Nat.{ℕ, _*_, _≤_}
 use mathlib.Core.Path.{_≡_, refl, sym, _∙_, ap}
 use mathlib.Core.Bool.{Bool, true, false, _||_}

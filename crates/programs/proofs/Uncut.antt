@@ -1,6 +1,6 @@
 -- No accepted task's text is cut: a text that reads as a task is the text of that task, and the longest is shorter than
--- what a program takes. So a program answers of an accepted text as of the whole of it, and accepts no text that it cut.
-use Prim.Native.Nat.{ℕ, _≤_, _<_}
+-- what a program takes. So a program answers of an accepted text as of the whole of it, and accepts none that it cut.
+use Prim.Native.Nat.{ℕ, _<_}
 use mathlib.Core.Path.{_≡_, _∙_, ap}
 use mathlib.Core.List.{List}
 use native.Mathlib.Omega.{arith}

@@ -1,6 +1,6 @@
 -- The table of the task that was read: the rows were moved down to their place, zeros follow them, and the six counts
 -- come first, so the first 13,406 words are the task's and the others are as they were.
-use Prim.Native.Nat.{ℕ, suc, _+_, _-_, _*_, _≤_, _<_}
+use Prim.Native.Nat.{ℕ, _+_, _-_, _*_, _≤_, _<_}
 use mathlib.Core.Path.{_≡_, refl, sym, _∙_, ap, subst}
 use mathlib.Core.Bool.{Bool, true, false}
 use mathlib.Core.List.{List, [], _∷_, _++_, map}
@@ -11,8 +11,8 @@ use lib.Dec.{ltb}
 use borrow.Author.Tests.{ltb-true, ltb-false}
 use Rattle.task.specs.Limits.{tableWords}
 use Rattle.task.specs.Lists.{concatMap, over}
-use Rattle.task.specs.Task.{Task, Schema, schemaAtoms, wellFormed}
-use Rattle.task.specs.Table.{atomWords, factWords, schemasFrom, wordsOf}
+use Rattle.task.specs.Task.{wellFormed}
+use Rattle.task.specs.Table.{factWords, schemasFrom, wordsOf}
 use Rattle.task.proofs.Tables.{At, at-move, sixWords, content, wordsOf-is, words-length, tableWords-is}
 use Rattle.task.proofs.TablesByWords.{at-join, zero-behind}
 use Rattle.text.specs.declared.counts.Counts.{Counts}

@@ -1,5 +1,5 @@
--- What `planOutcome` is of a plan that is read and of one that is refused; and what a caller of `read_plan` knows by its
--- answer: the plan with its number of steps, whose words are good steps of the task; or the line that was refused.
+-- What `planOutcome` is of a plan that is read and of one that is refused; and what a caller of `read_plan` knows by
+-- its answer: the plan with its number of steps, whose words are good steps of the task; or the line that was refused.
 use Prim.Native.Nat.{ℕ, _*_}
 use mathlib.Core.Path.{_≡_, refl, sym, _∙_, ap, subst}
 use mathlib.Core.Bool.{true}

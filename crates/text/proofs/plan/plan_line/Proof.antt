@@ -37,7 +37,8 @@ unfolding bytes planKeyName
 returns c =
     let start = c .before .before .before .before .before .before .before .before .before .before .before .before in
     let at-word = c .before .before .before .before .before .before .before in
-    let word = subst (WordAt _ _ _) (c .before .before .before .before .before .body .given .1) (at-word .word .ensures) in
+    let body = c .before .before .before .before .before .body .given .1 in
+    let word = subst (WordAt _ _ _) body (at-word .word .ensures) in
     let done = c .before .before .step-line in
     λ xs e.
     plan-turned-at (taskOf (start .args .table .now)) (start .args .text .now) (start .args .from) _ xs _ _
