@@ -5,7 +5,8 @@ use mathlib.Core.Path.{_≡_, refl, sym, _∙_, ap, subst}
 use mathlib.Core.Bool.{Bool, true, false}
 use mathlib.Core.List.{List, [], _∷_, _++_, map}
 use native.Mathlib.Omega.{arith}
-use lib.ListN.{length, getD, drop, replicate, length-append, length-map, length-drop, length-replicate, getD-replicate, List·getD-append}
+use lib.ListN.{length, getD, drop, replicate, length-append, length-map, length-drop, length-replicate}
+use lib.ListN.{getD-replicate, List·getD-append}
 use lib.Seq.{ext-getD, getD-append-add, getD-drop}
 use lib.Dec.{ltb}
 use borrow.Author.Tests.{ltb-true, ltb-false}
@@ -88,7 +89,9 @@ module _ {d : Draft} {w : List ℕ} {c : Counts} (h : Holds d w c) (closed : 6 <
   head = c .objects ∷ c .predicates ∷ c .schemas ∷ c .closed ∷ c .initial ∷ c .goal ∷ []
 
   abbrev rows : List ℕ
-  rows = schemasFrom 0 (d .task .schemas) ++ (concatMap (factWords 3) (d .task .init) ++ concatMap (factWords 4) (d .task .goal))
+  rows =
+      schemasFrom 0 (d .task .schemas) ++
+      (concatMap (factWords 3) (d .task .init) ++ concatMap (factWords 4) (d .task .goal))
 
   rows-are : rowsOf d ≡ rows
   unfolding rowsOf noSchema concatMap
@@ -140,7 +143,8 @@ module _ {d : Draft} {w : List ℕ} {c : Counts} (h : Holds d w c) (closed : 6 <
         let params = map (λ s. s .params) (d .task .schemas) in
         let six = sixWords (d .task) in
         let e : length six ≡ 6 = ap length (sym head-is) in
-        at-join after 0 six (d .task .arities ++ (params ++ rows)) (subst (At after 0) head-is (stands heads head refl (λ k l. refl)))
+        at-join after 0 six (d .task .arities ++ (params ++ rows))
+        (subst (At after 0) head-is (stands heads head refl (λ k l. refl)))
         (at-move after 6 (0 + length six) (d .task .arities ++ (params ++ rows)) (omega arith)
         (at-join after 6 (d .task .arities) (params ++ rows) arities-laid
         (at-join after (6 + length (d .task .arities)) params rows params-laid
@@ -169,7 +173,8 @@ module _ {d : Draft} {w : List ℕ} {c : Counts} (h : Holds d w c) (closed : 6 <
         let s₁ = down .size in
         let s₂ = zeros .size in
         let s₃ = heads .size in
-        over-is (wordsOf (d .task)) w after (omega arith) (omega arith) (λ k l. go k (omega arith) (ltb k (to + many)) refl)
+        over-is (wordsOf (d .task)) w after (omega arith) (omega arith)
+        (λ k l. go k (omega arith) (ltb k (to + many)) refl)
         (λ k l. heads .behind k (omega arith) ∙ (zeros .behind k (omega arith) ∙ down .behind k (omega arith)))
       where
         go : (k : ℕ) → k < 13406 → (b : Bool) → ltb k (to + many) ≡ b → getD after k 0 ≡ getD (wordsOf (d .task)) k 0
@@ -178,7 +183,8 @@ module _ {d : Draft} {w : List ℕ} {c : Counts} (h : Holds d w c) (closed : 6 <
             let n = content-long in
             let z : 0 + k ≡ k = omega arith in
             ap (λ (i : ℕ). getD after i 0) (sym z) ∙ (content-laid k (omega arith) ∙
-            (sym (List·getD-append (content (d .task)) (replicate (tableWords - length (content (d .task))) 0) 0 k (omega arith)) ∙
+            (sym (List·getD-append (content (d .task)) (replicate (tableWords - length (content (d .task))) 0) 0 k
+            (omega arith)) ∙
             ap (λ (xs : List ℕ). getD xs k 0) (sym (wordsOf-is (d .task)))))
         go k l false e =
             let m = ltb-false k (to + many) e in
