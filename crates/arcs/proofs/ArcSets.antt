@@ -9,18 +9,16 @@ use lib.ListN.{length, getD, set, replicate}
 use lib.Dec.{eqb}
 use lib.Seq.{getD-set-same, getD-set-other}
 use borrow.Author.Tests.{eqb-true, eqb-false, eq-eqb, ne-eqb, not-true}
-use Rattle.task.specs.Lists.{any, upFrom}
+use Rattle.words.specs.Lists.{any, upFrom}
 use Rattle.task.specs.Task.{Atom, precondition, addition}
 use Rattle.task.specs.Table.{atomIn}
-use Rattle.task.proofs.Laws.{and-left, and-right, both-ft, bool-ext, false-if, In, any-in, map-in, upFrom-in}
+use Rattle.words.proofs.Ranges.{or-false}
+use Rattle.words.proofs.Lists.{and-left, and-right, both-ft, bool-ext, false-if, In, any-in, map-in, upFrom-in}
 use Rattle.arcs.specs.Order.{givesArc, roleBefore, arc}
-use Rattle.arcs.specs.Code.{AreArcs, ArePreconditions, Joins, member, atomsIn, arcsBetween}
-use Rattle.arcs.proofs.BitSets.{member-zero}
+use Rattle.arcs.specs.Code.{AreArcs, ArePreconditions, Joins, atomsIn, arcsBetween}
+use Rattle.words.specs.Sets.{member}
+use Rattle.words.proofs.BitSets.{member-zero}
 use Rattle.arcs.proofs.Stretches.{zeros-at, atoms-none, atoms-more}
-
-pub or-false : (b : Bool) → b || false ≡ b
-or-false true = refl
-or-false false = refl
 
 pub or-assoc : (a b c : Bool) → (a || b) || c ≡ a || (b || c)
 or-assoc true b c = refl

@@ -7,10 +7,10 @@ use mathlib.Core.List.{List, map}
 use mathlib.Core.Logic.{_↔_, _⊎_, inl, inr}
 use lib.Dec.{eqb}
 use borrow.Author.Tests.{eqb-true, not-true, eq-eqb, ne-eqb}
-use Rattle.task.specs.Lists.{any}
+use Rattle.words.specs.Lists.{any}
 use Rattle.task.specs.Task.{Atom, precondition, addition, deletion}
 use Rattle.arcs.specs.Order.{roleBefore, givesArc, arc}
-use Rattle.task.proofs.Laws.{both-ft, and-left, and-right, and-both, or-cases, In, any-in, in-any}
+use Rattle.words.proofs.Lists.{both-ft, and-left, and-right, and-both, or-cases, In, any-in, in-any}
 
 -- ---- the role rule
 -- "from precondition to add, precondition to delete, delete to add"

@@ -9,13 +9,14 @@ use native.Mathlib.Omega.{arith}
 use native.Mathlib.Decide.{decLt}
 use lib.ListN.{getD}
 use borrow.Author.Tests.{lt-ltb, le-ltb}
-use Rattle.task.specs.Lists.{any, filter, keepIf, upFrom, upTo}
+use Rattle.words.specs.Lists.{any, filter, keepIf, upFrom, upTo}
 use Rattle.task.specs.Task.{Atom}
-use Rattle.task.proofs.Laws.{and-left, and-right, and-both, bool-ext, both-ft}
-use Rattle.task.proofs.Laws.{any-in, in-any, in-filter, filter-in, in-upTo}
+use Rattle.words.proofs.Lists.{and-left, and-right, and-both, bool-ext, both-ft, any-in, in-any, in-filter, filter-in}
+use Rattle.words.proofs.Lists.{in-upTo}
 use Rattle.arcs.specs.Order.{arc, preconditions, ready, better, best}
-use Rattle.arcs.specs.Code.{AreArcs, AreCounts, SetBelow, member, members}
-use Rattle.arcs.proofs.BitSets.{member-beyond}
+use Rattle.arcs.specs.Code.{AreArcs, AreCounts}
+use Rattle.words.specs.Sets.{SetBelow, member, members}
+use Rattle.words.proofs.BitSets.{member-beyond}
 
 -- ---- readiness by sets
 member-small : (set k : ℕ) → set < 2 ^ 64 → member set k ≡ true → k < 64

@@ -11,16 +11,14 @@ use native.Mathlib.Omega.{arith}
 use lib.ListN.{length, getD}
 use lib.Dec.{eqb}
 use borrow.Author.Tests.{eqb-true, eq-eqb}
-use Rattle.task.specs.Lists.{any, upTo}
+use Rattle.words.specs.Lists.{any, upTo}
 use Rattle.task.specs.Task.{Atom, Schema, partCount}
-use Rattle.arcs.specs.Order.{arc, NoOrderComplies, ready, best, consTo, place, orderFrom}
-use Rattle.arcs.specs.Order.{orderOf}
-use Rattle.task.proofs.Laws.{both-ft, In, here, there, in-eq, in-empty, any-in, in-any, in-filter, getD-in, upTo-in}
-use Rattle.task.proofs.Laws.{length-upTo}
+use Rattle.arcs.specs.Order.{arc, NoOrderComplies, ready, best, consTo, place, orderFrom, orderOf}
+use Rattle.words.proofs.Lists.{both-ft, In, here, there, in-eq, in-empty, any-in, in-any, in-filter, getD-in, upTo-in}
+use Rattle.words.proofs.Lists.{length-upTo}
 use Rattle.arcs.proofs.Arcs.{arc-self}
 use Rattle.arcs.proofs.Best.{best-none}
-use Rattle.arcs.proofs.PartLists.{no-none, Ascend, ascend-upTo, ascend-filter, others, others-in}
-use Rattle.arcs.proofs.PartLists.{others-one-less}
+use Rattle.words.proofs.Ascending.{no-none, Ascend, ascend-upTo, ascend-filter, others, others-in, others-one-less}
 use Rattle.arcs.proofs.OrderTaken.{candidates, no-arc-ready, order-taken}
 
 -- `Complies`, of the rest of an order too

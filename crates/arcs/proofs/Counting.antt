@@ -9,10 +9,10 @@ use lib.ListN.{length, getD, set, length-map}
 use lib.Dec.{eqb}
 use lib.Seq.{getD-set-same, getD-set-other}
 use borrow.Author.Tests.{eqb-true, eqb-false, eq-eqb}
-use Rattle.task.specs.Lists.{filter, keepIf, upFrom}
+use Rattle.words.specs.Lists.{filter, keepIf, upFrom}
 use Rattle.task.specs.Task.{Atom, partCount, precondition}
 use Rattle.task.specs.Table.{atomIn}
-use Rattle.task.proofs.Laws.{length-upFrom}
+use Rattle.words.proofs.Lists.{length-upFrom}
 use Rattle.arcs.specs.Order.{preconditions}
 use Rattle.arcs.specs.Code.{AreCounts, atomsIn}
 use Rattle.arcs.proofs.Stretches.{atoms-none, atoms-more}

@@ -11,15 +11,14 @@ use native.Mathlib.Omega.{arith}
 use lib.ListN.{length, getD}
 use lib.Dec.{eqb}
 use borrow.Author.Tests.{eqb-true, not-true, eq-eqb}
-use Rattle.task.specs.Lists.{any, filter, upTo}
+use Rattle.words.specs.Lists.{any, filter, upTo}
 use Rattle.task.specs.Task.{Atom, Schema, partCount}
-use Rattle.arcs.specs.Order.{arc, OrderOfParts, Complies, ready, best, consTo, place}
-use Rattle.arcs.specs.Order.{orderFrom, orderOf}
-use Rattle.task.proofs.Laws.{both-ft, bool-cases, false-if, In, here, there, in-eq, any-in, in-any, in-filter}
-use Rattle.task.proofs.Laws.{filter-in, in-getD, getD-in, in-upTo, length-upTo}
+use Rattle.arcs.specs.Order.{arc, OrderOfParts, Complies, ready, best, consTo, place, orderFrom, orderOf}
+use Rattle.words.proofs.Lists.{both-ft, bool-cases, false-if, In, here, there, in-eq, any-in, in-any, in-filter}
+use Rattle.words.proofs.Lists.{filter-in, in-getD, getD-in, in-upTo, length-upTo}
 use Rattle.arcs.proofs.Arcs.{Ordered, SameGround, same-ground-arc, arc-is}
 use Rattle.arcs.proofs.Best.{best-in}
-use Rattle.arcs.proofs.PartLists.{some-inj, no-none, others, others-in, others-fewer}
+use Rattle.words.proofs.Ascending.{some-inj, no-none, others, others-in, others-fewer}
 
 -- ---- ready parts
 pub ready-no-arc : (atoms : List Atom) (unplaced : List ℕ) (p : ℕ) → ready atoms unplaced p ≡ true →

@@ -12,11 +12,11 @@ use lib.Dec.{eqb, ltb}
 use lib.Seq.{take-suc-set}
 use borrow.Author.Tests.{lt-ltb, ltb-true}
 use Rattle.task.specs.declared.Part.{Part}
-use Rattle.task.specs.Lists.{filter, keepIf, upTo}
+use Rattle.words.specs.Lists.{filter, keepIf, upTo}
 use Rattle.task.specs.Task.{Atom, Schema, partCount}
-use Rattle.task.proofs.Laws.{In, here, there, and-left, map-append, upTo-in}
+use Rattle.words.proofs.Lists.{In, here, there, and-left, map-append, upTo-in}
 use Rattle.arcs.specs.Order.{ready, best, consTo, place, orderFrom, orderOf}
-use Rattle.arcs.specs.Code.{SetBelow, member, members}
+use Rattle.words.specs.Sets.{SetBelow, member, members}
 
 -- ---- sets as lists
 -- a set that has lost p

@@ -8,16 +8,16 @@ use native.Mathlib.Omega.{arith}
 use lib.ListN.{length, getD, take, replicate, length-map}
 use lib.Seq.{ext-getD}
 use borrow.Author.Tests.{leb-true}
-use Rattle.task.specs.Lists.{sum, upFrom}
+use Rattle.words.specs.Lists.{sum, upFrom}
 use Rattle.task.specs.Task.{Atom, partCount, schemaFits}
 use Rattle.task.specs.Run.{schemaAt}
 use Rattle.task.specs.Table.{atomBase, atomIn, schemaNumberIn, taskOf, isTable}
-use Rattle.task.proofs.Laws.{In, here, there, all-in, in-getD, getD-map, map-append}
-use Rattle.task.proofs.Laws.{upFrom-last, length-upFrom, getD-upFrom}
+use Rattle.words.proofs.Lists.{In, here, there, all-in, in-getD, getD-map, map-append, upFrom-last, length-upFrom}
+use Rattle.words.proofs.Lists.{getD-upFrom}
 use Rattle.task.proofs.Tests.{schema-tests, task-tests}
 use Rattle.task.proofs.Tables.{noAtom, noSchema, counts, startOf, of-table}
-use Rattle.task.proofs.TablesByIndex.{table-frame, table-long, schemas-word, atom-inside, atom-at, atom-lies}
-use Rattle.task.proofs.TablesByIndex.{start-suc, start-end}
+use Rattle.task.proofs.TablesByIndex.{table-frame, table-long, schemas-word, atom-inside, atom-at, atom-lies, start-suc}
+use Rattle.task.proofs.TablesByIndex.{start-end}
 use Rattle.arcs.specs.Code.{IsSchemaAtom, IsStretch, atomsIn}
 
 -- what an array begins with

@@ -1,13 +1,13 @@
 -- What the contracts of this crate's code speak of: sets of bits, stretches of a table's schema atoms, what is found of
 -- each part, and the order that is handed back.
-use Prim.Native.Nat.{ℕ, _-_, _/_, _%_, _^_, _≤_, _<_}
+use Prim.Native.Nat.{ℕ, _-_, _≤_, _<_}
 use mathlib.Core.Path.{_≡_}
 use mathlib.Core.Bool.{Bool, true, not, cond, _&&_, _||_}
 use mathlib.Core.List.{List, map}
 use mathlib.Core.Option.{Option, none, some}
 use lib.ListN.{getD, take}
 use lib.Dec.{eqb}
-use Rattle.task.specs.Lists.{any, filter, upFrom, upTo}
+use Rattle.words.specs.Lists.{any, upFrom}
 use Rattle.task.specs.Task.{Atom, precondition}
 use Rattle.task.specs.Table.{atomIn, isTable}
 use Rattle.task.specs.declared.Part.{Part}
@@ -15,16 +15,9 @@ use Rattle.arcs.specs.declared.Order.{Order}
 use Rattle.arcs.specs.declared.choice.Choice.{Choice}
 use Rattle.arcs.specs.declared.choice.Choice.the-variants as choice
 use Rattle.arcs.specs.Order.{givesArc, arc, preconditions}
+use Rattle.words.specs.Sets.{member}
 
 -- ---- sets of bits
--- whether k is in the set
-unfoldable pub member : ℕ → ℕ → Bool
-member set k = eqb (set / 2 ^ k % 2) 1
-
--- the numbers below n that are in the set, ascending
-unfoldable pub members : ℕ → ℕ → List ℕ
-unfolding member filter upTo
-members set n = filter (member set) (upTo n)
 
 -- ---- atoms of a table
 -- words of a table, and a schema atom of it: word 3 says how many there are
@@ -77,10 +70,6 @@ chosen choice.Circular = none
 -- a part that is chosen is below n
 abbrev pub ChosenBelow : ℕ → Choice → Type 0
 ChosenBelow n c = (p : ℕ) → chosen c ≡ some p → p < n
-
--- all in a set are below n
-abbrev pub SetBelow : ℕ → ℕ → Type 0
-SetBelow n set = (k : ℕ) → member set k ≡ true → k < n
 
 -- ---- the order handed back
 -- its part numbers, or none where no order complies

@@ -9,6 +9,10 @@ ghost use Rattle.task.specs.Table.{atomBase, atomIn};
 ghost use Rattle.arcs.specs.Order.{roleBefore, givesArc};
 ghost use Rattle.arcs.specs.Code.{IsSchemaAtom};
 use task::Part;
+use task::limits::ATOM_SIZE;
+use task::limits::HEAD_WORDS;
+use task::limits::PREDICATES;
+use task::limits::SCHEMAS;
 
 // "role (0 precondition, 1 add, 2 delete, 3 initial, 4 goal)"
 const PRECONDITION: u16 = 0;
@@ -17,11 +21,7 @@ const ADDITION: u16 = 1;
 
 const DELETION: u16 = 2;
 
-// A table begins with six counts; atoms are "8 words each: schema, role, predicate, part, four arguments".
-const HEAD_WORDS: usize = 6;
-
-const ATOM_SIZE: usize = 8;
-
+// Atoms are "8 words each: schema, role, predicate, part, four arguments".
 const ROLE: usize = 1;
 
 const PREDICATE: usize = 2;
@@ -45,7 +45,7 @@ pub fn word_of(table: &[u16], i: usize, k: usize) -> u16
     requires { ⌜ k < atomSize ⌝ }
     ensures { λ r. ⌜ r ≡ getD (now (table .entry)) (atomBase (now (table .entry)) i + k) 0 ⌝ }
 {
-    table[HEAD_WORDS + table[1] as usize + table[2] as usize + ATOM_SIZE * i + k]
+    table[HEAD_WORDS + table[PREDICATES] as usize + table[SCHEMAS] as usize + ATOM_SIZE * i + k]
 }
 
 // "Two atoms of one schema with the same predicate give an arc"

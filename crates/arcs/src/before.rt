@@ -7,13 +7,13 @@ ghost use Rattle.task.specs.Limits.{mostParts};
 ghost use Rattle.task.specs.Table.{atomIn};
 ghost use Rattle.arcs.specs.Code.{AreArcs, ArePreconditions, IsSchemaAtom, IsStretch, Joins};
 ghost use Rattle.arcs.specs.Code.{atomsIn, arcsBetween};
-use crate::MOST_PARTS;
 use crate::PartSets;
 use crate::atoms::gives_arc;
 use crate::atoms::is_addition;
 use crate::atoms::is_precondition;
 use crate::atoms::part_of;
-use crate::sets;
+use task::limits::MOST_PARTS;
+use words::sets;
 
 // The arc from atom i to atom j joins the sets, if there is one. "Arcs inside a part don't count".
 fn add_pair(table: &[u16], i: usize, j: usize, before: &mut PartSets)

@@ -3,15 +3,16 @@ ghost use Prim.Native.Nat.{ℕ, _≤_, _<_};
 ghost use mathlib.Core.Path.{_≡_};
 ghost use mathlib.Core.Bool.{_&&_};
 ghost use mathlib.Core.List.{List};
-ghost use Rattle.task.specs.Lists.{filter};
+ghost use Rattle.words.specs.Lists.{filter};
 ghost use Rattle.task.specs.Limits.{mostParts};
 ghost use Rattle.task.specs.Task.{Atom};
 ghost use Rattle.arcs.specs.Order.{ready, better, best};
-ghost use Rattle.arcs.specs.Code.{AreArcs, AreCounts, ChosenBelow, SetBelow, chosen, member, members};
+ghost use Rattle.arcs.specs.Code.{AreArcs, AreCounts, ChosenBelow, chosen};
+ghost use Rattle.words.specs.Sets.{SetBelow, member, members};
 use crate::PartCounts;
 use crate::PartSets;
-use crate::sets;
 use task::Part;
+use words::sets;
 
 // A part that is ready, or none: then the parts left stand in a circle.
 pub enum Choice {

@@ -4,10 +4,10 @@ ghost use mathlib.Core.Path.{_≡_};
 ghost use Rattle.task.specs.Limits.{mostParts};
 ghost use Rattle.task.specs.Task.{partCount};
 ghost use Rattle.arcs.specs.Code.{AreCounts, IsStretch, atomsIn};
-use crate::MOST_PARTS;
 use crate::PartCounts;
 use crate::atoms::is_precondition;
 use crate::atoms::part_of;
+use task::limits::MOST_PARTS;
 
 // One more than the highest part number.
 pub fn part_count(table: &[u16], from: usize, to: usize) -> usize

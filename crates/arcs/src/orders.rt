@@ -4,23 +4,24 @@ ghost use mathlib.Core.Path.{_≡_};
 ghost use lib.ListN.{length};
 ghost use Rattle.task.specs.Task.{Schema};
 ghost use Rattle.arcs.specs.Order.{orderOf};
+ghost use Rattle.task.specs.Limits.{mostParts};
 ghost use Rattle.arcs.specs.Code.{IsStretch, atomsIn, orderTold};
-use crate::MOST_PARTS;
 use crate::Order;
 use crate::before::arcs_of;
 use crate::choice::Choice;
 use crate::choice::choose;
 use crate::counts::part_count;
 use crate::counts::preconditions_of;
-use crate::sets::below;
-use crate::sets::without;
 use task::Part;
+use task::limits::MOST_PARTS;
+use words::sets::below;
+use words::sets::without;
 
 // The order taken of the parts of the schema whose atoms are atoms `from` to `to - 1` of the table.
 pub fn order_of(table: &[u16], from: usize, to: usize) -> Order
     requires { ⌜ IsStretch (now table) from to ⌝ }
     ensures { λ r. ⌜ ((s : Schema) → s .atoms ≡ atomsIn (now (table .entry)) from to → orderTold r ≡ orderOf s) ⌝ }
-    ensures { λ r. ⌜ (r .count ≤ 16) × (length (r .parts) ≡ 16) ⌝ }
+    ensures { λ r. ⌜ (r .count ≤ mostParts) × (length (r .parts) ≡ mostParts) ⌝ }
 {
     let before = arcs_of(table, from, to);
     let preconditions = preconditions_of(table, from, to);

@@ -1,4 +1,5 @@
 -- Folding by the moves that code makes: a block is begun, goes on part after part, and is complete past its last part.
+use Rattle.blocks.specs.declared.folding.Taken.the-variants as taken
 use Prim.Native.Nat.{ℕ, suc, _+_, _<_}
 use mathlib.Core.Path.{_≡_, refl, sym, _∙_, ap}
 use mathlib.Core.Bool.{Bool, true, false, cond}
@@ -8,16 +9,16 @@ use native.Mathlib.Omega.{arith}
 use lib.ListN.{length, replicate}
 use lib.Dec.{eqb}
 use borrow.Author.Tests.{eq-eqb, ne-eqb}
-use Rattle.task.specs.Lists.{upTo}
+use Rattle.words.specs.Lists.{upTo}
 use Rattle.task.specs.Task.{Task}
 use Rattle.task.specs.Run.{Step, schemaAt}
 use Rattle.tokens.specs.Split.{orders}
 use Rattle.blocks.specs.declared.folding.Taken.{Taken}
-use Rattle.blocks.specs.declared.folding.Taken.the-variants as taken
-use Rattle.blocks.specs.Blocks.{paramsAt, Bound, bind, Folding, folded, misfit, prepend, beginner, Stage, outside}
-use Rattle.blocks.specs.Blocks.{inside, begun, stageFor, fitsAt, lastAt, advanced, completed, foldEnd, foldFrom}
+use Rattle.blocks.specs.Blocks.{paramsAt, Folding, folded, misfit, prepend, beginner, Stage, outside, inside}
+use Rattle.blocks.specs.Blocks.{begun, stageFor, fitsAt, lastAt, advanced, completed, foldEnd, foldFrom}
 use Rattle.blocks.specs.FoldCode.{takenOf}
 use Rattle.blocks.proofs.FoldBlock.{fold-off, fold-move, fold-finish}
+use Rattle.task.specs.Bindings.{Bound, bind}
 
 -- ---- what is taken apart, behind n steps found
 unfoldable pub takenAfter : ℕ → Folding → Taken

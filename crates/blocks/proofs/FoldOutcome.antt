@@ -1,15 +1,15 @@
 -- What folding does by the first check that fails, and what it does where all pass: its refusals leave all as found.
+use Rattle.task.specs.declared.Place.the-variants as place
 use Prim.Native.Nat.{ℕ}
 use mathlib.Core.Path.{_≡_, refl, _∙_, ap}
 use mathlib.Core.Bool.{true, false}
 use mathlib.Core.List.{List, [], _∷_}
 use mathlib.Core.Option.{none, some}
 use Rattle.task.specs.declared.Place.{Place}
-use Rattle.task.specs.declared.Place.the-variants as place
-use Rattle.task.specs.Answers.{Outcome, Check, refuseUnless, refuseStep, inOrder}
+use Rattle.task.specs.Answers.{Outcome, Check, refuseUnless, inOrder, refuseAt}
 use Rattle.task.specs.Table.{taskOf}
 use Rattle.task.specs.Run.{Step, stepsIn, badStep}
-use Rattle.task.proofs.Answers.{asFound, check-passes, check-refuses, step-passes, step-refuses}
+use Rattle.task.proofs.Answers.{asFound, check-passes, check-refuses, refusal-stands, place-passes, place-refuses}
 use Rattle.tokens.specs.Code.{acceptedThen, RefusedAs}
 use Rattle.tokens.specs.Split.{splitTask}
 use Rattle.tokens.proofs.SplitOutcome.{accepted-passes}
@@ -28,7 +28,7 @@ foldingOf w steps = foldSteps (taskOf w) (splitStepsIn w steps)
 
 module _ (w steps out : List ℕ) where
   -- what is done where no check fails
-  abbrev doneBy : Folding → Outcome
+  abbrev doneBy : Folding → Outcome (List ℕ)
   doneBy f = foldedOver (splitStepsIn w steps) (foldedSteps f) out
 
   abbrev roomCheck : Folding → List Check
@@ -38,30 +38,31 @@ module _ (w steps out : List ℕ) where
   blockCheck = foldCheck (foldingOf w steps) ∷ roomCheck (foldingOf w steps)
 
   abbrev stepCheck : List Check
-  stepCheck = refuseStep 12 (badStep (splitTask (taskOf w)) steps) ∷ blockCheck
+  stepCheck = refuseAt 12 place.Step (badStep (splitTask (taskOf w)) steps) ∷ blockCheck
 
   outcome-is : foldOutcome w steps out ≡ inOrder (acceptedThen w stepCheck) out (doneBy (foldingOf w steps))
   unfolding foldOutcome
   outcome-is = refl
 
   pub fold-refused-as : {n : ℕ} {at : Place} → RefusedAs w n at → foldOutcome w steps out ≡ asFound n at out
-  fold-refused-as h = outcome-is ∙ h stepCheck out (doneBy (foldingOf w steps))
+  fold-refused-as h =
+      outcome-is ∙ refusal-stands (acceptedThen w stepCheck) out (doneBy (foldingOf w steps)) (h stepCheck)
 
-  module _ {firsts counts own : List ℕ} (K : TableKept w firsts counts own) where
+  module _ {kept : List ℕ} (K : TableKept w kept) where
     accepted : foldOutcome w steps out ≡ inOrder stepCheck out (doneBy (foldingOf w steps))
     accepted =
         outcome-is ∙ accepted-passes w (K .long) (K .table) (K .accepted) stepCheck out (doneBy (foldingOf w steps))
 
     pub fold-bad-step : {i : ℕ} → badStep (splitTask (taskOf w)) steps ≡ some i →
         foldOutcome w steps out ≡ asFound 12 (place.Step i) out
-    fold-bad-step e = accepted ∙ step-refuses 12 blockCheck out (doneBy (foldingOf w steps)) e
+    fold-bad-step e = accepted ∙ place-refuses 12 place.Step blockCheck out (doneBy (foldingOf w steps)) e
 
     module _ (good : badStep (splitTask (taskOf w)) steps ≡ none) where
       taken : (f : Folding) → foldingOf w steps ≡ f →
           foldOutcome w steps out ≡ inOrder (foldCheck f ∷ roomCheck f) out (doneBy f)
       taken f e =
           accepted
-          ∙ (step-passes 12 blockCheck out (doneBy (foldingOf w steps)) good
+          ∙ (place-passes 12 place.Step blockCheck out (doneBy (foldingOf w steps)) good
           ∙ ap (λ (g : Folding). inOrder (foldCheck g ∷ roomCheck g) out (doneBy g)) e)
 
       pub fold-misfit : {i : ℕ} → foldingOf w steps ≡ misfit i →

@@ -4,16 +4,17 @@ use mathlib.Core.Path.{_≡_, refl, sym, _∙_, ap}
 use mathlib.Core.List.{List, [], _∷_, _++_, append-nil, append-assoc}
 use native.Mathlib.Omega.{arith}
 use lib.ListN.{length, length-append}
-use Rattle.task.specs.Lists.{over, put, concatMap}
+use Rattle.words.specs.Lists.{over, put, concatMap}
 use Rattle.task.specs.Task.{Task}
 use Rattle.task.specs.Run.{Step, stepWords, stepsIn, paramCount}
-use Rattle.task.proofs.Put.{put-over}
+use Rattle.words.proofs.Puts.{put-over}
+use Rattle.task.proofs.Holding.{held-words}
 use Rattle.tokens.specs.Split.{orders, splitTask}
 use Rattle.blocks.specs.Blocks.{folded, inside, completed, foldFrom, outside, foldSteps, listWords}
 use Rattle.blocks.specs.FoldCode.{SplitStepsKept}
-use Rattle.blocks.proofs.KeptWords.{PutTo, put-none, put-more}
+use Rattle.words.specs.Putting.{Puts}
+use Rattle.blocks.proofs.KeptWords.{put-none, put-more}
 use Rattle.blocks.proofs.KeptLists.{words-none, words-append}
-use Rattle.blocks.proofs.Holding.{held-words}
 use Rattle.blocks.proofs.FoldMoves.{prepended, list-ends}
 use Rattle.blocks.proofs.FoldWords.{step-none}
 use Rattle.blocks.proofs.FoldTurns.{leftFrom, InBlock, block-ends}
@@ -24,7 +25,7 @@ pub record PutSo (t : Task) (steps : List ℕ) (xs : List Step) (lent out : List
   pub rest : List Step
   pub whole : xs ≡ done ++ rest
   pub left : leftFrom t steps i ≡ folded rest
-  pub put-to : PutTo lent 0 (listWords done) out next
+  pub put-to : Puts lent 0 (listWords done) out next
   pub place : next ≡ 13 * length done
 
 pub put-start : (t : Task) (steps : List ℕ) (xs : List Step) (lent : List ℕ) →
@@ -43,8 +44,8 @@ words-one : (x : Step) → listWords (x ∷ []) ≡ stepWords x
 unfolding listWords concatMap
 words-one x = append-nil (stepWords x)
 
-module _ {t : Task} {steps firsts counts own begins : List ℕ}
-    (K : SplitStepsKept t steps firsts counts own begins) {xs : List Step} {lent out : List ℕ} {next i : ℕ}
+module _ {t : Task} {steps kept begins : List ℕ}
+    (K : SplitStepsKept t steps kept begins) {xs : List Step} {lent out : List ℕ} {next i : ℕ}
     (h : PutSo t steps xs lent out next i) where
   -- a whole block of schema s is read, up to split step `to`
   module _ (s j bound : ℕ) (found : List ℕ) (to : ℕ) (l : s < length (t .schemas)) (e : j ≡ length (orders t s))
@@ -57,8 +58,8 @@ module _ {t : Task} {steps firsts counts own begins : List ℕ}
         (block-ends K (λ f. f ≡ folded (h .rest)) s l j bound found to e k)
 
     words : s ∷ found ≡ stepWords step
-    unfolding paramCount
-    words = held-words (k .held) s j (let n = k .size in let m = K .kept .few-params s in omega arith)
+    unfolding paramCount completed
+    words = held-words (k .held) s (let n = k .size in let m = K .blocks .few-params s in omega arith)
 
     -- there is room for its step
     pub room-more : 13 * length xs ≤ length lent → next + 13 ≤ length lent

@@ -1,39 +1,34 @@
 -- The turns of folding's loops. Between blocks, and in a block before each of its parts, what the whole list folds to
 -- is known from what is left of it; a claim F of that is carried from turn to turn.
+use Rattle.blocks.specs.declared.folding.Taken.the-variants as taken
 use Prim.Native.Nat.{ℕ, suc, _+_, _-_, _*_, _/_, _≤_, _<_}
 use mathlib.Core.Path.{_≡_, refl, sym, _∙_, ap, ap₂, subst}
 use mathlib.Core.Bool.{true, false}
-use mathlib.Core.List.{List, [], _∷_}
+use mathlib.Core.List.{List}
 use mathlib.Core.Logic.{inl, inr}
 use mathlib.Core.Option.{none, some}
 use native.Mathlib.Omega.{arith}
 use native.Mathlib.Decide.{decLt}
 use native.Mathlib.Numerals.{add-one}
-use lib.ListN.{length, getD, set, drop, replicate, length-set, length-replicate}
-use Rattle.task.specs.Lists.{upTo}
+use lib.ListN.{length, getD, drop, replicate, length-replicate}
+use Rattle.words.specs.Lists.{upTo}
 use Rattle.task.specs.Task.{Task}
 use Rattle.task.specs.Run.{Step, schemaAt, stepAt, stepsIn}
-use Rattle.task.proofs.Laws.{bool-cases, upTo-in}
-use Rattle.arcs.specs.Code.{members, SetBelow}
+use Rattle.words.proofs.Lists.{bool-cases, upTo-in}
+use Rattle.words.specs.Sets.{members}
 use Rattle.tokens.specs.Split.{orders, splitTask}
-use Rattle.blocks.specs.declared.folding.Taken.the-variants as taken
-use Rattle.blocks.specs.Blocks.{Bound, bind, Folding, folded, misfit, prepend, beginner, outside, inside}
-use Rattle.blocks.specs.Blocks.{completed, foldFrom, foldSteps}
-use Rattle.blocks.specs.FoldCode.{SplitStepsKept, Held, givenObjects, keptFits, takenOf}
-use Rattle.blocks.proofs.Holding.{held-none}
+use Rattle.blocks.specs.Blocks.{Folding, folded, misfit, prepend, beginner, outside, inside, completed, foldFrom}
+use Rattle.blocks.specs.Blocks.{foldSteps}
+use Rattle.blocks.specs.FoldCode.{SplitStepsKept, givenObjects, ObjectsJoin, keptFits, takenOf}
 use Rattle.blocks.proofs.Inside.{beginner-in}
-use Rattle.blocks.proofs.FoldMoves.{no-misfit, foldOn, on-past, on-inside, block-goes-on, block-stops}
-use Rattle.blocks.proofs.FoldMoves.{noneBound, block-begins, block-none, list-ends, takenAfter}
-use Rattle.blocks.proofs.FoldMoves.{after-none, after-one}
+use Rattle.blocks.proofs.FoldMoves.{no-misfit, foldOn, on-past, on-inside, block-goes-on, block-stops, noneBound}
+use Rattle.blocks.proofs.FoldMoves.{block-begins, block-none, list-ends, takenAfter, after-none, after-one}
 use Rattle.blocks.proofs.FoldWords.{begun-none, begun-some, step-next, step-none, fits-kept, params-below}
 use Rattle.blocks.proofs.FoldWords.{GoesOn, goes-on, begun-is}
-
-pub bind-size : (b : Bound) (ps os : List ℕ) → length (bind b ps os) ≡ length b
-unfolding bind
-bind-size b [] [] = refl
-bind-size b [] (o ∷ os) = refl
-bind-size b (p ∷ ps) [] = refl
-bind-size b (p ∷ ps) (o ∷ os) = bind-size (set b p (some o)) ps os ∙ length-set b p (some o)
+use Rattle.task.specs.Bindings.{Bound, bind, Held}
+use Rattle.task.proofs.Binding.{bind-size}
+use Rattle.task.proofs.Holding.{held-none}
+use Rattle.tokens.specs.Kept.{keptFirst, keptOwn}
 
 -- what is left of the list between blocks, from split step i on
 abbrev pub leftFrom : Task → List ℕ → ℕ → Folding
@@ -47,8 +42,8 @@ pub record InBlock (t : Task) (steps : List ℕ) (F : Folding → Type 0) (s j b
   pub size : length objects ≡ schemaAt t s .params
   pub left : F (foldOn t s j objects i (drop i (stepsIn (splitTask t) steps)))
 
-module _ {t : Task} {steps firsts counts own begins : List ℕ}
-    (K : SplitStepsKept t steps firsts counts own begins) (F : Folding → Type 0) where
+module _ {t : Task} {steps kept begins : List ℕ}
+    (K : SplitStepsKept t steps kept begins) (F : Folding → Type 0) where
   abbrev ys : List Step
   ys = stepsIn (splitTask t) steps
 
@@ -71,7 +66,7 @@ module _ {t : Task} {steps firsts counts own begins : List ℕ}
       -- it begins the block of schema s
       pub begun-known : s < length (t .schemas)
       begun-known = upTo-in (length (t .schemas)) s
-          (beginner-in t (K .kept .counted .some-part) (stepAt (splitTask t) steps i .schema)
+          (beginner-in t (K .blocks .some-part) (stepAt (splitTask t) steps i .schema)
           (upTo (length (t .schemas))) s found-begun)
 
       pub block-starts : F (leftFrom t steps i) → InBlock t steps F s 0 0 (replicate 12 0) i
@@ -84,7 +79,7 @@ module _ {t : Task} {steps firsts counts own begins : List ℕ}
             (ap (foldFrom t outside i) (step-next K i l)
             ∙ (block-begins t s i (stepAt (splitTask t) steps i) (drop (suc i) ys) found-begun
             ∙ (sym (ap (foldFrom t (inside s 0 (noneBound t s)) i) (step-next K i l))
-            ∙ sym (on-inside t s 0 (noneBound t s) i (drop i ys) (K .kept .counted .some-part s begun-known))))) f;
+            ∙ sym (on-inside t s 0 (noneBound t s) i (drop i ys) (K .blocks .some-part s begun-known))))) f;
       }
 
   -- ---- in a block of schema s
@@ -93,10 +88,10 @@ module _ {t : Task} {steps firsts counts own begins : List ℕ}
     module _ (j bound : ℕ) (found : List ℕ) (i : ℕ) (m : j < length (orders t s))
         (h : InBlock t steps F s j bound found i) where
       abbrev set-of : ℕ
-      set-of = getD own (16 * s + j) 0
+      set-of = keptOwn kept s j
 
       abbrev part-of : ℕ
-      part-of = getD firsts s 0 + j
+      part-of = keptFirst kept s + j
 
       -- the list doesn't go on with it
       pub block-broken : keptFits steps (13 * i) part-of set-of (h .objects) ≡ false → F (misfit i)
@@ -108,8 +103,7 @@ module _ {t : Task} {steps firsts counts own begins : List ℕ}
       -- it does, and the part's objects join those found
       pub block-turns : (bound′ : ℕ) (found′ : List ℕ) →
           keptFits steps (13 * i) part-of set-of (h .objects) ≡ true →
-          ((b : Bound) → Held b bound found → SetBelow (length b) set-of →
-          Held (bind b (members set-of 12) (givenObjects steps (13 * i) set-of)) bound′ found′) →
+          ObjectsJoin steps (13 * i) set-of bound found bound′ found′ →
           InBlock t steps F s (j + 1) bound′ found′ (i + 1)
       block-turns bound′ found′ e joined = record {
         objects = after;
@@ -142,15 +136,15 @@ module _ {t : Task} {steps firsts counts own begins : List ℕ}
     block-ends j bound found i e h = subst F (on-past t s j (h .objects) i (drop i ys) e) (h .left)
 
 -- the word of the schema begun is within the limits
-pub begun-small : {t : Task} {steps firsts counts own begins : List ℕ} →
-    (K : SplitStepsKept t steps firsts counts own begins) (i : ℕ) → i < length steps / 13 →
+pub begun-small : {t : Task} {steps kept begins : List ℕ} →
+    (K : SplitStepsKept t steps kept begins) (i : ℕ) → i < length steps / 13 →
     getD begins (getD steps (13 * i) 0) 0 ≤ 200
-begun-small {t} {steps} {firsts} {counts} {own} {begins} K i l =
+begun-small {t} {steps} {kept} {begins} K i l =
     elim (decLt 0 (getD begins (getD steps (13 * i) 0) 0)) [
       | yes q ↦
           let s = getD begins (getD steps (13 * i) 0) 0 - 1 in
           let k = begun-known K (λ f. f ≡ f) i l s (omega arith) in
-          let n = K .kept .counted .few-schemas in
+          let n = K .blocks .few-schemas in
           omega arith
       | no q ↦ omega arith
     ]
@@ -164,8 +158,8 @@ pub taken-start : (t : Task) (steps : List ℕ) → TakenSo t steps 0 (leftFrom 
 unfolding foldSteps
 taken-start t steps = after-none (foldFrom t outside 0 (stepsIn (splitTask t) steps))
 
-pub taken-whole : {t : Task} {steps firsts counts own begins : List ℕ} →
-    SplitStepsKept t steps firsts counts own begins → (n i : ℕ) → length steps / 13 ≤ i →
+pub taken-whole : {t : Task} {steps kept begins : List ℕ} →
+    SplitStepsKept t steps kept begins → (n i : ℕ) → length steps / 13 ≤ i →
     TakenSo t steps n (leftFrom t steps i) → taken.Whole n ≡ takenOf (foldSteps t (stepsIn (splitTask t) steps))
 unfolding takenAfter
 taken-whole {t} {steps} K n i l h =
@@ -183,22 +177,22 @@ pub taken-more : (t : Task) (steps : List ℕ) (n : ℕ) (x : Step) (f : Folding
 taken-more t steps n x f h = h ∙ after-one n x f
 
 -- ---- a list that folds goes on as long as a block is open
-pub block-must : {t : Task} {steps firsts counts own begins : List ℕ} →
-    (K : SplitStepsKept t steps firsts counts own begins) (xs : List Step) (s : ℕ) (l : s < length (t .schemas))
+pub block-must : {t : Task} {steps kept begins : List ℕ} →
+    (K : SplitStepsKept t steps kept begins) (xs : List Step) (s : ℕ) (l : s < length (t .schemas))
     (j bound : ℕ) (found : List ℕ) (i : ℕ) (m : j < length (orders t s))
     (h : InBlock t steps (λ f. f ≡ folded xs) s j bound found i) →
-    keptFits steps (13 * i) (getD firsts s 0 + j) (getD own (16 * s + j) 0) (h .objects) ≡ true
-block-must {t} {steps} {firsts} {counts} {own} {begins} K xs s l j bound found i m h =
-    elim (bool-cases (keptFits steps (13 * i) (getD firsts s 0 + j) (getD own (16 * s + j) 0) (h .objects))) [
+    keptFits steps (13 * i) (keptFirst kept s + j) (keptOwn kept s j) (h .objects) ≡ true
+block-must {t} {steps} {kept} {begins} K xs s l j bound found i m h =
+    elim (bool-cases (keptFits steps (13 * i) (keptFirst kept s + j) (keptOwn kept s j) (h .objects))) [
       | inl e ↦ e
       | inr e ↦ absurd (no-misfit (block-broken K (λ f. f ≡ folded xs) s l j bound found i m h e) refl)
     ]
 
 -- and one between blocks begins one
-pub block-must-begin : {t : Task} {steps firsts counts own begins : List ℕ} →
-    (K : SplitStepsKept t steps firsts counts own begins) (xs : List Step) (i : ℕ) (l : i < length steps / 13) →
+pub block-must-begin : {t : Task} {steps kept begins : List ℕ} →
+    (K : SplitStepsKept t steps kept begins) (xs : List Step) (i : ℕ) (l : i < length steps / 13) →
     leftFrom t steps i ≡ folded xs → 0 < getD begins (getD steps (13 * i) 0) 0
-block-must-begin {t} {steps} {firsts} {counts} {own} {begins} K xs i l f =
+block-must-begin {t} {steps} {kept} {begins} K xs i l f =
     elim (decLt 0 (getD begins (getD steps (13 * i) 0) 0)) [
       | yes q ↦ q
       | no q ↦ absurd (no-misfit (none-begins K (λ f. f ≡ folded xs) i l (omega arith) f) refl)

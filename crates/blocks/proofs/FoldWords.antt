@@ -11,21 +11,22 @@ use lib.ListN.{length, getD, drop, drop-of-length-le}
 use lib.Seq.{drop-cons}
 use lib.Dec.{eqb, leb}
 use borrow.Author.Tests.{eqb-true, leb-true, le-leb, lt-leb}
-use Rattle.task.specs.Lists.{upTo}
+use Rattle.words.specs.Lists.{upTo}
 use Rattle.task.specs.Task.{Schema, Task}
-use Rattle.task.specs.Table.{wordsAt}
+use Rattle.words.specs.Words.{wordsAt}
 use Rattle.task.specs.Run.{Step, schemaAt, stepIn, stepAt, stepsIn, paramCount}
-use Rattle.task.proofs.Laws.{and-left, and-right, any-in}
-use Rattle.task.proofs.TablesByWords.{getD-mapped}
+use Rattle.words.proofs.Lists.{and-left, and-right, any-in, getD-mapped}
 use Rattle.task.proofs.StepWords.{noStep, length-stepsIn}
-use Rattle.arcs.specs.Code.{members, SetBelow}
+use Rattle.words.specs.Sets.{members, SetBelow}
 use Rattle.tokens.specs.Split.{has, paramsOf, orders, own, splitSchema, splitTask}
-use Rattle.blocks.specs.Blocks.{firstOf, paramsAt, Bound, fits, bind, beginner, inside, fitsAt}
+use Rattle.blocks.specs.Blocks.{firstOf, paramsAt, beginner, inside, fitsAt}
 use Rattle.blocks.specs.FoldCode.{begunWord, SplitStepsKept, givenObjects, keptFits}
 use Rattle.blocks.proofs.Numbers.{split-count, split-schema}
 use Rattle.blocks.proofs.KeptBlocks.{members-are, schema-known}
 use Rattle.blocks.proofs.FoldBlock.{param-small}
 use Rattle.blocks.proofs.FoldMoves.{fitsNext}
+use Rattle.task.specs.Bindings.{Bound, fits, bind}
+use Rattle.tokens.specs.Kept.{keptFirst, keptOwn}
 
 -- a part's schema in the split has as many parameters as the part
 part-arity : (t : Task) (s j k : ℕ) → s < length (t .schemas) → j < length (orders t s) → k ≡ firstOf t s + j →
@@ -45,8 +46,8 @@ unfolding begunWord
 begun-some none n e = absurd (omega arith)
 begun-some (some s) n e = let z : s ≡ n = omega arith in ap (λ (k : ℕ). some k) z
 
-module _ {t : Task} {steps firsts counts own begins : List ℕ}
-    (K : SplitStepsKept t steps firsts counts own begins) where
+module _ {t : Task} {steps kept begins : List ℕ}
+    (K : SplitStepsKept t steps kept begins) where
   abbrev u : Task
   u = splitTask t
 
@@ -77,7 +78,7 @@ module _ {t : Task} {steps firsts counts own begins : List ℕ}
   -- ---- the part at position j of schema s
   module _ (s j : ℕ) (l : s < length (t .schemas)) (m : j < length (orders t s)) where
     abbrev set : ℕ
-    set = getD own (16 * s + j) 0
+    set = keptOwn kept s j
 
     abbrev mine : ℕ → Bool
     mine x = has (schemaAt t s) x (getD (orders t s) j 0)
@@ -85,7 +86,7 @@ module _ {t : Task} {steps firsts counts own begins : List ℕ}
     pub part-params : members set 12 ≡ paramsAt t s j
     unfolding paramsAt paramsOf paramCount
     part-params =
-        members-are set (schemaAt t s .params) 12 mine (K .kept .few-params s) (λ x. K .kept .params s j x l m)
+        members-are set (schemaAt t s .params) 12 mine (K .blocks .few-params s) (λ x. K .blocks .params s j x l m)
 
     -- the objects that the step at i gives, where it is this part
     part-objects : (i : ℕ) → getD steps (13 * i) 0 ≡ firstOf t s + j →
@@ -96,7 +97,7 @@ module _ {t : Task} {steps firsts counts own begins : List ℕ}
 
     -- whether it is this part, and its objects agree
     abbrev number : ℕ
-    number = getD firsts s 0 + j
+    number = keptFirst kept s + j
 
     fits-here : (b : Bound) (i : ℕ) →
         eqb (getD steps (13 * i) 0) number && fits b (members set 12) (givenObjects steps (13 * i) set) ≡
@@ -104,7 +105,7 @@ module _ {t : Task} {steps firsts counts own begins : List ℕ}
     unfolding fitsAt stepAt stepIn
     fits-here b i =
         ap (λ (n : ℕ). eqb k (n + j) && fits b (members set 12) (givenObjects steps (13 * i) set))
-        (K .kept .first s (omega arith))
+        (K .blocks .first s (omega arith))
         ∙ go (eqb k (firstOf t s + j)) refl
       where
         k : ℕ
@@ -134,7 +135,7 @@ module _ {t : Task} {steps firsts counts own begins : List ℕ}
     -- its parameters are of the schema
     pub params-below : (b : Bound) → length b ≡ schemaAt t s .params → SetBelow (length b) set
     params-below b n x h =
-        let (y, i, e) = any-in (eqb x) (paramsAt t s j) (sym (K .kept .params s j x l m) ∙ h) in
+        let (y, i, e) = any-in (eqb x) (paramsAt t s j) (sym (K .blocks .params s j x l m) ∙ h) in
         let k = param-small t s j y i in
         let q = eqb-true x y e in
         omega arith
@@ -154,7 +155,7 @@ module _ {t : Task} {steps firsts counts own begins : List ℕ}
         let w = leb-true (13 * i + 13) (length steps) (and-left (leb (13 * i + 13) (length steps)) (same && agree) h) in
         let r = and-right (leb (13 * i + 13) (length steps)) (same && agree) h in
         let e = eqb-true (getD steps (13 * i) 0) number (and-left same agree r) in
-        let f = K .kept .first s (omega arith) in
+        let f = K .blocks .first s (omega arith) in
         record {
           place = omega arith;
           fit = sym (fits-here b i) ∙ r;

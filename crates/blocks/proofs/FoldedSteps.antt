@@ -8,18 +8,18 @@ use mathlib.Core.Option.{Option, none, some}
 use native.Mathlib.Omega.{arith}
 use lib.ListN.{length, replicate, length-map, length-replicate}
 use lib.Dec.{leb}
-use Rattle.task.specs.Lists.{upTo}
+use Rattle.words.specs.Lists.{upTo}
 use Rattle.task.specs.Task.{Task}
 use Rattle.task.specs.Run.{Step, schemaAt, stepWords, paramCount}
-use Rattle.task.proofs.Laws.{In, here, there, in-empty}
+use Rattle.words.proofs.Lists.{In, here, there, in-empty}
 use Rattle.task.proofs.StepWords.{Thirteen, length-stepWords, length-steps}
-use Rattle.blocks.specs.Blocks.{orZero, folded, beginner, Stage, outside, inside, begun}
-use Rattle.blocks.specs.Blocks.{stageFor, fitsAt, lastAt, advanced, completed, foldEnd, foldFrom, foldSteps}
-use Rattle.blocks.specs.Blocks.{paramsAt, listWords, fitsIn}
+use Rattle.blocks.specs.Blocks.{folded, beginner, Stage, outside, inside, begun, stageFor, fitsAt, lastAt}
+use Rattle.blocks.specs.Blocks.{advanced, completed, foldEnd, foldFrom, foldSteps, paramsAt, listWords, fitsIn}
 use Rattle.blocks.proofs.FoldBlock.{fold-off, fold-move, fold-finish}
 use Rattle.blocks.proofs.FoldMoves.{prepended, no-misfit}
-use Rattle.blocks.proofs.FoldTurns.{bind-size}
 use Rattle.blocks.proofs.KeptBlocks.{by-thirteen}
+use Rattle.task.specs.Bindings.{orZero}
+use Rattle.task.proofs.Binding.{bind-size}
 
 -- at most twelve places are bound
 abbrev Small : Stage → Type 0

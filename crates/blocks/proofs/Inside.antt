@@ -13,19 +13,19 @@ use lib.ListN.{length, getD, length-map, length-replicate}
 use lib.Seq.{ext-getD}
 use lib.Dec.{eqb}
 use borrow.Author.Tests.{eqb-true}
-use Rattle.task.specs.Lists.{upTo, indexOf}
+use Rattle.words.specs.Lists.{upTo, indexOf}
 use Rattle.task.specs.Task.{Task}
 use Rattle.task.specs.Run.{Step, schemaAt}
 use Rattle.tokens.specs.Split.{has, orders, paramsOf}
-use Rattle.task.proofs.Laws.{and-left, and-right, In, here, there, in-getD, getD-in, map-in, getD-map, map-same}
-use Rattle.task.proofs.Laws.{map-append, upTo-suc, upTo-in}
+use Rattle.words.proofs.Lists.{and-left, and-right, In, here, there, in-getD, getD-in, map-in, getD-map, map-same}
+use Rattle.words.proofs.Lists.{map-append, upTo-suc, upTo-in}
 use Rattle.task.proofs.States.{IsStep}
 use Rattle.tokens.proofs.Places.{index-small, index-getD}
-use Rattle.blocks.specs.Blocks.{firstOf, paramsAt, partStep, Bound, agrees, fits, bind, orZero, beginner, Stage}
-use Rattle.blocks.specs.Blocks.{outside, inside, begun, stageFor, fitsAt, completed}
+use Rattle.blocks.specs.Blocks.{firstOf, paramsAt, partStep, beginner, Stage, outside, inside, begun, stageFor}
+use Rattle.blocks.specs.Blocks.{fitsAt, completed}
 use Rattle.blocks.proofs.FoldBlock.{param-small}
-use Rattle.blocks.proofs.Binding.{nothing-bound, bind-length, bind-new, fits-length, fits-agrees, bind-other}
-use Rattle.blocks.proofs.Binding.{in-or-not}
+use Rattle.task.specs.Bindings.{Bound, agrees, fits, bind, orZero}
+use Rattle.task.proofs.Binding.{nothing-bound, bind-size, bind-new, fits-length, fits-agrees, bind-other, in-or-not}
 
 module _ (t : Task) where
   -- the stage before position j of a block of schema s, where b is bound and the steps `pre` are found
@@ -108,7 +108,7 @@ module _ {t : Task} {s j : ℕ} {b : Bound} {pre : List Step} (h : Inside t s j 
   after-other p n = ap (λ z. getD z p none) after-is ∙ bind-other given-by b ps p n
 
   after-size : length after ≡ length b
-  after-size = ap length after-is ∙ bind-length given-by b ps
+  after-size = bind-size b ps (y .objects)
 
   after-old : (p o : ℕ) → getD b p none ≡ some o → getD after p none ≡ some o
   unfolding agrees

@@ -9,25 +9,25 @@ use native.Mathlib.Omega.{arith}
 use lib.ListN.{length, getD}
 use lib.Dec.{eqb, leb}
 use borrow.Author.Tests.{eqb-true, eq-eqb, leb-true, le-leb}
-use Rattle.task.specs.Lists.{any, filter, keepIf, concatMap, sum, upTo, upFrom}
+use Rattle.words.specs.Lists.{any, filter, keepIf, concatMap, sum, upTo, upFrom}
 use Rattle.task.specs.Task.{Task}
-use Rattle.task.specs.Table.{wordsAt}
+use Rattle.words.specs.Words.{wordsAt}
 use Rattle.task.specs.Run.{Step, schemaAt, stepIn, stepAt, stepsIn, paramCount, badStep}
-use Rattle.task.proofs.Laws.{bool-ext, false-if, In, here, there, in-eq, any-in, in-any, in-filter, filter-in, map-same}
-use Rattle.task.proofs.Laws.{upTo-in, upFrom-in}
+use Rattle.words.proofs.Lists.{bool-ext, false-if, In, here, there, in-eq, any-in, in-any, in-filter, filter-in}
+use Rattle.words.proofs.Lists.{map-same, upTo-in, upFrom-in, upFrom-append, filter-append, filter-none}
 use Rattle.task.proofs.States.{isStep-is}
-use Rattle.task.proofs.Tables.{upFrom-append, filter-append, filter-none}
-use Rattle.task.proofs.WordRows.{getD-wordsAt}
+use Rattle.words.proofs.Words.{getD-wordsAt}
 use Rattle.task.proofs.StepWords.{step-here}
 use Rattle.task.proofs.BadSteps.{good-steps}
-use Rattle.arcs.specs.Code.{member, members}
+use Rattle.words.specs.Sets.{member, members}
 use Rattle.tokens.specs.Split.{has, paramsOf, orders}
 use Rattle.blocks.specs.Blocks.{firstOf, paramsAt, partStep, block, unfoldSteps, listWords, fitsIn}
-use Rattle.blocks.specs.Code.{StepsCounted, StepsKept, StepKept}
-use Rattle.blocks.specs.Code.{keptObjects, keptPart, keptParts, keptCount, keptSum, keptBlocks}
+use Rattle.blocks.specs.Code.{StepsKept, StepKept, objectsFor, partFrom, partsFrom, countFrom, sumFrom}
+use Rattle.blocks.specs.Code.{blocksFrom}
 use Rattle.blocks.proofs.Numbers.{first-mono}
 use Rattle.blocks.proofs.KeptLists.{length-words}
 use Rattle.blocks.proofs.Unfolded.{partsOf, length-unfold}
+use Rattle.tokens.specs.Kept.{keptFirst, keptOwn}
 
 -- ---- a set's members are the parameters
 filter-same : (p q : ℕ → Bool) (xs : List ℕ) → ((x : ℕ) → In x xs → p x ≡ q x) → filter p xs ≡ filter q xs
@@ -74,102 +74,83 @@ schema-known t steps good i l =
     let h = step-here t steps i (good-steps t steps good i (omega arith)) in
     (h .whole, isStep-is t (stepAt t steps i) (h .step) .known)
 
--- its part count is the one kept
-pub count-is : {t : Task} {steps counts : List ℕ} → StepsCounted t steps counts → (i : ℕ) → i < length steps / 13 →
-    keptCount steps counts (13 * i) ≡ partsOf t (stepAt t steps i)
-unfolding stepAt stepIn
-count-is {t} {steps} {counts} K i l =
-    K .kept .count (getD steps (13 * i) 0) (schema-known t steps (K .good) i l .1)
-
--- what counting needs of it
-pub record StepCounted (steps counts : List ℕ) (i : ℕ) : Type 0 where
-  pub whole : 13 * i + 13 ≤ length steps
-  pub known : getD steps (13 * i) 0 < 200
-  pub few : keptCount steps counts (13 * i) ≤ 16
-
-pub step-counted : {t : Task} {steps counts : List ℕ} → StepsCounted t steps counts → (i : ℕ) → i < length steps / 13 →
-    StepCounted steps counts i
-step-counted {t} {steps} {counts} K i l =
-    let (w, k) = schema-known t steps (K .good) i l in
-    let s = getD steps (13 * i) 0 in
-    let e = K .kept .count s k in
-    let f = K .kept .few-parts s k in
-    let m = K .kept .few-schemas in
-    record { whole = w; known = omega arith; few = omega arith }
-
--- all part counts together
-pub sum-is : {t : Task} {steps counts : List ℕ} → StepsCounted t steps counts →
-    keptSum steps counts (length steps / 13) ≡ length (unfoldSteps t (stepsIn t steps))
-unfolding keptSum stepsIn
-sum-is {t} {steps} {counts} K =
-    let n = length steps / 13 in
-    ap sum (map-same (λ (i : ℕ). keptCount steps counts (13 * i)) (λ (i : ℕ). partsOf t (stepAt t steps i)) (upTo n)
-    (λ i k. count-is K i (upTo-in n i k))
-    ∙ sym (map-twice (partsOf t) (stepAt t steps) (upTo n)))
-    ∙ sym (length-unfold t (map (stepAt t steps) (upTo n)))
-  where
-    map-twice : {A : Type 0} (f : A → ℕ) (g : ℕ → A) (xs : List ℕ) → map f (map g xs) ≡ map (λ i. f (g i)) xs
-    map-twice f g [] = refl
-    map-twice f g (x ∷ xs) = ap {B = List ℕ} (λ ys. f (g x) ∷ ys) (map-twice f g xs)
-
 -- 13 words a step: refusal 13 by the number of steps, as 13 times that number may pass what a machine counts
 pub by-thirteen : (k n m : ℕ) → n ≡ 13 * k → leb n m ≡ leb k (m / 13)
 by-thirteen k n m e = bool-ext (leb n m) (leb k (m / 13))
     (λ h. le-leb k (m / 13) (let q = leb-true n m h in omega arith))
     (λ h. le-leb n m (let q = leb-true k (m / 13) h in omega arith))
 
-module _ {t : Task} {steps firsts counts own : List ℕ} (K : StepsKept t steps firsts counts own) where
-  pub counted-kept : StepsCounted t steps counts
-  counted-kept = record { kept = K .kept .counted; good = K .good }
-
-  pub step-kept : (i : ℕ) → i < length steps / 13 → StepKept steps firsts counts (13 * i)
+module _ {t : Task} {steps kept : List ℕ} (K : StepsKept t steps kept) where
+  -- a step's numbers are within the limits
+  pub step-kept : (i : ℕ) → i < length steps / 13 → StepKept steps kept (13 * i)
   step-kept i l =
       let (w, k) = schema-known t steps (K .good) i l in
       let s = getD steps (13 * i) 0 in
-      let c = step-counted counted-kept i l in
-      let e = K .kept .first s (omega arith) in
+      let n = K .blocks .few-schemas in
+      let c = K .blocks .count s k in
+      let p = K .blocks .few-parts s k in
+      let e = K .blocks .first s (omega arith) in
       let f = first-mono t s (length (t .schemas)) (omega arith) in
-      let m = K .kept .few-splits in
-      record { whole = w; known = c .known; few = c .few; small = omega arith }
+      let m = K .blocks .few-splits in
+      record { whole = w; known = omega arith; few = omega arith; small = omega arith }
+
+  -- its part count is the one kept
+  count-is : (i : ℕ) → i < length steps / 13 → countFrom steps kept (13 * i) ≡ partsOf t (stepAt t steps i)
+  unfolding stepAt stepIn
+  count-is i l = K .blocks .count (getD steps (13 * i) 0) (schema-known t steps (K .good) i l .1)
+
+  -- all part counts together
+  pub sum-is : sumFrom steps kept (length steps / 13) ≡ length (unfoldSteps t (stepsIn t steps))
+  unfolding sumFrom stepsIn
+  sum-is =
+      let n = length steps / 13 in
+      ap sum (map-same (λ (i : ℕ). countFrom steps kept (13 * i)) (λ (i : ℕ). partsOf t (stepAt t steps i)) (upTo n)
+      (λ i k. count-is i (upTo-in n i k))
+      ∙ sym (map-twice (partsOf t) (stepAt t steps) (upTo n)))
+      ∙ sym (length-unfold t (map (stepAt t steps) (upTo n)))
+    where
+      map-twice : {A : Type 0} (f : A → ℕ) (g : ℕ → A) (xs : List ℕ) → map f (map g xs) ≡ map (λ i. f (g i)) xs
+      map-twice f g [] = refl
+      map-twice f g (x ∷ xs) = ap {B = List ℕ} (λ ys. f (g x) ∷ ys) (map-twice f g xs)
 
   part-is : (i j : ℕ) → i < length steps / 13 → j < partsOf t (stepAt t steps i) →
-      keptPart steps firsts own (13 * i) j ≡ partStep t (stepAt t steps i) j
-  unfolding keptPart keptObjects partStep stepAt stepIn paramCount paramsAt paramsOf
+      partFrom steps kept (13 * i) j ≡ partStep t (stepAt t steps i) j
+  unfolding partFrom objectsFor partStep stepAt stepIn paramCount paramsAt paramsOf
   part-is i j l m =
       let k = schema-known t steps (K .good) i l .1 in
       let s = getD steps (13 * i) 0 in
       let n = schemaAt t s .params in
-      let set = getD own (16 * s + j) 0 in
+      let set = keptOwn kept s j in
       let mine : ℕ → Bool = λ x. has (schemaAt t s) x (getD (orders t s) j 0) in
       let read : ℕ → ℕ = λ p. getD steps (13 * i + 1 + p) 0 in
       let given : ℕ → ℕ = λ p. getD (wordsAt steps (13 * i + 1) n) p 0 in
-      let a : getD firsts s 0 + j ≡ firstOf t s + j = ap (λ z. z + j) (K .kept .first s (omega arith)) in
+      let a : keptFirst kept s + j ≡ firstOf t s + j = ap (λ z. z + j) (K .blocks .first s (omega arith)) in
       let b : map read (members set 12) ≡ map given (filter mine (upTo n)) =
-      ap (map read) (members-are set n 12 mine (K .kept .few-params s) (λ x. K .kept .params s j x k m))
+      ap (map read) (members-are set n 12 mine (K .blocks .few-params s) (λ x. K .blocks .params s j x k m))
       ∙ map-same read given (filter mine (upTo n)) (λ p q.
       sym (getD-wordsAt steps (13 * i + 1) n p (upTo-in n p (filter-in mine (upTo n) p q .0)))) in
       λ r. record { schema = a r; objects = b r }
 
   block-is : (i : ℕ) → i < length steps / 13 →
-      keptParts steps firsts own (13 * i) (keptCount steps counts (13 * i)) ≡ block t (stepAt t steps i)
-  unfolding keptParts block
+      partsFrom steps kept (13 * i) (countFrom steps kept (13 * i)) ≡ block t (stepAt t steps i)
+  unfolding partsFrom block
   block-is i l =
       let n = partsOf t (stepAt t steps i) in
-      ap (λ (k : ℕ). map (keptPart steps firsts own (13 * i)) (upTo k)) (count-is counted-kept i l)
-      ∙ map-same (keptPart steps firsts own (13 * i)) (partStep t (stepAt t steps i)) (upTo n)
+      ap (λ (k : ℕ). map (partFrom steps kept (13 * i)) (upTo k)) (count-is i l)
+      ∙ map-same (partFrom steps kept (13 * i)) (partStep t (stepAt t steps i)) (upTo n)
       (λ j k. part-is i j l (upTo-in n j k))
 
   -- the blocks of all steps are their unfolding
-  pub blocks-are : keptBlocks steps firsts counts own (length steps / 13) ≡ unfoldSteps t (stepsIn t steps)
-  unfolding keptBlocks unfoldSteps stepsIn concatMap
+  pub blocks-are : blocksFrom steps kept (length steps / 13) ≡ unfoldSteps t (stepsIn t steps)
+  unfolding blocksFrom unfoldSteps stepsIn concatMap
   blocks-are =
       let n = length steps / 13 in
       same (upTo n) (λ i k. block-is i (upTo-in n i k))
     where
       same : (ks : List ℕ) →
           ((i : ℕ) → In i ks →
-          keptParts steps firsts own (13 * i) (keptCount steps counts (13 * i)) ≡ block t (stepAt t steps i)) →
-          concatMap (λ (i : ℕ). keptParts steps firsts own (13 * i) (keptCount steps counts (13 * i))) ks ≡
+          partsFrom steps kept (13 * i) (countFrom steps kept (13 * i)) ≡ block t (stepAt t steps i)) →
+          concatMap (λ (i : ℕ). partsFrom steps kept (13 * i) (countFrom steps kept (13 * i))) ks ≡
           concatMap (block t) (map (stepAt t steps) ks)
       same [] h = refl
       same (i ∷ ks) h = ap₂ (λ (a b : List Step). a ++ b) (h i (here refl)) (same ks (λ j k. h j (there k)))
@@ -181,8 +162,7 @@ module _ {t : Task} {steps firsts counts own : List ℕ} (K : StepsKept t steps 
   unfolding fitsIn
   room-for lent =
       let n = length steps / 13 in
-      let a = ap (λ (ys : List Step). length (listWords ys)) (sym blocks-are)
-      ∙ length-words steps firsts counts own n in
-      let b = sum-is counted-kept in
+      let a = ap (λ (ys : List Step). length (listWords ys)) (sym blocks-are) ∙ length-words steps kept n in
+      let b = sum-is in
       by-thirteen (length (unfoldSteps t (stepsIn t steps))) (length (listWords (unfoldSteps t (stepsIn t steps))))
       (length lent) (omega arith)

@@ -6,15 +6,15 @@ use native.Mathlib.Omega.{arith}
 use native.Mathlib.Decide.{decLe}
 use native.Mathlib.Numerals.{add-one}
 use lib.ListN.{length, getD, length-map, length-append}
-use Rattle.task.specs.Lists.{filter, concatMap, sum, upTo, upFrom}
+use Rattle.words.specs.Lists.{filter, concatMap, sum, upTo, upFrom}
 use Rattle.task.specs.Run.{Step, stepWords}
-use Rattle.task.proofs.Laws.{map-in, append-concatMap, sum-append, map-append, length-upTo, upTo-suc}
+use Rattle.words.proofs.Lists.{map-in, append-concatMap, sum-append, map-append, length-upTo, upTo-suc, concatMap-in}
 use Rattle.task.proofs.StepWords.{Thirteen, length-stepWords, length-steps}
-use Rattle.arcs.specs.Code.{member, members}
-use Rattle.arcs.proofs.PartLists.{filter-le}
-use Rattle.tokens.proofs.Lists.{concatMap-in}
+use Rattle.words.specs.Sets.{member, members}
+use Rattle.words.proofs.Ascending.{filter-le}
 use Rattle.blocks.specs.Blocks.{listWords}
-use Rattle.blocks.specs.Code.{keptObjects, keptPart, keptParts, keptCount, keptSum, keptBlocks}
+use Rattle.tokens.specs.Kept.{keptOwn}
+use Rattle.blocks.specs.Code.{objectsFor, partFrom, partsFrom, countFrom, sumFrom, blocksFrom}
 
 -- what is made of the numbers below i, one more
 concatMap-more : {A : Type 0} (f : ℕ → List A) (i : ℕ) → concatMap f (upTo (i + 1)) ≡ concatMap f (upTo i) ++ f i
@@ -37,102 +37,102 @@ unfolding listWords
 words-append xs ys = append-concatMap stepWords xs ys
 
 -- ---- the parts of a step
-module _ (steps firsts own : List ℕ) (at : ℕ) where
-  pub part-long : (j : ℕ) → length (stepWords (keptPart steps firsts own at j)) ≡ 13
-  unfolding keptPart keptObjects members
+module _ (steps kept : List ℕ) (at : ℕ) where
+  pub part-long : (j : ℕ) → length (stepWords (partFrom steps kept at j)) ≡ 13
+  unfolding partFrom objectsFor members
   part-long j =
-      let set = getD own (16 * getD steps at 0 + j) 0 in
+      let set = keptOwn kept (getD steps at 0) j in
       let n = length-map (filter (member set) (upTo 12)) (λ p. getD steps (at + 1 + p) 0) in
       let m = filter-le (member set) (upTo 12) in
       let l = length-upTo 12 in
-      length-stepWords (keptPart steps firsts own at j) (omega arith)
+      length-stepWords (partFrom steps kept at j) (omega arith)
 
-  pub parts-none : listWords (keptParts steps firsts own at 0) ≡ []
-  unfolding listWords concatMap keptParts upTo upFrom
+  pub parts-none : listWords (partsFrom steps kept at 0) ≡ []
+  unfolding listWords concatMap partsFrom upTo upFrom
   parts-none = refl
 
-  pub parts-more : (j : ℕ) → listWords (keptParts steps firsts own at (j + 1)) ≡
-      listWords (keptParts steps firsts own at j) ++ stepWords (keptPart steps firsts own at j)
-  unfolding listWords concatMap keptParts
+  pub parts-more : (j : ℕ) → listWords (partsFrom steps kept at (j + 1)) ≡
+      listWords (partsFrom steps kept at j) ++ stepWords (partFrom steps kept at j)
+  unfolding listWords concatMap partsFrom
   parts-more j =
-      ap (concatMap stepWords) (map-more (keptPart steps firsts own at) j)
-      ∙ (append-concatMap stepWords (map (keptPart steps firsts own at) (upTo j)) (keptPart steps firsts own at j ∷ [])
-      ∙ ap (λ xs. concatMap stepWords (map (keptPart steps firsts own at) (upTo j)) ++ xs)
-      (append-nil (stepWords (keptPart steps firsts own at j))))
+      ap (concatMap stepWords) (map-more (partFrom steps kept at) j)
+      ∙ (append-concatMap stepWords (map (partFrom steps kept at) (upTo j)) (partFrom steps kept at j ∷ [])
+      ∙ ap (λ xs. concatMap stepWords (map (partFrom steps kept at) (upTo j)) ++ xs)
+      (append-nil (stepWords (partFrom steps kept at j))))
 
-  pub length-parts : (n : ℕ) → length (keptParts steps firsts own at n) ≡ n
-  unfolding keptParts
-  length-parts n = length-map (upTo n) (keptPart steps firsts own at) ∙ length-upTo n
+  pub length-parts : (n : ℕ) → length (partsFrom steps kept at n) ≡ n
+  unfolding partsFrom
+  length-parts n = length-map (upTo n) (partFrom steps kept at) ∙ length-upTo n
 
-  pub length-part-words : (n : ℕ) → length (listWords (keptParts steps firsts own at n)) ≡ 13 * n
-  unfolding listWords keptParts
+  pub length-part-words : (n : ℕ) → length (listWords (partsFrom steps kept at n)) ≡ 13 * n
+  unfolding listWords partsFrom
   length-part-words n =
-      length-steps (keptParts steps firsts own at n) (λ x i.
-      let (j, k, e) = map-in (keptPart steps firsts own at) (upTo n) x i in
+      length-steps (partsFrom steps kept at n) (λ x i.
+      let (j, k, e) = map-in (partFrom steps kept at) (upTo n) x i in
       ap (λ (y : Step). length (stepWords y)) e ∙ part-long j)
       ∙ ap (λ k. 13 * k) (length-parts n)
 
 -- ---- the part counts of steps
-module _ (steps counts : List ℕ) where
-  pub sum-none : keptSum steps counts 0 ≡ 0
-  unfolding keptSum sum upTo upFrom
+module _ (steps kept : List ℕ) where
+  pub sum-none : sumFrom steps kept 0 ≡ 0
+  unfolding sumFrom sum upTo upFrom
   sum-none = refl
 
-  pub sum-more : (i : ℕ) → keptSum steps counts (i + 1) ≡ keptSum steps counts i + keptCount steps counts (13 * i)
-  unfolding keptSum sum
+  pub sum-more : (i : ℕ) → sumFrom steps kept (i + 1) ≡ sumFrom steps kept i + countFrom steps kept (13 * i)
+  unfolding sumFrom sum
   sum-more i =
-      let f : ℕ → ℕ = λ i. keptCount steps counts (13 * i) in
+      let f : ℕ → ℕ = λ i. countFrom steps kept (13 * i) in
       ap sum (map-more f i) ∙ (sum-append (map f (upTo i)) (f i ∷ []) ∙ omega arith)
 
-  pub sum-grows : (i n : ℕ) → i ≤ n → keptSum steps counts i ≤ keptSum steps counts n
+  pub sum-grows : (i n : ℕ) → i ≤ n → sumFrom steps kept i ≤ sumFrom steps kept n
   sum-grows i zero l = let e : i ≡ 0 = omega arith in rw e (omega arith)
   sum-grows i (suc n) l = elim (decLe i n) [
     | yes k ↦
         let a = sum-grows i n k in
         let b = sum-more n in
-        let c = ap (keptSum steps counts) (add-one n) in
+        let c = ap (sumFrom steps kept) (add-one n) in
         omega arith
     | no k ↦ let e : i ≡ suc n = omega arith in rw e (omega arith)
   ]
 
 -- ---- the blocks of steps
-module _ (steps firsts counts own : List ℕ) where
-  pub blocks-none : keptBlocks steps firsts counts own 0 ≡ []
-  unfolding keptBlocks concatMap upTo upFrom
+module _ (steps kept : List ℕ) where
+  pub blocks-none : blocksFrom steps kept 0 ≡ []
+  unfolding blocksFrom concatMap upTo upFrom
   blocks-none = refl
 
-  pub blocks-more : (i : ℕ) → keptBlocks steps firsts counts own (i + 1) ≡
-      keptBlocks steps firsts counts own i ++
-      keptParts steps firsts own (13 * i) (keptCount steps counts (13 * i))
-  unfolding keptBlocks
+  pub blocks-more : (i : ℕ) → blocksFrom steps kept (i + 1) ≡
+      blocksFrom steps kept i ++
+      partsFrom steps kept (13 * i) (countFrom steps kept (13 * i))
+  unfolding blocksFrom
   blocks-more i =
-      concatMap-more (λ (i : ℕ). keptParts steps firsts own (13 * i) (keptCount steps counts (13 * i))) i
+      concatMap-more (λ (i : ℕ). partsFrom steps kept (13 * i) (countFrom steps kept (13 * i))) i
 
-  blocks-thirteen : (n : ℕ) → Thirteen (keptBlocks steps firsts counts own n)
-  unfolding keptBlocks keptParts
+  blocks-thirteen : (n : ℕ) → Thirteen (blocksFrom steps kept n)
+  unfolding blocksFrom partsFrom
   blocks-thirteen n x i =
-      let (k, a, b) = concatMap-in (λ (i : ℕ). keptParts steps firsts own (13 * i) (keptCount steps counts (13 * i)))
+      let (k, a, b) = concatMap-in (λ (i : ℕ). partsFrom steps kept (13 * i) (countFrom steps kept (13 * i)))
       (upTo n) x i in
-      let (j, c, e) = map-in (keptPart steps firsts own (13 * k)) (upTo (keptCount steps counts (13 * k))) x b in
-      ap (λ (y : Step). length (stepWords y)) e ∙ part-long steps firsts own (13 * k) j
+      let (j, c, e) = map-in (partFrom steps kept (13 * k)) (upTo (countFrom steps kept (13 * k))) x b in
+      ap (λ (y : Step). length (stepWords y)) e ∙ part-long steps kept (13 * k) j
 
-  pub length-blocks : (n : ℕ) → length (keptBlocks steps firsts counts own n) ≡ keptSum steps counts n
-  length-blocks zero = ap length blocks-none ∙ sym (sum-none steps counts)
+  pub length-blocks : (n : ℕ) → length (blocksFrom steps kept n) ≡ sumFrom steps kept n
+  length-blocks zero = ap length blocks-none ∙ sym (sum-none steps kept)
   length-blocks (suc n) =
-      let f : ℕ → ℕ = λ i. length (keptBlocks steps firsts counts own i) in
+      let f : ℕ → ℕ = λ i. length (blocksFrom steps kept i) in
       ap f (sym (add-one n))
       ∙ (ap length (blocks-more n)
-      ∙ (length-append (keptBlocks steps firsts counts own n)
-      (keptParts steps firsts own (13 * n) (keptCount steps counts (13 * n)))
+      ∙ (length-append (blocksFrom steps kept n)
+      (partsFrom steps kept (13 * n) (countFrom steps kept (13 * n)))
       ∙ (omega (
         arith,
         length-blocks n,
-        length-parts steps firsts own (13 * n) (keptCount steps counts (13 * n)),
-        sum-more steps counts n,
-        ap (keptSum steps counts) (add-one n),
+        length-parts steps kept (13 * n) (countFrom steps kept (13 * n)),
+        sum-more steps kept n,
+        ap (sumFrom steps kept) (add-one n),
       ))))
 
-  pub length-words : (n : ℕ) → length (listWords (keptBlocks steps firsts counts own n)) ≡ 13 * keptSum steps counts n
+  pub length-words : (n : ℕ) → length (listWords (blocksFrom steps kept n)) ≡ 13 * sumFrom steps kept n
   unfolding listWords
-  length-words n = length-steps (keptBlocks steps firsts counts own n) (blocks-thirteen n)
+  length-words n = length-steps (blocksFrom steps kept n) (blocks-thirteen n)
       ∙ ap (λ k. 13 * k) (length-blocks n)

@@ -6,14 +6,16 @@ use mathlib.Core.Bool.{true}
 use mathlib.Core.List.{List, []}
 use native.Mathlib.Omega.{arith}
 use lib.ListN.{replicate, length-replicate}
-use Rattle.task.specs.declared.Place.{Place}
-use Rattle.task.specs.Answers.{result, refused, toldNumber, Outcome}
-use Rattle.task.specs.Table.{longEnough}
+use Rattle.task.specs.Answers.{result, toldNumber}
+use Rattle.task.specs.Table.{longEnough, taskOf, wordsOf}
 use Rattle.task.proofs.LongEnough.{long-enough}
-use Rattle.tokens.specs.Split.{splitOutcome}
+use Rattle.tokens.specs.Split.{splitOutcome, splitTask}
 use Rattle.tokens.proofs.SplitOutcome.{split-done}
 use Rattle.tokens.proofs.SplitAnswers.{AcceptedSplit, accepted-split}
-use Rattle.blocks.specs.FoldCode.{TableAccepted}
+use Rattle.task.proofs.Answers.{told-by, left-by}
+use Rattle.words.specs.Lists.{over}
+use Rattle.tokens.specs.declared.measure.Sizes.{Sizes}
+use Rattle.tokens.specs.Code.{AcceptedKept}
 
 -- the words of a table, before it is written
 zeros-enough : (n : ℕ) → 13406 ≤ n → longEnough (replicate {A = ℕ} n 0) ≡ true
@@ -26,9 +28,9 @@ pub split-given : (w out : List ℕ) {words : List ℕ} → result [] ≡ splitO
     words ≡ splitOutcome w out .buffer → AcceptedSplit w words
 split-given w out h e = subst (AcceptedSplit w) (sym e) (accepted-split w out (sym (ap toldNumber h)))
 
-pub split-not-refused : (w out : List ℕ) → longEnough out ≡ true → TableAccepted w → {n : ℕ} {at : Place} →
-    refused n at [] ≡ splitOutcome w out .told → ⊥
-split-not-refused w out long A e =
-    let f = e ∙ ap (λ (o : Outcome). o .told) (split-done w out long (A .long) (A .table) (A .accepted)) in
-    let z : _≡_ {A = ℕ} 0 1 = cc in
-    omega arith
+-- what is written of an accepted split
+pub split-written : {w : List ℕ} {sizes : Sizes} {kept : List ℕ} → AcceptedKept w sizes kept → (out : List ℕ) →
+    longEnough out ≡ true → {words : List ℕ} → words ≡ over (wordsOf (splitTask (taskOf w))) out → AcceptedSplit w words
+split-written {w} K out long e =
+    let d = split-done w out long (K .long) (K .table) (K .accepted) in
+    split-given w out (told-by (sym d)) (e ∙ left-by (sym d))

@@ -5,10 +5,10 @@ use mathlib.Core.Path.{_≡_, refl, sym, _∙_, ap}
 use mathlib.Core.List.{List, [], _∷_, _++_, map, append-nil}
 use native.Mathlib.Omega.{arith}
 use lib.ListN.{length, getD}
-use Rattle.task.specs.Lists.{sum, upTo, upFrom}
+use Rattle.words.specs.Lists.{sum, upTo, upFrom}
 use Rattle.task.specs.Task.{Task}
 use Rattle.task.specs.Run.{Step}
-use Rattle.task.proofs.Laws.{getD-map, map-same, append-concatMap, length-concatMap, length-upTo, getD-upTo}
+use Rattle.words.proofs.Lists.{getD-map, map-same, append-concatMap, length-concatMap, length-upTo, getD-upTo}
 use Rattle.task.proofs.States.{IsStep}
 use Rattle.task.proofs.StepWords.{noStep}
 use Rattle.tokens.specs.Split.{orders}

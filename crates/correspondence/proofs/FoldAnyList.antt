@@ -9,19 +9,19 @@ use native.Mathlib.Omega.{arith}
 use native.Mathlib.Decide.{decLt}
 use lib.ListN.{length, take, drop, take-append-drop}
 use lib.Seq.{take-length}
-use Rattle.task.specs.Lists.{all, concatMap}
+use Rattle.words.specs.Lists.{all, concatMap}
 use Rattle.task.specs.Task.{Task}
 use Rattle.task.specs.Run.{Step, isStep}
 use Rattle.blocks.specs.Blocks.{block, unfoldSteps, Folding, folded, misfit, prepend, Stage, outside, foldFrom}
 use Rattle.blocks.specs.Blocks.{foldSteps}
-use Rattle.task.proofs.Laws.{in-append, in-all, all-in, append-concatMap}
+use Rattle.words.proofs.Lists.{in-append, in-all, all-in, append-concatMap}
 use Rattle.task.proofs.States.{isStep-is}
 use Rattle.blocks.proofs.Inside.{Reached}
 use Rattle.correspondence.specs.SharedRuns.{StepsOf, ProperBeginning, TakenApart, Begins, MisfitAt, FoldsApart}
-use Rattle.correspondence.proofs.Given.{Given, head-step, tail-steps, more-steps}
 use Rattle.correspondence.proofs.FoldUnfolded.{folds-back, fold-unfinished}
 use Rattle.correspondence.proofs.FoldReads.{misfit-inj, folded-inj, folded-no-misfit, Turn, off, on, finish}
 use Rattle.correspondence.proofs.FoldReads.{turn, Shown, whole, broken, shown}
+use Rattle.blocks.proofs.Given.{Given, head-step, tail-steps, more-steps}
 
 module _ {t t′ : Task} (G : Given t t′) where
   -- ---- a step that is refused is refused whatever follows it

@@ -9,22 +9,22 @@ use mathlib.Core.Logic.{_⊎_, inl, inr}
 use native.Mathlib.Omega.{arith}
 use lib.ListN.{length, take}
 use borrow.Author.Tests.{eqb-true, eqb-false}
-use Rattle.task.specs.Lists.{all, concatMap, upTo}
+use Rattle.words.specs.Lists.{all, concatMap, upTo}
 use Rattle.task.specs.Task.{Task}
 use Rattle.task.specs.Run.{Step}
 use Rattle.tokens.specs.Split.{orders, splitTask}
-use Rattle.blocks.specs.Blocks.{Bound, partStep, block, unfoldSteps, Folding, folded, misfit, prepend, Stage, outside}
-use Rattle.blocks.specs.Blocks.{inside}
+use Rattle.blocks.specs.Blocks.{partStep, block, unfoldSteps, Folding, folded, misfit, prepend, Stage, outside, inside}
 use Rattle.blocks.specs.Blocks.{stageFor, fitsAt, lastAt, advanced, completed, foldEnd, foldFrom}
-use Rattle.task.proofs.Laws.{bool-cases, In}
+use Rattle.words.proofs.Lists.{bool-cases, In}
 use Rattle.task.proofs.States.{IsStep, is-isStep}
 use Rattle.blocks.proofs.Numbers.{length-block, take-block}
 use Rattle.blocks.proofs.FoldBlock.{fold-off, fold-move, fold-finish}
 use Rattle.blocks.proofs.Inside.{Inside, completed-step, candidate, parts-so-far, candidate-step, inside-next, Reached}
 use Rattle.blocks.proofs.Inside.{stage-reached}
 use Rattle.correspondence.specs.SharedRuns.{StepsOf, ProperBeginning, TakenApart}
-use Rattle.correspondence.proofs.Given.{Given, head-step, tail-steps, more-steps, filled}
 use Rattle.correspondence.proofs.OneWay.{one-more-block}
+use Rattle.blocks.proofs.Given.{Given, head-step, tail-steps, more-steps, filled}
+use Rattle.task.specs.Bindings.{Bound}
 
 -- ---- two answers of folding are told apart
 pub misfit-inj : {i j : ℕ} → misfit i ≡ misfit j → i ≡ j

@@ -5,7 +5,7 @@ use mathlib.Core.Path.{_≡_, refl, sym, _∙_, ap}
 use mathlib.Core.List.{List, [], _∷_, _++_, map}
 use native.Mathlib.Omega.{arith}
 use lib.ListN.{length, length-append}
-use Rattle.task.specs.Lists.{concatMap, upTo, upFrom}
+use Rattle.words.specs.Lists.{concatMap, upTo, upFrom}
 use Rattle.task.specs.Task.{Task}
 use Rattle.task.specs.Run.{Step}
 use Rattle.tokens.specs.Split.{orders}
@@ -14,8 +14,8 @@ use Rattle.task.proofs.States.{IsStep, isStep-is}
 use Rattle.blocks.proofs.Numbers.{length-block}
 use Rattle.blocks.proofs.FoldBlock.{fold-rest, fold-part, stage-first, bound-none}
 use Rattle.correspondence.specs.SharedRuns.{StepsOf, ProperBeginning}
-use Rattle.correspondence.proofs.Given.{Given, head-step, tail-steps, filled, covered}
 use Rattle.correspondence.proofs.OneWay.{proper-parts, unfold-first}
+use Rattle.blocks.proofs.Given.{Given, head-step, tail-steps, filled, covered}
 
 module _ {t t′ : Task} (G : Given t t′) where
   fold-block : (x : Step) → IsStep t x → (i : ℕ) (ys : List Step) →

@@ -1,43 +1,35 @@
--- 'Lent lengths aside' can always be met: with so much lent, no answer is 1, 13 or 17. A step's block has 1 to 16
--- parts, so an unfolding is as long as its list or longer, and at most 16 times as long; and with room for all that a
--- list adds, running never outgrows its records.
+-- 'Lent lengths aside' can always be met: with so much lent, no answer is 1, 13 or 17. An unfolding is as long as its
+-- list or longer, and at most 16 times as long; and with room for all that a list adds, running never outgrows its
+-- records.
 use Prim.Native.Nat.{ℕ, _*_, _≤_}
 use mathlib.Core.Path.{_≡_, refl, sym, _∙_, ap}
 use mathlib.Core.Bool.{Bool, true, false, _||_}
-use mathlib.Core.List.{List, [], _∷_, map}
+use mathlib.Core.List.{List}
 use mathlib.Core.Option.{Option, none, some}
 use native.Mathlib.Omega.{arith}
 use lib.ListN.{length}
 use lib.Dec.{eqb}
 use borrow.Author.Tests.{eq-eqb}
-use Rattle.task.specs.Lists.{sum}
 use Rattle.task.specs.Limits.{mostParts}
 use Rattle.task.specs.Answers.{toldNumber}
 use Rattle.task.specs.Task.{Task}
 use Rattle.task.specs.Table.{taskOf, longEnough, isTable}
-use Rattle.task.specs.Run.{Step, stepsIn, badStep, stateIn, isState, roomIn, Running, ran, stopped, outgrown, runWithin}
+use Rattle.task.specs.Run.{stepsIn, badStep, stateIn, isState, roomIn, Running, ran, stopped, outgrown, runWithin}
 use Rattle.task.specs.Run.{runTold, runDone, runOutcome}
-use Rattle.tokens.specs.Split.{splitAs, split, splitTask}
-use Rattle.blocks.specs.Blocks.{unfoldSteps, unfoldOutcome, foldOutcome}
-use Rattle.task.proofs.Laws.{both-ft, or-left, or-right}
+use Rattle.blocks.specs.Blocks.{unfoldOutcome, foldOutcome}
+use Rattle.words.proofs.Lists.{both-ft, or-left, or-right}
 use Rattle.task.proofs.BadSteps.{steps-whole}
 use Rattle.task.proofs.StateWords.{length-stateIn}
 use Rattle.task.proofs.SizeLaws.{state-asc}
 use Rattle.task.proofs.RunOutcome.{run-no-table, run-bad-step, run-no-state, run-done}
 use Rattle.task.proofs.RoomEnough.{never-outgrown}
-use Rattle.tokens.proofs.Accepted.{split-is}
 use Rattle.tokens.proofs.SplitAnswers.{AcceptedSplit, accepted-split}
-use Rattle.blocks.proofs.SplitParts.{some-part, few-parts}
-use Rattle.blocks.proofs.Unfolded.{partsOf, length-unfold}
-use Rattle.blocks.proofs.BlockAnswers.{length-list, unfoldingOf}
-use Rattle.blocks.proofs.BlockAnswers.{UnfoldCase, unfold-refused, unfold-longer, unfolds, unfold-cases}
-use Rattle.blocks.proofs.BlockAnswers.{FoldCase, fold-refused, fold-misfits, fold-longer, folds, fold-cases}
-use Rattle.correspondence.specs.SharedRuns.{StepsOf}
+use Rattle.blocks.proofs.BlockAnswers.{length-list, unfoldingOf, UnfoldCase, unfold-refused, unfold-longer, unfolds}
+use Rattle.blocks.proofs.BlockAnswers.{unfold-cases, FoldCase, fold-refused, fold-misfits, fold-longer, folds}
+use Rattle.blocks.proofs.BlockAnswers.{fold-cases}
 use Rattle.correspondence.specs.SharedRunsOnWords.{number, LengthsAside, RoomToRun, LengthsAlwaysMet}
-use Rattle.correspondence.proofs.Given.{head-step, tail-steps}
-use Rattle.correspondence.proofs.UnfoldedSteps.{unfolded-steps}
 use Rattle.correspondence.proofs.Demand3.{demand-3}
-use Rattle.correspondence.proofs.StatesOnWords.{the-given}
+use Rattle.blocks.proofs.SplitSteps.{the-given, unfolded-steps, unfolded-between}
 
 -- an answer's number that is another one
 aside : {m : ℕ} (n : ℕ) → m ≡ n → eqb n 1 || (eqb n 13 || eqb n 17) ≡ false →
@@ -56,28 +48,6 @@ module _ {table words : List ℕ} (A : AcceptedSplit table words) where
   abbrev t′ : Task
   t′ = taskOf words
 
-  to-split : split t ≡ splitAs (splitTask t)
-  to-split = A .accepted ∙ ap splitAs (split-is t t′ (A .accepted))
-
-  parts-between : (xs : List Step) → StepsOf t xs →
-      (length xs ≤ sum (map (partsOf t) xs)) × (sum (map (partsOf t) xs) ≤ mostParts * length xs)
-  unfolding sum
-  parts-between [] h = (omega arith, omega arith)
-  parts-between (x ∷ xs) h =
-      let known = head-step t x xs h .known in
-      let some = some-part t (A .well) to-split (x .schema) known in
-      let few = few-parts t (A .well) to-split (x .schema) known in
-      let (least, most) = parts-between xs (tail-steps t x xs h) in
-      (omega arith, omega arith)
-
-  -- "It has 1 to 16 parts", and so has a step's block
-  pub unfolded-between : (xs : List Step) → StepsOf t xs →
-      (length xs ≤ length (unfoldSteps t xs)) × (length (unfoldSteps t xs) ≤ mostParts * length xs)
-  unfolded-between xs h =
-      let (least, most) = parts-between xs h in
-      let e = length-unfold t xs in
-      (omega arith, omega arith)
-
   pub unfolding-lent-enough : (steps lent : List ℕ) → mostParts * length steps ≤ length lent →
       LengthsAside (unfoldOutcome table steps lent)
   unfolding-lent-enough steps lent enough =
@@ -89,7 +59,7 @@ module _ {table words : List ℕ} (A : AcceptedSplit table words) where
       go (unfold-longer e l q) =
           let whole = steps-whole t steps e in
           let are = unfolded-steps (the-given A) (stepsIn t steps) (whole .1) in
-          let most = unfolded-between (stepsIn t steps) (whole .1) .1 in
+          let most = unfolded-between A (stepsIn t steps) (whole .1) .1 in
           absurd (omega (arith, whole .0, length-list t′ (A .split-well-formed) (unfoldingOf table steps) are))
 
   pub folding-lent-enough : (ys lent : List ℕ) → length ys ≤ length lent → LengthsAside (foldOutcome table ys lent)
@@ -102,7 +72,7 @@ module _ {table words : List ℕ} (A : AcceptedSplit table words) where
       go (fold-longer xs e f l q) =
           let whole = steps-whole t′ ys e in
           let (are, b) = demand-3 t t′ (A .well) (A .accepted) .folding (stepsIn t′ ys) (whole .1) .folds xs .0 f in
-          let least = unfolded-between xs are .0 in
+          let least = unfolded-between A xs are .0 in
           absurd (omega (arith, whole .0, ap length b, length-list t (A .well) xs are))
 
 -- ---- running, of any table

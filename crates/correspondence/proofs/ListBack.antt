@@ -9,25 +9,25 @@ use mathlib.Core.Logic.{_⊎_, inl, inr}
 use native.Mathlib.Omega.{arith}
 use native.Mathlib.Decide.{decLt}
 use lib.ListN.{length, length-map}
-use Rattle.task.specs.Lists.{all, concatMap, upTo}
+use Rattle.words.specs.Lists.{all, concatMap, upTo}
 use Rattle.task.specs.Task.{Fact, Task}
 use Rattle.task.specs.Run.{Step, schemaAt, applies, next, ran, runFrom}
 use Rattle.tokens.specs.Split.{parts, procnone, doToken, orders, free}
 use Rattle.blocks.specs.Blocks.{firstOf, partStep, block, unfoldSteps}
-use Rattle.task.proofs.Laws.{In, here, in-right, in-append, map-in, length-upTo}
+use Rattle.words.proofs.Lists.{In, here, in-right, in-append, map-in, length-upTo}
 use Rattle.task.proofs.States.{applies-in, run-on, run-stop, State, IsStep, is-isStep, next-state}
 use Rattle.tokens.proofs.Ground.{bare, the-bare}
 use Rattle.tokens.proofs.Accepted.{do-schema, do-position, do-not-free, tokenAt, required-is, token-zero, token-inside}
 use Rattle.tokens.proofs.Accepted.{token-high}
 use Rattle.blocks.proofs.Numbers.{find-schema, length-block, take-block}
 use Rattle.correspondence.specs.SharedRuns.{StepsOf, withFree, TakenApart}
-use Rattle.correspondence.proofs.Given.{Given, head-step, tail-steps, part-count, filled}
 use Rattle.correspondence.proofs.Standing.{Token, state-low, stands-start}
 use Rattle.correspondence.proofs.PartAtoms.{asks-token}
 use Rattle.correspondence.proofs.OneBlock.{objectOf, StandsIn, stands-end}
 use Rattle.correspondence.proofs.OneList.{ran-inj, ran-not-stopped}
 use Rattle.correspondence.proofs.OneWay.{one-more-block}
 use Rattle.correspondence.proofs.NextPart.{merged, own-part, merged-step, merged-stands, merged-parts}
+use Rattle.blocks.proofs.Given.{Given, head-step, tail-steps, part-count, filled}
 
 -- ---- between two steps of the split: the steps `pre` of an open block are done
 data Amid (t : Task) (S : List Fact) (pre : List Step) : Type 0 where

@@ -10,23 +10,23 @@ use native.Mathlib.Omega.{arith}
 use lib.ListN.{length, getD, length-map}
 use lib.Seq.{ext-getD}
 use borrow.Author.Tests.{lt-ltb}
-use Rattle.task.specs.Lists.{upTo, indexOf}
+use Rattle.words.specs.Lists.{upTo, indexOf}
 use Rattle.task.specs.Task.{Fact, Schema, Task}
 use Rattle.task.specs.Run.{Step, schemaAt, applies, next}
 use Rattle.tokens.specs.Split.{has, paramsOf, firstPosition, parToken, own, laterHere, splitSchema, orders, splitTask}
 use Rattle.blocks.specs.Blocks.{firstOf, paramsAt, partStep}
-use Rattle.task.proofs.Laws.{bool-cases, In, in-getD, map-in, map-same, upTo-in, length-upTo, getD-map, getD-upTo}
-use Rattle.task.proofs.Laws.{map-append, upTo-suc}
+use Rattle.words.proofs.Lists.{bool-cases, In, in-getD, map-in, map-same, upTo-in, length-upTo, getD-map, getD-upTo}
+use Rattle.words.proofs.Lists.{map-append, upTo-suc}
 use Rattle.task.proofs.States.{applies-in, IsStep}
 use Rattle.tokens.proofs.Places.{in-params, params-in, At, at-first, index-small, index-getD}
 use Rattle.tokens.proofs.Ground.{single, a-par}
 use Rattle.tokens.proofs.Predicates.{par-high, par-fixes}
 use Rattle.blocks.proofs.Numbers.{split-schema}
-use Rattle.correspondence.proofs.Given.{Given}
 use Rattle.correspondence.proofs.Standing.{Token, AlikeBefore, stands-alike}
 use Rattle.correspondence.proofs.PartAtoms.{IsPart, asks-token}
 use Rattle.correspondence.proofs.OnePart.{stands-next}
 use Rattle.correspondence.proofs.OneBlock.{objectOf, StandsIn}
+use Rattle.blocks.proofs.Given.{Given}
 
 -- ---- x with the objects that y gives the parameters of the part at position j
 module _ (t : Task) (x : Step) (j : ℕ) where

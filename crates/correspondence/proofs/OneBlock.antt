@@ -9,12 +9,12 @@ use mathlib.Core.Logic.{_⊎_, inl, inr}
 use native.Mathlib.Omega.{arith}
 use native.Mathlib.Decide.{decLt}
 use lib.ListN.{length, getD}
-use Rattle.task.specs.Lists.{upTo, upFrom}
+use Rattle.words.specs.Lists.{upTo, upFrom}
 use Rattle.task.specs.Task.{Fact, Task, precondition, addition, deletion}
 use Rattle.task.specs.Run.{Step, schemaAt, ground, groundRole, applies, next, stopped, runFrom}
 use Rattle.tokens.specs.Split.{procnone, orders, free}
 use Rattle.blocks.specs.Blocks.{firstOf, partStep, block}
-use Rattle.task.proofs.Laws.{both-ft, bool-cases, false-if, In, here, in-eq, in-left, in-right, in-append}
+use Rattle.words.proofs.Lists.{both-ft, bool-cases, false-if, In, here, in-eq, in-left, in-right, in-append}
 use Rattle.task.proofs.States.{asc-ext, in-role, role-in, in-next, next-add, next-keep, applies-in, in-applies, run-on}
 use Rattle.task.proofs.States.{run-stop, State, IsStep, next-state}
 use Rattle.tokens.proofs.Places.{last-at, some-at}
@@ -22,10 +22,10 @@ use Rattle.tokens.proofs.Ground.{factOf, bare, old-of}
 use Rattle.tokens.proofs.Accepted.{token-end}
 use Rattle.blocks.proofs.Numbers.{split-schema, part-objects}
 use Rattle.correspondence.specs.SharedRuns.{withFree}
-use Rattle.correspondence.proofs.Given.{Given, place-of}
 use Rattle.correspondence.proofs.Standing.{Done, OldFact, Token, Stands, state-low, asc-free, stands-start}
 use Rattle.correspondence.proofs.PartAtoms.{IsPart}
 use Rattle.correspondence.proofs.OnePart.{Needs, runs-needs, needs-run, stands-next}
+use Rattle.blocks.proofs.Given.{Given, place-of}
 
 -- the objects that a step gives its parameters
 abbrev pub objectOf : Step → ℕ → ℕ

@@ -15,7 +15,7 @@ use Rattle.task.specs.Task.{Atom, Fact, Schema, Task, precondition, addition, d
 use Rattle.task.specs.Run.{Step, schemaAt, groundRole, applies, next}
 use Rattle.tokens.specs.Split.{firstPosition, lastPosition, procnone, parToken, own, lone, firstHere, lastHere}
 use Rattle.tokens.specs.Split.{laterHere, orders}
-use Rattle.task.proofs.Laws.{both-ft, and-left, and-right, and-both, bool-cases, In, in-eq}
+use Rattle.words.proofs.Lists.{both-ft, and-left, and-right, and-both, bool-cases, In, in-eq}
 use Rattle.task.proofs.States.{in-next, next-add, next-keep, asc-next, applies-in, in-applies}
 use Rattle.arcs.proofs.Arcs.{tested-then-added, tested-then-deleted, deleted-then-added}
 use Rattle.tokens.proofs.Places.{has-small, in-params, params-in, At, at-last, first-at, last-at, some-at}

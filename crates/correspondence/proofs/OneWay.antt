@@ -8,16 +8,16 @@ use mathlib.Core.Logic.{_⊎_, inl, inr}
 use native.Mathlib.Omega.{arith}
 use lib.ListN.{length, getD, length-map, length-append}
 use lib.Seq.{ext-getD}
-use Rattle.task.specs.Lists.{concatMap, upTo, upFrom, indexOf}
+use Rattle.words.specs.Lists.{concatMap, upTo, upFrom, indexOf}
 use Rattle.task.specs.Task.{Task}
 use Rattle.task.specs.Run.{Step, schemaAt}
 use Rattle.tokens.specs.Split.{own, orders}
 use Rattle.blocks.specs.Blocks.{firstOf, paramsAt, partStep, block, unfoldSteps}
-use Rattle.task.proofs.Laws.{In, length-upTo, append-same-length, getD-map, getD-upTo}
+use Rattle.words.proofs.Lists.{In, length-upTo, append-same-length, getD-map, getD-upTo}
 use Rattle.task.proofs.States.{IsStep, isStep-is}
 use Rattle.blocks.proofs.Numbers.{first-inj, part-objects, length-block, take-block}
 use Rattle.correspondence.specs.SharedRuns.{StepsOf, ProperBeginning, TakenApart}
-use Rattle.correspondence.proofs.Given.{Given, head-step, tail-steps, more-steps, filled, covered}
+use Rattle.blocks.proofs.Given.{Given, head-step, tail-steps, more-steps, filled, covered}
 
 -- the schema of a list's first step
 firstSchema : List Step → ℕ

@@ -9,18 +9,18 @@ use mathlib.Core.Logic.{_⊎_, inl, inr}
 use native.Mathlib.Omega.{arith}
 use native.Mathlib.Decide.{decLt}
 use lib.ListN.{length, getD}
-use Rattle.task.specs.Lists.{indexOf}
+use Rattle.words.specs.Lists.{indexOf}
 use Rattle.task.specs.Task.{Atom, Fact, Task, precondition, addition, deletion}
 use Rattle.task.specs.Run.{Step, schemaAt, groundRole}
 use Rattle.tokens.specs.Split.{procnone, parToken, own, required, handedOn, lone, firstHere, lastHere, laterHere}
 use Rattle.tokens.specs.Split.{splitSchema, orders}
-use Rattle.task.proofs.Laws.{In}
+use Rattle.words.proofs.Lists.{In}
 use Rattle.arcs.proofs.Arcs.{Ordered}
 use Rattle.arcs.proofs.OrderTaken.{no-clash}
 use Rattle.tokens.proofs.Ground.{OldOf, old-of, TokenOf, pre-made, add-made, del-made, made-pre, made-add, made-del}
 use Rattle.tokens.proofs.Accepted.{required-is, handedOn-is, token-high}
-use Rattle.correspondence.proofs.Given.{Given, complies, each-once, args-small}
 use Rattle.correspondence.proofs.Standing.{Done, old-low, token-of-high}
+use Rattle.blocks.proofs.Given.{Given, complies, each-once, args-small}
 
 module _ (t : Task) (s : ℕ) (v : ℕ → ℕ) (j : ℕ) where
   -- made by an old atom of role r of this part

@@ -12,14 +12,14 @@ use lib.ListN.{length, getD}
 use Rattle.task.specs.Task.{Fact, Task, addition, deletion}
 use Rattle.task.specs.Run.{schemaAt}
 use Rattle.tokens.specs.Split.{firstPosition, lastPosition, procnone, parToken, own, orders, free}
-use Rattle.task.proofs.Laws.{In, here, in-left, in-right, in-append, map-same}
+use Rattle.words.proofs.Lists.{In, here, in-left, in-right, in-append, map-same}
 use Rattle.task.proofs.States.{fact-path, Asc, asc-snoc, State, less-pred}
 use Rattle.tokens.proofs.Places.{has-small, params-in, first-at, some-at}
 use Rattle.tokens.proofs.Ground.{bare, single, OldOf, old-of, TokenOf, the-bare, a-par}
 use Rattle.tokens.proofs.Predicates.{par-high}
 use Rattle.tokens.proofs.Accepted.{tokenAt, token-zero}
 use Rattle.correspondence.specs.SharedRuns.{withFree}
-use Rattle.correspondence.proofs.Given.{Given, atom-owns}
+use Rattle.blocks.proofs.Given.{Given, atom-owns}
 
 -- a block of schema s from the state s₀, with the objects that v gives its parameters
 module _ (t : Task) (s₀ : List Fact) (s : ℕ) (v : ℕ → ℕ) where

@@ -9,28 +9,27 @@ use mathlib.Core.Logic.{_↔_}
 use native.Mathlib.Omega.{arith}
 use lib.ListN.{length, getD, take, drop, replicate, length-append, take-append-drop, List·getD-append}
 use lib.Seq.{length-take-le, getD-append-seam}
-use Rattle.task.specs.Lists.{concatMap, upTo, padded}
-use Rattle.task.specs.Answers.{toldValue}
+use Rattle.words.specs.Lists.{concatMap, upTo, padded}
 use Rattle.task.specs.Task.{Fact, Task, factsFit, wellFormed}
-use Rattle.task.specs.Table.{wordsAt, taskOf}
+use Rattle.words.specs.Words.{wordsAt}
+use Rattle.task.specs.Table.{taskOf}
 use Rattle.task.specs.Run.{recordWords, stateWords, recordAt, stateIn, roomIn, isState, holds, ran, left, runTold}
 use Rattle.task.specs.Run.{runDone}
 use Rattle.tokens.specs.Split.{procnone, free, splitTask}
-use Rattle.task.proofs.Laws.{In, here, there, in-eq, in-left, in-right, in-all, in-getD, getD-in, append-concatMap}
-use Rattle.task.proofs.Laws.{map-append, upTo-suc, append-same-length, Less, smaller, same}
+use Rattle.words.proofs.Lists.{In, here, there, in-eq, in-left, in-right, in-all, in-getD, getD-in, append-concatMap}
+use Rattle.words.proofs.Lists.{map-append, upTo-suc, append-same-length, Less, smaller, same}
 use Rattle.task.proofs.Tests.{tests-fact}
 use Rattle.task.proofs.States.{key, Asc, asc-nil, asc-cons, asc-ascending, Fits, State, factsFit-state, fitting-argsFit}
 use Rattle.task.proofs.States.{holds-in, in-holds}
 use Rattle.task.proofs.Tables.{noFact}
-use Rattle.task.proofs.WordRows.{wordsAt-is}
-use Rattle.task.proofs.TablesByWords.{length-wordsAt}
+use Rattle.words.proofs.Words.{wordsAt-is, length-wordsAt}
 use Rattle.task.proofs.RecordWords.{arity-few, length-recordWords}
 use Rattle.task.proofs.StateWords.{Short, length-state, at-record, state-words, words-read, words-state, length-stateIn}
 use Rattle.tokens.proofs.SplitAnswers.{AcceptedSplit}
 use Rattle.correspondence.specs.SharedRuns.{withFree}
 use Rattle.correspondence.specs.SharedRunsOnWords.{procnoneRecord, thenProcnone, LeavesProcnone, SecondStart}
-use Rattle.correspondence.proofs.Given.{Given, given}
-use Rattle.correspondence.proofs.UnfoldedSteps.{free-state}
+use Rattle.blocks.proofs.SplitSteps.{the-given}
+use Rattle.correspondence.proofs.SecondRun.{free-state}
 
 -- ---- states and their words
 pub state-short : (t : Task) → wellFormed t ≡ true → (s : List Fact) → State t s → Short s
@@ -80,17 +79,15 @@ module _ {table split : List ℕ} (A : AcceptedSplit table split) where
   abbrev t′ : Task
   t′ = taskOf split
 
-  pub the-given : Given t t′
-  the-given = given t t′ (A .well) (A .accepted)
-
   -- the arities of the split: the old ones, then procnone's 0
   old-arity : (p : ℕ) → p < length (t .arities) → getD (t′ .arities) p 0 ≡ getD (t .arities) p 0
   unfolding splitTask
-  old-arity p l = ap (λ u. getD (u .arities) p 0) (the-given .is) ∙ List·getD-append (t .arities) _ 0 p l
+  old-arity p l = ap (λ u. getD (u .arities) p 0) (the-given A .is) ∙ List·getD-append (t .arities) _ 0 p l
 
   free-arity : getD (t′ .arities) (procnone t) 0 ≡ 0
   unfolding splitTask procnone
-  free-arity = ap (λ u. getD (u .arities) (length (t .arities)) 0) (the-given .is) ∙ getD-append-seam (t .arities) 0 _ 0
+  free-arity =
+      ap (λ u. getD (u .arities) (length (t .arities)) 0) (the-given A .is) ∙ getD-append-seam (t .arities) 0 _ 0
 
   -- a fact of the split with procnone's predicate is procnone
   only-free : (f : Fact) → Fits t′ f → f .pred ≡ procnone t → f ≡ free t
@@ -120,7 +117,7 @@ module _ {table split : List ℕ} (A : AcceptedSplit table split) where
       record {
         known = low;
         count = h .count ∙ old-arity (g .pred) low;
-        small = λ o i. subst (λ n. o < n) (ap (λ u. u .objects) (the-given .is)) (h .small o i);
+        small = λ o i. subst (λ n. o < n) (ap (λ u. u .objects) (the-given A .is)) (h .small o i);
       }
 
   module _ {state : List ℕ} {k : ℕ} {state′ : List ℕ} (start : SecondStart table state k state′) where
@@ -142,7 +139,7 @@ module _ {table split : List ℕ} (A : AcceptedSplit table split) where
       many = length-append s (free t ∷ []) ∙ (let e = length-stateIn t state k in omega arith)
 
       fit : factsFit (t′ .objects) (t′ .arities) (withFree t s) ≡ true
-      fit = free-state the-given s (state-words t state k h .0)
+      fit = free-state (the-given A) s (state-words t state k h .0)
 
       pub second-state : isState t′ state′ (suc k) ≡ true
       second-state = ap₂ (isState t′) (sym joined) (sym many) ∙

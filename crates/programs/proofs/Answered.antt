@@ -1,5 +1,6 @@
 -- What the entry points answer, as the programs use it: a text that was read lies as a table, a split that was given
 -- too, and a refusal is the one that is printed.
+use Rattle.task.specs.declared.Place.the-variants as place
 use Prim.Native.Nat.{ℕ, _≤_}
 use mathlib.Core.Path.{_≡_, refl, sym, _∙_, ap, ap₂, subst}
 use mathlib.Core.Bool.{true}
@@ -8,13 +9,12 @@ use native.Mathlib.Omega.{arith}
 use lib.ListN.{length, replicate, length-replicate}
 use borrow.Author.Tests.{le-leb}
 use Rattle.task.specs.declared.Place.{Place}
-use Rattle.task.specs.declared.Place.the-variants as place
-use Rattle.task.specs.Lists.{over}
+use Rattle.words.specs.Lists.{over}
 use Rattle.task.specs.Limits.{tableWords}
 use Rattle.task.specs.Answers.{placeNumber, result, refused, Outcome}
 use Rattle.task.specs.Task.{Task}
 use Rattle.task.specs.Table.{wordsOf, taskOf, longEnough, isTable}
-use Rattle.task.proofs.Put.{take-over}
+use Rattle.words.proofs.Puts.{take-over}
 use Rattle.task.proofs.LongEnough.{has-table-words}
 use Rattle.task.proofs.Tables.{words-length, of-table}
 use Rattle.task.proofs.TablesByIndex.{table-of, table-long}
@@ -29,6 +29,7 @@ use Rattle.text.proofs.LongestText.{text-most}
 use Rattle.tokens.specs.Split.{Splitting, circular, tooLarge, splitAs, split, splitOutcome}
 use Rattle.tokens.proofs.SplitOutcome.{refused-nine, refused-ten, split-refused as outcome-refused, split-done}
 use Rattle.programs.specs.Programs.{taken, refusal, printReading, printSplitting, splitProgram}
+use Rattle.task.proofs.Answers.{told-by, left-by}
 
 -- ---- words of zeros, as a function has them before they are written
 pub zeros-long : (n : ℕ) → n ≤ length {A = ℕ} (replicate n 0)
@@ -51,7 +52,7 @@ table-read text table h e =
     let fits = read-fits text t (r .was-read) in
     let w = over (wordsOf t) table in
     let lies : readOutcome text table .buffer ≡ w =
-    ap (λ (o : Outcome). o .buffer) (read-result text table t (r .long) (r .was-read)) in
+    left-by (read-result text table t (r .long) (r .was-read)) in
     let (is-table, same) = table-of w t fits (take-over (wordsOf t) table tableWords (words-length t fits)) in
     subst (TableRead text) (sym (e ∙ lies)) (record { is-table = is-table; reads = r .was-read ∙ ap read (sym same) })
 
@@ -61,7 +62,7 @@ pub read-refused : (text table : List ℕ) → tableWords ≤ length table → {
     refusal k (placeNumber at) ≡ printReading uses (readText text)
 unfolding readDone printReading
 read-refused text table long {k} {at} h uses =
-    go (readText text) (h ∙ ap (λ (o : Outcome). o .told) (long-outcome text table long))
+    go (readText text) (h ∙ told-by (long-outcome text table long))
   where
     go : (r : Reading Task) → refused k at [] ≡ readDone table r .told →
         refusal k (placeNumber at) ≡ printReading uses r
@@ -91,8 +92,8 @@ split-refused table out is-table out-long {k} {at} h prints = go (split (taskOf 
     room : longEnough out ≡ true
     room = le-leb tableWords (length out) out-long
 
-    told : {o : Outcome} → splitOutcome table out ≡ o → refused k at [] ≡ o .told
-    told e = h ∙ ap (λ (o : Outcome). o .told) e
+    told : {o : Outcome (List ℕ)} → splitOutcome table out ≡ o → refused k at [] ≡ o .told
+    told e = h ∙ told-by e
 
     go : (r : Splitting) → split (taskOf table) ≡ r →
         refusal k (placeNumber at) ≡ printSplitting prints (split (taskOf table))

@@ -1,5 +1,6 @@
 -- A plan read, unfolded and written: its steps are those of the task and few, so their blocks fit the words lent, and
 -- are steps of the split, whose plan fits the bytes lent.
+use Rattle.tokens.proofs.SplitOutcome.{split-refused as outcome-refused}
 use Prim.Native.Nat.{ℕ, _*_, _≤_}
 use mathlib.Core.Path.{_≡_, sym, _∙_, ap}
 use mathlib.Core.Bool.{true}
@@ -9,26 +10,21 @@ use native.Mathlib.Omega.{arith}
 use lib.ListN.{length, take, length-take}
 use borrow.Author.Tests.{le-leb}
 use Rattle.task.specs.declared.Place.{Place}
-use Rattle.task.specs.Lists.{all, over}
+use Rattle.words.specs.Lists.{all, over}
 use Rattle.task.specs.Limits.{tableWords}
-use Rattle.task.specs.Answers.{placeNumber, result, refused, Outcome, Check, refuseUnless, refuseStep, inOrder}
-use Rattle.task.specs.Task.{Task, wellFormed}
+use Rattle.task.specs.Answers.{placeNumber, result, refused}
+use Rattle.task.specs.Task.{Task}
 use Rattle.task.specs.Table.{taskOf, longEnough, isTable}
 use Rattle.task.specs.Run.{Step, isStep, stepsIn, badStep}
-use Rattle.task.proofs.Answers.{check-passes, step-passes}
-use Rattle.task.proofs.Put.{take-over}
-use Rattle.task.proofs.Tables.{of-table}
+use Rattle.words.proofs.Puts.{take-over}
+use Rattle.task.proofs.Answers.{told-by}
 use Rattle.task.proofs.TablesByIndex.{table-long}
 use Rattle.task.proofs.StepWords.{length-stepsIn}
 use Rattle.task.proofs.BadSteps.{steps-whole}
 use Rattle.tokens.specs.Split.{split}
-use Rattle.tokens.proofs.SplitOutcome.{accepted-passes}
 use Rattle.tokens.proofs.SplitAnswers.{AcceptedSplit}
-use Rattle.blocks.specs.Blocks.{unfoldSteps, listWords, fitsIn, unfoldOutcome}
-use Rattle.blocks.proofs.BlockAnswers.{length-list, list-good, list-read, unfoldedOver, unfoldingOf}
-use Rattle.correspondence.proofs.StatesOnWords.{the-given}
-use Rattle.correspondence.proofs.UnfoldedSteps.{unfolded-steps}
-use Rattle.correspondence.proofs.LentLengths.{unfolded-between}
+use Rattle.blocks.specs.Blocks.{unfoldSteps, listWords}
+use Rattle.blocks.proofs.BlockAnswers.{length-list, list-good, list-read, unfoldingOf}
 use Rattle.text.specs.Reading.{read}
 use Rattle.text.specs.Text.{readText}
 use Rattle.text.specs.Plan.{readPlan, writePlan}
@@ -39,9 +35,11 @@ use Rattle.text.proofs.PlanSteps.{planWords-is}
 use Rattle.text.proofs.PlanAnswers.{answer-read, answer-refused}
 use Rattle.text.proofs.PlanWritten.{plan-fits}
 use Rattle.programs.specs.Programs.{taken, refusal, printReading, printSplitting, unfoldProgram}
-use Rattle.programs.specs.Code.{SplitTable, PlanSteps}
-use Rattle.programs.proofs.Answered.{TableRead}
+use Rattle.programs.specs.Code.{PlanSteps}
+use Rattle.programs.proofs.Answered.{TableRead, split-refused}
 use Rattle.programs.proofs.Printed.{printed-within}
+use Rattle.blocks.proofs.SplitSteps.{the-given, unfolded-steps, unfolded-between}
+use Rattle.tokens.specs.Code.{RefusedAs}
 
 -- bytes that hold every unfolding hold every text
 pub text-room : {n : ℕ} → longestPlan ≤ n → longestText ≤ n
@@ -58,7 +56,7 @@ plan-refused table text lent {k} {at} told uses =
     ap (λ (p : Place). refusal k (placeNumber p)) (r .at) ∙ sym (ap (printReading uses) (r .is))
 
 -- the steps that were read, and their words
-pub record PlanRead (table text words : List ℕ) (n : ℕ) : Type 0 where
+pub record StepsRead (table text words : List ℕ) (n : ℕ) : Type 0 where
   pub reads : readPlan (taskOf table) text ≡ read (stepsIn (taskOf table) (take (13 * n) words))
   pub plan : PlanSteps table (take (13 * n) words)
   pub few : n ≤ 100
@@ -66,7 +64,7 @@ pub record PlanRead (table text words : List ℕ) (n : ℕ) : Type 0 where
 
 pub plan-read : (table text lent : List ℕ) {words : List ℕ} {n : ℕ} → isTable table ≡ true →
     result (n ∷ []) ≡ planOutcome table text lent .told → words ≡ planOutcome table text lent .buffer →
-    PlanRead table text words n
+    StepsRead table text words n
 plan-read table text lent {words} {n} is-table told left =
     let r = answer-read table text lent is-table words n told left in
     let p = r .words in
@@ -84,29 +82,23 @@ plan-read table text lent {words} {n} is-table told left =
     }
 
 -- ---- blocks
--- what a table and its split's table are known to be
-pub accepted : {table words : List ℕ} → SplitTable table words → AcceptedSplit table words
+-- what splitting refuses is printed
+pub refused-printed : (table : List ℕ) → isTable table ≡ true → {k : ℕ} {at : Place} → RefusedAs table k at →
+    (prints : Task → List ℕ) → refusal k (placeNumber at) ≡ printSplitting prints (split (taskOf table))
 unfolding longEnough
-accepted {table} {words} s = record {
-  long = le-leb tableWords (length table) (table-long table (s .is-table));
-  is-table = s .is-table;
-  well = of-table table (s .is-table) .0;
-  accepted = s .accepted;
-  split-long = le-leb tableWords (length words) (table-long words (s .split-table));
-  split-table = s .split-table;
-  split-well-formed = of-table words (s .split-table) .0;
-}
+refused-printed table is-table h prints =
+    let long = table-long table is-table in
+    let e = outcome-refused table table (le-leb tableWords (length table) long) h in
+    split-refused table table is-table long (told-by (sym e)) prints
 
 -- the words of the blocks are those of steps of the split, whose plan fits the bytes lent
-pub record BlocksWritten (table words steps after : List ℕ) (n : ℕ) : Type 0 where
-  pub few : n ≤ 1600
-  pub good : badStep (taskOf words) (take (13 * n) after) ≡ none
-  pub are : stepsIn (taskOf words) (take (13 * n) after) ≡ unfoldingOf table steps
-  pub fits : length (writePlan (stepsIn (taskOf words) (take (13 * n) after))) ≤ longestPlan
-  pub inside : 13 * n ≤ length after
+pub record BlocksWritten (table words steps after : List ℕ) (end : ℕ) : Type 0 where
+  pub good : badStep (taskOf words) (take end after) ≡ none
+  pub are : stepsIn (taskOf words) (take end after) ≡ unfoldingOf table steps
+  pub fits : length (writePlan (stepsIn (taskOf words) (take end after))) ≤ longestPlan
+  pub inside : end ≤ length after
 
-module _ (table words steps out : List ℕ) (s : SplitTable table words) (p : PlanSteps table steps)
-    (room : 20800 ≤ length out) where
+module _ (table words steps : List ℕ) (s : AcceptedSplit table words) (p : PlanSteps table steps) where
   abbrev t : Task
   t = taskOf table
 
@@ -120,59 +112,30 @@ module _ (table words steps out : List ℕ) (s : SplitTable table words) (p : Pl
   ys = unfoldingOf table steps
 
   split-steps : all (isStep t′) ys ≡ true
-  split-steps = unfolded-steps (the-given (accepted s)) xs (steps-whole t steps (p .good) .1)
+  split-steps = unfolded-steps (the-given s) xs (steps-whole t steps (p .good) .1)
 
-  well′ : wellFormed t′ ≡ true
-  well′ = accepted s .split-well-formed
-
-  long : length (listWords ys) ≡ 13 * length ys
-  long = length-list t′ well′ ys split-steps
-
-  few-steps : length ys ≤ 1600
+  -- sixteen parts of each of 100 steps
+  pub few-steps : length ys ≤ 1600
   few-steps =
-      let most = unfolded-between (accepted s) xs (steps-whole t steps (p .good) .1) .1 in
+      let most = unfolded-between s xs (steps-whole t steps (p .good) .1) .1 in
       let n = length-stepsIn t steps in
       let few = p .few in
       let z = planWords-is in
       omega arith
 
-  abbrev roomCheck : List Check
-  roomCheck = refuseUnless (fitsIn (listWords ys) out) 13 ∷ []
-
-  outcome : unfoldOutcome table steps out ≡ unfoldedOver ys out
-  unfolding unfoldOutcome inOrder fitsIn
-  outcome =
-      let n = long in
-      let k = few-steps in
-      accepted-passes table (accepted s .long) (s .is-table) (s .accepted)
-      (refuseStep 12 (badStep t steps) ∷ roomCheck) out (unfoldedOver ys out) ∙
-      (step-passes 12 roomCheck out (unfoldedOver ys out) (p .good) ∙
-      check-passes 13 [] out (unfoldedOver ys out) (le-leb (length (listWords ys)) (length out) (omega arith)))
-
-  -- unfolding is never refused here
-  pub never-refused : {k : ℕ} {at : Place} → refused k at [] ≡ unfoldOutcome table steps out .told → ⊥
-  never-refused h =
-      let told = h ∙ ap (λ (o : Outcome). o .told) outcome in
-      let z : _≡_ {A = ℕ} 0 1 = cc in
-      omega arith
-
-  pub blocks-written : {after : List ℕ} {n : ℕ} → result (n ∷ []) ≡ unfoldOutcome table steps out .told →
-      after ≡ unfoldOutcome table steps out .buffer → BlocksWritten table words steps after n
-  blocks-written {after} {n} h b =
-      let told = h ∙ ap (λ (o : Outcome). o .told) outcome in
-      let count : n ≡ length ys = cc in
-      let lies : after ≡ over (listWords ys) out = b ∙ ap (λ (o : Outcome). o .buffer) outcome in
-      let size : length (listWords ys) ≡ 13 * n = (let l = long in omega arith) in
-      let e : take (13 * n) after ≡ listWords ys =
-      ap (take (13 * n)) lies ∙ take-over (listWords ys) out (13 * n) size in
-      let good = ap (badStep t′) e ∙ list-good t′ well′ ys split-steps in
-      let words-long = ap length e in
+  pub blocks-written : (out : List ℕ) {after : List ℕ} {end : ℕ} → end ≡ 13 * length ys →
+      after ≡ over (listWords ys) out → BlocksWritten table words steps after end
+  blocks-written out {after} {end} h lies =
+      let well = s .split-well-formed in
+      let size : length (listWords ys) ≡ end = length-list t′ well ys split-steps ∙ sym h in
+      let e : take end after ≡ listWords ys = ap (take end) lies ∙ take-over (listWords ys) out end size in
+      let good = ap (badStep t′) e ∙ list-good t′ well ys split-steps in
+      let long = ap length e in
       let few = few-steps in
       record {
-        few = omega arith;
         good = good;
-        are = ap (stepsIn t′) e ∙ list-read t′ well′ ys split-steps;
-        fits = plan-fits t′ well′ (take (13 * n) after) good (omega arith);
+        are = ap (stepsIn t′) e ∙ list-read t′ well ys split-steps;
+        fits = plan-fits t′ well (take end after) good (omega arith);
         inside = printed-within (listWords ys) out lies (sym size);
       }
 

@@ -5,10 +5,11 @@ use mathlib.Core.List.{List, [], _∷_, _++_, append-assoc}
 use native.Mathlib.Omega.{arith}
 use lib.ListN.{length, take, drop, length-append}
 use lib.Seq.{take-all, take-length}
-use Rattle.task.specs.Lists.{over}
-use Rattle.task.proofs.Put.{put-over}
+use Rattle.words.specs.Lists.{over}
+use Rattle.words.proofs.Puts.{put-over}
 use Rattle.text.specs.Lines.{bytes, colon, newline, digitsWithin, digits, commaed, entryBytes, line}
-use Rattle.text.specs.Code.{Puts, longestText}
+use Rattle.words.specs.Putting.{Puts}
+use Rattle.text.specs.Code.{longestText}
 use Rattle.text.proofs.Digits.{digits-one, digits-more}
 use Rattle.text.proofs.DigitSteps.{at-most-five}
 use Rattle.programs.specs.Programs.{mostBytes, taken, refusal}
@@ -18,7 +19,7 @@ use Rattle.programs.specs.Code.{Prints}
 pub puts-prints : {lent text after : List ℕ} {n : ℕ} → 0 + length text ≤ length lent → Puts lent 0 text after n →
     Prints lent text after n
 puts-prints {lent} {text} h p =
-    record { bytes = p .stored ∙ put-over text lent (omega arith); count = let e = p .place in omega arith }
+    record { bytes = p .words ∙ put-over text lent (omega arith); count = let e = p .place in omega arith }
 
 pub prints-same : {lent text same after : List ℕ} {n : ℕ} → text ≡ same → Prints lent text after n →
     Prints lent same after n
@@ -37,7 +38,7 @@ printed-within text lent e h =
 pub no-digits : (w : List ℕ) (at most n : ℕ) → most ≡ 0 → Puts w at (digitsWithin most n) w at
 unfolding digitsWithin
 no-digits w at most n e =
-    subst (λ (m : ℕ). Puts w at (digitsWithin m n) w at) (sym e) (record { stored = refl; place = omega arith })
+    subst (λ (m : ℕ). Puts w at (digitsWithin m n) w at) (sym e) (record { words = refl; place = omega arith })
 
 pub last-digit : (most n : ℕ) → (most ≡ 0 → ⊥) → n < 10 → digitsWithin most n ≡ (48 + n) ∷ []
 last-digit zero n some h = absurd (some refl)

@@ -1,26 +1,18 @@
 -- What the contracts of this crate's inner functions name.
 use Prim.Native.Nat.{ℕ, _≤_}
 use mathlib.Core.Path.{_≡_}
-use mathlib.Core.Bool.{true}
 use mathlib.Core.List.{List}
 use mathlib.Core.Option.{none}
 use lib.ListN.{length}
-use Rattle.task.specs.Lists.{over}
-use Rattle.task.specs.Table.{taskOf, isTable}
+use Rattle.words.specs.Lists.{over}
+use Rattle.task.specs.Table.{taskOf}
 use Rattle.task.specs.Run.{badStep}
-use Rattle.tokens.specs.Split.{splitAs, split}
 use Rattle.text.specs.Plan.{planWords}
 
 -- bytes after a text was printed over their front, and how many were printed
 pub record Prints (lent text after : List ℕ) (n : ℕ) : Type 0 where
   pub bytes : after ≡ over text lent
   pub count : n ≡ length text
-
--- words that are the table of a table's split
-pub record SplitTable (table words : List ℕ) : Type 0 where
-  pub is-table : isTable table ≡ true
-  pub split-table : isTable words ≡ true
-  pub accepted : split (taskOf table) ≡ splitAs (taskOf words)
 
 -- the words of "at most 100" steps of a table's task
 pub record PlanSteps (table steps : List ℕ) : Type 0 where

@@ -1,12 +1,11 @@
 -- 'Text form', the two programs as functions of their input bytes.
 use Prim.Native.Nat.{ℕ}
-use mathlib.Core.List.{List, [], _∷_, _++_}
+use mathlib.Core.List.{List, [], _∷_}
 use lib.ListN.{take}
 use Rattle.task.specs.Task.{Task}
-use Rattle.task.specs.Run.{Step}
 use Rattle.tokens.specs.Split.{Splitting, circular, tooLarge, splitAs, split}
 use Rattle.blocks.specs.Blocks.{unfoldSteps}
-use Rattle.text.specs.Lines.{digits, entryBytes, line}
+use Rattle.text.specs.Lines.{entryBytes, line}
 use Rattle.text.specs.Reading.{Reading, read, refusedAt}
 use Rattle.text.specs.Text.{write, readText}
 use Rattle.text.specs.Plan.{readPlan, writePlan}

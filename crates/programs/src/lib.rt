@@ -1,18 +1,19 @@
 // What the two programs print, as functions of their input bytes: `split` and `unfold` read, call these, and write.
+mod inputs;
 mod plans;
 mod printing;
 
+ghost use mathlib.Core.Path.{_≡_};
+ghost use lib.ListN.{length};
+ghost use Rattle.words.specs.Lists.{over};
+ghost use Rattle.programs.specs.Programs.{splitProgram, unfoldProgram};
+use inputs::read_table;
 use plans::put_plan;
-use printing::bytes_taken;
 use printing::put_refusal;
 use printing::put_split;
 use task::limits::TABLE_WORDS;
 use text::LONGEST_TEXT;
 use text::ReadAnswer;
-ghost use mathlib.Core.Path.{_≡_};
-ghost use lib.ListN.{length};
-ghost use Rattle.task.specs.Lists.{over};
-ghost use Rattle.programs.specs.Programs.{splitProgram, unfoldProgram};
 
 // No text of a task is longer, so this much holds whatever `split` prints.
 pub const TEXT_BYTES: usize = LONGEST_TEXT;
@@ -26,9 +27,8 @@ pub fn split_text(text: &[u8], out: &mut [u8; TEXT_BYTES]) -> usize
     ensures { λ r. ⌜ now (out .exit) ≡ over (splitProgram (now (text .entry))) (now (out .entry)) ⌝ }
     ensures { λ r. ⌜ r ≡ length (splitProgram (now (text .entry))) ⌝ }
 {
-    let n = bytes_taken(text);
     let mut table = [0u16; TABLE_WORDS];
-    match text::read(&text[..n], &mut table) {
+    match read_table(text, &mut table) {
         ReadAnswer::Read => put_split(&table, out),
         ReadAnswer::Refused(number, place) => put_refusal(out, number, place),
     }
@@ -41,9 +41,8 @@ pub fn unfold_texts(task: &[u8], plan: &[u8], out: &mut [u8; PLAN_BYTES]) -> usi
         over (unfoldProgram (now (task .entry)) (now (plan .entry))) (now (out .entry)) ⌝ }
     ensures { λ r. ⌜ r ≡ length (unfoldProgram (now (task .entry)) (now (plan .entry))) ⌝ }
 {
-    let n = bytes_taken(task);
     let mut table = [0u16; TABLE_WORDS];
-    match text::read(&task[..n], &mut table) {
+    match read_table(task, &mut table) {
         ReadAnswer::Read => put_plan(&table, plan, out),
         ReadAnswer::Refused(number, place) => put_refusal(out, number, place),
     }

@@ -1,14 +1,20 @@
 // What `unfold` prints: the blocks of a plan's steps as a plan of the split, or the first refusal.
-use crate::printing::bytes_taken;
+use crate::inputs::bytes_taken;
 use crate::printing::put_refusal;
-use arcs::MOST_PARTS;
-use blocks::UnfoldAnswer;
+use blocks::unfolding;
+use task::limits::MOST_PARTS;
+use task::limits::STEP_SIZE;
 use task::limits::TABLE_WORDS;
 use text::plan::PLAN_WORDS;
 use text::plan::PlanAnswer;
 use text::plan::read_plan;
 use text::plan::write_plan;
-use tokens::SplitAnswer;
+use tokens::acceptance::Acceptance;
+use tokens::acceptance::keep_accepted;
+use tokens::kept::KEPT_WORDS;
+use tokens::kept::Kept;
+use tokens::measure::Sizes;
+use tokens::writing::write_split;
 ghost use mathlib.Core.Path.{_≡_};
 ghost use mathlib.Core.Bool.{true};
 ghost use Prim.Native.Nat.{_≤_};
@@ -20,29 +26,26 @@ ghost use Rattle.blocks.specs.Blocks.{unfoldSteps};
 ghost use Rattle.text.specs.Plan.{readPlan, writePlan};
 ghost use Rattle.text.specs.PlanCode.{longestPlan};
 ghost use Rattle.programs.specs.Programs.{taken, printReading, printSplitting};
-ghost use Rattle.programs.specs.Code.{Prints, SplitTable, PlanSteps};
-
-// "A step is 13 words".
-const STEP_SIZE: usize = 13;
+ghost use Rattle.programs.specs.Code.{Prints, PlanSteps};
+ghost use Rattle.tokens.specs.Code.{AcceptedKept};
 
 // The words of 100 blocks of 16 parts.
 const BLOCK_WORDS: usize = MOST_PARTS * PLAN_WORDS;
 
-// The blocks of a plan's steps as a plan of the split. The words hold every unfolding, so that it is never refused.
-fn put_blocks(table: &[u16], split_table: &[u16], steps: &[u16], out: &mut [u8]) -> usize
-    requires { ⌜ SplitTable (now table) (now «split_table») ⌝ }
+// The blocks of a plan's steps as a plan of the split, which is accepted and kept. The words hold every unfolding.
+fn put_blocks(table: &[u16], kept: &Kept, sizes: Sizes, steps: &[u16], out: &mut [u8]) -> usize
+    requires { ⌜ AcceptedKept (now table) sizes (now kept) ⌝ }
     requires { ⌜ PlanSteps (now table) (now steps) ⌝ }
     requires { ⌜ longestPlan ≤ length (now out) ⌝ }
     ensures { λ r. do
       let t = taskOf (now (table .entry))
       ⌜ Prints (now (out .entry)) (writePlan (unfoldSteps t (stepsIn t (now (steps .entry))))) (now (out .exit)) r ⌝ }
 {
+    let mut split_table = [0u16; TABLE_WORDS];
+    write_split(table, kept, sizes, &mut split_table);
     let mut words = [0u16; BLOCK_WORDS];
-    let UnfoldAnswer::Unfolded(count) = blocks::unfold(table, steps, &mut words) else {
-        return 0;
-    };
-    let end = STEP_SIZE * (count as usize);
-    write_plan(split_table, &words[..end], out)
+    let end = unfolding::put_blocks(steps, kept, &mut words);
+    write_plan(&split_table, &words[..end], out)
 }
 
 // "unfolding comes last": what it writes is printed, or what splitting refuses.
@@ -56,10 +59,11 @@ fn put_unfolding(table: &[u16], steps: &[u16], out: &mut [u8]) -> usize
           (printSplitting (λ t′. writePlan (unfoldSteps t (stepsIn t (now (steps .entry))))) (split t))
           (now (out .exit)) r ⌝ }
 {
-    let mut words = [0u16; TABLE_WORDS];
-    match tokens::split(table, &mut words) {
-        SplitAnswer::Split => put_blocks(table, &words, steps, out),
-        SplitAnswer::Refused(number, place) => put_refusal(out, number, place),
+    let mut kept = [0u16; KEPT_WORDS];
+    let accepted = keep_accepted(table, &mut kept);
+    match accepted {
+        Acceptance::Accepted(sizes) => put_blocks(table, &kept, sizes, steps, out),
+        Acceptance::Refused(number, place) => put_refusal(out, number, place),
     }
 }
 

@@ -8,43 +8,19 @@ use tokens::SplitAnswer;
 ghost use mathlib.Core.Path.{_≡_};
 ghost use mathlib.Core.Bool.{true};
 ghost use Prim.Native.Nat.{_+_, _≤_, _<_};
-ghost use lib.ListN.{length, take};
+ghost use lib.ListN.{length};
 ghost use Rattle.task.specs.Answers.{placeNumber};
 ghost use Rattle.task.specs.Table.{taskOf, isTable};
 ghost use Rattle.tokens.specs.Split.{split};
 ghost use Rattle.text.specs.Lines.{digitsWithin};
 ghost use Rattle.text.specs.Text.{write};
-ghost use Rattle.text.specs.Code.{Puts, longestText};
-ghost use Rattle.programs.specs.Programs.{taken, refusal, printSplitting};
+ghost use Rattle.words.specs.Putting.{Puts};
+ghost use Rattle.text.specs.Code.{longestText};
+ghost use Rattle.programs.specs.Programs.{refusal, printSplitting};
 ghost use Rattle.programs.specs.Code.{Prints};
-
-const MOST_BYTES: usize = 65536;
 
 // "Numbers have 1 to 5 digits".
 const MOST_DIGITS: usize = 5;
-
-// "A program takes the first 65,536 bytes of an input."
-pub fn bytes_taken(input: &[u8]) -> usize
-    ensures { λ r. ⌜ r ≤ length (now (input .entry)) ⌝ }
-    ensures { λ r. ⌜ take r (now (input .entry)) ≡ taken (now (input .entry)) ⌝ }
-{
-    if input.len() < MOST_BYTES {
-        return input.len();
-    }
-    MOST_BYTES
-}
-
-// "Lines count from 1, the others from 0; none is 0."
-fn place_number(place: Place) -> u64
-    ensures { λ r. ⌜ r ≡ placeNumber place ⌝ }
-{
-    match place {
-        Place::Nowhere => 0,
-        Place::Line(n) => n,
-        Place::Schema(n) => n,
-        Place::Step(n) => n,
-    }
-}
 
 // The byte of a digit.
 fn digit(n: u64) -> u8
@@ -77,7 +53,7 @@ pub fn put_refusal(out: &mut [u8], number: u32, place: Place) -> usize
     let at_number = put_bytes(out, 0, b"refused=");
     let at_colon = put_digits(out, at_number, MOST_DIGITS, number as u64);
     let at_place = put_byte(out, at_colon, b':');
-    let at_end = put_digits(out, at_place, MOST_DIGITS, place_number(place));
+    let at_end = put_digits(out, at_place, MOST_DIGITS, place.number());
     put_byte(out, at_end, b'\n')
 }
 

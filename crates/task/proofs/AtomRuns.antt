@@ -10,12 +10,12 @@ use native.Mathlib.Omega.{arith}
 use native.Mathlib.Decide.{decLe}
 use lib.Dec.{leb}
 use borrow.Author.Tests.{leb-true}
-use Rattle.task.specs.Lists.{any, upFrom}
+use Rattle.words.specs.Lists.{upFrom}
 use Rattle.task.specs.Task.{sameAtom, distinct, rolesAscend, partCount, factLess, ascending}
 use Rattle.task.specs.Table.{atomIn, factIn}
 use Rattle.task.specs.WordTests.{atomsIn, factsIn, standsAgain, RolesRise}
-use Rattle.task.proofs.Laws.{and-left, and-right}
-use Rattle.task.proofs.Ranges.{range-step, range-done, any-map}
+use Rattle.words.proofs.Lists.{and-left, and-right}
+use Rattle.words.proofs.Ranges.{range-step, range-done, any-map}
 
 -- a range of two or more
 two-step : (i e : ℕ) → i + 1 < e → upFrom i (e - i) ≡ i ∷ (i + 1) ∷ upFrom (i + 1 + 1) (e - (i + 1 + 1))

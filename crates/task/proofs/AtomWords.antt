@@ -7,14 +7,15 @@ use native.Mathlib.Omega.{arith}
 use lib.ListN.{length, getD}
 use lib.Dec.{eqb, ltb, leb}
 use borrow.Author.Tests.{ltb-true, eqb-true, lt-ltb, le-ltb, le-leb, lt-leb, eq-eqb, ne-eqb}
-use Rattle.task.specs.Lists.{all, upFrom, eqList, lessList}
+use Rattle.words.specs.Lists.{all, upFrom, eqList, lessList}
 use Rattle.task.specs.Task.{argsFit, sameAtom, factLess, ascending}
-use Rattle.task.specs.Table.{wordsAt, arityIn, atomBase, atomIn, schemaNumberIn, factIn}
-use Rattle.task.specs.WordTests.{aritiesIn, unusedZero, argWordsFit, zerosAt, numberFits, factWordsFit}
-use Rattle.task.specs.WordTests.{factsWordsFit, factsIn}
-use Rattle.task.proofs.Laws.{and-left, and-right, and-both, both-ft, false-if}
-use Rattle.task.proofs.Ranges.{or-false, all-map, all-from}
-use Rattle.task.proofs.TablesByWords.{length-wordsAt, at-wordsAt}
+use Rattle.words.specs.Words.{wordsAt, zerosAt}
+use Rattle.task.specs.Table.{arityIn, atomBase, atomIn, schemaNumberIn, factIn}
+use Rattle.task.specs.WordTests.{aritiesIn, unusedZero, argWordsFit, numberFits, factWordsFit, factsWordsFit}
+use Rattle.task.specs.WordTests.{factsIn}
+use Rattle.words.proofs.Lists.{and-left, and-right, and-both, both-ft, false-if}
+use Rattle.words.proofs.Ranges.{or-false, all-map, all-from}
+use Rattle.words.proofs.Words.{length-wordsAt, at-wordsAt}
 use Rattle.task.proofs.WordTables.{args-known}
 
 -- ---- one atom

@@ -7,25 +7,11 @@ use mathlib.Core.List.{List, [], _∷_, _++_}
 use mathlib.Core.Logic.{inl, inr}
 use native.Mathlib.Omega.{arith}
 use lib.ListN.{length}
-use Rattle.task.specs.Lists.{all, any, filter, keepIf}
+use Rattle.words.specs.Lists.{all, any, filter, keepIf}
 use Rattle.task.specs.Task.{Fact, factLess, factEq}
 use Rattle.task.specs.Run.{holds, insert, insertAll, removeAll}
-use Rattle.task.proofs.Laws.{
-  both-ft,
-  bool-ext,
-  and-left,
-  and-right,
-  and-both,
-  or-cases,
-  or-left,
-  or-right,
-  In,
-  here,
-  there,
-  in-filter,
-  filter-in,
-  getD-in,
-}
+use Rattle.words.proofs.Lists.{both-ft, bool-ext, and-left, and-right, and-both, or-cases, or-left, or-right, In, here}
+use Rattle.words.proofs.Lists.{there, in-filter, filter-in, getD-in, filter-all}
 use Rattle.task.proofs.States.{
   factEq-eq,
   holds-in,
@@ -36,7 +22,7 @@ use Rattle.task.proofs.States.{
   insertAll-old,
   insertAll-new,
 }
-use Rattle.task.proofs.Tables.{noFact, filter-all}
+use Rattle.task.proofs.Tables.{noFact}
 use Rattle.task.proofs.RowsChanged.{remove-absent, remove-place, insert-present, length-without}
 
 -- ---- one after another

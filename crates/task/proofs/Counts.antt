@@ -8,12 +8,12 @@ use native.Mathlib.Omega.{arith}
 use lib.ListN.{length, getD}
 use lib.Dec.{leb}
 use borrow.Author.Tests.{leb-true, le-leb}
-use Rattle.task.specs.Lists.{every}
+use Rattle.words.specs.Lists.{every}
 use Rattle.task.specs.Limits.{tableWords}
 use Rattle.task.specs.Table.{arityIn}
 use Rattle.task.specs.WordTests.{countTests, aritiesFit, Roomy}
-use Rattle.task.proofs.Laws.{false-if, every-at, met-none, met-more, met-every}
-use Rattle.task.proofs.Ranges.{all-below}
+use Rattle.words.proofs.Lists.{false-if, every-at, met-none, met-more, met-every}
+use Rattle.words.proofs.Ranges.{all-below}
 
 pub record Counted (w : List ℕ) : Type 0 where
   pub some-object : 1 ≤ getD w 0 0

@@ -10,10 +10,10 @@ use Rattle.task.specs.declared.Place.the-variants as place
 use Rattle.task.specs.declared.RunAnswer.the-variants as answer
 use Rattle.task.specs.declared.running.Ended.{Ended}
 use Rattle.task.specs.declared.running.Ended.the-variants as ended
-use Rattle.task.specs.Lists.{padded}
+use Rattle.words.specs.Lists.{padded}
 use Rattle.task.specs.Answers.{result, refused}
 use Rattle.task.specs.Task.{Task}
-use Rattle.task.specs.Table.{wordsAt}
+use Rattle.words.specs.Words.{wordsAt}
 use Rattle.task.specs.Run.{
   stateWords,
   stateIn,
@@ -30,7 +30,8 @@ use Rattle.task.specs.Run.{
   left as lastState,
 }
 use Rattle.task.specs.Turns.{endedAs, recordsLeft}
-use Rattle.task.proofs.TablesByWords.{length-wordsAt, getD-mapped}
+use Rattle.words.proofs.Words.{length-wordsAt}
+use Rattle.words.proofs.Lists.{getD-mapped}
 use Rattle.task.proofs.Rows.{state-tests, length-stateIn, room-words}
 
 -- ---- words

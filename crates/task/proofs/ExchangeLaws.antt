@@ -8,27 +8,12 @@ use mathlib.Core.Logic.{_⊎_, inl, inr}
 use native.Mathlib.Omega.{arith}
 use native.Mathlib.Decide.{decLt}
 use borrow.Author.Tests.{not-true}
-use Rattle.task.specs.Lists.{all, upFrom}
+use Rattle.words.specs.Lists.{all, upFrom}
 use Rattle.task.specs.Task.{Fact}
 use Rattle.task.specs.Run.{holds, insertAll, removeAll}
 use Rattle.task.specs.Spans.{groundAt, groundSpan}
-use Rattle.task.proofs.Laws.{
-  both-ft,
-  false-if,
-  In,
-  here,
-  there,
-  in-empty,
-  in-eq,
-  in-map,
-  map-in,
-  in-all,
-  all-in,
-  in-upFrom,
-  upFrom-in,
-  in-filter,
-  filter-in,
-}
+use Rattle.words.proofs.Lists.{both-ft, false-if, In, here, there, in-empty, in-eq, in-map, map-in, in-all, all-in}
+use Rattle.words.proofs.Lists.{in-upFrom, upFrom-in, in-filter, filter-in}
 use Rattle.task.proofs.States.{
   holds-in,
   in-holds,

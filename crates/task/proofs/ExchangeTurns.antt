@@ -9,7 +9,7 @@ use native.Mathlib.Omega.{arith}
 use lib.ListN.{length}
 use lib.Dec.{eqb}
 use borrow.Author.Tests.{not-true, not-false}
-use Rattle.task.specs.Lists.{all}
+use Rattle.words.specs.Lists.{all}
 use Rattle.task.specs.Task.{Fact}
 use Rattle.task.specs.Table.{taskOf, isTable}
 use Rattle.task.specs.Run.{holds, insert, insertAll, removeAll, stateIn, roomIn, isState}
@@ -17,7 +17,7 @@ use Rattle.task.specs.Records.{recordNumber, Known, Keeps}
 use Rattle.task.specs.Spans.{groundAt, groundSpan, SpanOf}
 use Rattle.task.specs.declared.exchange.New.{New}
 use Rattle.task.specs.Exchange.{FirstNew, ExchangedOne}
-use Rattle.task.proofs.Laws.{both-ft, In, here, in-eq}
+use Rattle.words.proofs.Lists.{both-ft, In, here, in-eq}
 use Rattle.task.proofs.States.{holds-in, in-holds, dec-in, Asc, asc-insert, in-insert, insert-new, insert-old}
 use Rattle.task.proofs.Changes.{remove-nothing}
 use Rattle.task.proofs.SpanLaws.{span-more, span-end}

@@ -5,12 +5,12 @@ use mathlib.Core.Bool.{Bool, true}
 use mathlib.Core.List.{List, map}
 use native.Mathlib.Omega.{arith}
 use lib.ListN.{getD}
-use Rattle.task.specs.Lists.{all, upFrom}
+use Rattle.words.specs.Lists.{all, upFrom}
 use Rattle.task.specs.Task.{Fact}
 use Rattle.task.specs.Table.{factIn, taskOf, isTable}
 use Rattle.task.specs.Run.{holds, isState, goalMet}
 use Rattle.task.specs.Records.{recordNumber, Known}
-use Rattle.task.proofs.Laws.{In, in-eq, in-getD}
+use Rattle.words.proofs.Lists.{In, in-eq, in-getD}
 use Rattle.task.proofs.States.{fitting-argsFit, wellFormed-is}
 use Rattle.task.proofs.Tables.{noFact, of-table}
 use Rattle.task.proofs.TablesByIndex.{table-frame, goal-word, goal-at}

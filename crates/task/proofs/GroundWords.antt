@@ -9,18 +9,20 @@ use native.Mathlib.Decide.{decLt}
 use lib.ListN.{length, getD, length-map, List·getD-eq-default}
 use lib.Dec.{ltb, leb}
 use borrow.Author.Tests.{leb-true, ltb-true, lt-ltb, le-ltb}
-use Rattle.task.specs.Lists.{padded, eqList}
+use Rattle.words.specs.Lists.{padded, eqList}
 use Rattle.task.specs.Task.{Fact, Task, argsFit, schemaFits}
-use Rattle.task.specs.Table.{wordsAt, arityIn, atomBase, atomIn, schemaNumberIn, factIn, taskOf, isTable}
+use Rattle.words.specs.Words.{wordsAt}
+use Rattle.task.specs.Table.{arityIn, atomBase, atomIn, schemaNumberIn, factIn, taskOf, isTable}
 use Rattle.task.specs.Run.{Step, schemaAt, ground, isStep, paramCount, stepIn, stepAt, stepWords, isStepAt}
 use Rattle.task.specs.Records.{inBase, recordNumber}
 use Rattle.task.specs.Spans.{groundAt, argumentIn, AtomOf, SpanOf}
-use Rattle.task.proofs.Laws.{and-left, and-right, In, all-in, in-eq, in-getD, getD-map}
+use Rattle.words.proofs.Lists.{and-left, and-right, In, all-in, in-eq, in-getD, getD-map, getD-mapped}
 use Rattle.task.proofs.Tests.{schema-tests, task-tests}
 use Rattle.task.proofs.States.{Fits, fitting-argsFit, IsStep, isStep-is, WellFormed, wellFormed-is, ground-fits}
 use Rattle.task.proofs.Tables.{noAtom, noSchema, startOf, tableWords-is, of-table}
 use Rattle.task.proofs.TablesByIndex.{table-frame, table-long, atom-inside, start-suc, atom-at, atom-lies}
-use Rattle.task.proofs.TablesByWords.{table-words, length-wordsAt, getD-mapped}
+use Rattle.task.proofs.TablesByWords.{table-words}
+use Rattle.words.proofs.Words.{length-wordsAt}
 
 -- ---- where words lie
 pub table-is-long : (w : List ℕ) → isTable w ≡ true → 13406 ≤ length w

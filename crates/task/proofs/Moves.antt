@@ -18,7 +18,7 @@ use lib.ListN.{
   List·getD-append,
 }
 use lib.Seq.{getD-set-same, getD-set-other, getD-take, length-take-le, getD-append-add, ext-getD}
-use Rattle.task.specs.Lists.{padded}
+use Rattle.words.specs.Lists.{padded}
 use Rattle.task.specs.Records.{Written}
 
 -- words a to i - 1 have come down

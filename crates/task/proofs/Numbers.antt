@@ -9,29 +9,13 @@ use native.Mathlib.Omega.{arith}
 use lib.ListN.{length, getD, replicate, length-replicate}
 use lib.Dec.{leb}
 use borrow.Author.Tests.{leb-true}
-use Rattle.task.specs.Lists.{padded}
+use Rattle.words.specs.Lists.{padded}
 use Rattle.task.specs.Task.{Fact, Task, wellFormed}
 use Rattle.task.specs.Records.{inBase, recordNumber}
-use Rattle.task.proofs.Laws.{
-  In,
-  here,
-  there,
-  in-empty,
-  in-append,
-  all-in,
-  in-getD,
-  Less,
-  shorter,
-  smaller,
-  same,
-  less-total,
-  before,
-  equal,
-  after,
-}
+use Rattle.words.proofs.Lists.{In, here, there, in-empty, in-append, all-in, in-getD, Less, shorter, smaller, same}
+use Rattle.words.proofs.Lists.{less-total, before, equal, after, length-padded}
 use Rattle.task.proofs.Tests.{task-tests}
 use Rattle.task.proofs.States.{key, key-inj, Fits}
-use Rattle.task.proofs.Tables.{length-padded}
 
 abbrev pub Small : List ℕ → Type 0
 Small xs = (x : ℕ) → In x xs → x < 1024

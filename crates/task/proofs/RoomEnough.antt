@@ -8,7 +8,7 @@ use native.Mathlib.Omega.{arith}
 use lib.ListN.{length, length-map}
 use lib.Dec.{leb}
 use borrow.Author.Tests.{le-leb}
-use Rattle.task.specs.Lists.{sum}
+use Rattle.words.specs.Lists.{sum}
 use Rattle.task.specs.Task.{Fact, Task, addition, deletion}
 use Rattle.task.specs.Run.{Step, schemaAt, ground, ofRole, groundRole, applies, next, Running, outgrown, turn}
 use Rattle.task.specs.Run.{runFitting, runWithin, addSum}

@@ -9,30 +9,17 @@ use native.Mathlib.Decide.{decLt}
 use lib.ListN.{length, getD, replicate, length-map, List·getD-append}
 use lib.Dec.{leb}
 use borrow.Author.Tests.{leb-true, le-leb}
-use Rattle.task.specs.Lists.{upTo, upFrom, concatMap, eqList, padded}
+use Rattle.words.specs.Lists.{upTo, upFrom, concatMap, eqList, padded}
 use Rattle.task.specs.Task.{Fact, Task, factsFit, wellFormed}
-use Rattle.task.specs.Table.{wordsAt}
+use Rattle.words.specs.Words.{wordsAt}
 use Rattle.task.specs.Run.{recordWords, stateWords, recordAt, stateIn, roomIn, isState}
 use Rattle.task.specs.Records.{recordNumber, numberAt, rowNumber, RowsAscend, Keeps}
-use Rattle.task.proofs.Laws.{
-  and-left,
-  and-right,
-  and-both,
-  In,
-  here,
-  there,
-  in-all,
-  in-getD,
-  length-upTo,
-  eqList-refl,
-  eqList-eq,
-  Less,
-}
+use Rattle.words.proofs.Lists.{and-left, and-right, and-both, In, here, there, in-all, in-getD, length-upTo}
+use Rattle.words.proofs.Lists.{eqList-refl, eqList-eq, Less, tabulate, length-padded}
 use Rattle.task.proofs.Tests.{fits, tests-fact}
 use Rattle.task.proofs.States.{key, Asc, asc-cons, asc-ascending, fitting-argsFit, Fits, State, factsFit-state}
-use Rattle.task.proofs.Tables.{At, noFact, tabulate, wordsAt-at, length-padded}
-use Rattle.task.proofs.TablesByWords.{at-join, at-wordsAt}
-use Rattle.task.proofs.WordRows.{length-rows, at-row}
+use Rattle.words.proofs.Words.{At, wordsAt-at, at-join, at-wordsAt, length-rows, at-row}
+use Rattle.task.proofs.Tables.{noFact}
 use Rattle.task.proofs.RecordWords.{length-recordWords}
 use Rattle.task.proofs.Numbers.{Slight, slight, less-number}
 

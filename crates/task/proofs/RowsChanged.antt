@@ -7,24 +7,11 @@ use mathlib.Core.List.{List, [], _∷_}
 use mathlib.Core.Logic.{_⊎_, inl, inr}
 use native.Mathlib.Omega.{arith}
 use lib.ListN.{length, getD}
-use Rattle.task.specs.Lists.{filter, keepIf}
+use Rattle.words.specs.Lists.{filter, keepIf}
 use Rattle.task.specs.Task.{Fact, Task, factLess, factEq}
 use Rattle.task.specs.Run.{holds, insert, removeAll}
-use Rattle.task.proofs.Laws.{
-  false-if,
-  In,
-  here,
-  there,
-  in-empty,
-  in-eq,
-  filter-in,
-  in-getD,
-  Less,
-  lessList-less,
-  less-lessList,
-  less-irrefl,
-  less-trans,
-}
+use Rattle.words.proofs.Lists.{false-if, In, here, there, in-empty, in-eq, filter-in, in-getD, Less, lessList-less}
+use Rattle.words.proofs.Lists.{less-lessList, less-irrefl, less-trans, filter-all}
 use Rattle.task.proofs.States.{
   key,
   factEq-eq,
@@ -40,7 +27,7 @@ use Rattle.task.proofs.States.{
   Fits,
   State,
 }
-use Rattle.task.proofs.Tables.{noFact, filter-all}
+use Rattle.task.proofs.Tables.{noFact}
 
 -- ---- lists without an element, and with one more
 abbrev pub without : ℕ → List Fact → List Fact

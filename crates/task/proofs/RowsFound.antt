@@ -20,7 +20,7 @@ use Rattle.task.specs.Records.{
   Known,
   Keeps,
 }
-use Rattle.task.proofs.Laws.{false-if, In}
+use Rattle.words.proofs.Lists.{false-if, In}
 use Rattle.task.proofs.States.{holds-in, in-holds, argsFit-fitting, Fits}
 use Rattle.task.proofs.Rows.{Kept, state-kept, kept-keeps}
 use Rattle.task.proofs.RowsChanged.{insert-present}

@@ -7,13 +7,13 @@ use mathlib.Core.List.{List, [], _∷_}
 use native.Mathlib.Omega.{arith}
 use native.Mathlib.Decide.{decLt}
 use lib.ListN.{length, getD}
-use Rattle.task.specs.Lists.{padded}
+use Rattle.words.specs.Lists.{padded}
 use Rattle.task.specs.Task.{Fact, Task, wellFormed}
 use Rattle.task.specs.Run.{insert, removeAll, recordWords}
 use Rattle.task.specs.Records.{inBase, recordNumber, rowNumber, LowerBound, MovedDown, MovedUp, Written}
-use Rattle.task.proofs.Laws.{In, in-eq, in-getD, getD-in}
+use Rattle.words.proofs.Lists.{In, in-eq, in-getD, getD-in, length-padded}
 use Rattle.task.proofs.States.{Fits}
-use Rattle.task.proofs.Tables.{noFact, length-padded}
+use Rattle.task.proofs.Tables.{noFact}
 use Rattle.task.proofs.Numbers.{Small, small-padded, Slight, slight, number-fact, number-before}
 use Rattle.task.proofs.Rows.{Rows, Kept, fact-fits, number-row, number-before-number}
 use Rattle.task.proofs.RowsChanged.{

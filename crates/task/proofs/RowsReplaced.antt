@@ -7,7 +7,7 @@ use mathlib.Core.List.{List, [], _∷_}
 use native.Mathlib.Omega.{arith}
 use native.Mathlib.Decide.{decLt}
 use lib.ListN.{length, getD}
-use Rattle.task.specs.Lists.{padded}
+use Rattle.words.specs.Lists.{padded}
 use Rattle.task.specs.Task.{Fact, Task}
 use Rattle.task.specs.Run.{holds, insert, removeAll, recordWords, stateIn}
 use Rattle.task.specs.Records.{
@@ -23,9 +23,9 @@ use Rattle.task.specs.Records.{
   Known,
   Keeps,
 }
-use Rattle.task.proofs.Laws.{both-ft, Less}
+use Rattle.words.proofs.Lists.{both-ft, Less, length-padded}
 use Rattle.task.proofs.States.{key, in-holds}
-use Rattle.task.proofs.Tables.{noFact, length-padded}
+use Rattle.task.proofs.Tables.{noFact}
 use Rattle.task.proofs.Numbers.{small-padded, Slight, slight, number-before}
 use Rattle.task.proofs.Rows.{Rows, Kept, fact-fits, number-row, kept-keeps}
 use Rattle.task.proofs.RowsChanged.{

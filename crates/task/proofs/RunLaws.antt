@@ -11,7 +11,7 @@ use lib.ListN.{length, getD}
 use lib.Dec.{leb}
 use Rattle.task.specs.declared.running.Turn.{Turn}
 use Rattle.task.specs.declared.running.Turn.the-variants as turned
-use Rattle.task.specs.Lists.{upTo, upFrom}
+use Rattle.words.specs.Lists.{upTo, upFrom}
 use Rattle.task.specs.Task.{Fact, Task}
 use Rattle.task.specs.Table.{taskOf, isTable}
 use Rattle.task.specs.Run.{
@@ -33,7 +33,7 @@ use Rattle.task.specs.Run.{
   runWithin,
 }
 use Rattle.task.specs.Turns.{firstAtom, Starts, Turned}
-use Rattle.task.proofs.Laws.{in-upTo, first-none}
+use Rattle.words.proofs.Lists.{in-upTo, first-none}
 use Rattle.task.proofs.TablesByIndex.{table-frame, schemas-word}
 use Rattle.task.proofs.StepSpans.{schema-known}
 use Rattle.task.proofs.StartLaws.{schemas-few}

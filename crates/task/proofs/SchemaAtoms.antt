@@ -8,13 +8,13 @@ use native.Mathlib.Omega.{arith}
 use lib.ListN.{length, getD}
 use lib.Dec.{leb}
 use borrow.Author.Tests.{leb-true}
-use Rattle.task.specs.Lists.{upFrom}
+use Rattle.words.specs.Lists.{upFrom}
 use Rattle.task.specs.Task.{Atom, Task, schemaFits, rolesAscend}
 use Rattle.task.specs.Table.{atomIn, schemaNumberIn, taskOf, isTable}
 use Rattle.task.specs.Run.{schemaAt}
-use Rattle.task.proofs.Laws.{and-left, and-right, all-in, in-getD}
+use Rattle.words.proofs.Lists.{and-left, and-right, all-in, in-getD, tabulate}
 use Rattle.task.proofs.Tests.{schema-tests, task-tests}
-use Rattle.task.proofs.Tables.{noAtom, noSchema, startOf, of-table, tabulate}
+use Rattle.task.proofs.Tables.{noAtom, noSchema, startOf, of-table}
 use Rattle.task.proofs.TablesByIndex.{table-frame, schemas-word, start-suc, start-end, atom-at, schema-of-atom}
 use Rattle.task.proofs.StartLaws.{start-rises}
 

@@ -10,16 +10,16 @@ use native.Mathlib.Decide.{decLt}
 use lib.ListN.{length, getD, length-map}
 use lib.Dec.{eqb, leb}
 use borrow.Author.Tests.{le-leb, lt-leb, eq-eqb, ne-eqb}
-use Rattle.task.specs.Lists.{all, any, every, filter, upTo, upFrom}
+use Rattle.words.specs.Lists.{all, any, every, filter, upTo, upFrom}
 use Rattle.task.specs.Task.{Atom, Schema, argsFit, distinct, rolesAscend, names, partCount, noGap, schemaFits}
 use Rattle.task.specs.Table.{atomIn, schemaNumberIn}
 use Rattle.task.specs.WordTests.{unusedZero, aritiesIn, argWordsFit, numbersFit, partsFit, paramsIn, atomsIn}
 use Rattle.task.specs.WordTests.{schemaWordsFit, indicesOf, RunOf}
-use Rattle.task.proofs.Laws.{and-left, and-right, and-both, bool-ext, every-at, met-none, met-more, met-every}
-use Rattle.task.proofs.Laws.{In, here, there, in-map, in-upFrom, upFrom-in, length-upFrom}
-use Rattle.task.proofs.Ranges.{all-map, all-and}
+use Rattle.words.proofs.Lists.{and-left, and-right, and-both, bool-ext, every-at, met-none, met-more, met-every, In}
+use Rattle.words.proofs.Lists.{here, there, in-map, in-upFrom, upFrom-in, length-upFrom, upFrom-append, filter-append}
+use Rattle.words.proofs.Lists.{filter-all, filter-none}
+use Rattle.words.proofs.Ranges.{all-map, all-and}
 use Rattle.task.proofs.Tests.{hasPart, schema-tests, tests-schema}
-use Rattle.task.proofs.Tables.{upFrom-append, filter-append, filter-all, filter-none}
 use Rattle.task.proofs.WordTables.{numbers-rise}
 
 -- ---- parts

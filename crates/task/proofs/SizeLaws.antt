@@ -8,24 +8,14 @@ use native.Mathlib.Omega.{arith}
 use lib.ListN.{length, length-map}
 use lib.Dec.{eqb, leb}
 use borrow.Author.Tests.{eqb-true, eq-eqb, not-true, not-false, le-leb}
-use Rattle.task.specs.Lists.{all, any, filter, keepIf, upFrom}
+use Rattle.words.specs.Lists.{all, any, filter, keepIf, upFrom}
 use Rattle.task.specs.Task.{Fact, Task, factEq, wellFormed}
 use Rattle.task.specs.Table.{taskOf, isTable}
 use Rattle.task.specs.Run.{holds, insertAll, removeAll, stateIn, roomIn, isState}
 use Rattle.task.specs.Records.{recordNumber, Known}
 use Rattle.task.specs.Spans.{groundAt, groundSpan, SpanOf}
-use Rattle.task.proofs.Laws.{
-  both-ft,
-  bool-ext,
-  In,
-  here,
-  there,
-  map-in,
-  map-append,
-  upFrom-in,
-  upFrom-last,
-  length-upFrom,
-}
+use Rattle.words.proofs.Lists.{both-ft, bool-ext, In, here, there, map-in, map-append, upFrom-in, upFrom-last}
+use Rattle.words.proofs.Lists.{length-upFrom}
 use Rattle.task.proofs.States.{factEq-eq, eq-factEq, in-holds, Asc, asc-insertAll, asc-filter, Fits}
 use Rattle.task.proofs.Tables.{of-table}
 use Rattle.task.proofs.Numbers.{number-fact}

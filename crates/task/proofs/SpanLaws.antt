@@ -8,16 +8,16 @@ use native.Mathlib.Omega.{arith}
 use native.Mathlib.Numerals.{add-one}
 use lib.ListN.{length}
 use borrow.Author.Tests.{leb-true}
-use Rattle.task.specs.Lists.{all, upFrom, padded}
+use Rattle.words.specs.Lists.{all, upFrom, padded}
 use Rattle.task.specs.Task.{Fact, Task}
 use Rattle.task.specs.Table.{taskOf, isTable}
 use Rattle.task.specs.Run.{insert, insertAll, stateIn, roomIn, isState}
 use Rattle.task.specs.Records.{inBase, recordNumber, rowNumber, RowsAscend, Known, Keeps}
 use Rattle.task.specs.Spans.{groundAt, groundSpan, AtomOf}
-use Rattle.task.proofs.Laws.{In}
+use Rattle.words.proofs.Lists.{In, length-padded}
 use Rattle.task.proofs.Tests.{task-tests}
 use Rattle.task.proofs.States.{asc-insert}
-use Rattle.task.proofs.Tables.{of-table, length-padded}
+use Rattle.task.proofs.Tables.{of-table}
 use Rattle.task.proofs.Numbers.{base-mono, small-padded, slight}
 use Rattle.task.proofs.Rows.{state-kept, kept-ascend, room-words}
 use Rattle.task.proofs.RowsMoved.{in-row}

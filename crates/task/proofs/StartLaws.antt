@@ -9,16 +9,15 @@ use native.Mathlib.Decide.{decLt}
 use lib.ListN.{length, getD, set, length-set}
 use lib.Seq.{getD-set-same, getD-set-other}
 use borrow.Author.Tests.{leb-true}
-use Rattle.task.specs.Lists.{sum}
+use Rattle.words.specs.Lists.{sum}
 use Rattle.task.specs.Task.{Task, schemaFits}
 use Rattle.task.specs.Table.{atomBase, atomIn, schemaNumberIn, taskOf, isTable}
 use Rattle.task.specs.Run.{schemaAt}
 use Rattle.task.specs.Turns.{Starts, RoleEnds}
-use Rattle.task.proofs.Laws.{all-in, in-getD}
+use Rattle.words.proofs.Lists.{all-in, in-getD, sum-take-rises}
 use Rattle.task.proofs.Tests.{schema-tests, task-tests}
 use Rattle.task.proofs.Tables.{noSchema, counts, startOf, of-table}
 use Rattle.task.proofs.TablesByIndex.{table-frame, schemas-word, start-suc, start-end, atom-lies}
-use Rattle.task.proofs.TablesByWords.{sum-take-rises}
 
 -- ---- starts
 -- the schemas that end by atom k have their ends

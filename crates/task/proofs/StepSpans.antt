@@ -9,7 +9,7 @@ use native.Mathlib.Decide.{decLt}
 use lib.ListN.{length, getD}
 use lib.Dec.{eqb}
 use borrow.Author.Tests.{eq-eqb, ne-eqb}
-use Rattle.task.specs.Lists.{all, filter, upFrom}
+use Rattle.words.specs.Lists.{all, filter, upFrom}
 use Rattle.task.specs.Task.{Atom, Fact}
 use Rattle.task.specs.Table.{atomIn, taskOf, isTable}
 use Rattle.task.specs.Run.{
@@ -28,8 +28,7 @@ use Rattle.task.specs.Run.{
 }
 use Rattle.task.specs.Spans.{groundAt, groundSpan, SpanOf}
 use Rattle.task.specs.Turns.{firstAtom, RoleEnds}
-use Rattle.task.proofs.Laws.{In, map-in, upFrom-in, map-append}
-use Rattle.task.proofs.Tables.{upFrom-append, filter-append, filter-all, filter-none}
+use Rattle.words.proofs.Lists.{In, map-in, upFrom-in, map-append, upFrom-append, filter-append, filter-all, filter-none}
 use Rattle.task.proofs.TablesByIndex.{table-frame, schemas-word, start-suc}
 use Rattle.task.proofs.StartLaws.{start-rises}
 use Rattle.task.proofs.SchemaAtoms.{schema-inside, own-number, role-rises, role-most, atoms-listed}

@@ -7,7 +7,7 @@ use mathlib.Core.List.{List}
 use lib.ListN.{length, getD}
 use lib.Dec.{leb}
 use borrow.Author.Tests.{leb-true}
-use Rattle.task.specs.Lists.{all}
+use Rattle.words.specs.Lists.{all}
 use Rattle.task.specs.Task.{Fact}
 use Rattle.task.specs.Table.{taskOf, isTable}
 use Rattle.task.specs.Run.{holds, insertAll, removeAll, stepAt, isStepAt, applies, next}

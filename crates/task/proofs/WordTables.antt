@@ -9,22 +9,23 @@ use native.Mathlib.Decide.{decLt}
 use lib.ListN.{length, getD}
 use lib.Dec.{eqb, ltb, leb}
 use borrow.Author.Tests.{ltb-true, leb-true, eqb-true, lt-ltb, le-leb, eq-eqb}
-use Rattle.task.specs.Lists.{all, every, upTo, upFrom}
+use Rattle.words.specs.Lists.{all, every, upTo, upFrom}
 use Rattle.task.specs.Limits.{tableWords}
 use Rattle.task.specs.Task.{argsFit, schemaFits, factsFit}
 use Rattle.task.specs.Table.{arityIn, atomBase, atomIn, schemaNumberIn, factIn, taskOf, isTable}
-use Rattle.task.specs.WordTests.{countTests, aritiesFit, zerosAt, unusedZero, aritiesIn, argWordsFit, numberFits}
+use Rattle.task.specs.WordTests.{countTests, aritiesFit, unusedZero, aritiesIn, argWordsFit, numberFits}
 use Rattle.task.specs.WordTests.{numbersFit, schemaWordsFit, indicesOf, schemasFit, factWordsFit, factsWordsFit}
 use Rattle.task.specs.WordTests.{factsIn, atomTotal, wordsUsed, Roomy}
-use Rattle.task.proofs.Laws.{and-left, and-right, and-both, bool-ext, false-if, met-none, met-more, met-every}
-use Rattle.task.proofs.Laws.{all-in, in-all, In, filter-in, in-filter, in-upTo, upTo-in, upFrom-in, in-map}
-use Rattle.task.proofs.Laws.{map-in}
-use Rattle.task.proofs.Ranges.{all-from, from-all, all-below, below-all, all-map}
+use Rattle.words.specs.Words.{zerosAt}
+use Rattle.words.proofs.Lists.{and-left, and-right, and-both, bool-ext, false-if, met-none, met-more, met-every, all-in}
+use Rattle.words.proofs.Lists.{in-all, In, filter-in, in-filter, in-upTo, upTo-in, upFrom-in, in-map, map-in}
+use Rattle.words.proofs.Ranges.{all-from, from-all, all-below, below-all, all-map}
 use Rattle.task.proofs.Counts.{Counted, counted, roomy}
 use Rattle.task.proofs.Tests.{TaskTests, schema-tests, fact-tests, tests-fact, task-tests, tests-task}
 use Rattle.task.proofs.Tables.{of-table}
-use Rattle.task.proofs.TablesByWords.{length-wordsAt, schemaIn, FactWord, WordsFit, table-words, words-table}
-use Rattle.task.proofs.TablesByWords.{arities-count, schemas-count, atoms-count, inits-count, goals-count}
+use Rattle.words.proofs.Words.{length-wordsAt}
+use Rattle.task.proofs.TablesByWords.{schemaIn, FactWord, WordsFit, table-words, words-table, arities-count}
+use Rattle.task.proofs.TablesByWords.{schemas-count, atoms-count, inits-count, goals-count}
 
 -- ---- the tests by name
 pub record Passed (w : List ℕ) : Type 0 where

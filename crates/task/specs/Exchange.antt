@@ -4,7 +4,7 @@ use Prim.Native.Nat.{ℕ, _-_, _≤_, _<_}
 use mathlib.Core.Path.{_≡_}
 use mathlib.Core.Bool.{true, false}
 use mathlib.Core.List.{List, _∷_}
-use Rattle.task.specs.Lists.{all}
+use Rattle.words.specs.Lists.{all}
 use Rattle.task.specs.Task.{Fact}
 use Rattle.task.specs.Table.{taskOf}
 use Rattle.task.specs.Run.{holds, insertAll, removeAll, stateIn, isState}

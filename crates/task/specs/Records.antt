@@ -5,7 +5,7 @@ use mathlib.Core.Path.{_≡_}
 use mathlib.Core.Bool.{Bool, true, false}
 use mathlib.Core.List.{List, [], _∷_}
 use lib.ListN.{getD}
-use Rattle.task.specs.Lists.{padded}
+use Rattle.words.specs.Lists.{padded}
 use Rattle.task.specs.Limits.{recordSize, mostArity}
 use Rattle.task.specs.Task.{Fact, Task, argsFit, wellFormed}
 use Rattle.task.specs.Run.{stateIn, isState}

@@ -5,7 +5,7 @@ use mathlib.Core.Path.{_≡_}
 use mathlib.Core.Bool.{Bool, true, cond}
 use mathlib.Core.List.{List, map}
 use lib.ListN.{getD}
-use Rattle.task.specs.Lists.{upFrom}
+use Rattle.words.specs.Lists.{upFrom}
 use Rattle.task.specs.Limits.{stepSize}
 use Rattle.task.specs.Task.{Fact}
 use Rattle.task.specs.Table.{atomIn, schemaNumberIn, taskOf, isTable}

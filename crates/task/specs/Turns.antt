@@ -10,7 +10,7 @@ use Rattle.task.specs.declared.running.Turn.{Turn}
 use Rattle.task.specs.declared.running.Turn.the-variants as turned
 use Rattle.task.specs.declared.running.Ended.{Ended}
 use Rattle.task.specs.declared.running.Ended.the-variants as ended
-use Rattle.task.specs.Lists.{sum}
+use Rattle.words.specs.Lists.{sum}
 use Rattle.task.specs.Task.{Schema, Task, Fact}
 use Rattle.task.specs.Table.{atomIn}
 use Rattle.task.specs.Run.{Step, applies, next, roomIn, stateIn, Running, ran, stopped, outgrown}

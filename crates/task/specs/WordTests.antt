@@ -1,16 +1,18 @@
 -- Being a table, tested word by word: the tests of 'Task table' that inner functions make, one for each of them.
 -- proofs/WordTables.antt shows that together they say `isTable`.
-use Prim.Native.Nat.{ℕ, _+_, _-_, _*_, _/_, _%_, _^_, _≤_, _<_}
+use Prim.Native.Nat.{ℕ, _+_, _-_, _*_, _≤_, _<_}
 use mathlib.Core.Path.{_≡_}
 use mathlib.Core.Bool.{Bool, _&&_}
 use mathlib.Core.List.{List, [], _∷_, map}
 use lib.ListN.{length, getD}
 use lib.Dec.{eqb, ltb, leb}
-use Rattle.task.specs.Lists.{all, any, filter, upTo, upFrom}
+use Rattle.words.specs.Lists.{all, any, filter, upTo, upFrom}
 use Rattle.task.specs.Limits.{mostObjects, mostPredicates, mostSchemas, mostSchemaAtoms, mostInitial, mostGoal}
 use Rattle.task.specs.Limits.{mostArity, mostParts, headWords, atomSize}
 use Rattle.task.specs.Task.{Atom, Fact, argsFit, sameAtom, partCount, noGap, schemaFits, ascending}
-use Rattle.task.specs.Table.{wordsAt, arityIn, atomBase, atomIn, schemaNumberIn, factIn}
+use Rattle.words.specs.Words.{wordsAt}
+use Rattle.task.specs.Table.{arityIn, atomBase, atomIn, schemaNumberIn, factIn}
+use Rattle.words.specs.Words.{zerosAt}
 
 -- "objects N (1 to 1000), predicates P (1 to 400), schemas (0 to 200), schema atoms (at most 1000), initial atoms (at
 -- most 500), goal atoms (at most 100)"
@@ -29,15 +31,6 @@ countTests w =
 unfoldable pub aritiesFit : List ℕ → Bool
 unfolding all upTo arityIn
 aritiesFit w = all (λ p. leb (arityIn w p) mostArity) (upTo (getD w 1 0))
-
--- bit x of a set of numbers kept in one word
-unfoldable pub bit : ℕ → ℕ → Bool
-bit mask x = eqb (mask / 2 ^ x % 2) 1
-
--- n words from i on are 0
-unfoldable pub zerosAt : List ℕ → ℕ → ℕ → Bool
-unfolding all upFrom
-zerosAt w i n = all (λ k. eqb (getD w k 0) 0) (upFrom i n)
 
 -- "Unused words .. are 0": the argument words of atom i behind its predicate's arity
 unfoldable pub unusedZero : List ℕ → ℕ → Bool

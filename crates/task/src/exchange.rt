@@ -7,16 +7,14 @@ use crate::sizes::absent;
 use crate::spans::ground;
 use crate::spans::insert_span;
 ghost use mathlib.Core.Path.{_≡_};
-ghost use mathlib.Core.Bool.{true, false};
-ghost use mathlib.Core.List.{List, _∷_};
-ghost use Prim.Native.Nat.{ℕ, _+_, _-_, _≤_, _<_};
+ghost use mathlib.Core.Bool.{true};
+ghost use Prim.Native.Nat.{_+_, _-_, _≤_, _<_};
 ghost use lib.ListN.{length};
-ghost use Rattle.task.specs.Lists.{all};
-ghost use Rattle.task.specs.Task.{Fact};
+ghost use Rattle.words.specs.Lists.{all};
 ghost use Rattle.task.specs.Table.{taskOf};
 ghost use Rattle.task.specs.Run.{holds, insertAll, removeAll, stateIn, roomIn, isState};
 ghost use Rattle.task.specs.Records.{Keeps};
-ghost use Rattle.task.specs.Spans.{groundAt, groundSpan, AtomOf, SpanOf};
+ghost use Rattle.task.specs.Spans.{groundSpan, AtomOf, SpanOf};
 ghost use Rattle.task.specs.Exchange.{FirstNew, ExchangedOne};
 
 // How many records there are, and the first add that may still be missing.

@@ -1,5 +1,4 @@
 // The limits of document 01, 'Task table', each under the name that specs/Limits.antt gives it.
-
 // "objects N (1 to 1000), predicates P (1 to 400), schemas (0 to 200), schema atoms (at most 1000), initial atoms (at
 // most 500), goal atoms (at most 100)"
 pub const MOST_OBJECTS: usize = 1000;
@@ -31,9 +30,31 @@ pub const HEAD_WORDS: usize = 6;
 
 pub const ATOM_SIZE: usize = 8;
 
+// "A step is 13 words", a state is kept as "5-word records"
+pub const STEP_SIZE: usize = 13;
+
+pub const RECORD_SIZE: usize = 5;
+
 // "role (0 precondition, 1 add, 2 delete, 3 initial, 4 goal)"
+pub const PRECONDITION: usize = 0;
+
+pub const ADDITION: usize = 1;
+
 pub const DELETION: usize = 2;
 
 pub const INITIAL: usize = 3;
 
 pub const GOAL: usize = 4;
+
+// The places of the six counts.
+pub const OBJECTS: usize = 0;
+
+pub const PREDICATES: usize = 1;
+
+pub const SCHEMAS: usize = 2;
+
+pub const SCHEMA_ATOMS: usize = 3;
+
+pub const INITIAL_ATOMS: usize = 4;
+
+pub const GOAL_ATOMS: usize = 5;

@@ -1,5 +1,9 @@
 // What a table says of its task: counts, arities and parameter counts, by index.
-use crate::words::wide;
+use crate::limits::HEAD_WORDS;
+use crate::limits::OBJECTS;
+use crate::limits::PREDICATES;
+use crate::limits::SCHEMAS;
+use words::runs::wide;
 ghost use mathlib.Core.Path.{_≡_};
 ghost use mathlib.Core.Bool.{true};
 ghost use Prim.Native.Nat.{_<_};
@@ -7,28 +11,25 @@ ghost use lib.ListN.{length, getD};
 ghost use Rattle.task.specs.Table.{taskOf, isTable};
 ghost use Rattle.task.specs.Run.{paramCount};
 
-// The six counts stand first.
-const HEAD_WORDS: usize = 6;
-
 pub fn object_count(table: &[u16]) -> u16
     requires { ⌜ isTable (now table) ≡ true ⌝ }
     ensures { λ r. ⌜ r ≡ taskOf (now (table .entry)) .objects ⌝ }
 {
-    table[0]
+    table[OBJECTS]
 }
 
 pub fn predicate_count(table: &[u16]) -> u16
     requires { ⌜ isTable (now table) ≡ true ⌝ }
     ensures { λ r. ⌜ r ≡ length (taskOf (now (table .entry)) .arities) ⌝ }
 {
-    table[1]
+    table[PREDICATES]
 }
 
 pub fn schema_count(table: &[u16]) -> u16
     requires { ⌜ isTable (now table) ≡ true ⌝ }
     ensures { λ r. ⌜ r ≡ length (taskOf (now (table .entry)) .schemas) ⌝ }
 {
-    table[2]
+    table[SCHEMAS]
 }
 
 // How many arguments a predicate of the task has.
@@ -46,5 +47,5 @@ pub fn param_count(table: &[u16], schema: u16) -> usize
     requires { ⌜ schema < length (taskOf (now table) .schemas) ⌝ }
     ensures { λ r. ⌜ r ≡ paramCount (taskOf (now (table .entry))) schema ⌝ }
 {
-    wide(table[HEAD_WORDS + wide(table[1]) + wide(schema)])
+    wide(table[HEAD_WORDS + wide(table[PREDICATES]) + wide(schema)])
 }

@@ -2,6 +2,9 @@
 use crate::Place;
 use crate::RunAnswer;
 use crate::exchange::exchange;
+use crate::limits::MOST_SCHEMAS;
+use crate::limits::RECORD_SIZE;
+use crate::limits::STEP_SIZE;
 use crate::records::clear_from;
 use crate::records::held;
 use crate::records::word;
@@ -12,7 +15,7 @@ use crate::spans::fact_number;
 ghost use mathlib.Core.Path.{_≡_};
 ghost use mathlib.Core.Bool.{true};
 ghost use mathlib.Core.Option.{none};
-ghost use Prim.Native.Nat.{ℕ, suc, _+_, _*_, _≤_, _<_};
+ghost use Prim.Native.Nat.{suc, _+_, _*_, _≤_, _<_};
 ghost use lib.ListN.{length, getD};
 ghost use Rattle.task.specs.Table.{taskOf, isTable};
 ghost use Rattle.task.specs.Run.{
@@ -28,6 +31,7 @@ ghost use Rattle.task.specs.Run.{
   runDone,
   runAnswerTold,
 };
+ghost use Rattle.task.specs.Limits.{mostSchemas, stepSize};
 ghost use Rattle.task.specs.Turns.{firstAtom, Starts, RoleEnds, Turned, endedAs, recordsLeft};
 
 // What a step does: it runs and leaves so many records, a precondition is missing, or the next state is outgrown.
@@ -45,10 +49,10 @@ pub enum Ended {
 }
 
 // Writes where the atoms of each schema begin, and behind the last schema where they end.
-fn schema_starts(table: &[u16], starts: &mut [u16; 201])
+fn schema_starts(table: &[u16], starts: &mut [u16; MOST_SCHEMAS + 1])
     requires { ⌜ isTable (now table) ≡ true ⌝ }
-    requires { ⌜ (length (now starts) ≡ 201) × (getD (now starts) 0 0 ≡ 0) ⌝ }
-    ensures { λ _. ⌜ (length (now (starts .exit)) ≡ 201) × Starts (taskOf (now (table .entry))) (now (starts .exit)) ⌝ }
+    requires { ⌜ (length (now starts) ≡ mostSchemas + 1) × (getD (now starts) 0 0 ≡ 0) ⌝ }
+    ensures { λ _. ⌜ (length (now (starts .exit)) ≡ mostSchemas + 1) × Starts (taskOf (now (table .entry))) (now (starts .exit)) ⌝ }
 {
     let count = word(table, 3) as usize;
     let mut k = 0;
@@ -89,8 +93,8 @@ fn run_step(
 ) -> Turn
     requires { ⌜ isTable (now table) ≡ true ⌝ }
     requires { ⌜ isStepAt (taskOf (now table)) (now steps) i ≡ true ⌝ }
-    requires { ⌜ start ≡ firstAtom (taskOf (now table)) (getD (now steps) (13 * i) 0) ⌝ }
-    requires { ⌜ end ≡ firstAtom (taskOf (now table)) (suc (getD (now steps) (13 * i) 0)) ⌝ }
+    requires { ⌜ start ≡ firstAtom (taskOf (now table)) (getD (now steps) (stepSize * i) 0) ⌝ }
+    requires { ⌜ end ≡ firstAtom (taskOf (now table)) (suc (getD (now steps) (stepSize * i) 0)) ⌝ }
     requires { ⌜ isState (taskOf (now table)) (now state) n ≡ true ⌝ }
     ensures { λ r. ⌜ Turned (taskOf (now (table .entry))) (stepAt (taskOf (now (table .entry))) (now (steps .entry)) i)
         (now (state .entry)) n r (now (state .exit)) ⌝ }
@@ -128,7 +132,7 @@ fn goal_met(table: &[u16], state: &[u16], n: usize) -> bool
 // Runs the steps one after another, up to the first that doesn't run or whose next state is outgrown.
 fn run_list(table: &[u16], starts: &[u16], steps: &[u16], state: &mut [u16], n: usize) -> Ended
     requires { ⌜ isTable (now table) ≡ true ⌝ }
-    requires { ⌜ (length (now starts) ≡ 201) × Starts (taskOf (now table)) (now starts) ⌝ }
+    requires { ⌜ (length (now starts) ≡ mostSchemas + 1) × Starts (taskOf (now table)) (now starts) ⌝ }
     requires { ⌜ badStep (taskOf (now table)) (now steps) ≡ none ⌝ }
     requires { ⌜ isState (taskOf (now table)) (now state) n ≡ true ⌝ }
     ensures { λ r. ⌜ isState (taskOf (now (table .entry))) (now (state .exit)) (recordsLeft r) ≡ true ⌝ }
@@ -137,11 +141,11 @@ fn run_list(table: &[u16], starts: &[u16], steps: &[u16], state: &mut [u16], n: 
         (stateIn (taskOf (now (table .entry))) (now (state .entry)) n) ≡
         endedAs r (stateIn (taskOf (now (table .entry))) (now (state .exit)) (recordsLeft r)) ⌝ }
 {
-    let count = steps.len() / 13;
+    let count = steps.len() / STEP_SIZE;
     let mut left = n;
     let mut i = 0;
     while i < count {
-        let schema = steps[13 * i] as usize;
+        let schema = steps[STEP_SIZE * i] as usize;
         let start = starts[schema] as usize;
         let end = starts[schema + 1] as usize;
         let turn = run_step(table, start, end, steps, i, state, left);
@@ -171,20 +175,20 @@ pub(crate) fn run_steps(table: &[u16], steps: &[u16], state: &mut [u16], records
         (stepsIn (taskOf (now (table .entry))) (now (steps .entry)))
         (stateIn (taskOf (now (table .entry))) (now (state .entry)) records)) .buffer ⌝ }
 {
-    let mut starts = [0u16; 201];
+    let mut starts = [0u16; MOST_SCHEMAS + 1];
     schema_starts(table, &mut starts);
     let ended = run_list(table, &starts, steps, state, records as usize);
     match ended {
         Ended::Ran(left) => {
             let goal = goal_met(table, state, left);
-            clear_from(state, 5 * left);
+            clear_from(state, RECORD_SIZE * left);
             RunAnswer::Ran {
                 left: left as u64,
                 goal,
             }
         }
         Ended::Missing(i, left) => {
-            clear_from(state, 5 * left);
+            clear_from(state, RECORD_SIZE * left);
             RunAnswer::Stopped {
                 number: 16,
                 place: Place::Step(i as u64),
@@ -192,7 +196,7 @@ pub(crate) fn run_steps(table: &[u16], steps: &[u16], state: &mut [u16], records
             }
         }
         Ended::Outgrown(i, left) => {
-            clear_from(state, 5 * left);
+            clear_from(state, RECORD_SIZE * left);
             RunAnswer::Stopped {
                 number: 17,
                 place: Place::Step(i as u64),

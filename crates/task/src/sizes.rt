@@ -1,12 +1,13 @@
 // The size of a step's next state, counted before anything is changed.
+use crate::limits::RECORD_SIZE;
 use crate::records::held;
 use crate::spans::ground;
 ghost use mathlib.Core.Path.{_≡_};
 ghost use mathlib.Core.Bool.{true, not};
-ghost use Prim.Native.Nat.{ℕ, _+_, _-_, _≤_, _<_};
+ghost use Prim.Native.Nat.{_+_, _-_, _<_};
 ghost use lib.ListN.{length};
 ghost use lib.Dec.{eqb, leb};
-ghost use Rattle.task.specs.Lists.{all};
+ghost use Rattle.words.specs.Lists.{all};
 ghost use Rattle.task.specs.Task.{Fact};
 ghost use Rattle.task.specs.Table.{taskOf};
 ghost use Rattle.task.specs.Run.{holds, insertAll, removeAll, stateIn, roomIn, isState};
@@ -187,7 +188,7 @@ pub(crate) fn has_room(
         (removeAll (groundSpan (now (table .entry)) (now (steps .entry)) i del (end - del))
         (stateIn (taskOf (now (table .entry))) (now (state .entry)) n)))) (roomIn (now (state .entry))) ⌝ }
 {
-    let room = state.len() / 5;
+    let room = state.len() / RECORD_SIZE;
     if del - add <= room - n {
         return true;
     }

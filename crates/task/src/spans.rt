@@ -1,44 +1,50 @@
 // The ground atoms of a step: a step's objects for the parameters of an atom, and loops over atoms of one role.
 use crate::Object;
 use crate::Parameter;
+use crate::limits::ATOM_SIZE;
+use crate::limits::HEAD_WORDS;
+use crate::limits::PREDICATES;
+use crate::limits::SCHEMAS;
+use crate::limits::STEP_SIZE;
 use crate::records::held;
 use crate::records::number_of;
 use crate::records::put_in;
 use crate::records::word;
 ghost use mathlib.Core.Path.{_≡_};
 ghost use mathlib.Core.Bool.{true};
-ghost use Prim.Native.Nat.{ℕ, _+_, _-_, _*_, _≤_, _<_};
+ghost use Prim.Native.Nat.{_+_, _-_, _*_, _≤_, _<_};
 ghost use lib.ListN.{length, getD};
-ghost use Rattle.task.specs.Lists.{all};
-ghost use Rattle.task.specs.Task.{Fact, argsFit};
+ghost use Rattle.words.specs.Lists.{all};
 ghost use Rattle.task.specs.Table.{atomBase, factIn, taskOf, isTable};
 ghost use Rattle.task.specs.Run.{holds, insertAll, stateIn, roomIn, isState};
 ghost use Rattle.task.specs.Records.{recordNumber, Keeps};
+ghost use Rattle.task.specs.Limits.{atomSize, stepSize};
+ghost use Rattle.words.specs.Words.{wordBound};
 ghost use Rattle.task.specs.Spans.{groundAt, groundSpan, objectIn, argumentIn, AtomOf, SpanOf};
 
 // The word at which atom k of a table begins.
 pub(crate) fn atom_at(table: &[u16], k: usize) -> usize
     requires { ⌜ isTable (now table) ≡ true ⌝ }
     requires { ⌜ k < getD (now table) 3 0 + getD (now table) 4 0 + getD (now table) 5 0 ⌝ }
-    ensures { λ r. ⌜ (r ≡ atomBase (now (table .entry)) k) × (r + 8 ≤ length (now (table .entry))) ⌝ }
+    ensures { λ r. ⌜ (r ≡ atomBase (now (table .entry)) k) × (r + atomSize ≤ length (now (table .entry))) ⌝ }
 {
-    6 + word(table, 1) as usize + word(table, 2) as usize + 8 * k
+    HEAD_WORDS + word(table, PREDICATES) as usize + word(table, SCHEMAS) as usize + ATOM_SIZE * k
 }
 
 // The object that step i has for a parameter.
 fn object_of(steps: &[u16], i: usize, p: Parameter) -> Object
-    requires { ⌜ 13 * i + 1 + p .0 < length (now steps) ⌝ }
+    requires { ⌜ stepSize * i + 1 + p .0 < length (now steps) ⌝ }
     ensures { λ r. ⌜ r .0 ≡ objectIn (now (steps .entry)) i (p .0) ⌝ }
 {
-    let at = 13 * i + 1 + p.0 as usize;
+    let at = STEP_SIZE * i + 1 + p.0 as usize;
     Object(steps[at])
 }
 
 // The argument at a word of the table with its object, or 0 where the predicate has no such argument.
 fn argument(table: &[u16], at: usize, used: bool, steps: &[u16], i: usize) -> u64
     requires { ⌜ at < length (now table) ⌝ }
-    requires { ⌜ (used ≡ true → 13 * i + 1 + getD (now table) at 0 < length (now steps)) ⌝ }
-    ensures { λ r. ⌜ (r ≡ argumentIn used (now (steps .entry)) i (getD (now (table .entry)) at 0)) × (r < 65536) ⌝ }
+    requires { ⌜ (used ≡ true → stepSize * i + 1 + getD (now table) at 0 < length (now steps)) ⌝ }
+    ensures { λ r. ⌜ (r ≡ argumentIn used (now (steps .entry)) i (getD (now (table .entry)) at 0)) × (r < wordBound) ⌝ }
 {
     if used {
         object_of(steps, i, Parameter(table[at])).0 as u64
@@ -54,7 +60,7 @@ pub(crate) fn ground(table: &[u16], k: usize, steps: &[u16], i: usize) -> u64
 {
     let at = atom_at(table, k);
     let p = word(table, at + 2);
-    let arity = word(table, 6 + p as usize);
+    let arity = word(table, HEAD_WORDS + p as usize);
     let a = argument(table, at + 4, 0 < arity, steps, i);
     let b = argument(table, at + 5, 1 < arity, steps, i);
     let c = argument(table, at + 6, 2 < arity, steps, i);

@@ -1,30 +1,31 @@
 // A state is "kept as ascending 5-word records (predicate, four arguments, unused 0)": whether words are one, by
 // refusal 15.
+use crate::limits::RECORD_SIZE;
 use crate::lookup::arity;
 use crate::lookup::object_count;
 use crate::lookup::predicate_count;
-use crate::words::are_objects;
-use crate::words::are_zero;
+use crate::objects::are_objects;
+use crate::objects::are_zero;
 ghost use mathlib.Core.Path.{_≡_};
 ghost use mathlib.Core.Bool.{true, _&&_};
 ghost use Prim.Native.Nat.{_+_, _*_, _≤_};
 ghost use lib.ListN.{length};
-ghost use Rattle.task.specs.Lists.{eqList, lessList};
+ghost use Rattle.words.specs.Lists.{eqList, lessList};
 ghost use Rattle.task.specs.Task.{argsFit};
-ghost use Rattle.task.specs.Table.{wordsAt, taskOf, isTable};
+ghost use Rattle.words.specs.Words.{wordsAt};
+ghost use Rattle.task.specs.Table.{taskOf, isTable};
+ghost use Rattle.task.specs.Limits.{recordSize};
 ghost use Rattle.task.specs.Run.{recordAt, recordWords, isState};
-
-const RECORD_SIZE: usize = 5;
 
 // Whether record i is that of a ground atom of the task.
 pub fn is_record(table: &[u16], state: &[u16], i: usize) -> bool
     requires { ⌜ isTable (now table) ≡ true ⌝ }
-    requires { ⌜ 5 * i + 5 ≤ length (now state) ⌝ }
+    requires { ⌜ recordSize * i + recordSize ≤ length (now state) ⌝ }
     ensures { λ r. do
       let t = taskOf (now (table .entry))
       let w = now (state .entry)
       ⌜ r ≡ argsFit (t .arities) (t .objects) (recordAt t w i .pred) (recordAt t w i .args) &&
-          eqList (wordsAt w (5 * i) 5) (recordWords (recordAt t w i)) ⌝ }
+          eqList (wordsAt w (recordSize * i) recordSize) (recordWords (recordAt t w i)) ⌝ }
 {
     let at = RECORD_SIZE * i;
     let predicate = state[at];
@@ -38,10 +39,10 @@ pub fn is_record(table: &[u16], state: &[u16], i: usize) -> bool
     are_zero(state, at + 1 + args, RECORD_SIZE - 1 - args)
 }
 
-// Whether the five words from a on come before the five from b on.
+// Whether the record at word a comes before that at word b. Five words, so that the compiler lays the loop out flat.
 pub fn record_less(state: &[u16], a: usize, b: usize) -> bool
-    requires { ⌜ (a + 5 ≤ length (now state)) × (b + 5 ≤ length (now state)) ⌝ }
-    ensures { λ r. ⌜ r ≡ lessList (wordsAt (now (state .entry)) a 5) (wordsAt (now (state .entry)) b 5) ⌝ }
+    requires { ⌜ (a + recordSize ≤ length (now state)) × (b + recordSize ≤ length (now state)) ⌝ }
+    ensures { λ r. ⌜ r ≡ lessList (wordsAt (now (state .entry)) a recordSize) (wordsAt (now (state .entry)) b recordSize) ⌝ }
 {
     for k in 0..RECORD_SIZE {
         let x = state[a + k];

@@ -2,23 +2,21 @@
 mod atoms;
 mod facts;
 mod schemas;
-mod sets;
-mod words;
 
+ghost use mathlib.Core.Path.{_≡_};
+ghost use Prim.Native.Nat.{_+_, _<_, _≤_};
+ghost use lib.ListN.{length, getD};
+ghost use Rattle.words.specs.Lists.{every};
+ghost use Rattle.task.specs.Limits.{tableWords, headWords};
+ghost use Rattle.task.specs.Table.{isTable};
+ghost use Rattle.task.specs.WordTests.{countTests, aritiesFit, numbersFit, Roomy};
 use crate::limits;
 use atoms::atom_base;
 use atoms::schema_number;
 use facts::facts_fit;
 use schemas::schemas_fit;
-use words::word;
-use words::zeros;
-ghost use mathlib.Core.Path.{_≡_};
-ghost use Prim.Native.Nat.{_+_, _<_, _≤_};
-ghost use lib.ListN.{length, getD};
-ghost use Rattle.task.specs.Lists.{every};
-ghost use Rattle.task.specs.Limits.{tableWords};
-ghost use Rattle.task.specs.Table.{isTable};
-ghost use Rattle.task.specs.WordTests.{countTests, aritiesFit, numbersFit, Roomy};
+use words::runs::word;
+use words::runs::zeros;
 
 // Whether each of the six counts is within its limits.
 fn counts_fit(table: &[u16]) -> bool
@@ -50,7 +48,7 @@ fn counts_fit(table: &[u16]) -> bool
 
 // Whether every arity is at most 4.
 fn arities_fit(table: &[u16]) -> bool
-    requires { ⌜ 6 + getD (now table) 1 0 ≤ length (now table) ⌝ }
+    requires { ⌜ headWords + getD (now table) 1 0 ≤ length (now table) ⌝ }
     ensures { λ r. ⌜ r ≡ aritiesFit (now (table .entry)) ⌝ }
 {
     let predicates = word(table, 1);

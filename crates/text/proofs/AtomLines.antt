@@ -7,9 +7,10 @@ use native.Mathlib.Nat.{mul-suc}
 use native.Mathlib.Omega.{arith}
 use native.Mathlib.Decide.{decLt}
 use lib.ListN.{length, getD, length-append, length-map}
-use Rattle.task.specs.Lists.{upTo, upFrom}
-use Rattle.task.specs.Table.{wordsAt, arityIn}
-use Rattle.task.proofs.Laws.{In, here, there, length-upTo}
+use Rattle.words.specs.Lists.{upTo, upFrom}
+use Rattle.words.specs.Words.{wordsAt}
+use Rattle.task.specs.Table.{arityIn}
+use Rattle.words.proofs.Lists.{In, here, there, length-upTo}
 use Rattle.text.specs.Lines.{bytes, equals, colon, newline, digits, commaed, entryBytes, line}
 use Rattle.text.specs.Text.{keyName}
 use Rattle.text.specs.Code.{spaced, AtomInside, entryAt, atomKey, keyBytes, atomText, atomsText}

@@ -6,14 +6,14 @@ use mathlib.Core.Path.{_≡_, refl, sym, _∙_, ap, subst}
 use mathlib.Core.Bool.{true}
 use mathlib.Core.List.{List, _∷_, _++_}
 use mathlib.Core.Option.{Option, some}
-use Rattle.task.proofs.Laws.{In}
+use Rattle.words.proofs.Lists.{In}
 use Rattle.text.specs.Lines.{newline, digits, Entry, entryBytes, line, Taken, Reader, taken, isDigit, number}
 use Rattle.text.specs.Lines.{entry, ended, readLine}
 use Rattle.text.proofs.Digits.{at-other, number-written, number-read}
 use Rattle.text.proofs.NumberLists.{SmallEntry, entry-read}
-use Rattle.text.proofs.Lines.{Ended, ended-read, keyed, line-append, line-long, apart, readLine-written}
-use Rattle.text.proofs.Lines.{readLine-read}
 use Rattle.text.proofs.Reading.{Exact}
+use Rattle.text.proofs.KeyedLines.{Ended, ended-read, keyed, line-append, line-long, apart, readLine-written}
+use Rattle.text.proofs.KeyedLines.{readLine-read}
 
 pub number-ends : (n : ℕ) → n < 100000 → (r : List ℕ) → number (digits n ++ (newline ∷ r)) ≡ taken n (newline ∷ r)
 unfolding isDigit

@@ -7,14 +7,13 @@ use mathlib.Core.List.{List, [], _∷_, _++_, append-assoc, append-nil}
 use mathlib.Core.Option.{none}
 use native.Mathlib.Omega.{arith}
 use lib.ListN.{length, drop, length-append}
-use lib.Dec.{eqb, leb}
+use lib.Dec.{leb}
 use borrow.Author.Tests.{le-leb, lt-leb, eq-eqb, ne-eqb}
-use Rattle.task.proofs.Laws.{and-both}
-use Rattle.task.proofs.WordRows.{and-false}
+use Rattle.words.proofs.Lists.{and-both}
+use Rattle.words.proofs.Words.{and-false}
 use Rattle.text.specs.declared.cursor.Cursor.{Cursor}
-use Rattle.text.specs.Lines.{digitZero, isDigit, leadingDigits, valueFrom, noLeadingZero, inForm, number}
-use Rattle.text.specs.Lines.{takenIf}
-use Rattle.text.specs.ReadCode.{rest, Moved, DigitHere, NumberHere}
+use Rattle.text.specs.Lines.{isDigit, leadingDigits, valueFrom, noLeadingZero, inForm, number, takenIf}
+use Rattle.text.specs.ReadCode.{rest, DigitHere, NumberHere}
 use Rattle.text.proofs.Digits.{Digits, no-digit, digit, value-append, digits-append, value-small}
 use Rattle.text.proofs.ReadersAt.{number-here}
 

@@ -12,7 +12,7 @@ use lib.ListN.{length, getD, drop, length-append, List·getD-append}
 use lib.Seq.{drop-append-seam}
 use lib.Dec.{eqb, leb}
 use borrow.Author.Tests.{leb-true, eqb-false, not-true, lt-ltb, le-ltb, le-leb, ne-eqb}
-use Rattle.task.proofs.Laws.{and-left, and-right, and-both}
+use Rattle.words.proofs.Lists.{and-left, and-right, and-both}
 use Rattle.text.specs.Lines.{digitsWithin, digits, Taken, taken, takenIf, isDigit, leadingDigits, valueFrom}
 use Rattle.text.specs.Lines.{noLeadingZero, inForm, number}
 use Rattle.text.proofs.Taken.{if-true, if-false, no-none, taken-value, taken-rest}

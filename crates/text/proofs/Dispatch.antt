@@ -1,24 +1,27 @@
--- The turn at a line by its key: what the body of each key is, and where in the fixed order a key may stand, by numbers.
-use Prim.Native.Nat.{ℕ, suc, _+_, _-_, _≤_, _<_}
-use mathlib.Core.Path.{_≡_, refl, sym, _∙_, ap, subst}
-use mathlib.Core.Bool.{Bool, true, false, cond, _&&_}
+-- The turn at a line by its key: what the body of each key is, and where in the fixed order a key may stand, by
+-- numbers.
+use Rattle.text.specs.declared.draft.Turn.the-variants as turn
+use Rattle.text.specs.declared.draft.Kind.the-variants as kind
+use Prim.Native.Nat.{ℕ, _-_, _≤_, _<_, zero, suc, _+_}
+use mathlib.Core.Path.{_≡_, refl, sym, ap, subst}
+use mathlib.Core.Bool.{Bool, true, false, cond}
 use mathlib.Core.List.{List}
 use mathlib.Core.Option.{Option}
 use native.Mathlib.Omega.{arith}
 use lib.Dec.{leb, ltb}
 use borrow.Author.Tests.{leb-true, ltb-true, ltb-false}
-use Rattle.task.proofs.Laws.{and-left, and-right}
+use Rattle.words.proofs.Lists.{and-left, and-right}
 use Rattle.text.specs.declared.cursor.Cursor.{Cursor}
-use Rattle.text.specs.declared.counts.Turn.{Turn}
-use Rattle.text.specs.declared.counts.Turn.the-variants as turn
 use Rattle.text.specs.Lines.{Taken, number, numbers, listing, entry, ended}
-use Rattle.text.specs.Text.{Key, task, objects, arity, schema, pre, add, del, part, init, goal, end, Line, taskLine}
-use Rattle.text.specs.Text.{objectsLine, arityLine, schemaLine, atomLine, partLine, initLine, goalLine, endLine}
-use Rattle.text.specs.Text.{Phase, atTask, atObjects, atArity, between, inPre, inAdd, inDel, inInit, inGoal}
-use Rattle.text.specs.Text.{Draft, readBody}
-use Rattle.text.specs.ReadCode.{Moved, NextLine, keyNumber, phaseNumber, lastKey}
-use Rattle.text.specs.Holding.{Turned, GoesOn, Finishes}
-use Rattle.text.proofs.KeyLines.{mayStand, key-of-number}
+use Rattle.text.specs.Text.{Key, task, objects, arity, schema, pre, add, del, part, init, goal, end, Line}
+use Rattle.text.specs.Text.{taskLine, objectsLine, arityLine, schemaLine, atomLine, partLine, initLine, goalLine}
+use Rattle.text.specs.Text.{endLine, Phase, atTask, atObjects, atArity, between, inPre, inAdd, inDel, inInit}
+use Rattle.text.specs.Text.{inGoal, Draft, readBody, roleKey}
+use Rattle.text.specs.ReadCode.{Moved, NextLine, keyNumber, phaseNumber, lastKey, mayStand}
+use Rattle.text.specs.Holding.{Turned, factKey, factLine}
+use Rattle.text.proofs.KeyLines.{key-of-number}
+use Rattle.text.specs.declared.draft.Kind.{Kind}
+use Rattle.text.specs.declared.draft.Turn.{Turn}
 
 -- ---- the body of a key
 module _ (k : Key) (bs : List ℕ) where
@@ -26,40 +29,44 @@ module _ (k : Key) (bs : List ℕ) where
   body-of j e = ap (λ (x : Key). readBody x bs) (key-of-number k j e)
 
   pub task-body : keyNumber k ≡ 0 → readBody k bs ≡ ended taskLine (number bs)
-  unfolding readBody keyNumber
+  unfolding readBody
   task-body e = body-of task e
 
   pub objects-body : keyNumber k ≡ 1 → readBody k bs ≡ ended objectsLine (number bs)
-  unfolding readBody keyNumber
+  unfolding readBody
   objects-body e = body-of objects e
 
   pub arity-body : keyNumber k ≡ 2 → readBody k bs ≡ ended arityLine (numbers bs)
-  unfolding readBody keyNumber
+  unfolding readBody
   arity-body e = body-of arity e
 
   pub part-body : keyNumber k ≡ 6 → readBody k bs ≡ ended partLine (listing bs)
-  unfolding readBody keyNumber
+  unfolding readBody
   part-body e = body-of part e
 
   pub schema-body : keyNumber k ≡ 7 → readBody k bs ≡ ended schemaLine (number bs)
-  unfolding readBody keyNumber
+  unfolding readBody
   schema-body e = body-of schema e
 
-  pub init-body : keyNumber k ≡ 8 → readBody k bs ≡ ended initLine (entry bs)
-  unfolding readBody keyNumber
+  init-body : keyNumber k ≡ 8 → readBody k bs ≡ ended initLine (entry bs)
+  unfolding readBody
   init-body e = body-of init e
 
-  pub goal-body : keyNumber k ≡ 9 → readBody k bs ≡ ended goalLine (entry bs)
-  unfolding readBody keyNumber
+  goal-body : keyNumber k ≡ 9 → readBody k bs ≡ ended goalLine (entry bs)
+  unfolding readBody
   goal-body e = body-of goal e
 
+  pub fact-body : (f : Kind) → keyNumber k ≡ keyNumber (factKey f) → readBody k bs ≡ ended (factLine f) (entry bs)
+  fact-body kind.Initial e = init-body e
+  fact-body kind.Goal e = goal-body e
+
   pub end-body : keyNumber k ≡ 10 → readBody k bs ≡ ended endLine (number bs)
-  unfolding readBody keyNumber
+  unfolding readBody
   end-body e = body-of end e
 
 pub atom-body : (k : Key) (bs : List ℕ) → 3 ≤ keyNumber k → keyNumber k < 6 →
     readBody k bs ≡ ended (atomLine (keyNumber k - 3)) (entry bs)
-unfolding readBody keyNumber
+unfolding readBody
 atom-body task bs l m = absurd (omega arith)
 atom-body objects bs l m = absurd (omega arith)
 atom-body arity bs l m = absurd (omega arith)
@@ -73,7 +80,6 @@ atom-body goal bs l m = absurd (omega arith)
 atom-body end bs l m = absurd (omega arith)
 
 pub last-number : (k : Key) → 9 < keyNumber k → keyNumber k ≡ 10
-unfolding keyNumber
 last-number task l = absurd (omega arith)
 last-number objects l = absurd (omega arith)
 last-number arity l = absurd (omega arith)
@@ -125,8 +131,7 @@ may-stand p k h =
         }
     go low false e m = later low (ltb-false p 3 e) (ltb p 7) refl m
 
-pub no-sixth : (p : Phase) → phaseNumber p ≡ 6 → ⊥
-unfolding phaseNumber
+no-sixth : (p : Phase) → phaseNumber p ≡ 6 → ⊥
 no-sixth atTask e = omega arith
 no-sixth atObjects e = omega arith
 no-sixth atArity e = omega arith
@@ -137,8 +142,47 @@ no-sixth inDel e = omega arith
 no-sixth inInit e = omega arith
 no-sixth inGoal e = omega arith
 
+-- a key by its number may stand where the number does
+pub stands-as : (p : ℕ) {key n : ℕ} → key ≡ n → mayStand p key ≡ true → mayStand p n ≡ true
+stands-as p e h = subst (λ (k : ℕ). mayStand p k ≡ true) e h
+
+pub role-number : (r : ℕ) → r ≤ 2 → keyNumber (roleKey r) ≡ 3 + r
+unfolding roleKey
+role-number zero l = refl
+role-number (suc zero) l = refl
+role-number (suc (suc zero)) l = refl
+role-number (suc (suc (suc r))) l = absurd (omega arith)
+
+-- a line that stands once is allowed at its own place alone
+pub head-place : (p : ℕ) (k : Key) → keyNumber k ≤ 2 → mayStand p (keyNumber k) ≡ true → p ≡ keyNumber k
+head-place p k l h = may-stand p (keyNumber k) h .head l
+
+-- a `schema` line between two schemas alone
+pub schema-place : (p : ℕ) → mayStand p 7 ≡ true → p ≡ 7
+schema-place p h =
+    let s = may-stand p 7 h in
+    let a = s .before in
+    let b = s .between (omega arith) in
+    omega arith
+
+-- a `part` line inside a schema
+pub part-place : (p : Phase) → mayStand (phaseNumber p) 6 ≡ true → (3 ≤ phaseNumber p) × (phaseNumber p ≤ 5)
+part-place p h =
+    let s = may-stand (phaseNumber p) 6 h in
+    let a = s .before in
+    let n : phaseNumber p ≡ 6 → ⊥ = no-sixth p in
+    (s .in-schema (omega arith) (omega arith), omega arith)
+
+-- and so an atom's line, before the lines of later roles
+pub atom-place : (p r : ℕ) → r ≤ 2 → mayStand p (keyNumber (roleKey r)) ≡ true → (3 ≤ p) × (p ≤ 3 + r)
+atom-place p r l h =
+    let s = may-stand p (3 + r) (stands-as p (role-number r l) h) in
+    let a = s .before in
+    (s .in-schema (omega arith) (omega arith), omega arith)
+
 -- ---- a turn at a body is the turn at its line
-pub next-from : {text : List ℕ} {from body at : Cursor} → Moved text from body → NextLine text body at → NextLine text from at
+pub next-from : {text : List ℕ} {from body at : Cursor} → Moved text from body → NextLine text body at →
+    NextLine text from at
 next-from m n =
     let a = m .on in
     let b = n .on in

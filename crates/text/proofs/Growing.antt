@@ -9,10 +9,10 @@ use native.Mathlib.Omega.{arith}
 use lib.ListN.{length, length-append}
 use lib.Dec.{eqb, ltb, leb}
 use borrow.Author.Tests.{ltb-true, leb-true, eqb-true, not-true, lt-ltb, le-leb, eq-eqb}
-use Rattle.task.specs.Lists.{all, any, eqList}
+use Rattle.words.specs.Lists.{all, any, eqList}
 use Rattle.task.specs.Task.{Atom, Fact, sameAtom, distinct, rolesAscend, ascending, factLess, factsFit}
-use Rattle.task.proofs.Laws.{both-ft, and-left, and-right, and-both, false-if, In, here, there, in-empty, in-left}
-use Rattle.task.proofs.Laws.{in-right, in-append, any-in, in-any, eqList-refl, eqList-eq}
+use Rattle.words.proofs.Lists.{both-ft, and-left, and-right, and-both, false-if, In, here, there, in-empty, in-left}
+use Rattle.words.proofs.Lists.{in-right, in-append, any-in, in-any, eqList-refl, eqList-eq}
 use Rattle.task.proofs.Tests.{fits, fact-tests, tests-fact}
 use Rattle.text.specs.Text.{follows}
 

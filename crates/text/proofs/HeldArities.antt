@@ -1,27 +1,27 @@
--- The code holds the draft again behind an `arity` line: the arities stand at word 6, and nothing stands behind them yet.
-use Prim.Native.Nat.{ℕ, suc, _+_, _*_, _≤_, _<_}
-use mathlib.Core.Path.{_≡_, refl, sym, _∙_, ap, subst}
+-- The code holds the draft again behind an `arity` line: the arities stand at word 6, and nothing stands behind them
+-- yet.
+use Prim.Native.Nat.{ℕ, _≤_, _<_}
+use mathlib.Core.Path.{_≡_, refl, sym, _∙_, ap}
 use mathlib.Core.Bool.{Bool, true, false, _&&_}
-use mathlib.Core.List.{List, [], _∷_, _++_, map}
+use mathlib.Core.List.{List, [], _∷_}
 use native.Mathlib.Omega.{arith}
-use lib.ListN.{length, getD, take}
+use lib.ListN.{length, getD}
 use lib.Dec.{ltb, leb, leb·suc-suc}
 use borrow.Author.Tests.{le-leb, lt-leb}
-use Rattle.task.specs.Lists.{all, concatMap}
+use Rattle.words.specs.Lists.{all, concatMap}
 use Rattle.task.specs.Table.{schemasFrom}
 use Rattle.task.specs.Task.{Schema, argsFit}
-use Rattle.task.proofs.Laws.{and-both}
-use Rattle.task.proofs.WordRows.{and-false}
-use Rattle.text.specs.declared.counts.Counts.{Counts}
+use Rattle.words.proofs.Lists.{and-both}
+use Rattle.words.proofs.Words.{and-false}
 use Rattle.text.specs.Reading.{goOn, refuse}
-use Rattle.text.specs.Text.{between, Draft, noSchema, atPhase, withArities, arityLine, takeLine}
-use Rattle.text.specs.ReadCode.{phaseNumber, Standing, Wrote, Listed}
-use Rattle.text.specs.Holding.{Few, Order, Holds, rowsOf}
+use Rattle.text.specs.Text.{between, Draft, noSchema, atPhase, withArities, arityLine, takeLine, arity}
+use Rattle.text.specs.ReadCode.{Wrote, Listed}
+use Rattle.text.specs.Holding.{Holds, rowsOf, Allows}
 use Rattle.text.proofs.Reading.{need-met}
 use Rattle.text.proofs.LineTurns.{need-fails}
-use Rattle.text.proofs.HeldHeads.{rows-at}
 use Rattle.text.proofs.WroteWords.{stands}
-use Rattle.text.proofs.RowTests.{listed-take}
+use Rattle.text.specs.declared.draft.Counts.{Counts}
+use Rattle.text.proofs.Dispatch.{head-place}
 
 -- below 5 is at most 4
 pub low-arities : (ns : List ℕ) → all (λ n. ltb n 5) ns ≡ all (λ n. leb n 4) ns
@@ -48,7 +48,7 @@ module _ (d : Draft) (ns : List ℕ) where
   arities-taken l f = need-met 4 (and-both _ _ (le-leb (length ns) 400 l) f) refl
 
 -- no atom is read before the arities
-no-rows : {d : Draft} {w : List ℕ} {c : Counts} → Holds d w c → c .phase < 3 → rowsOf d ≡ []
+no-rows : {d : Draft} {w : List ℕ} {c : Counts} → Holds d w c → c .phase ≤ 2 → rowsOf d ≡ []
 unfolding rowsOf noSchema concatMap schemasFrom
 no-rows {d = d} h l =
     let o = h .order in
@@ -68,11 +68,12 @@ counted c n = record {
 }
 
 module _ {d : Draft} {w after : List ℕ} {c : Counts} (h : Holds d w c) (ns kept : List ℕ) (n : ℕ) where
-  pub arities-held : c .phase ≡ 2 → n ≤ 400 → all (λ n. leb n 4) ns ≡ true → n ≤ length kept →
+  pub arities-held : Allows c arity → n ≤ 400 → all (λ n. leb n 4) ns ≡ true → n ≤ length kept →
       Listed ns n kept → Wrote w 6 n (λ k. getD kept k 0) after →
       Holds (atPhase between (withArities (d .task) ns)) after (counted c n)
-  unfolding atPhase phaseNumber withArities all noSchema rowsOf concatMap schemasFrom
-  arities-held z l low room listed wrote =
+  unfolding atPhase withArities all noSchema rowsOf concatMap schemasFrom
+  arities-held allowed l low room listed wrote =
+      let z = head-place (c .phase) arity (omega arith) allowed in
       let o = h .order in
       let few = h .few in
       let e = o .not-open (omega arith) in

@@ -1,32 +1,32 @@
 -- A row more: the words that stood still stand, and the new row stands behind the rows so far. So the code holds the
 -- draft with one atom more; and its tests of the atom are the definitions' tests.
 use Prim.Native.Nat.{ℕ, zero, suc, _+_, _*_, _≤_, _<_}
-use mathlib.Core.Path.{_≡_, refl, sym, _∙_, ap, ap₂, subst}
-use mathlib.Core.Bool.{Bool, true, false, not, _&&_}
+use mathlib.Core.Path.{_≡_, refl, sym, _∙_, ap, subst}
+use mathlib.Core.Bool.{Bool, true, false, not}
 use mathlib.Core.List.{List, [], _∷_, _++_, map, append-assoc, append-nil}
 use native.Mathlib.Omega.{arith}
-use lib.ListN.{length, getD, length-append, length-map}
-use lib.Dec.{eqb, ltb, leb}
-use borrow.Author.Tests.{le-ltb, lt-ltb, eqb-true, leb-true}
+use lib.ListN.{length, getD, length-append, length-map, take}
+use borrow.Author.Tests.{le-ltb, lt-ltb}
 use Rattle.task.specs.Limits.{tableWords}
-use Rattle.task.specs.Lists.{all, any, concatMap, upTo}
-use Rattle.task.specs.Task.{Atom, Fact, Schema, Task, argsFit, sameAtom, schemaAtoms}
+use Rattle.words.specs.Lists.{any, concatMap, upTo}
+use Rattle.task.specs.Task.{Atom, Fact, argsFit, sameAtom, schemaAtoms}
 use Rattle.task.specs.Table.{atomWords, factWords, schemasFrom}
-use Rattle.task.proofs.Laws.{In, all-in, in-getD, append-concatMap}
-use Rattle.task.proofs.Tables.{At, at-left, at-right, at-move, at-block, Sized, sized, length-atomWords, length-blocks}
-use Rattle.task.proofs.Tables.{length-facts, tableWords-is}
-use Rattle.task.proofs.TablesByWords.{at-join}
-use Rattle.text.specs.declared.counts.Counts.{Counts}
-use Rattle.text.specs.Lines.{Entry}
-use Rattle.text.specs.Reading.{goOn, refuse, need}
-use Rattle.text.specs.Text.{Draft, TaskTurn, rolePhase, noSchema, addAtom}
+use Rattle.words.proofs.Lists.{In, all-in, in-getD, append-concatMap}
+use Rattle.words.proofs.Words.{at-left, at-right, at-move, at-join}
+use Rattle.task.proofs.Tables.{at-block, Sized, sized, length-atomWords, length-blocks, length-facts, tableWords-is}
+use Rattle.text.specs.Reading.{goOn, refuse}
+use Rattle.text.specs.Text.{Draft, rolePhase, addAtom, Line, atomLine, takeLine}
 use Rattle.text.specs.ReadCode.{Standing, Wrote, Listed, Fitting, bareAtom, rowSame, phaseNumber}
-use Rattle.text.specs.Holding.{Few, rowAt, rowsOf, Order, Holds, Touched, InSchema, withAtom, oneAtomMore}
+use Rattle.text.specs.Holding.{Few, rowAt, rowsOf, Holds, Touched, InSchema, withAtom, oneAtomMore, entryOf}
+use Rattle.text.specs.Holding.{Grows, firstRow}
 use Rattle.text.proofs.Reading.{need-met}
 use Rattle.text.proofs.Growing.{all-snoc}
 use Rattle.text.proofs.LineTurns.{need-fails}
 use Rattle.text.proofs.WroteWords.{stands, stays-before}
 use Rattle.text.proofs.RowCompare.{any-index, same-rows}
+use Rattle.text.proofs.RowTests.{listed-take}
+use Rattle.text.specs.declared.draft.Counts.{Counts}
+use Rattle.text.proofs.Dispatch.{atom-place}
 
 pub few-words : {c : Counts} → Few c → c .closed + c .atoms < 1000 → rowAt c + 8 ≤ 13406
 few-words f l =
@@ -179,7 +179,7 @@ module _ {d : Draft} {w : List ℕ} {c : Counts} (h : Holds d w c) (r p : ℕ) (
   S = length (d .task .schemas)
 
   -- refusal 6: the code's search among the rows is the definition's among the atoms
-  pub repeated-is : {after : List ℕ} → Sized (d .task .arities) p ns →
+  repeated-is : {after : List ℕ} → Sized (d .task .arities) p ns →
       Wrote w (rowAt c) 8 (λ k. getD (atomWords S new) k 0) after →
       any (λ i. rowSame after (rowAt c) (206 + c .predicates + 8 * c .closed + 8 * i)) (upTo (c .atoms)) ≡
       any (sameAtom new) (d .current .atoms)
@@ -196,7 +196,7 @@ module _ {d : Draft} {w : List ℕ} {c : Counts} (h : Holds d w c) (r p : ℕ) (
       (stays-before wrote (206 + c .predicates + 8 * c .closed + 8 * i) (atomWords S b) (omega arith)
       (atom-stands h i new l)))
 
-  pub rows-more : d .task .init ≡ [] → d .task .goal ≡ [] → rowsOf (withAtom d r p ns) ≡ rowsOf d ++ atomWords S new
+  rows-more : d .task .init ≡ [] → d .task .goal ≡ [] → rowsOf (withAtom d r p ns) ≡ rowsOf d ++ atomWords S new
   unfolding rowsOf withAtom concatMap
   rows-more i g =
       rw (i, g, append-concatMap (atomWords S) (d .current .atoms) (new ∷ []))
@@ -205,16 +205,15 @@ module _ {d : Draft} {w : List ℕ} {c : Counts} (h : Holds d w c) (r p : ℕ) (
       regroup : (x y z : List ℕ) → x ++ ((y ++ (z ++ [])) ++ ([] ++ [])) ≡ (x ++ (y ++ ([] ++ []))) ++ z
       regroup x y z = simp (append-assoc, append-nil)
 
-  pub atom-held : {after : List ℕ} → InSchema c r → c .atoms < 64 → c .closed + c .atoms < 1000 →
+  atom-held : {after : List ℕ} → InSchema c r → c .atoms < 64 → c .closed + c .atoms < 1000 →
       argsFit (d .task .arities) (d .current .params) p ns ≡ true →
       Wrote w (rowAt c) 8 (λ k. getD (atomWords S new) k 0) after → Holds (withAtom d r p ns) after (oneAtomMore c r)
-  unfolding withAtom rolePhase phaseNumber
+  unfolding withAtom rolePhase
   atom-held {after} inside l m fits wrote =
       let o = h .order in
       let few = h .few in
-      let place = inside .before in
-      let opened = inside .opened in
       let role = inside .known in
+      let (opened, place) = atom-place (c .phase) r role (inside .allowed) in
       let i = o .no-init (omega arith) in
       let g = o .no-goal (omega arith) in
       let n = h .atoms in
@@ -254,14 +253,16 @@ module _ {d : Draft} {w : List ℕ} {c : Counts} (h : Holds d w c) (r p : ℕ) (
           room = λ q x. o .room (omega arith) (omega arith);
         };
         low = h .low;
-        fit = all-snoc (λ a. argsFit (d .task .arities) (d .current .params) (a .pred) (a .args)) (d .current .atoms) new
+        fit =
+            all-snoc (λ a. argsFit (d .task .arities) (d .current .params) (a .pred) (a .args)) (d .current .atoms) new
             (h .fit) fits;
         init-fit = h .init-fit;
         goal-fit = h .goal-fit;
         long = long-again (atomWords S new) h e wrote;
         arities-stand = arities-again (atomWords S new) h e wrote;
         params-stand = params-again (atomWords S new) h e wrote;
-        rows-stand = subst (Standing after (206 + length (d .task .arities))) (sym rows) (row-behind (atomWords S new) h e wrote);
+        rows-stand = subst (Standing after (206 + length (d .task .arities))) (sym rows)
+            (row-behind (atomWords S new) h e wrote);
         rows-length = ap length rows ∙ omega arith;
       }
     where
@@ -273,8 +274,8 @@ module _ {d : Draft} {w : List ℕ} {c : Counts} (h : Holds d w c) (r p : ℕ) (
 
 -- ---- the tests of an atom
 module _ (d : Draft) (r p : ℕ) (ns : List ℕ) where
-  abbrev line : Entry
-  line = record { head = p; list = ns }
+  abbrev line : Line
+  line = atomLine r (entryOf p ns)
 
   abbrev atomsOf : List Atom
   atomsOf = d .current .atoms
@@ -282,29 +283,61 @@ module _ (d : Draft) (r p : ℕ) (ns : List ℕ) where
   abbrev all-atoms : ℕ
   all-atoms = schemaAtoms (d .task .schemas) + length (d .current .atoms)
 
-  pub schema-full : 64 ≤ length atomsOf → addAtom d r line ≡ refuse 4
-  unfolding addAtom
+  pub schema-full : 64 ≤ length atomsOf → takeLine d line ≡ refuse 4
+  unfolding takeLine addAtom
   schema-full l = need-fails 4 _ (le-ltb (length atomsOf) 64 l)
 
-  pub table-full : length atomsOf < 64 → 1000 ≤ all-atoms → addAtom d r line ≡ refuse 4
-  unfolding addAtom
+  pub table-full : length atomsOf < 64 → 1000 ≤ all-atoms → takeLine d line ≡ refuse 4
+  unfolding takeLine addAtom
   table-full l m = need-met 4 (lt-ltb (length atomsOf) 64 l) (need-fails 4 _ (le-ltb all-atoms 1000 m))
 
   module _ (l : length atomsOf < 64) (m : all-atoms < 1000) where
-    pub atom-misfits : argsFit (d .task .arities) (d .current .params) p ns ≡ false → addAtom d r line ≡ refuse 5
-    unfolding addAtom
+    pub atom-misfits : argsFit (d .task .arities) (d .current .params) p ns ≡ false → takeLine d line ≡ refuse 5
+    unfolding takeLine addAtom
     atom-misfits f =
         need-met 4 (lt-ltb (length atomsOf) 64 l) (need-met 4 (lt-ltb all-atoms 1000 m) (need-fails 5 _ f))
 
     module _ (f : argsFit (d .task .arities) (d .current .params) p ns ≡ true) where
-      pub atom-repeats : any (sameAtom (bareAtom r p ns)) atomsOf ≡ true → addAtom d r line ≡ refuse 6
-      unfolding addAtom
+      atom-repeats : any (sameAtom (bareAtom r p ns)) atomsOf ≡ true → takeLine d line ≡ refuse 6
+      unfolding takeLine addAtom
       atom-repeats s =
           need-met 4 (lt-ltb (length atomsOf) 64 l)
           (need-met 4 (lt-ltb all-atoms 1000 m) (need-met 5 f (need-fails 6 _ (ap not s))))
 
-      pub atom-taken : any (sameAtom (bareAtom r p ns)) atomsOf ≡ false → addAtom d r line ≡ goOn (withAtom d r p ns)
-      unfolding addAtom withAtom
+      atom-taken : any (sameAtom (bareAtom r p ns)) atomsOf ≡ false → takeLine d line ≡ goOn (withAtom d r p ns)
+      unfolding takeLine addAtom withAtom
       atom-taken s =
           need-met 4 (lt-ltb (length atomsOf) 64 l)
           (need-met 4 (lt-ltb all-atoms 1000 m) (need-met 5 f (need-met 6 (ap not s) refl)))
+
+-- ---- an atom's row is written
+-- the code's search for the new row among those of the schema
+abbrev pub again : Counts → List ℕ → Bool
+again c after = any (λ i. rowSame after (rowAt c) (firstRow c + 8 * i)) (upTo (c .atoms))
+
+-- what follows for it, where its predicate and arguments fit
+pub record AtomPut (d : Draft) (c : Counts) (r p : ℕ) (ns after : List ℕ) : Type 0 where
+  pub repeats : again c after ≡ true → takeLine d (atomLine r (entryOf p ns)) ≡ refuse 6
+  pub taken : again c after ≡ false →
+      Grows d (atomLine r (entryOf p ns)) (oneAtomMore c r) after
+
+pub atom-put : {d : Draft} {w kept ns after : List ℕ} {c : Counts} {row r p count : ℕ} {told : Bool} →
+    Holds d w c → InSchema c r → c .atoms < 64 → c .closed + c .atoms < 1000 →
+    Fitting w (c .predicates) (c .params) p kept count told → told ≡ true → length kept ≡ 4 → Listed ns count kept →
+    row ≡ rowAt c → Wrote w row 8 (λ k. getD (atomWords (c .schemas) (bareAtom r p (take count kept))) k 0) after →
+    AtomPut d c r p ns after
+atom-put {d} {w} {kept} {ns} {after} {c} {row} {r} {p} h inside below total fitting told four s at put =
+    let fits : argsFit (d .task .arities) (d .current .params) p ns ≡ true = sym (atom-fits h fitting four s) ∙ told in
+    let size = sized (d .current .params) (d .task .arities) p ns (h .low) fits in
+    let wrote = row-named r p at (h .schemas) (listed-take s (fitting .enough told)) put in
+    let same = repeated-is h r p ns size wrote in
+    let n = h .atoms in
+    let q = h .closed in
+    record {
+      repeats = λ o. atom-repeats d r p ns (omega arith) (omega arith) fits (sym same ∙ o);
+      taken = λ o. record {
+        draft = withAtom d r p ns;
+        is = atom-taken d r p ns (omega arith) (omega arith) fits (sym same ∙ o);
+        holds = atom-held h r p ns inside below total fits wrote;
+      };
+    }

@@ -1,32 +1,38 @@
 -- Initial and goal atoms: the code's tests of a fact are the definitions' tests, and behind its line the code holds the
 -- draft with one fact more.
-use Prim.Native.Nat.{ℕ, zero, suc, _+_, _-_, _*_, _≤_, _<_}
-use mathlib.Core.Path.{_≡_, refl, sym, _∙_, ap, ap₂, subst}
-use mathlib.Core.Bool.{Bool, true, false, not, _&&_}
-use mathlib.Core.List.{List, [], _∷_, _++_, map, append-assoc, append-nil}
+use Rattle.text.specs.declared.draft.Kind.the-variants as kind
+use Prim.Native.Nat.{ℕ, suc, _+_, _-_, _*_, _≤_, _<_}
+use mathlib.Core.Path.{_≡_, refl, sym, _∙_, ap, subst}
+use mathlib.Core.Bool.{Bool, true, false}
+use mathlib.Core.List.{List, [], _∷_, _++_, append-assoc, append-nil}
 use native.Mathlib.Omega.{arith}
-use lib.ListN.{length, getD, length-append}
-use lib.Dec.{ltb, leb}
+use lib.ListN.{length, getD, length-append, take}
 use borrow.Author.Tests.{le-ltb, lt-ltb}
-use Rattle.task.specs.Lists.{all, concatMap, lastOr, lessList}
-use Rattle.task.specs.Task.{Fact, Schema, Task, argsFit, factLess}
-use Rattle.task.specs.Table.{atomWords, factWords, schemasFrom, wordsAt}
-use Rattle.task.proofs.Laws.{In, all-in, in-getD, append-concatMap}
-use Rattle.task.proofs.Tables.{At, at-left, at-right, at-move, at-block, Sized, sized, length-atomWords, length-facts, factAtom, factWords-is, tableWords-is}
-use Rattle.text.specs.declared.counts.Counts.{Counts}
-use Rattle.text.specs.Lines.{Entry}
+use Rattle.words.specs.Lists.{all, concatMap, lastOr, lessList}
+use Rattle.task.specs.Task.{Fact, Schema, argsFit, factLess}
+use Rattle.task.specs.Table.{atomWords, factWords, schemasFrom}
+use Rattle.words.specs.Words.{wordsAt}
+use Rattle.words.proofs.Lists.{In, all-in, in-getD, append-concatMap}
+use Rattle.words.proofs.Words.{At, at-left, at-right, at-move}
+use Rattle.task.proofs.Tables.{at-block, Sized, sized, length-atomWords, length-facts, factAtom, factWords-is}
 use Rattle.text.specs.Reading.{goOn, refuse}
-use Rattle.text.specs.Text.{Draft, inInit, inGoal, noSchema, atPhase, withInit, withGoal, follows, addFact}
+use Rattle.text.specs.Text.{Draft, inInit, inGoal, noSchema, atPhase, withInit, withGoal, follows, addFact, init}
+use Rattle.text.specs.Text.{Phase, Line, takeLine}
 use Rattle.text.specs.ReadCode.{Standing, Wrote, Listed, Fitting, bareAtom, phaseNumber}
-use Rattle.text.specs.Holding.{Few, rowAt, rowsOf, Order, Holds, FactPlace, FactsRead}
+use Rattle.text.specs.Holding.{Few, rowAt, rowsOf, Holds, Allows, factKey, factLine, factsOf, withFacts, soFar}
+use Rattle.text.specs.Holding.{withCounted, oneFactMore, Grows, entryOf}
 use Rattle.text.proofs.Reading.{need-met}
 use Rattle.text.proofs.Growing.{all-snoc}
 use Rattle.text.proofs.LineTurns.{need-fails}
 use Rattle.text.proofs.WroteWords.{stands, stays-before}
 use Rattle.text.proofs.RowCompare.{less-rows}
-use Rattle.text.proofs.HeldHeads.{rows-at}
-use Rattle.text.proofs.HeldAtoms.{arities-again, params-again, row-behind, long-again, schemas-length, atoms-length}
-use Rattle.text.proofs.HeldAtoms.{inits-length, goals-length}
+use Rattle.text.proofs.HeldAtoms.{arities-again, params-again, row-behind, long-again, schemas-length}
+use Rattle.text.proofs.HeldAtoms.{atoms-length, inits-length}
+use Rattle.text.proofs.Dispatch.{may-stand}
+use Rattle.text.proofs.RowTests.{listed-take}
+use Rattle.text.specs.declared.draft.Counts.{Counts}
+use Rattle.text.specs.declared.draft.Facts.{Facts}
+use Rattle.text.specs.declared.draft.Kind.{Kind}
 
 abbrev pub factOf : ℕ → List ℕ → Fact
 factOf p ns = record { pred = p; args = ns }
@@ -53,32 +59,66 @@ fact-row {w} {after} {at} {at′} r p {xs} {ys} e g h =
     (subst (λ (zs : List ℕ). Wrote w at 8 (λ k. getD (factWords r (factOf p zs)) k 0) after) g
     (subst (λ (zs : List ℕ). Wrote w at 8 (λ k. getD zs k 0) after) (sym (factWords-is r (factOf p xs))) h))
 
+-- ---- what the code needs of the facts that are read
+-- where a fact may come, behind those of its kind
+pub record FactPlace (c : Counts) (f : Facts) : Type 0 where
+  pub known : f .role ≤ 4
+  pub few : f .read < f .most → c .initial + c .goal < 600
+  pub counted : f .read ≤ c .initial + c .goal
+
+-- the facts of a kind, the last ones in the table
+pub record FactsRead (d : Draft) (w : List ℕ) (c : Counts) (f : Facts) (fs : List Fact) : Type 0 where
+  pub count : f .read ≡ length fs
+  pub fit : all (λ g. argsFit (d .task .arities) (d .task .objects) (g .pred) (g .args)) fs ≡ true
+  pub stand : Standing w (206 + c .predicates + 8 * (((c .closed + c .atoms) + c .initial) + c .goal - f .read))
+      (concatMap (factWords (f .role)) fs)
+
 -- ---- the tests of a fact
-module _ (t : Task) (most : ℕ) (fs : List Fact) (p : ℕ) (ns : List ℕ) (grown : List Fact → Draft) where
-  abbrev line : Entry
-  line = record { head = p; list = ns }
+module _ (k : Kind) (c : Counts) (d : Draft) (p : ℕ) (ns : List ℕ) where
+  abbrev line : Line
+  line = factLine k (entryOf p ns)
 
-  pub kind-full : most ≤ length fs → addFact t most fs line grown ≡ refuse 4
-  unfolding addFact
-  kind-full l = need-fails 4 _ (le-ltb (length fs) most l)
+  abbrev facts : List Fact
+  facts = factsOf k (d .task)
 
-  pub fact-misfits : length fs < most → argsFit (t .arities) (t .objects) p ns ≡ false →
-      addFact t most fs line grown ≡ refuse 5
-  unfolding addFact
-  fact-misfits l f = need-met 4 (lt-ltb (length fs) most l) (need-fails 5 _ f)
+  abbrev most : ℕ
+  most = soFar c k .most
 
-  pub fact-unordered : length fs < most → argsFit (t .arities) (t .objects) p ns ≡ true →
-      follows fs (factOf p ns) ≡ false → addFact t most fs line grown ≡ refuse 6
-  unfolding addFact
-  fact-unordered l f o = need-met 4 (lt-ltb (length fs) most l) (need-met 5 f (need-fails 6 _ o))
+  abbrev fits : Bool
+  fits = argsFit (d .task .arities) (d .task .objects) p ns
 
-  pub fact-taken : length fs < most → argsFit (t .arities) (t .objects) p ns ≡ true →
-      follows fs (factOf p ns) ≡ true → addFact t most fs line grown ≡ goOn (grown (fs ++ (factOf p ns ∷ [])))
+  -- one turn for both kinds
+  line-is : takeLine d line ≡ addFact (d .task) most facts (entryOf p ns) (withFacts k d)
+  unfolding takeLine
+  line-is = go k
+    where
+      go : (k : Kind) → takeLine d (factLine k (entryOf p ns)) ≡
+          addFact (d .task) (soFar c k .most) (factsOf k (d .task)) (entryOf p ns) (withFacts k d)
+      go kind.Initial = refl
+      go kind.Goal = refl
+
+  kind-full : most ≤ length facts → takeLine d line ≡ refuse 4
   unfolding addFact
-  fact-taken l f o = need-met 4 (lt-ltb (length fs) most l) (need-met 5 f (need-met 6 o refl))
+  kind-full l = line-is ∙ need-fails 4 _ (le-ltb (length facts) most l)
+
+  fact-misfits : length facts < most → fits ≡ false → takeLine d line ≡ refuse 5
+  unfolding addFact
+  fact-misfits l f = line-is ∙ need-met 4 (lt-ltb (length facts) most l) (need-fails 5 _ f)
+
+  fact-unordered : length facts < most → fits ≡ true → follows facts (factOf p ns) ≡ false →
+      takeLine d line ≡ refuse 6
+  unfolding addFact
+  fact-unordered l f o =
+      line-is ∙ need-met 4 (lt-ltb (length facts) most l) (need-met 5 f (need-fails 6 _ o))
+
+  fact-taken : length facts < most → fits ≡ true → follows facts (factOf p ns) ≡ true →
+      takeLine d line ≡ goOn (withFacts k d (facts ++ (factOf p ns ∷ [])))
+  unfolding addFact
+  fact-taken l f o =
+      line-is ∙ need-met 4 (lt-ltb (length facts) most l) (need-met 5 f (need-met 6 o refl))
 
 -- ---- the order of facts
-pub first-follows : (fs : List Fact) (f : Fact) → length fs ≡ 0 → follows fs f ≡ true
+first-follows : (fs : List Fact) (f : Fact) → length fs ≡ 0 → follows fs f ≡ true
 unfolding follows
 first-follows [] f e = refl
 first-follows (g ∷ fs) f e = absurd (omega arith)
@@ -95,30 +135,32 @@ later-follows (g ∷ fs) f k e =
     let z : length fs ≡ k = omega arith in
     ap (λ (x : Fact). factLess x f) (last-at g fs f ∙ ap (λ (i : ℕ). getD (g ∷ fs) i f) z)
 
-module _ {d : Draft} {w after : List ℕ} {c : Counts} (h : Holds d w c) (role read : ℕ) (fs : List Fact)
-    (known : FactsRead d w c role read fs) (p : ℕ) (ns : List ℕ) where
-  pub follows-is : 0 < read → read ≤ c .initial + c .goal → Sized (d .task .arities) p ns →
-      Wrote w (rowAt c) 8 (λ k. getD (factWords role (factOf p ns)) k 0) after →
+module _ {d : Draft} {w after : List ℕ} {c : Counts} (h : Holds d w c) (facts : Facts) (fs : List Fact)
+    (known : FactsRead d w c facts fs) (p : ℕ) (ns : List ℕ) where
+  follows-is : 0 < facts .read → facts .read ≤ c .initial + c .goal → Sized (d .task .arities) p ns →
+      Wrote w (rowAt c) 8 (λ k. getD (factWords (facts .role) (factOf p ns)) k 0) after →
       lessList (wordsAt after (rowAt c - 6) 6) (wordsAt after (rowAt c + 2) 6) ≡ follows fs (factOf p ns)
   follows-is pos few fits wrote =
       let f = factOf p ns in
-      let k = read - 1 in
+      let k = facts .read - 1 in
       let n = known .count in
       let e : length fs ≡ suc k = omega arith in
       let g = getD fs k f in
       let total = ((c .closed + c .atoms) + c .initial) + c .goal in
       let size = fact-size k (omega arith) in
-      let place : (206 + c .predicates + 8 * (total - read)) + 8 * k ≡ rowAt c - 8 = omega arith in
-      let old = at-move w ((206 + c .predicates + 8 * (total - read)) + 8 * k) (rowAt c - 8) (factWords role g) place
-      (at-block (factWords role) w (206 + c .predicates + 8 * (total - read)) fs f
-      (length-facts (d .task) role fs fs-sized) (known .stand) k (omega arith)) in
-      let eight = length-facts (d .task) role fs fs-sized g (in-getD fs k f (omega arith)) in
+      let place : (206 + c .predicates + 8 * (total - facts .read)) + 8 * k ≡ rowAt c - 8 = omega arith in
+      let old = at-move w ((206 + c .predicates + 8 * (total - facts .read)) + 8 * k) (rowAt c - 8)
+      (factWords (facts .role) g) place
+      (at-block (factWords (facts .role)) w (206 + c .predicates + 8 * (total - facts .read)) fs f
+      (length-facts (d .task) (facts .role) fs fs-sized) (known .stand) k (omega arith)) in
+      let eight = length-facts (d .task) (facts .role) fs fs-sized g (in-getD fs k f (omega arith)) in
       let z : rowAt c - 6 ≡ (rowAt c - 8) + 2 = omega arith in
       ap (λ (i : ℕ). lessList (wordsAt after i 6) (wordsAt after (rowAt c + 2) 6)) z ∙
-      (less-rows (λ q. getD (d .task .arities) q 0) after (rowAt c - 8) (rowAt c) role g f (size .short) (fits .short)
+      (less-rows (λ q. getD (d .task .arities) q 0) after (rowAt c - 8) (rowAt c) (facts .role) g f (size .short)
+      (fits .short)
       (size .count) (fits .count)
-      (stays-before wrote (rowAt c - 8) (factWords role g) (omega arith) old)
-      (stands wrote (factWords role f) new-size (λ k m. refl)) ∙ sym (later-follows fs f k e))
+      (stays-before wrote (rowAt c - 8) (factWords (facts .role) g) (omega arith) old)
+      (stands wrote (factWords (facts .role) f) new-size (λ k m. refl)) ∙ sym (later-follows fs f k e))
     where
       fs-sized : (f : Fact) → In f fs → Sized (d .task .arities) (f .pred) (f .args)
       fs-sized f i = sized (d .task .objects) (d .task .arities) (f .pred) (f .args) (h .low)
@@ -128,8 +170,10 @@ module _ {d : Draft} {w after : List ℕ} {c : Counts} (h : Holds d w c) (role r
           Sized (d .task .arities) (getD fs k (factOf p ns) .pred) (getD fs k (factOf p ns) .args)
       fact-size k l = fs-sized (getD fs k (factOf p ns)) (in-getD fs k (factOf p ns) l)
 
-      new-size : length (factWords role (factOf p ns)) ≡ 8
-      new-size = rw (factWords-is role (factOf p ns)) (length-atomWords 0 (factAtom role (factOf p ns)) (fits .short))
+      new-size : length (factWords (facts .role) (factOf p ns)) ≡ 8
+      new-size =
+          rw (factWords-is (facts .role) (factOf p ns)) (length-atomWords 0 (factAtom (facts .role) (factOf p ns))
+          (fits .short))
 
 -- ---- the facts of each kind are the last ones in the table
 module _ {d : Draft} {w : List ℕ} {c : Counts} (h : Holds d w c) where
@@ -154,7 +198,7 @@ module _ {d : Draft} {w : List ℕ} {c : Counts} (h : Holds d w c) where
       at-right w (base + length schemaRows) atomRows (initRows ++ goalRows)
       (at-right w base schemaRows (atomRows ++ (initRows ++ goalRows)) (h .rows-stand))
 
-  pub inits-read : d .task .goal ≡ [] → FactsRead d w c 3 (c .initial) (d .task .init)
+  inits-read : d .task .goal ≡ [] → FactsRead d w c (soFar c kind.Initial) (d .task .init)
   inits-read g =
       let p = h .predicates in
       let a = schemas-length h in
@@ -167,7 +211,7 @@ module _ {d : Draft} {w : List ℕ} {c : Counts} (h : Holds d w c) where
             (at-left w ((base + length schemaRows) + length atomRows) initRows goalRows facts-stand);
       }
 
-  pub goals-read : FactsRead d w c 4 (c .goal) (d .task .goal)
+  goals-read : FactsRead d w c (soFar c kind.Goal) (d .task .goal)
   goals-read =
       let p = h .predicates in
       let a = schemas-length h in
@@ -180,36 +224,36 @@ module _ {d : Draft} {w : List ℕ} {c : Counts} (h : Holds d w c) where
             (at-right w ((base + length schemaRows) + length atomRows) initRows goalRows facts-stand);
       }
 
+  -- before an `init` line there is no goal atom yet
+  init-allowed : Allows c init → (7 ≤ c .phase) × (d .task .goal ≡ [])
+  init-allowed allowed =
+      let stands = may-stand (c .phase) 8 allowed in
+      let before = stands .before in
+      (stands .between (omega arith), h .order .no-goal (omega arith))
+
+  facts-read : (k : Kind) → Allows c (factKey k) → FactsRead d w c (soFar c k) (factsOf k (d .task))
+  facts-read kind.Initial allowed = inits-read (init-allowed allowed .1)
+  facts-read kind.Goal allowed = goals-read
+
+-- where a fact of a kind may come
+pub fact-place : (k : Kind) {c : Counts} {f : Facts} → Few c → f ≡ soFar c k → FactPlace c f
+fact-place k {c} few e = subst (FactPlace c) (sym e) (go k)
+  where
+    go : (k : Kind) → FactPlace c (soFar c k)
+    go kind.Initial =
+        let g = few .goal in
+        record { known = omega arith; few = λ l. omega arith; counted = omega arith }
+    go kind.Goal =
+        let i = few .initial in
+        record { known = omega arith; few = λ l. omega arith; counted = omega arith }
+
 -- ---- one fact more
-abbrev oneInitMore : Counts → Counts
-oneInitMore c = record {
-  phase = 8;
-  objects = c .objects;
-  predicates = c .predicates;
-  schemas = c .schemas;
-  params = c .params;
-  closed = c .closed;
-  atoms = c .atoms;
-  initial = c .initial + 1;
-  goal = c .goal;
-}
-
-abbrev oneGoalMore : Counts → Counts
-oneGoalMore c = record {
-  phase = 9;
-  objects = c .objects;
-  predicates = c .predicates;
-  schemas = c .schemas;
-  params = c .params;
-  closed = c .closed;
-  atoms = c .atoms;
-  initial = c .initial;
-  goal = c .goal + 1;
-}
-
 module _ {d : Draft} {w : List ℕ} {c : Counts} (h : Holds d w c) (p : ℕ) (ns : List ℕ) where
   abbrev new : Fact
   new = factOf p ns
+
+  abbrev factFits : Fact → Bool
+  factFits f = argsFit (d .task .arities) (d .task .objects) (f .pred) (f .args)
 
   init-rows : d .current ≡ noSchema → d .task .goal ≡ [] →
       rowsOf (atPhase inInit (withInit (d .task) (d .task .init ++ (new ∷ [])))) ≡ rowsOf d ++ factWords 3 new
@@ -243,117 +287,152 @@ module _ {d : Draft} {w : List ℕ} {c : Counts} (h : Holds d w c) (p : ℕ) (ns
       subst (λ (s : Schema). all (λ a. argsFit (d .task .arities) (s .params) (a .pred) (a .args)) (s .atoms) ≡ true)
       e (h .fit)
 
-  pub init-held : {after : List ℕ} → 7 ≤ c .phase → c .phase ≤ 8 → c .initial < 500 →
-      argsFit (d .task .arities) (d .task .objects) p ns ≡ true →
-      Wrote w (rowAt c) 8 (λ k. getD (factWords 3 new) k 0) after →
-      Holds (atPhase inInit (withInit (d .task) (d .task .init ++ (new ∷ [])))) after (oneInitMore c)
-  unfolding atPhase phaseNumber withInit
-  init-held {after} lo hi l fits wrote =
-      let o = h .order in
-      let few = h .few in
-      let s = o .closed (omega arith) in
-      let g = o .no-goal (omega arith) in
+  -- a new row behind all others is a fact's, of the one kind or the other
+  module _ (place : Phase) (inits goals : List Fact) (i g : ℕ) where
+    abbrev grown : Draft
+    grown = atPhase place (record {
+      objects = d .task .objects;
+      arities = d .task .arities;
+      schemas = d .task .schemas;
+      init = inits;
+      goal = goals;
+    })
+
+    facts-held : {after : List ℕ} (row : List ℕ) → d .current ≡ noSchema → 8 ≤ phaseNumber place →
+        (phaseNumber place ≤ 8 → goals ≡ []) → i ≡ length inits → g ≡ length goals → i ≤ 500 → g ≤ 100 →
+        i + g ≡ c .initial + c .goal + 1 → all factFits inits ≡ true → all factFits goals ≡ true →
+        rowsOf grown ≡ rowsOf d ++ row → length row ≡ 8 → Wrote w (rowAt c) 8 (λ k. getD row k 0) after →
+        Holds grown after (withCounted c place i g)
+    unfolding atPhase
+    facts-held {after} row s later no-goal ni ng fi fg more fit-i fit-g rows e wrote =
+        let few = h .few in
+        let total = h .rows-length in
+        let y = length-append (rowsOf d) row in
+        record {
+          phase = refl;
+          objects = h .objects;
+          predicates = h .predicates;
+          schemas = h .schemas;
+          params = h .params ∙ ap (λ (s : Schema). s .params) s;
+          closed = h .closed;
+          atoms = h .atoms ∙ ap (λ (s : Schema). length (s .atoms)) s;
+          initial = ni;
+          goal = ng;
+          few = record {
+            predicates = few .predicates;
+            schemas = few .schemas;
+            params = few .params;
+            objects = few .objects;
+            atoms = few .atoms;
+            total = few .total;
+            initial = fi;
+            goal = fg;
+          };
+          order = record {
+            no-arity = λ q. absurd (omega arith);
+            no-schema = λ q. absurd (omega arith);
+            not-open = λ q. absurd (omega arith);
+            closed = λ q. refl;
+            no-init = λ q. absurd (omega arith);
+            no-goal = no-goal;
+            room = λ q x. absurd (omega arith);
+          };
+          low = h .low;
+          fit = schema-fit s;
+          init-fit = fit-i;
+          goal-fit = fit-g;
+          long = long-again row h e wrote;
+          arities-stand = arities-again row h e wrote;
+          params-stand = params-again row h e wrote;
+          rows-stand = subst (Standing after (206 + length (d .task .arities))) (sym rows) (row-behind row h e wrote);
+          rows-length = ap length rows ∙ omega arith;
+        }
+
+  -- behind a fact that is taken the code holds the draft again
+  fact-held : (k : Kind) → Allows c (factKey k) → {after : List ℕ} → length (factsOf k (d .task)) < soFar c k .most →
+      factFits new ≡ true → Wrote w (rowAt c) 8 (λ i. getD (factWords (soFar c k .role) new) i 0) after →
+      Holds (withFacts k d (factsOf k (d .task) ++ (new ∷ []))) after (oneFactMore c k)
+  unfolding withInit withGoal
+  fact-held kind.Initial allowed l fits wrote =
+      let few = h .few .goal in
+      let (between, none) = init-allowed h allowed in
+      let s = h .order .closed (omega arith) in
       let n = h .initial in
       let z = length-append (d .task .init) (new ∷ []) in
-      let e = fact-length 3 fits in
-      let rows = init-rows s g in
-      let total = h .rows-length in
-      let y = length-append (rowsOf d) (factWords 3 new) in
-      record {
-        phase = refl;
-        objects = h .objects;
-        predicates = h .predicates;
-        schemas = h .schemas;
-        params = h .params ∙ ap (λ (s : Schema). s .params) s;
-        closed = h .closed;
-        atoms = h .atoms ∙ ap (λ (s : Schema). length (s .atoms)) s;
-        initial = omega arith;
-        goal = h .goal;
-        few = record {
-          predicates = few .predicates;
-          schemas = few .schemas;
-          params = few .params;
-          objects = few .objects;
-          atoms = few .atoms;
-          total = few .total;
-          initial = omega arith;
-          goal = few .goal;
-        };
-        order = record {
-          no-arity = λ q. absurd (omega arith);
-          no-schema = λ q. absurd (omega arith);
-          not-open = λ q. absurd (omega arith);
-          closed = λ q. refl;
-          no-init = λ q. absurd (omega arith);
-          no-goal = λ q. g;
-          room = λ q x. absurd (omega arith);
-        };
-        low = h .low;
-        fit = schema-fit s;
-        init-fit = all-snoc (λ f. argsFit (d .task .arities) (d .task .objects) (f .pred) (f .args)) (d .task .init) new
-            (h .init-fit) fits;
-        goal-fit = h .goal-fit;
-        long = long-again (factWords 3 new) h e wrote;
-        arities-stand = arities-again (factWords 3 new) h e wrote;
-        params-stand = params-again (factWords 3 new) h e wrote;
-        rows-stand = subst (Standing after (206 + length (d .task .arities))) (sym rows)
-            (row-behind (factWords 3 new) h e wrote);
-        rows-length = ap length rows ∙ omega arith;
-      }
-
-  pub goal-held : {after : List ℕ} → 7 ≤ c .phase → c .goal < 100 →
-      argsFit (d .task .arities) (d .task .objects) p ns ≡ true →
-      Wrote w (rowAt c) 8 (λ k. getD (factWords 4 new) k 0) after →
-      Holds (atPhase inGoal (withGoal (d .task) (d .task .goal ++ (new ∷ [])))) after (oneGoalMore c)
-  unfolding atPhase phaseNumber withGoal
-  goal-held {after} lo l fits wrote =
-      let o = h .order in
-      let few = h .few in
-      let s = o .closed (omega arith) in
+      facts-held inInit (d .task .init ++ (new ∷ [])) (d .task .goal) (c .initial + 1) (c .goal) (factWords 3 new) s
+      (omega arith) (λ q. none) (omega arith) (h .goal) (omega arith) few (omega arith)
+      (all-snoc factFits (d .task .init) new (h .init-fit) fits) (h .goal-fit) (init-rows s none)
+      (fact-length 3 fits) wrote
+  fact-held kind.Goal allowed l fits wrote =
+      let few = h .few .initial in
+      let between = may-stand (c .phase) 9 allowed .between (omega arith) in
+      let s = h .order .closed (omega arith) in
       let n = h .goal in
       let z = length-append (d .task .goal) (new ∷ []) in
-      let e = fact-length 4 fits in
-      let rows = goal-rows s in
-      let total = h .rows-length in
-      let y = length-append (rowsOf d) (factWords 4 new) in
-      record {
-        phase = refl;
-        objects = h .objects;
-        predicates = h .predicates;
-        schemas = h .schemas;
-        params = h .params ∙ ap (λ (s : Schema). s .params) s;
-        closed = h .closed;
-        atoms = h .atoms ∙ ap (λ (s : Schema). length (s .atoms)) s;
-        initial = h .initial;
-        goal = omega arith;
-        few = record {
-          predicates = few .predicates;
-          schemas = few .schemas;
-          params = few .params;
-          objects = few .objects;
-          atoms = few .atoms;
-          total = few .total;
-          initial = few .initial;
-          goal = omega arith;
-        };
-        order = record {
-          no-arity = λ q. absurd (omega arith);
-          no-schema = λ q. absurd (omega arith);
-          not-open = λ q. absurd (omega arith);
-          closed = λ q. refl;
-          no-init = λ q. absurd (omega arith);
-          no-goal = λ q. absurd (omega arith);
-          room = λ q x. absurd (omega arith);
-        };
-        low = h .low;
-        fit = schema-fit s;
-        init-fit = h .init-fit;
-        goal-fit = all-snoc (λ f. argsFit (d .task .arities) (d .task .objects) (f .pred) (f .args)) (d .task .goal) new
-            (h .goal-fit) fits;
-        long = long-again (factWords 4 new) h e wrote;
-        arities-stand = arities-again (factWords 4 new) h e wrote;
-        params-stand = params-again (factWords 4 new) h e wrote;
-        rows-stand = subst (Standing after (206 + length (d .task .arities))) (sym rows)
-            (row-behind (factWords 4 new) h e wrote);
-        rows-length = ap length rows ∙ omega arith;
-      }
+      facts-held inGoal (d .task .init) (d .task .goal ++ (new ∷ [])) (c .initial) (c .goal + 1) (factWords 4 new) s
+      (omega arith) (λ q. absurd (omega arith)) (h .initial) (omega arith) few (omega arith) (omega arith)
+      (h .init-fit) (all-snoc factFits (d .task .goal) new (h .goal-fit) fits) (goal-rows s)
+      (fact-length 4 fits) wrote
+
+-- ---- a fact's row is written
+-- what follows for it, where its predicate and arguments fit: it is taken if it comes behind the others of its kind
+pub record FactPut (k : Kind) (f : Facts) (d : Draft) (c : Counts) (p : ℕ) (ns after : List ℕ) : Type 0 where
+  pub first : f .read ≡ 0 → follows (factsOf k (d .task)) (factOf p ns) ≡ true
+  pub later : 0 < f .read → lessList (wordsAt after (rowAt c - 6) 6) (wordsAt after (rowAt c + 2) 6) ≡
+      follows (factsOf k (d .task)) (factOf p ns)
+  pub unordered : follows (factsOf k (d .task)) (factOf p ns) ≡ false →
+      takeLine d (factLine k (entryOf p ns)) ≡ refuse 6
+  pub taken : follows (factsOf k (d .task)) (factOf p ns) ≡ true →
+      Grows d (factLine k (entryOf p ns)) (oneFactMore c k) after
+
+pub fact-put : (k : Kind) {f : Facts} {d : Draft} {w kept ns after : List ℕ} {c : Counts} {row p count : ℕ}
+    {told : Bool} → Holds d w c → Allows c (factKey k) → f ≡ soFar c k → f .read < f .most →
+    Fitting w (c .predicates) (c .objects) p kept count told → told ≡ true → length kept ≡ 4 → Listed ns count kept →
+    row ≡ rowAt c → Wrote w row 8 (λ i. getD (atomWords 0 (bareAtom (f .role) p (take count kept))) i 0) after →
+    FactPut k f d c p ns after
+fact-put k {f} {d} {w} {kept} {ns} {after} {c} {row} {p} {count} h allowed e below fitting told four s at put =
+    subst (λ (f : Facts). f .read < f .most → Written f → FactPut k f d c p ns after) (sym e) go below put
+  where
+    Written : Facts → Type 0
+    Written f = Wrote w row 8 (λ i. getD (atomWords 0 (bareAtom (f .role) p (take count kept))) i 0) after
+
+    go : soFar c k .read < soFar c k .most → Written (soFar c k) → FactPut k (soFar c k) d c p ns after
+    go below put =
+        let facts = facts-read h k allowed in
+        let n = facts .count in
+        let few : length (factsOf k (d .task)) < soFar c k .most = omega arith in
+        let fits : argsFit (d .task .arities) (d .task .objects) p ns ≡ true = sym (fact-fits h fitting four s) ∙
+        told in
+        let size = sized (d .task .objects) (d .task .arities) p ns (h .low) fits in
+        let wrote = fact-row (soFar c k .role) p at (listed-take s (fitting .enough told)) put in
+        record {
+          first = λ q. first-follows (factsOf k (d .task)) (factOf p ns) (sym n ∙ q);
+          later = λ q. follows-is h (soFar c k) (factsOf k (d .task)) facts p ns q (fact-place k (h .few) refl .counted)
+              size wrote;
+          unordered = fact-unordered k c d p ns few fits;
+          taken = λ o. record {
+            draft = withFacts k d (factsOf k (d .task) ++ (factOf p ns ∷ []));
+            is = fact-taken k c d p ns few fits o;
+            holds = fact-held h p ns k allowed few fits wrote;
+          };
+        }
+
+-- ---- refusals before a row is written
+module _ (k : Kind) {f : Facts} {d : Draft} {w : List ℕ} {c : Counts} (h : Holds d w c) (e : f ≡ soFar c k) (p : ℕ)
+    (ns : List ℕ) where
+  counted : f .read ≡ length (factsOf k (d .task))
+  counted = ap (λ (x : Facts). x .read) e ∙ go k
+    where
+      go : (k : Kind) → soFar c k .read ≡ length (factsOf k (d .task))
+      go kind.Initial = h .initial
+      go kind.Goal = h .goal
+
+  most-is : f .most ≡ soFar c k .most
+  most-is = ap (λ (x : Facts). x .most) e
+
+  pub full-refused : f .most ≤ f .read → takeLine d (factLine k (entryOf p ns)) ≡ refuse 4
+  full-refused l = let n = counted in let m = most-is in kind-full k c d p ns (omega arith)
+
+  pub misfit-refused : f .read < f .most → argsFit (d .task .arities) (d .task .objects) p ns ≡ false →
+      takeLine d (factLine k (entryOf p ns)) ≡ refuse 5
+  misfit-refused l q = let n = counted in let m = most-is in fact-misfits k c d p ns (omega arith) q

@@ -1,25 +1,26 @@
 -- The code holds the draft again behind a `task`, an `objects` and a `schema` line: no word is written, and the counts
 -- are those of the new draft. Before a schema is opened, the current one is empty.
-use Prim.Native.Nat.{ℕ, suc, _+_, _*_, _≤_, _<_}
+use Prim.Native.Nat.{ℕ, _+_, _≤_, _<_}
 use mathlib.Core.Path.{_≡_, refl, sym, _∙_, ap, subst}
-use mathlib.Core.Bool.{Bool, true, false, _&&_}
-use mathlib.Core.List.{List, [], _∷_}
+use mathlib.Core.Bool.{Bool, true, _&&_}
+use mathlib.Core.List.{List, []}
 use native.Mathlib.Omega.{arith}
 use lib.ListN.{length}
-use lib.Dec.{eqb, leb, ltb}
+use lib.Dec.{leb, ltb}
 use borrow.Author.Tests.{eq-eqb, ne-eqb, le-leb, lt-leb, lt-ltb, le-ltb}
-use Rattle.task.specs.Lists.{all, concatMap}
-use Rattle.task.specs.Task.{Task, Schema, argsFit}
-use Rattle.task.proofs.Laws.{and-both}
-use Rattle.task.proofs.WordRows.{and-false}
-use Rattle.text.specs.declared.counts.Counts.{Counts}
-use Rattle.text.specs.Reading.{goOn, finish, refuse, need}
-use Rattle.text.specs.Text.{Phase, atObjects, atArity, between, inPre, Draft, TaskTurn, noSchema, atPhase, withObjects}
-use Rattle.text.specs.Text.{taskLine, objectsLine, schemaLine, endLine, takeLine}
+use Rattle.words.specs.Lists.{all}
+use Rattle.task.specs.Task.{Schema, argsFit}
+use Rattle.words.proofs.Lists.{and-both}
+use Rattle.words.proofs.Words.{and-false}
+use Rattle.text.specs.Reading.{goOn, finish, refuse}
+use Rattle.text.specs.Text.{Phase, atObjects, atArity, inPre, Draft, noSchema, atPhase, withObjects, taskLine}
+use Rattle.text.specs.Text.{objectsLine, schemaLine, endLine, takeLine, task, objects, schema}
 use Rattle.text.specs.ReadCode.{phaseNumber, Standing}
-use Rattle.text.specs.Holding.{Few, Order, Holds, rowsOf}
+use Rattle.text.specs.Holding.{Order, Holds, rowsOf, Allows}
 use Rattle.text.proofs.Reading.{need-met}
 use Rattle.text.proofs.LineTurns.{need-fails}
+use Rattle.text.specs.declared.draft.Counts.{Counts}
+use Rattle.text.proofs.Dispatch.{head-place, schema-place}
 
 -- the counts at another place in the order
 abbrev pub atPlace : Counts → ℕ → Counts
@@ -71,7 +72,9 @@ module _ {d : Draft} {w : List ℕ} {c : Counts} (h : Holds d w c) where
         };
         order = o;
         low = h .low;
-        fit = subst (λ (s : Schema). all (λ a. argsFit (d .task .arities) (s .params) (a .pred) (a .args)) (s .atoms) ≡ true)
+        fit =
+            subst (λ (s : Schema). all (λ a. argsFit (d .task .arities) (s .params) (a .pred) (a .args))
+            (s .atoms) ≡ true)
             e (h .fit);
         init-fit = h .init-fit;
         goal-fit = h .goal-fit;
@@ -82,9 +85,10 @@ module _ {d : Draft} {w : List ℕ} {c : Counts} (h : Holds d w c) where
         rows-length = ap length (sym rows) ∙ h .rows-length;
       }
 
-  pub task-held : c .phase ≡ 0 → Holds (atPhase atObjects (d .task)) w (atPlace c 1)
-  unfolding atPhase phaseNumber
-  task-held z =
+  pub task-held : Allows c task → Holds (atPhase atObjects (d .task)) w (atPlace c 1)
+  unfolding atPhase
+  task-held allowed =
+      let z = head-place (c .phase) task (omega arith) allowed in
       let o = h .order in
       held-at atObjects (o .not-open (omega arith)) (record {
         no-arity = λ l. o .no-arity (omega arith);
@@ -109,9 +113,11 @@ module _ {d : Draft} {w : List ℕ} {c : Counts} (h : Holds d w c) where
     goal = c .goal;
   }
 
-  pub objects-held : (n : ℕ) → c .phase ≡ 1 → n ≤ 1000 → Holds (atPhase atArity (withObjects (d .task) n)) w (withMany n)
-  unfolding atPhase phaseNumber withObjects rowsOf all
-  objects-held n z l =
+  pub objects-held : (n : ℕ) → Allows c objects → n ≤ 1000 →
+      Holds (atPhase atArity (withObjects (d .task) n)) w (withMany n)
+  unfolding atPhase withObjects rowsOf all
+  objects-held n allowed l =
+      let z = head-place (c .phase) objects (omega arith) allowed in
       let o = h .order in
       let few = h .few in
       let e = o .not-open (omega arith) in
@@ -148,7 +154,9 @@ module _ {d : Draft} {w : List ℕ} {c : Counts} (h : Holds d w c) where
           room = λ l m. absurd (omega arith);
         };
         low = h .low;
-        fit = subst (λ (s : Schema). all (λ a. argsFit (d .task .arities) (s .params) (a .pred) (a .args)) (s .atoms) ≡ true)
+        fit =
+            subst (λ (s : Schema). all (λ a. argsFit (d .task .arities) (s .params) (a .pred) (a .args))
+            (s .atoms) ≡ true)
             e (h .fit);
         init-fit = rw i refl;
         goal-fit = rw g refl;
@@ -172,10 +180,11 @@ module _ {d : Draft} {w : List ℕ} {c : Counts} (h : Holds d w c) where
     goal = c .goal;
   }
 
-  pub schema-held : (n : ℕ) → c .phase ≡ 7 → n ≤ 12 → length (d .task .schemas) < 200 →
+  pub schema-held : (n : ℕ) → Allows c schema → n ≤ 12 → length (d .task .schemas) < 200 →
       Holds (record { phase = inPre; task = d .task; current = record { params = n; atoms = [] } }) w (opening n)
-  unfolding phaseNumber rowsOf all noSchema
-  schema-held n z l r =
+  unfolding rowsOf all noSchema
+  schema-held n allowed l r =
+      let z = schema-place (c .phase) allowed in
       let o = h .order in
       let few = h .few in
       let e = o .closed (omega arith) in

@@ -1,29 +1,30 @@
 -- A `part` line: the code's tests of the parts are the definitions' tests, by the rows of the schema and by the part
 -- numbers alone.
-use Prim.Native.Nat.{ℕ, zero, suc, _+_, _*_, _≤_, _<_, max}
-use mathlib.Core.Path.{_≡_, refl, sym, _∙_, ap, ap₂, subst}
+use Prim.Native.Nat.{ℕ, suc, _+_, _*_, _≤_, _<_, max}
+use mathlib.Core.Path.{_≡_, refl, sym, _∙_, ap, ap₂}
 use mathlib.Core.Bool.{Bool, true, false, _&&_, _||_}
-use mathlib.Core.List.{List, [], _∷_, _++_, map}
+use mathlib.Core.List.{List, [], _∷_}
 use native.Mathlib.Omega.{arith}
 use lib.ListN.{length, getD}
-use lib.Dec.{eqb, ltb, leb}
+use lib.Dec.{eqb, ltb}
 use borrow.Author.Tests.{le-leb, lt-leb, eq-eqb, ne-eqb}
-use Rattle.task.specs.Lists.{all, any, upTo}
-use Rattle.task.specs.Task.{Atom, Schema, names, partCount, noGap, allNamed}
-use Rattle.task.proofs.Laws.{In, here, there, in-getD, all-in, in-all, false-if, both-ft, upTo-in}
-use Rattle.task.proofs.Tables.{At, Sized, length-atomWords}
-use Rattle.text.specs.declared.counts.Counts.{Counts}
+use Rattle.words.specs.Lists.{all, any, upTo}
+use Rattle.task.specs.Task.{Atom, names, partCount, noGap, allNamed}
+use Rattle.words.proofs.Lists.{In, here, there, in-getD}
+use Rattle.task.proofs.Tables.{Sized}
 use Rattle.text.specs.Reading.{goOn, refuse}
-use Rattle.text.specs.Text.{Draft, TaskTurn, withParts, closeSchema}
+use Rattle.text.specs.Text.{Draft, withParts, closeSchema}
 use Rattle.text.specs.ReadCode.{RowIn, rowNames, oneAbove, noGapIn}
 use Rattle.text.specs.Holding.{Holds, withClosed}
 use Rattle.text.proofs.Reading.{need-met}
 use Rattle.text.proofs.LineTurns.{need-fails}
 use Rattle.text.proofs.RowCompare.{any-index, names-row, pred-word}
 use Rattle.text.proofs.HeldAtoms.{atom-sized, atom-stands}
+use Rattle.text.specs.declared.draft.Counts.{Counts}
 
 -- ---- parts alone
-pub count-above : (atoms : List Atom) (ps : List ℕ) → length ps ≡ length atoms → partCount (withParts atoms ps) ≡ oneAbove ps
+pub count-above : (atoms : List Atom) (ps : List ℕ) → length ps ≡ length atoms →
+    partCount (withParts atoms ps) ≡ oneAbove ps
 unfolding partCount withParts oneAbove
 count-above [] [] e = refl
 count-above [] (p ∷ ps) e = absurd (omega arith)
@@ -86,7 +87,8 @@ module _ {d : Draft} {w : List ℕ} {c : Counts} (h : Holds d w c) where
   unfolding allNamed
   named-is =
       ap (λ (n : ℕ). all (λ x. any (λ i. rowNames w (first + 8 * i) x) (upTo (c .atoms))) (upTo n)) (h .params) ∙
-      all-alike (λ x. any (λ i. rowNames w (first + 8 * i) x) (upTo (c .atoms))) (λ x. any (names x) (d .current .atoms))
+      all-alike (λ x. any (λ i. rowNames w (first + 8 * i) x) (upTo (c .atoms)))
+      (λ x. any (names x) (d .current .atoms))
       (upTo (d .current .params)) (λ x j.
       any-index (λ i. rowNames w (first + 8 * i) x) (names x) (d .current .atoms) noAtom (c .atoms) (h .atoms) (λ i l.
       let a = getD (d .current .atoms) i noAtom in

@@ -1,28 +1,27 @@
 -- The code holds the draft again behind a `part` line: the parts stand in the schema's rows, and its parameter count
 -- behind those of the schemas before it.
 use Prim.Native.Nat.{ℕ, zero, suc, _+_, _*_, _≤_, _<_}
-use mathlib.Core.Path.{_≡_, refl, sym, _∙_, ap, ap₂, subst}
-use mathlib.Core.Bool.{Bool, true, false}
+use mathlib.Core.Path.{_≡_, refl, sym, _∙_, ap, subst}
 use mathlib.Core.List.{List, [], _∷_, _++_, map, append-assoc, append-nil}
 use native.Mathlib.Omega.{arith}
 use lib.ListN.{length, getD, set, length-append, length-map, length-set}
 use lib.Seq.{getD-set-same, getD-set-other}
-use lib.Dec.{eqb, leb}
-use borrow.Author.Tests.{eqb-true, eqb-false}
-use Rattle.task.specs.Lists.{all, concatMap, sum}
-use Rattle.task.specs.Task.{Atom, Schema, Task, argsFit, schemaAtoms}
-use Rattle.task.specs.Table.{atomWords, factWords, schemasFrom}
-use Rattle.task.proofs.Laws.{In, in-getD, getD-in, map-append}
-use Rattle.task.proofs.Tables.{At, at-left, at-move, Sized, length-padded, length-atomWords, length-blocks, tableWords-is}
-use Rattle.task.proofs.TablesByWords.{at-join, join-blocks}
-use Rattle.text.specs.declared.counts.Counts.{Counts}
-use Rattle.text.specs.Text.{Draft, between, noSchema, atPhase, withSchemas, withParts}
-use Rattle.text.specs.ReadCode.{Standing, PartsPut, Listed, phaseNumber}
-use Rattle.text.specs.Holding.{Few, rowsOf, Order, Holds, Touched, withClosed}
+use Rattle.words.specs.Lists.{all, concatMap, sum}
+use Rattle.task.specs.Task.{Atom, Schema, schemaAtoms}
+use Rattle.task.specs.Table.{atomWords, schemasFrom}
+use Rattle.words.proofs.Lists.{In, in-getD, getD-in, map-append, length-padded}
+use Rattle.words.proofs.Words.{At, at-left, at-move, at-join}
+use Rattle.task.proofs.Tables.{Sized, length-atomWords, length-blocks, tableWords-is}
+use Rattle.task.proofs.TablesByWords.{join-blocks}
+use Rattle.text.specs.Text.{Draft, noSchema, atPhase, withSchemas, withParts, part}
+use Rattle.text.specs.ReadCode.{Standing, PartsPut, mayStand}
+use Rattle.text.specs.Holding.{rowsOf, Holds, Touched, withClosed, Allows}
 use Rattle.text.proofs.TaskWritten.{schemaAtoms-part}
 use Rattle.text.proofs.TaskGrows.{length-closed}
-use Rattle.text.proofs.Parts.{bare, parts-same, all-map}
-use Rattle.text.proofs.HeldAtoms.{atom-sized, atom-stands, schemas-length, atoms-length}
+use Rattle.text.proofs.HeldAtoms.{atom-sized, atom-stands, schemas-length}
+use mathlib.Core.Bool.{true}
+use Rattle.text.specs.declared.draft.Counts.{Counts}
+use Rattle.text.proofs.Dispatch.{part-place}
 
 schemasFrom-last : (n : ℕ) (ss : List Schema) (s : Schema) →
     schemasFrom n (ss ++ (s ∷ [])) ≡ schemasFrom n ss ++ concatMap (atomWords (n + length ss)) (s .atoms)
@@ -34,7 +33,8 @@ schemasFrom-last n (t ∷ ss) s =
     let z : suc n + length ss ≡ n + suc (length ss) = omega arith in
     ap (λ (xs : List ℕ). concatMap (atomWords n) (t .atoms) ++ xs) (schemasFrom-last (suc n) ss s) ∙
     (sym (append-assoc (concatMap (atomWords n) (t .atoms)) (schemasFrom (suc n) ss) _) ∙
-    ap (λ (k : ℕ). (concatMap (atomWords n) (t .atoms) ++ schemasFrom (suc n) ss) ++ concatMap (atomWords k) (s .atoms)) z)
+    ap (λ (k : ℕ). (concatMap (atomWords n) (t .atoms) ++ schemasFrom (suc n) ss) ++ concatMap (atomWords k)
+    (s .atoms)) z)
 
 -- atom i with its part
 parts-at : (xs : List Atom) (ps : List ℕ) (i : ℕ) (d : Atom) → length ps ≡ length xs → i < length xs →
@@ -60,7 +60,8 @@ row-parted w after row s a p few h e same k l = go k l
     kept k m n = same k m n ∙ h k (let z = size in omega arith)
 
     go : (k : ℕ) → k < length (atomWords s (record { role = a .role; pred = a .pred; part = p; args = a .args })) →
-        getD after (row + k) 0 ≡ getD (atomWords s (record { role = a .role; pred = a .pred; part = p; args = a .args })) k 0
+        getD after (row + k) 0 ≡ getD (atomWords s
+        (record { role = a .role; pred = a .pred; part = p; args = a .args })) k 0
     go zero l = kept 0 (omega arith) (λ q. omega arith)
     go (suc zero) l = kept 1 (omega arith) (λ q. omega arith)
     go (suc (suc zero)) l = kept 2 (omega arith) (λ q. omega arith)
@@ -68,6 +69,19 @@ row-parted w after row s a p few h e same k l = go k l
     go (suc (suc (suc (suc k)))) l =
         let z = length-padded 4 (a .args) few in
         kept (suc (suc (suc (suc k)))) (omega arith) (λ q. omega arith)
+
+-- a `part` line stands inside a schema, so there is room for that schema
+in-schema : {d : Draft} {w : List ℕ} {c : Counts} → Holds d w c → Allows c part → (3 ≤ c .phase) × (c .phase ≤ 5)
+in-schema {d = d} h allowed =
+    subst (λ (p : ℕ). (3 ≤ p) × (p ≤ 5)) (sym (h .phase))
+    (part-place (d .phase) (subst (λ (p : ℕ). mayStand p 6 ≡ true) (h .phase) allowed))
+
+pub schema-room : {d : Draft} {w : List ℕ} {c : Counts} → Holds d w c → Allows c part → c .schemas < 200
+schema-room h allowed =
+    let (opened, before) = in-schema h allowed in
+    let n = h .schemas in
+    let r = h .order .room opened before in
+    omega arith
 
 module _ {d : Draft} {w mid : List ℕ} {c : Counts} (h : Holds d w c) (ps kept : List ℕ)
     (same : length ps ≡ length (d .current .atoms)) (listed : (k : ℕ) → k < length ps → getD kept k 0 ≡ getD ps k 0)
@@ -105,7 +119,8 @@ module _ {d : Draft} {w mid : List ℕ} {c : Counts} (h : Holds d w c) (ps kept 
       let n = length-closed (d .task) (d .current) ps same in
       let m : k < length (d .current .atoms) = omega arith in
       let a = getD (d .current .atoms) k noAtom in
-      let size : Sized (d .task .arities) (a .pred) (a .args) = atom-sized h a (in-getD (d .current .atoms) k noAtom m) in
+      let size : Sized (d .task .arities) (a .pred) (a .args) = atom-sized h a
+      (in-getD (d .current .atoms) k noAtom m) in
       let q : x .args ≡ a .args =
       ap (λ (y : Atom). y .args) (sym e ∙ parts-at (d .current .atoms) ps k noAtom same m) in
       length-atomWords S x (subst (λ (xs : List ℕ). length xs ≤ 4) (sym q) (size .short))
@@ -116,8 +131,10 @@ module _ {d : Draft} {w mid : List ℕ} {c : Counts} (h : Holds d w c) (ps kept 
       let n = length-closed (d .task) (d .current) ps same in
       let m : i < length (d .current .atoms) = omega arith in
       let a = getD (d .current .atoms) i noAtom in
-      let size : Sized (d .task .arities) (a .pred) (a .args) = atom-sized h a (in-getD (d .current .atoms) i noAtom m) in
-      subst (λ (x : Atom). At last (first + 8 * i) (atomWords S x)) (sym (parts-at (d .current .atoms) ps i noAtom same m))
+      let size : Sized (d .task .arities) (a .pred) (a .args) = atom-sized h a
+      (in-getD (d .current .atoms) i noAtom m) in
+      subst (λ (x : Atom). At last (first + 8 * i) (atomWords S x)) (sym
+      (parts-at (d .current .atoms) ps i noAtom same m))
       (row-parted w last (first + 8 * i) S a (getD ps i 0) (size .short) (atom-stands h i noAtom m)
       (late (first + 8 * i + 3) (omega arith) ∙ (put .put i (omega arith) ∙ listed i (omega arith)))
       (λ k q n. late (first + 8 * i + k) (omega arith) ∙ put .other (first + 8 * i + k) (λ j r e. apart i j k q n e))))
@@ -172,7 +189,8 @@ module _ {d : Draft} {w mid : List ℕ} {c : Counts} (h : Holds d w c) (ps kept 
       at-join last (6 + length (d .task .arities)) (map (λ s. s .params) (d .task .schemas)) (d .current .params ∷ [])
       (λ k l. early (6 + length (d .task .arities) + k) (omega arith) (λ q. omega arith) ∙ h .params-stand k l)
       (λ k l.
-      let z : 6 + length (d .task .arities) + length (map (λ s. s .params) (d .task .schemas)) + k ≡ place = omega arith in
+      let z : 6 + length (d .task .arities) + length (map (λ s. s .params)
+      (d .task .schemas)) + k ≡ place = omega arith in
       let y : k ≡ 0 = omega arith in
       ap (λ (i : ℕ). getD last i 0) z ∙
       (getD-set-same mid place (c .params) 0 (omega arith) ∙
@@ -191,9 +209,10 @@ module _ {d : Draft} {w mid : List ℕ} {c : Counts} (h : Holds d w c) (ps kept 
     goal = c .goal;
   }
 
-  pub schema-closed : 13406 ≤ length w → c .phase ≤ 5 → Holds (withClosed d ps) last closing
-  unfolding withClosed atPhase withSchemas noSchema phaseNumber all sum schemaRows
-  schema-closed long place₅ =
+  pub schema-closed : 13406 ≤ length w → Allows c part → Holds (withClosed d ps) last closing
+  unfolding withClosed atPhase withSchemas noSchema all sum schemaRows
+  schema-closed long allowed =
+      let (opened, before) = in-schema h allowed in
       let o = h .order in
       let few = h .few in
       let total = few .total in
@@ -251,8 +270,10 @@ module _ {d : Draft} {w mid : List ℕ} {c : Counts} (h : Holds d w c) (ps kept 
         rows-length = ap length rows ∙ rows-size ci cg;
       }
     where
-      count-closed : schemaAtoms (d .task .schemas ++ (record { params = d .current .params; atoms = closedAtoms } ∷ [])) ≡
-          schemaAtoms (d .task .schemas) + (length closedAtoms + schemaAtoms []) → length closedAtoms ≡ length (d .current .atoms) →
+      count-closed :
+          schemaAtoms (d .task .schemas ++ (record { params = d .current .params; atoms = closedAtoms } ∷ [])) ≡
+          schemaAtoms (d .task .schemas) + (length closedAtoms + schemaAtoms []) →
+          length closedAtoms ≡ length (d .current .atoms) →
           c .closed + c .atoms ≡
           schemaAtoms (d .task .schemas ++ (record { params = d .current .params; atoms = closedAtoms } ∷ []))
       count-closed z y = let n = h .closed in let m = h .atoms in let e : schemaAtoms [] ≡ 0 = refl in omega arith

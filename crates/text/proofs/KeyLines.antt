@@ -1,28 +1,31 @@
 -- The line at a cursor by the key that stands there: no two keys stand at one place, so the line is the body of that
 -- key where the fixed order allows it, and there is none elsewhere. What the order allows is a run of key numbers.
+use Rattle.text.specs.declared.keys.Keyed.the-variants as variant
+use Rattle.text.specs.declared.cursor.Behind.the-variants as behind
 use Prim.Native.Nat.{ℕ, _<_}
 use Prim.Native.String.{String}
 use mathlib.Core.Path.{_≡_, refl, sym, _∙_, ap, subst}
-use mathlib.Core.Bool.{Bool, true, false, not, _&&_}
-use mathlib.Core.List.{List, [], _∷_, _++_}
+use mathlib.Core.Bool.{Bool, true, false, not}
+use mathlib.Core.List.{List, [], _∷_}
 use mathlib.Core.Option.{Option, none, some}
 use mathlib.Core.Logic.{_⊎_, inl, inr, ⊎-elim}
 use native.Mathlib.Omega.{arith}
-use lib.ListN.{length, getD}
-use lib.Dec.{eqb, leb}
+use lib.ListN.{getD, length-append}
+use lib.Dec.{eqb}
 use borrow.Author.Tests.{eqb-true, eqb-false, eq-eqb, ne-eqb, not-true}
-use Rattle.task.specs.Lists.{all, any}
-use Rattle.task.proofs.Laws.{In, here, there, and-left, and-right, all-in, any-in, in-any, in-getD, both-ft, no-ft}
-use Rattle.text.specs.Lines.{bytes, equals, Taken, Reader, andThen, orElse, after, readKey, readLine}
+use Rattle.words.specs.Lists.{all, any}
+use Rattle.words.proofs.Lists.{In, here, there, and-left, and-right, all-in, any-in, in-any, in-getD, both-ft, no-ft}
+use Rattle.text.specs.Lines.{Taken, Reader, andThen, orElse, after, readKey, readLine, bytes, equals}
 use Rattle.text.specs.Text.{Key, task, objects, arity, schema, pre, add, del, part, init, goal, end, keyName}
 use Rattle.text.specs.Text.{Phase, atTask, atObjects, atArity, between, inPre, inAdd, inDel, inInit, inGoal}
-use Rattle.text.specs.Text.{Line, readBody, keysAt, Draft, nextLine}
+use Rattle.text.specs.Text.{readBody, keysAt, Draft, nextLine}
 use Rattle.text.specs.declared.cursor.Cursor.{Cursor}
 use Rattle.text.specs.declared.keys.Keyed.{Keyed}
-use Rattle.text.specs.declared.keys.Keyed.the-variants as variant
-use Rattle.text.specs.ReadCode.{rest, keyBytes, keyNumber, phaseNumber, lastKey, WordHere, KeyHere, KeyAt, OnceKeyAt}
-use Rattle.text.proofs.Taken.{no-none, after-read}
-use Rattle.text.proofs.Lines.{clash, after-clash, keyed, apart}
+use Rattle.text.specs.ReadCode.{rest, keyBytes, keyNumber, phaseNumber, lastKey, KeyHere, KeyAt, OnceKeyAt}
+use Rattle.text.specs.ReadCode.{mayStand, WordAt}
+use Rattle.text.proofs.Taken.{after-read}
+use Rattle.text.specs.declared.cursor.Behind.{Behind}
+use Rattle.text.proofs.KeyedLines.{clash, after-clash, keyed, apart}
 
 -- ---- readers of several keys
 module _ {K L : Type 0} (name : K → String) (body : K → Reader L) (bs : List ℕ) where
@@ -79,7 +82,8 @@ clash-back [] ys h = absurd (no-ft h)
 clash-back (x ∷ xs) [] h = absurd (no-ft h)
 clash-back (x ∷ xs) (y ∷ ys) h = go (eqb x y) refl h (clash-back xs ys)
   where
-    picked : (b : Bool) → eqb y x ≡ b → elim b [ true ↦ clash ys xs | false ↦ true ] ≡ true → clash (y ∷ ys) (x ∷ xs) ≡ true
+    picked : (b : Bool) → eqb y x ≡ b → elim b [ true ↦ clash ys xs | false ↦ true ] ≡ true →
+        clash (y ∷ ys) (x ∷ xs) ≡ true
     picked b e h = ap (λ (c : Bool). elim c [ true ↦ clash ys xs | false ↦ true ]) e ∙ h
 
     go : (b : Bool) → eqb x y ≡ b → elim b [ true ↦ clash xs ys | false ↦ true ] ≡ true →
@@ -108,7 +112,6 @@ abbrev everyKey : List Key
 everyKey = task ∷ objects ∷ arity ∷ pre ∷ add ∷ del ∷ part ∷ schema ∷ init ∷ goal ∷ end ∷ []
 
 numbered : (k : Key) → getD everyKey (keyNumber k) task ≡ k
-unfolding keyNumber
 numbered task = refl
 numbered objects = refl
 numbered arity = refl
@@ -125,7 +128,6 @@ pub key-of-number : (j k : Key) → keyNumber j ≡ keyNumber k → j ≡ k
 key-of-number j k e = sym (numbered j) ∙ (ap (λ (n : ℕ). getD everyKey n task) e ∙ numbered k)
 
 every-key : (k : Key) → In k everyKey
-unfolding keyNumber
 every-key k = subst (λ (x : Key). In x everyKey) (numbered k) (in-getD everyKey (keyNumber k) task (small k))
   where
     small : (k : Key) → keyNumber k < 11
@@ -155,9 +157,6 @@ other-keys bs k rest h j =
     (two-keys keys-apart (every-key j) (every-key k))
 
 -- ---- the keys that the order allows
-abbrev pub mayStand : ℕ → ℕ → Bool
-mayStand phase key = leb phase key && leb key (lastKey phase)
-
 abbrev isListed : Phase → Key → Bool
 isListed p k = any (λ j. eqb (keyNumber k) (keyNumber j)) (keysAt p)
 
@@ -171,7 +170,7 @@ same-is true b h = sym h
 same-is false b h = sym (not-true b h)
 
 tested : (p : Phase) → all (λ k. same (mayStand (phaseNumber p) (keyNumber k)) (isListed p k)) everyKey ≡ true
-unfolding all any same keyNumber phaseNumber lastKey keysAt
+unfolding all any same lastKey keysAt
 tested atTask = refl
 tested atObjects = refl
 tested atArity = refl
@@ -214,11 +213,19 @@ module _ (d : Draft) (bs : List ℕ) where
         (other-keys bs k rest e j))
 
 -- ---- the key at a cursor
-pub key-found : {text : List ℕ} {c body : Cursor} (k : Key) (n : ℕ) → keyNumber k ≡ n → 0 < length (keyBytes k) →
-    WordHere text c (keyBytes k) body → KeyHere text c n body
-key-found k n e l w =
+pub key-found : {text : List ℕ} {c body : Cursor} {r : Behind} (k : Key) → r ≡ behind.At body →
+    WordAt text c (keyBytes k) r → KeyHere text c (keyNumber k) body
+key-found {text} {c} k told word =
+    let w = subst (WordAt text c (keyBytes k)) told word in
     let f = w .far in
-    record { key = k; numbered = e; is = w .is; moved = record { on = omega arith; inside = w .inside; line = w .line } }
+    let l = length-append (bytes (keyName k)) (equals ∷ []) in
+    record {
+      key =
+          k;
+      numbered = refl;
+      is = w .is;
+      moved = record { on = omega arith; inside = w .inside; line = w .line };
+    }
 
 pub record NoLaterKey (bs : List ℕ) : Type 0 where
   pub no-pre : after (keyBytes pre) bs ≡ none

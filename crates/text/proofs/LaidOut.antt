@@ -5,22 +5,23 @@ use mathlib.Core.Path.{_≡_, refl, sym, _∙_, ap, subst}
 use mathlib.Core.Bool.{Bool, true, false}
 use mathlib.Core.List.{List, [], _∷_, _++_, map}
 use native.Mathlib.Omega.{arith}
-use lib.ListN.{length, getD, drop, replicate, length-append, length-map, length-drop, length-replicate}
-use lib.ListN.{getD-replicate, List·getD-append}
+use lib.ListN.{length, getD, drop, replicate, length-append, length-map, length-drop, length-replicate, getD-replicate}
+use lib.ListN.{List·getD-append}
 use lib.Seq.{ext-getD, getD-append-add, getD-drop}
 use lib.Dec.{ltb}
 use borrow.Author.Tests.{ltb-true, ltb-false}
 use Rattle.task.specs.Limits.{tableWords}
-use Rattle.task.specs.Lists.{concatMap, over}
+use Rattle.words.specs.Lists.{concatMap, over}
 use Rattle.task.specs.Task.{wellFormed}
 use Rattle.task.specs.Table.{factWords, schemasFrom, wordsOf}
-use Rattle.task.proofs.Tables.{At, at-move, sixWords, content, wordsOf-is, words-length, tableWords-is}
-use Rattle.task.proofs.TablesByWords.{at-join, zero-behind}
-use Rattle.text.specs.declared.counts.Counts.{Counts}
+use Rattle.words.proofs.Words.{At, at-move, at-join}
+use Rattle.task.proofs.Tables.{sixWords, content, wordsOf-is, words-length, tableWords-is}
+use Rattle.task.proofs.TablesByWords.{zero-behind}
 use Rattle.text.specs.Text.{Draft, noSchema}
 use Rattle.text.specs.ReadCode.{Wrote}
 use Rattle.text.specs.Holding.{rowsOf, Holds, Touched}
 use Rattle.text.proofs.WroteWords.{stands, stays-before, stays-behind}
+use Rattle.text.specs.declared.draft.Counts.{Counts}
 
 -- words that begin with a list, and else are as they were, are the list over them
 pub over-is : (xs w after : List ℕ) → length after ≡ length w → length xs ≤ length w →
@@ -78,7 +79,7 @@ over-touched xs lent w e l t =
     (getD-append-add xs (drop (length xs) w) (k - length xs) 0 ∙
     (getD-drop (length xs) w (k - length xs) 0 ∙ (ap (λ (i : ℕ). getD w i 0) z ∙ t .beyond k (omega arith)))))
 
-module _ {d : Draft} {w : List ℕ} {c : Counts} (h : Holds d w c) (closed : 6 < c .phase) where
+module _ {d : Draft} {w : List ℕ} {c : Counts} (h : Holds d w c) (closed : 7 ≤ c .phase) where
   abbrev to : ℕ
   to = 6 + c .predicates + c .schemas
 

@@ -1,16 +1,20 @@
 -- What a line's turn comes to, once its body is read: refused where there is none, and else what the line does to the
 -- draft, as `takeLine` says for the lines of a task.
+use Rattle.text.specs.declared.draft.Check.the-variants as check
 use Prim.Native.Nat.{ℕ, suc}
-use mathlib.Core.Path.{_≡_, refl, _∙_, ap}
+use mathlib.Core.Path.{_≡_, refl, _∙_, ap, sym, subst}
 use mathlib.Core.Bool.{Bool, false}
 use mathlib.Core.List.{List, [], _∷_}
 use mathlib.Core.Option.{Option, none, some}
 use Rattle.task.specs.Task.{Task}
-use Rattle.text.specs.Lines.{newline, Taken, taken, andThen, after, ended}
+use Rattle.text.specs.Lines.{newline, Taken, taken, andThen, after, ended, Entry, entry}
 use Rattle.text.specs.Reading.{Turn, goOn, finish, refuse, need, Reading, atEnd, turnAt, lineAt, refusedAt}
 use Rattle.text.specs.Text.{Line, Draft, takeLine}
-use Rattle.text.specs.ReadCode.{whole}
-use Rattle.text.specs.Holding.{Next, Refuses}
+use Rattle.text.specs.ReadCode.{whole, rest, EntryLine}
+use Rattle.text.specs.Holding.{Next, Refuses, Holds, GoesOn, Checked, entryOf}
+use Rattle.text.specs.declared.cursor.Cursor.{Cursor}
+use Rattle.text.specs.declared.draft.Check.{Check}
+use Rattle.text.specs.declared.draft.Counts.{Counts}
 
 module _ {A L : Type 0} (says : A → L) (o : Option (Taken A)) where
   -- what a line says is made of its whole body
@@ -70,6 +74,27 @@ module _ {A : Type 0} (says : A → Line) (d : Draft) (o : Option (Taken A)) whe
     pub line-ends : (t : Task) → takeLine d (says a) ≡ finish t → (n : ℕ) (next : Next) →
         lineAt n (takeLine d) (ended says o) next ≡ atEnd t (suc n) left
     line-ends t q n next = turn-ends says o (takeLine d) a left h n next t q
+
+-- ---- lines that have an atom
+module _ (says : Entry → Line) (d : Draft) {text kept : List ℕ} {from next : Cursor} {p count : ℕ}
+    (read : EntryLine text from p count kept next) (grown : Counts) (after : List ℕ) {told : Check} where
+  pub atom-refused : (k : ℕ) → told ≡ check.Refuses k → Checked d (says (entryOf p (read .ns))) grown told after →
+      Refuses d (ended says (entry (rest text from))) k
+  atom-refused k e checked =
+      line-refused says d _ _ _ (read .is) k
+      (subst (λ (t : Check). Checked d (says (entryOf p (read .ns))) grown t after) e checked)
+
+  pub atom-goes-on : {counts : Counts} → counts ≡ grown → told ≡ check.Passes →
+      Checked d (says (entryOf p (read .ns))) grown told after →
+      GoesOn text from d (ended says (entry (rest text from))) after counts next
+  atom-goes-on q e checked =
+      let grows = subst (λ (t : Check). Checked d (says (entryOf p (read .ns))) grown t after) e checked in
+      record {
+        draft = grows .draft;
+        is = line-goes-on says d _ _ _ (read .is) (grows .draft) (grows .is);
+        holds = subst (Holds (grows .draft) after) (sym q) (grows .holds);
+        line = read .line;
+      }
 
 -- a test that fails refuses
 pub need-fails : {D R : Type 0} {b : Bool} (k : ℕ) (t : _) → b ≡ false → need {D = D} {R = R} b k t ≡ refuse k

@@ -1,20 +1,18 @@
 -- The turns of the loop that reads a list of numbers: the list at the start is the numbers read so far, and then the
 -- list at the cursor. And a body with its line's end behind it.
-use Prim.Native.Nat.{ℕ, suc, _+_, _≤_, _<_}
-use mathlib.Core.Path.{_≡_, refl, sym, _∙_, ap, subst}
+use Prim.Native.Nat.{ℕ, _+_, _≤_, _<_}
+use mathlib.Core.Path.{_≡_, refl, sym, _∙_, ap}
 use mathlib.Core.Bool.{Bool, true, false}
 use mathlib.Core.List.{List, [], _∷_, _++_, append-assoc}
 use mathlib.Core.Option.{Option, none, some}
-use mathlib.Core.Logic.{_⊎_, inl, inr, ⊎-elim}
 use native.Mathlib.Omega.{arith}
 use lib.ListN.{length, getD, set, length-append, length-set, List·getD-append}
 use lib.Seq.{getD-set-same, getD-set-other, getD-append-seam}
 use lib.Dec.{eqb}
 use borrow.Author.Tests.{eqb-true, ne-eqb, eqb-false}
 use Rattle.text.specs.declared.cursor.Cursor.{Cursor}
-use Rattle.text.specs.Lines.{newline, comma, colon, Taken, taken, andThen, after, number, numbers, listing, Entry}
-use Rattle.text.specs.Lines.{entry, ended}
-use Rattle.text.specs.ReadCode.{rest, Placed, NumberHere, WordHere, EndHere, Onward, NextLine, Listed, ListHere, whole}
+use Rattle.text.specs.Lines.{comma, Taken, taken, andThen, after, number, numbers}
+use Rattle.text.specs.ReadCode.{rest, Placed, NumberHere, WordHere, Onward, Listed, ListHere}
 use Rattle.text.proofs.Taken.{no-none, after-read}
 use Rattle.text.proofs.NumberLists.{goesOn, numbers-step}
 

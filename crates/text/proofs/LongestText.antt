@@ -10,11 +10,11 @@ use native.Mathlib.Omega.{arith}
 use lib.ListN.{length, length-append, length-map}
 use lib.Dec.{ltb, leb}
 use borrow.Author.Tests.{ltb-true, leb-true}
-use Rattle.task.specs.Lists.{all, sum, concatMap}
+use Rattle.words.specs.Lists.{all, sum, concatMap}
 use Rattle.task.specs.Limits.{mostObjects, mostPredicates, mostSchemas, mostSchemaAtoms, mostInitial, mostGoal}
 use Rattle.task.specs.Limits.{mostArity, mostParameters, mostParts}
 use Rattle.task.specs.Task.{Atom, Fact, Schema, Task, argsFit, factsFit, schemaFits, schemaAtoms, wellFormed}
-use Rattle.task.proofs.Laws.{In, here, there, all-in, append-concatMap}
+use Rattle.words.proofs.Lists.{In, here, there, all-in, append-concatMap}
 use Rattle.task.proofs.Tests.{SchemaTests, schema-tests, fits, fact-tests, TaskTests, task-tests}
 use Rattle.task.proofs.States.{argsFit-fitting}
 use Rattle.task.proofs.Tables.{sized}

@@ -9,7 +9,7 @@ use native.Mathlib.Omega.{arith}
 use lib.ListN.{length, length-append}
 use lib.Dec.{eqb}
 use borrow.Author.Tests.{eqb-true, ne-eqb}
-use Rattle.task.proofs.Laws.{In, here, there, in-empty}
+use Rattle.words.proofs.Lists.{In, here, there, in-empty}
 use Rattle.text.specs.Lines.{newline, comma, colon, digits, commaed, Entry, entryBytes, Taken, taken, andThen}
 use Rattle.text.specs.Lines.{after, isDigit, number, numbersWithin, numbers, listing, entry}
 use Rattle.text.proofs.Taken.{if-false, no-none, taken-value, taken-rest, both-took, andThen-same, after-read}

@@ -5,7 +5,7 @@ use mathlib.Core.Path.{_≡_, refl, sym, _∙_, ap}
 use mathlib.Core.List.{List, [], _∷_, _++_, map, append-nil}
 use native.Mathlib.Omega.{arith}
 use lib.ListN.{length, getD, length-append}
-use Rattle.task.specs.Lists.{upTo, upFrom, concatMap}
+use Rattle.words.specs.Lists.{upTo, upFrom, concatMap}
 use Rattle.text.specs.Lines.{comma, digits, commaed}
 use Rattle.text.specs.Code.{spaced}
 

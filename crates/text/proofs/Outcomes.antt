@@ -9,12 +9,12 @@ use lib.ListN.{length, take}
 use lib.Seq.{take-at, length-take-le}
 use lib.Dec.{leb}
 use borrow.Author.Tests.{le-leb}
-use Rattle.task.specs.Lists.{over}
+use Rattle.words.specs.Lists.{over}
 use Rattle.task.specs.Limits.{tableWords}
 use Rattle.task.specs.Answers.{Told, result, Outcome, refuseUnless}
 use Rattle.task.specs.Task.{Task}
 use Rattle.task.specs.Table.{wordsOf, taskOf, longEnough, isTable}
-use Rattle.task.proofs.Answers.{check-passes, check-passed}
+use Rattle.task.proofs.Answers.{check-passes, check-passed, left-by}
 use Rattle.task.proofs.Tables.{words-length, of-table}
 use Rattle.task.proofs.TablesByIndex.{table-of, table-long}
 use Rattle.text.specs.Reading.{Reading, read, refusedAt}
@@ -29,7 +29,7 @@ unfolding over
 take-over xs lent n h = take-at xs _ n h
 
 -- ---- what each answers with a result
-abbrev pub readInto : Task → List ℕ → Outcome
+abbrev pub readInto : Task → List ℕ → Outcome (List ℕ)
 readInto t table = record { told = result []; buffer = over (wordsOf t) table }
 
 pub read-result : (text table : List ℕ) (t : Task) → longEnough table ≡ true → readText text ≡ read t →
@@ -54,7 +54,7 @@ result-read text table vs h =
     go long (read t) e k = record { long = long; task = t; was-read = e }
     go long (refusedAt n l) e k = absurd (let z : _≡_ {A = ℕ} 0 1 = cc in omega arith)
 
-abbrev pub writtenOver : List ℕ → List ℕ → Outcome
+abbrev pub writtenOver : List ℕ → List ℕ → Outcome (List ℕ)
 writtenOver bs text = record { told = result (length bs ∷ []); buffer = over bs text }
 
 pub write-result : (table text : List ℕ) → longEnough table ≡ true → isTable table ≡ true →
@@ -98,7 +98,7 @@ write-read table text other n h long =
     let t = taskOf table in
     let bs = write t in
     let (fits, words) = of-table table (w .is-table) in
-    let written = ap (λ (o : Outcome). o .buffer) (write-result table text (w .long) (w .is-table) (w .room)) in
+    let written = left-by (write-result table text (w .long) (w .is-table) (w .room)) in
     let bytes : take n (writeOutcome table text .buffer) ≡ bs = ap (take n) written ∙ take-over bs text n (w .count) in
     ap (λ (x : List ℕ). readOutcome x other) bytes ∙
     (read-result bs other t long (read-written t fits) ∙
@@ -110,7 +110,7 @@ pub write-read-words : (table text other : List ℕ) (n : ℕ) → writeOutcome 
     take tableWords (readOutcome (take n (writeOutcome table text .buffer)) other .buffer) ≡ take tableWords table
 write-read-words table text other n h long =
     let size = length-take-le tableWords table (table-long table (result-written table text n h .is-table)) in
-    ap (λ (o : Outcome). take tableWords (o .buffer)) (write-read table text other n h long) ∙
+    ap (take tableWords) (left-by (write-read table text other n h long)) ∙
     take-over (take tableWords table) other tableWords size
 
 -- what was read from a text, written into bytes that it fits in, is that text
@@ -124,7 +124,7 @@ read-write text table vs other h room =
     let fits = read-fits text t (r .was-read) in
     let w = over (wordsOf t) table in
     let lies : readOutcome text table .buffer ≡ w =
-    ap (λ (o : Outcome). o .buffer) (read-result text table t (r .long) (r .was-read)) in
+    left-by (read-result text table t (r .long) (r .was-read)) in
     let (is-table, same) = table-of w t fits (take-over (wordsOf t) table tableWords (words-length t fits)) in
     let bytes : write (taskOf w) ≡ text = ap write same ∙ written-read text t (r .was-read) in
     let long : longEnough w ≡ true = le-leb tableWords (length w) (table-long w is-table) in
@@ -137,5 +137,5 @@ read-write text table vs other h room =
 pub read-write-bytes : (text table vs other : List ℕ) → readOutcome text table .told ≡ result vs →
     length text ≤ length other → take (length text) (writeOutcome (readOutcome text table .buffer) other .buffer) ≡ text
 read-write-bytes text table vs other h room =
-    ap (λ (o : Outcome). take (length text) (o .buffer)) (read-write text table vs other h room) ∙
+    ap (take (length text)) (left-by (read-write text table vs other h room)) ∙
     take-over text other (length text) refl

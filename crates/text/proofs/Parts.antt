@@ -9,9 +9,9 @@ use native.Mathlib.Decide.{decLt}
 use lib.ListN.{length}
 use lib.Dec.{ltb, leb}
 use borrow.Author.Tests.{ltb-true, leb-true, lt-ltb, le-leb}
-use Rattle.task.specs.Lists.{all, any, upTo}
+use Rattle.words.specs.Lists.{all, any, upTo}
 use Rattle.task.specs.Task.{Atom, sameAtom, distinct, rolesAscend, names, partCount}
-use Rattle.task.proofs.Laws.{In, here, there, all-in, in-all, in-map, map-in}
+use Rattle.words.proofs.Lists.{In, here, there, all-in, in-all, in-map, map-in}
 use Rattle.text.specs.Text.{withParts}
 
 abbrev pub bare : Atom → Atom

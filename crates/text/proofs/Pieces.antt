@@ -6,8 +6,8 @@ use mathlib.Core.List.{List, [], _∷_, _++_, map}
 use native.Mathlib.Nat.{mul-suc}
 use native.Mathlib.Omega.{arith}
 use lib.ListN.{length, length-append}
-use Rattle.task.specs.Lists.{upFrom, concatMap}
-use Rattle.task.proofs.Laws.{In, here, there, append-concatMap}
+use Rattle.words.specs.Lists.{upFrom, concatMap}
+use Rattle.words.proofs.Lists.{In, here, there, append-concatMap}
 
 module _ {A B C : Type 0} where
   pub pieces-map : (f : B → List C) (g : A → B) (xs : List A) → concatMap f (map g xs) ≡ concatMap (λ x. f (g x)) xs

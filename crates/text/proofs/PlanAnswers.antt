@@ -1,5 +1,6 @@
 -- What `planOutcome` is of a plan that is read and of one that is refused; and what a caller of `read_plan` knows by
 -- its answer: the plan with its number of steps, whose words are good steps of the task; or the line that was refused.
+use Rattle.task.specs.declared.Place.the-variants as place
 use Prim.Native.Nat.{ℕ, _*_}
 use mathlib.Core.Path.{_≡_, refl, sym, _∙_, ap, subst}
 use mathlib.Core.Bool.{true}
@@ -7,9 +8,8 @@ use mathlib.Core.List.{List, [], _∷_}
 use native.Mathlib.Omega.{arith}
 use lib.ListN.{length, take, replicate}
 use Rattle.task.specs.declared.Place.{Place}
-use Rattle.task.specs.declared.Place.the-variants as place
-use Rattle.task.specs.Lists.{concatMap, over}
-use Rattle.task.specs.Answers.{result, refused, Outcome}
+use Rattle.words.specs.Lists.{concatMap, over}
+use Rattle.task.specs.Answers.{result, refused}
 use Rattle.task.specs.Task.{Task}
 use Rattle.task.specs.Table.{taskOf, isTable}
 use Rattle.task.specs.Run.{Step, stepWords}
@@ -18,6 +18,7 @@ use Rattle.text.specs.Reading.{Reading, read, refusedAt}
 use Rattle.text.specs.Plan.{planWords, readPlan}
 use Rattle.text.specs.Outcomes.{planDone, planOutcome}
 use Rattle.text.proofs.PlanSteps.{GoodPlan, plan-words}
+use Rattle.task.proofs.Answers.{told-by, left-by}
 
 -- ---- of a plan
 module _ (table text lent : List ℕ) where
@@ -56,14 +57,14 @@ module _ (table text lent : List ℕ) where
     where
       go : (o : Reading (List Step)) → readPlan t text ≡ o → PlanRead t text n after
       go (refusedAt k m) e =
-          let q = told ∙ ap (λ (o : Outcome). o .told) (refused-outcome table text lent k m e) in
+          let q = told ∙ told-by (refused-outcome table text lent k m e) in
           absurd (let z : _≡_ {A = ℕ} 0 1 = cc in omega arith)
       go (read xs) e =
           let is = read-outcome table text lent xs e in
-          let q = told ∙ ap (λ (o : Outcome). o .told) is in
+          let q = told ∙ told-by is in
           let count : length xs ≡ n = cc in
           let lies : take (13 * length xs) (over (concatMap stepWords xs) lent) ≡ take (13 * n) after =
-          ap (take (13 * length xs)) (sym (left ∙ ap (λ (o : Outcome). o .buffer) is)) ∙
+          ap (take (13 * length xs)) (sym (left ∙ left-by is)) ∙
           ap (λ (m : ℕ). take (13 * m) after) count in
           record {
             steps = xs;
@@ -78,9 +79,9 @@ module _ (table text lent : List ℕ) where
     where
       go : (o : Reading (List Step)) → readPlan t text ≡ o → PlanRefused t text k p
       go (read xs) e =
-          let q = told ∙ ap (λ (o : Outcome). o .told) (read-outcome table text lent xs e) in
+          let q = told ∙ told-by (read-outcome table text lent xs e) in
           absurd (let z : _≡_ {A = ℕ} 0 1 = cc in omega arith)
       go (refusedAt j m) e =
-          let q = told ∙ ap (λ (o : Outcome). o .told) (refused-outcome table text lent j m e) in
+          let q = told ∙ told-by (refused-outcome table text lent j m e) in
           let number : j ≡ k = cc in
           record { line = m; at = cc; is = e ∙ ap (λ (i : ℕ). refusedAt i m) number }

@@ -1,5 +1,6 @@
 -- The loop over a plan's lines: the line at a cursor by its key, and reading the whole text as reading on from the
 -- cursor with the steps whose words were put. A line that is refused, and one that ends reading, give the answer.
+use Rattle.text.specs.declared.plan.PlanTurn.the-variants as turn
 use Prim.Native.Nat.{ℕ, suc, _+_, _*_, _≤_, _<_}
 use mathlib.Core.Path.{_≡_, refl, sym, _∙_, ap, subst}
 use mathlib.Core.Bool.{true, false}
@@ -10,21 +11,19 @@ use native.Mathlib.Omega.{arith}
 use lib.ListN.{length, getD, replicate, length-append, drop-of-length-le}
 use lib.Seq.{drop-cons}
 use borrow.Author.Tests.{lt-ltb, le-ltb, eq-eqb, ne-eqb}
-use Rattle.task.specs.Lists.{all, concatMap, over}
+use Rattle.words.specs.Lists.{all, concatMap, over}
 use Rattle.task.specs.Task.{Task, wellFormed}
 use Rattle.task.specs.Run.{Step, isStep, stepWords}
-use Rattle.task.proofs.Laws.{here, there}
+use Rattle.words.proofs.Lists.{here, there}
 use Rattle.text.specs.declared.cursor.Cursor.{Cursor}
 use Rattle.text.specs.declared.plan.PlanTurn.{PlanTurn}
-use Rattle.text.specs.declared.plan.PlanTurn.the-variants as turn
 use Rattle.text.specs.Lines.{Taken, after, number, entry, ended}
 use Rattle.text.specs.Reading.{goOn, finish, refuse, Reading, read, refusedAt, atEnd, lineAt, readLines}
-use Rattle.text.specs.Plan.{PlanKey, step, end, planKeyName, PlanLine, stepLine, endLine, readPlanBody}
-use Rattle.text.specs.Plan.{planWords, takePlanLine, nextPlanLine, readPlan}
+use Rattle.text.specs.Plan.{PlanKey, step, end, planKeyName, PlanLine, stepLine, endLine, readPlanBody, planWords}
+use Rattle.text.specs.Plan.{takePlanLine, nextPlanLine, readPlan}
 use Rattle.text.specs.ReadCode.{rest, Placed, startCursor, Moved, WordHere, Wrote}
 use Rattle.text.specs.PlanCode.{stepOf, PlanRefuses, PlanFinishes, PlanGoesOn, PlanTurned}
 use Rattle.text.proofs.Taken.{after-read}
-use Rattle.text.proofs.Lines.{keyed, clash, after-clash}
 use Rattle.text.proofs.Reading.{need-met}
 use Rattle.text.proofs.PlanText.{planKeys}
 use Rattle.text.proofs.Growing.{all-snoc}
@@ -36,6 +35,7 @@ use Rattle.text.proofs.WroteWords.{wrote-none}
 use Rattle.text.proofs.Dispatch.{next-from}
 use Rattle.text.proofs.LaidOut.{cleared-over}
 use Rattle.text.proofs.PlanSteps.{planWords-is, one-more, words-over}
+use Rattle.text.proofs.KeyedLines.{keyed, clash, after-clash}
 
 -- ---- the line at a cursor
 module _ (xs : List Step) (bs : List ℕ) where

@@ -11,17 +11,17 @@ use lib.ListN.{length, getD, take, set, replicate, length-set, getD-replicate, L
 use lib.Seq.{getD-append-add, getD-take, length-take-le, getD-set-same, getD-set-other}
 use lib.Dec.{eqb, ltb}
 use borrow.Author.Tests.{leb-true, le-ltb, lt-ltb, eq-eqb, ne-eqb}
-use Rattle.task.specs.Lists.{all, concatMap, over, padded}
+use Rattle.words.specs.Lists.{all, concatMap, over, padded}
 use Rattle.task.specs.Task.{Task, wellFormed}
 use Rattle.task.specs.Table.{taskOf, isTable}
 use Rattle.task.specs.Run.{Step, schemaAt, isStep, stepWords, paramCount, stepsIn, badStep}
-use Rattle.task.proofs.Laws.{in-getD, all-in, append-concatMap}
+use Rattle.words.proofs.Lists.{in-getD, all-in, append-concatMap}
 use Rattle.task.proofs.Tests.{task-tests}
 use Rattle.task.proofs.Tables.{of-table}
 use Rattle.task.proofs.TablesByIndex.{table-frame, objects-word}
-use Rattle.task.proofs.Put.{take-over}
+use Rattle.words.proofs.Puts.{take-over}
 use Rattle.task.proofs.States.{isStep-is}
-use Rattle.task.proofs.WordRows.{and-false}
+use Rattle.words.proofs.Words.{and-false}
 use Rattle.task.proofs.StepWords.{Thirteen, length-steps, params-few, thirteen}
 use Rattle.task.proofs.BadSteps.{written-steps, steps-written}
 use Rattle.text.specs.Reading.{read}

@@ -9,10 +9,10 @@ use native.Mathlib.Omega.{arith}
 use lib.ListN.{length, length-append}
 use lib.Dec.{eqb, ltb}
 use borrow.Author.Tests.{ltb-true, leb-true, eqb-true, lt-ltb}
-use Rattle.task.specs.Lists.{all, concatMap}
+use Rattle.words.specs.Lists.{all, concatMap}
 use Rattle.task.specs.Task.{Task, wellFormed}
 use Rattle.task.specs.Run.{Step, isStep}
-use Rattle.task.proofs.Laws.{and-left, and-right, here, there, map-append}
+use Rattle.words.proofs.Lists.{and-left, and-right, here, there, map-append}
 use Rattle.task.proofs.Tests.{TaskTests, task-tests}
 use Rattle.task.proofs.States.{isStep-is}
 use Rattle.text.specs.Lines.{newline, digits, Entry, entryBytes, Taken, taken}
@@ -20,11 +20,11 @@ use Rattle.text.specs.Reading.{goOn, finish, read}
 use Rattle.text.specs.Plan.{PlanKey, step, end, planKeyName, PlanLine, stepLine, endLine, writePlanLine}
 use Rattle.text.specs.Plan.{readPlanBody, stepEntry, planLines, writePlan, takePlanLine, nextPlanLine, readPlan}
 use Rattle.text.proofs.NumberLists.{SmallEntry, entry-written}
-use Rattle.text.proofs.Lines.{ended-written, apart}
 use Rattle.text.proofs.Reading.{need-went, need-finished, need-met, Leads, comes-last, goes-on, Exact}
 use Rattle.text.proofs.Reading.{lines-read, read-lines}
 use Rattle.text.proofs.Bodies.{number-ends, BodyRead, number-line, entry-line, Allows, Bodies, lines-exact}
 use Rattle.text.proofs.Growing.{all-snoc}
+use Rattle.text.proofs.KeyedLines.{ended-written, apart}
 
 -- ---- lines
 pub data PlanSays : PlanKey → PlanLine → Type 0 where

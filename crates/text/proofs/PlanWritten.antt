@@ -7,11 +7,11 @@ use mathlib.Core.List.{List, [], _∷_, _++_, map, append-assoc}
 use mathlib.Core.Option.{none}
 use native.Mathlib.Omega.{arith}
 use lib.ListN.{length, getD, length-append}
-use Rattle.task.specs.Lists.{upTo, concatMap}
+use Rattle.words.specs.Lists.{upTo, concatMap}
 use Rattle.task.specs.Task.{Task, wellFormed}
-use Rattle.task.specs.Table.{wordsAt}
+use Rattle.words.specs.Words.{wordsAt}
 use Rattle.task.specs.Run.{Step, stepIn, paramCount, stepAt, stepsIn, badStep}
-use Rattle.task.proofs.Laws.{In, append-concatMap}
+use Rattle.words.proofs.Lists.{In, append-concatMap}
 use Rattle.task.proofs.States.{isStep-is}
 use Rattle.task.proofs.StepWords.{length-stepsIn, params-few, step-here}
 use Rattle.task.proofs.BadSteps.{good-steps, steps-good}

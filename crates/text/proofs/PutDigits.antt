@@ -5,23 +5,22 @@ use mathlib.Core.Path.{_≡_, refl, sym, _∙_, ap}
 use mathlib.Core.List.{List, [], _∷_, _++_, append-assoc, append-nil}
 use native.Mathlib.Omega.{arith}
 use lib.ListN.{length, set, length-append}
-use Rattle.task.specs.Lists.{put}
-use Rattle.task.proofs.Put.{length-put}
+use Rattle.words.specs.Lists.{put}
+use Rattle.words.proofs.Puts.{length-put, put-before}
 use Rattle.text.specs.Lines.{digits}
-use Rattle.text.specs.Code.{Puts}
+use Rattle.words.specs.Putting.{Puts}
 use Rattle.text.proofs.DigitSteps.{digits-last, digits-step, one-digit-long, digits-longer, some-digit}
-use Rattle.text.proofs.Puts.{put-before}
 
 pub record Behind (w : List ℕ) (at n rest place : ℕ) (v : List ℕ) : Type 0 where
   pub tail : List ℕ
   pub parts : digits rest ++ tail ≡ digits n
   pub here : place + 1 ≡ at + length (digits rest)
-  pub stored : v ≡ put w (place + 1) tail
+  pub words : v ≡ put w (place + 1) tail
   pub small : rest < 100000
 
 pub behind-start : (w : List ℕ) (at n place : ℕ) → n < 100000 → place + 1 ≡ at + length (digits n) →
     Behind w at n n place w
-behind-start w at n place h e = record { tail = []; parts = append-nil (digits n); here = e; stored = refl; small = h }
+behind-start w at n place h e = record { tail = []; parts = append-nil (digits n); here = e; words = refl; small = h }
 
 -- a digit before those that stand
 stored-before : (w v : List ℕ) (place x : ℕ) (xs : List ℕ) → v ≡ put w (place + 1) xs →
@@ -33,7 +32,7 @@ stored-before w v place x xs e =
 
 module _ {w v : List ℕ} {at n rest place : ℕ} (b : Behind w at n rest place v) where
   pub behind-long : length v ≡ length w
-  behind-long = ap length (b .stored) ∙ length-put w (place + 1) (b .tail)
+  behind-long = ap length (b .words) ∙ length-put w (place + 1) (b .tail)
 
   pub behind-room : at + length (digits n) ≤ length w → place < length v
   behind-room h =
@@ -62,7 +61,7 @@ module _ {w v : List ℕ} {at n rest place : ℕ} (b : Behind w at n rest place 
         parts = sym (append-assoc (digits (rest / 10)) (x ∷ []) (b .tail)) ∙
             (ap (λ (ds : List ℕ). ds ++ b .tail) (sym (digits-step rest h (b .small))) ∙ b .parts);
         here = omega arith;
-        stored = stored-before w v place x (b .tail) (b .stored) ∙ ap (λ (i : ℕ). put w i (x ∷ b .tail)) q;
+        words = stored-before w v place x (b .tail) (b .words) ∙ ap (λ (i : ℕ). put w i (x ∷ b .tail)) q;
         small = let s = b .small in omega arith;
       }
 
@@ -73,7 +72,7 @@ module _ {w v : List ℕ} {at n rest place : ℕ} (b : Behind w at n rest place 
       let q : place ≡ at = let i = b .here in let l = one-digit-long rest h in omega arith in
       let ds : x ∷ b .tail ≡ digits n = ap (λ (ds : List ℕ). ds ++ b .tail) (sym (digits-last rest h)) ∙ b .parts in
       record {
-        stored = stored-before w v place x (b .tail) (b .stored) ∙
+        words = stored-before w v place x (b .tail) (b .words) ∙
             (ap (λ (i : ℕ). put w i (x ∷ b .tail)) q ∙ ap (put w at) ds);
         place = e;
       }

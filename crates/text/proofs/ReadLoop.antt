@@ -1,33 +1,32 @@
 -- The loop over the lines: reading the whole text is reading on from the cursor with the draft that the code holds. A
 -- line that is refused, and one that ends reading, give the outcome; any other leaves the loop's facts as they were.
-use Prim.Native.Nat.{ℕ, zero, suc, _+_, _≤_, _<_}
-use mathlib.Core.Path.{_≡_, refl, sym, _∙_, ap, subst}
+use Rattle.task.specs.declared.Place.the-variants as place
+use Rattle.text.specs.declared.ReadAnswer.the-variants as answer
+use Prim.Native.Nat.{ℕ, suc, _≤_, _<_}
+use mathlib.Core.Path.{_≡_, refl, sym, _∙_, ap}
 use mathlib.Core.Bool.{Bool, true}
-use mathlib.Core.List.{List, [], _∷_, map}
+use mathlib.Core.List.{List, [], _∷_}
 use native.Mathlib.Omega.{arith}
 use lib.ListN.{length, drop-of-length-le, replicate}
 use lib.Seq.{drop-cons}
 use borrow.Author.Tests.{le-leb, lt-leb}
 use Rattle.task.specs.Limits.{tableWords}
-use Rattle.task.specs.declared.Place.the-variants as place
-use Rattle.task.specs.Lists.{over, all, sum, concatMap}
+use Rattle.words.specs.Lists.{over, all, sum, concatMap}
 use Rattle.task.specs.Task.{Task, wellFormed}
-use Rattle.task.specs.Table.{wordsOf, schemasFrom}
+use Rattle.task.specs.Table.{wordsOf, schemasFrom, longEnough}
 use Rattle.text.specs.declared.cursor.Cursor.{Cursor}
-use Rattle.text.specs.declared.counts.Counts.{Counts}
 use Rattle.text.specs.declared.ReadAnswer.{ReadAnswer}
-use Rattle.text.specs.declared.ReadAnswer.the-variants as answer
 use Rattle.task.specs.Answers.{refused, refuseUnless, inOrder}
-use Rattle.task.specs.Table.{longEnough}
 use Rattle.text.specs.Outcomes.{readDone, readOutcome, readAnswerTold}
 use Rattle.text.specs.Reading.{Reading, read, refusedAt, atEnd, readLines}
 use Rattle.text.specs.Text.{Draft, started, atPhase, noSchema, takeLine, nextLine, readText}
-use Rattle.text.specs.ReadCode.{rest, Placed, startCursor, phaseNumber}
+use Rattle.text.specs.ReadCode.{rest, Placed, startCursor}
 use Rattle.text.specs.Holding.{noCounts, rowsOf, Holds, Touched, Refuses, GoesOn, Finishes}
 use Rattle.text.proofs.ReadersAt.{readText-lines, text-line}
 use Rattle.text.proofs.TaskRead.{read-fits}
 use Rattle.text.proofs.WholeLines.{next-placed}
 use Rattle.text.proofs.HeldAtoms.{untouched}
+use Rattle.text.specs.declared.draft.Counts.{Counts}
 
 pub record SoFar (text lent : List ℕ) (at : Cursor) (c : Counts) (w : List ℕ) : Type 0 where
   pub placed : Placed text at
@@ -37,7 +36,7 @@ pub record SoFar (text lent : List ℕ) (at : Cursor) (c : Counts) (w : List ℕ
   pub so-far : readText text ≡ readLines nextLine takeLine (at .line) draft (rest text at)
 
 pub begins : (text lent : List ℕ) → tableWords ≤ length lent → SoFar text lent startCursor noCounts lent
-unfolding started atPhase noSchema phaseNumber all sum rowsOf schemasFrom concatMap
+unfolding started atPhase noSchema all sum rowsOf schemasFrom concatMap
 begins text lent long = record {
   placed = record { inside = omega arith; line = omega arith };
   touched = untouched lent;
@@ -88,7 +87,8 @@ pub touched-both : {a b c : List ℕ} → Touched a b → Touched b c → Touche
 touched-both s t = record { size = t .size ∙ s .size; beyond = λ j l. t .beyond j l ∙ s .beyond j l }
 
 module _ {text lent : List ℕ} {at : Cursor} {c : Counts} {w : List ℕ} (s : SoFar text lent at c w) where
-  pub line-refuses : (k : ℕ) → Refuses (s .draft) (nextLine (s .draft) (rest text at)) k → readText text ≡ refusedAt k (at .line)
+  pub line-refuses : (k : ℕ) → Refuses (s .draft) (nextLine (s .draft) (rest text at)) k →
+      readText text ≡ refusedAt k (at .line)
   line-refuses k r =
       s .so-far ∙ (text-line (at .line) (s .draft) (rest text at) ∙
       r (at .line) (readLines nextLine takeLine (suc (at .line))))
@@ -126,7 +126,7 @@ module _ {text lent : List ℕ} {at : Cursor} {c : Counts} {w : List ℕ} (s : S
     unfolding atEnd
     whole-text l = ends ∙ ap (atEnd (s .draft .task) (next .line)) (drop-of-length-le text l)
 
-    pub last-phase : 6 < c .phase
+    pub last-phase : 7 ≤ c .phase
     last-phase = let p = s .holds .phase in let q = f .closed in omega arith
 
     pub well : length text ≤ next .at → wellFormed (s .draft .task) ≡ true

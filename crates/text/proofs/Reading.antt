@@ -7,7 +7,7 @@ use mathlib.Core.List.{List, [], _∷_, _++_}
 use mathlib.Core.Option.{Option, none, some}
 use native.Mathlib.Omega.{arith}
 use lib.ListN.{length, length-append}
-use Rattle.task.specs.Lists.{concatMap}
+use Rattle.words.specs.Lists.{concatMap}
 use Rattle.text.specs.Lines.{Taken, Reader, taken}
 use Rattle.text.specs.Reading.{Turn, goOn, finish, refuse, need, Reading, read, refusedAt, atEnd, turnAt, lineAt}
 use Rattle.text.specs.Reading.{readWithin, readLines}

@@ -1,21 +1,22 @@
 -- Atoms by their rows: two rows of one schema have the same atom where they have the same words beside schema and part,
 -- and two rows of facts compare as the facts do.
-use Prim.Native.Nat.{ℕ, zero, suc, _+_, _*_, _≤_, _<_}
+use Prim.Native.Nat.{ℕ, zero, suc, _+_, _≤_, _<_}
 use mathlib.Core.Path.{_≡_, refl, sym, _∙_, ap, ap₂}
-use mathlib.Core.Bool.{Bool, true, false, _&&_, _||_}
+use mathlib.Core.Bool.{Bool, true, false, _&&_}
 use mathlib.Core.List.{List, [], _∷_}
 use native.Mathlib.Omega.{arith}
 use lib.ListN.{length, getD}
-use lib.Dec.{eqb, ltb}
+use lib.Dec.{eqb}
 use borrow.Author.Tests.{eqb-true}
-use Rattle.task.specs.Lists.{any, all, upTo, eqList, lessList, padded}
+use Rattle.words.specs.Lists.{any, upTo, eqList, lessList, padded}
 use Rattle.task.specs.Task.{Atom, Fact, sameAtom, factLess, names}
-use Rattle.task.specs.Table.{wordsAt, atomWords, factWords}
+use Rattle.words.specs.Words.{wordsAt}
+use Rattle.task.specs.Table.{atomWords, factWords}
 use Rattle.task.specs.Run.{recordWords}
-use Rattle.task.proofs.Laws.{In, getD-in, in-getD, any-in, in-any, in-upTo, upTo-in, false-if, both-ft}
-use Rattle.task.proofs.Tables.{At, at-left, length-padded}
-use Rattle.task.proofs.WordRows.{wordsAt-is}
-use Rattle.task.proofs.RecordOrder.{eq-padded, factLess-words}
+use Rattle.words.proofs.Lists.{getD-in, in-getD, any-in, in-any, in-upTo, upTo-in, false-if, both-ft, length-padded}
+use Rattle.words.proofs.Words.{At, at-left, wordsAt-is}
+use Rattle.words.proofs.Comparing.{eq-padded}
+use Rattle.task.proofs.RecordOrder.{factLess-words}
 use Rattle.text.specs.ReadCode.{rowNames, rowSame}
 
 -- ---- a search over a list by index

@@ -3,19 +3,18 @@ use Prim.Native.Nat.{ℕ, zero, suc, _+_, _*_, _≤_, _<_}
 use mathlib.Core.Path.{_≡_, refl, sym, _∙_, ap, ap₂, subst}
 use mathlib.Core.Bool.{Bool, true, false, _&&_}
 use mathlib.Core.List.{List, [], _∷_}
-use mathlib.Core.Logic.{_⊎_, inl, inr}
 use native.Mathlib.Omega.{arith}
 use lib.ListN.{length, getD, take, set, length-set}
 use lib.Seq.{ext-getD, getD-take, length-take-le, getD-set-same, getD-set-other}
 use lib.Dec.{eqb, ltb, leb}
 use borrow.Author.Tests.{ltb-true, ltb-false, leb-true, lt-ltb, le-ltb, eq-eqb, ne-eqb, eqb-true, eqb-false}
-use Rattle.task.specs.Lists.{all, padded}
+use Rattle.words.specs.Lists.{all, padded}
 use Rattle.task.specs.Task.{argsFit}
 use Rattle.task.specs.Table.{atomWords}
-use Rattle.task.proofs.Laws.{no-ft, all-in, in-getD}
-use Rattle.task.proofs.WordRows.{and-false}
-use Rattle.text.specs.ReadCode.{Standing, Listed, Fitting, PartsPut, Words, bareAtom}
-use Rattle.text.proofs.WordTests.{each-first, past-end}
+use Rattle.words.proofs.Lists.{no-ft, all-in, in-getD}
+use Rattle.words.proofs.Words.{and-false}
+use Rattle.text.specs.ReadCode.{Listed, Fitting, PartsPut, Words, bareAtom}
+use Rattle.words.proofs.Searches.{each-first, past-end}
 
 -- the numbers that were kept are the list, where there was room for all
 pub listed-take : {ns : List ℕ} {count : ℕ} {kept : List ℕ} → Listed ns count kept → count ≤ length kept →

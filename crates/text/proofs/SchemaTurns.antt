@@ -6,7 +6,7 @@ use mathlib.Core.Bool.{true}
 use mathlib.Core.List.{List}
 use native.Mathlib.Omega.{arith}
 use lib.ListN.{length, getD}
-use Rattle.task.specs.Lists.{sum}
+use Rattle.words.specs.Lists.{sum}
 use Rattle.task.specs.Run.{schemaAt}
 use Rattle.task.specs.Table.{atomBase, taskOf, isTable}
 use Rattle.task.proofs.Tables.{startOf, length-content, tableWords-is}

@@ -9,16 +9,16 @@ use native.Mathlib.Decide.{decLt}
 use lib.ListN.{length, getD, take}
 use lib.Dec.{leb}
 use borrow.Author.Tests.{leb-true}
-use Rattle.task.specs.Lists.{sum}
+use Rattle.words.specs.Lists.{sum}
 use Rattle.task.specs.Task.{Atom, Task, rolesAscend, schemaFits}
 use Rattle.task.specs.Run.{schemaAt}
 use Rattle.task.specs.Table.{arityIn, atomBase, atomIn, factIn, schemaNumberIn, taskOf, isTable}
-use Rattle.task.proofs.Laws.{and-left, and-right, In, here, there, all-in, in-getD}
+use Rattle.words.proofs.Lists.{and-left, and-right, In, here, there, all-in, in-getD}
 use Rattle.task.proofs.Tests.{schema-tests, task-tests}
 use Rattle.task.proofs.Tables.{Sized, noAtom, noFact, noSchema, counts, startOf, of-table, init-stands, goal-stands}
-use Rattle.task.proofs.TablesByIndex.{Frame, table-frame, table-long, arities-word, schemas-word, atoms-word}
-use Rattle.task.proofs.TablesByIndex.{init-word, goal-word, arity-at, atom-inside, start-suc, atom-at, schema-of-atom}
-use Rattle.task.proofs.TablesByIndex.{atom-lies, init-at, goal-at}
+use Rattle.task.proofs.TablesByIndex.{Frame, table-frame, table-long, arities-word, schemas-word, atoms-word, init-word}
+use Rattle.task.proofs.TablesByIndex.{goal-word, arity-at, atom-inside, start-suc, atom-at, schema-of-atom, atom-lies}
+use Rattle.task.proofs.TablesByIndex.{init-at, goal-at}
 use Rattle.text.specs.Code.{AtomInside, SchemaRun}
 
 -- "preconditions first, then adds, then deletes": no role of a schema's atom is above 2

@@ -7,17 +7,18 @@ use mathlib.Core.List.{List, [], _∷_, _++_, map, append-assoc, append-nil}
 use native.Mathlib.Omega.{arith}
 use lib.ListN.{length, getD}
 use lib.Dec.{eqb}
-use Rattle.task.specs.Lists.{filter, upTo, upFrom, concatMap}
+use Rattle.words.specs.Lists.{filter, upTo, upFrom, concatMap}
 use Rattle.task.specs.Task.{Atom, Fact, Schema, Task}
 use Rattle.task.specs.Run.{schemaAt}
-use Rattle.task.specs.Table.{wordsAt, atomBase, atomIn, factIn, schemaNumberIn, taskOf, isTable}
-use Rattle.task.proofs.Laws.{append-concatMap, upFrom-in}
-use Rattle.task.proofs.Tables.{startOf, upFrom-append, indices}
+use Rattle.words.specs.Words.{wordsAt}
+use Rattle.task.specs.Table.{atomBase, atomIn, factIn, schemaNumberIn, taskOf, isTable}
+use Rattle.words.proofs.Lists.{append-concatMap, upFrom-in, upFrom-append}
+use Rattle.task.proofs.Tables.{startOf, indices}
 use Rattle.task.proofs.TablesByIndex.{schemas-word}
 use Rattle.text.specs.Lines.{digits, commaed, entryBytes, line}
-use Rattle.text.specs.Text.{Key, Line, taskLine, objectsLine, schemaLine, endLine, arityLine, partLine}
-use Rattle.text.specs.Text.{atomLine, initLine, goalLine, keyName, keyOf, roleKey, writeLine, factEntry}
-use Rattle.text.specs.Text.{atomEntry, schemaLines, taskLines, write}
+use Rattle.text.specs.Text.{Key, Line, taskLine, objectsLine, schemaLine, endLine, arityLine, partLine, atomLine}
+use Rattle.text.specs.Text.{initLine, goalLine, keyName, keyOf, roleKey, writeLine, factEntry, atomEntry}
+use Rattle.text.specs.Text.{schemaLines, taskLines, write}
 use Rattle.text.specs.Code.{spaced, entryAt, atomKey, atomText, atomsText, schemaText, schemasText, headText}
 use Rattle.text.proofs.Onwards.{onwards, onwards-all}
 use Rattle.text.proofs.AtomLines.{spaced-words}

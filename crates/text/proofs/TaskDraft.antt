@@ -7,17 +7,16 @@ use mathlib.Core.List.{List, [], _∷_, _++_, append-assoc, append-nil}
 use native.Mathlib.Omega.{arith}
 use lib.ListN.{length}
 use lib.Dec.{leb}
-use Rattle.task.specs.Lists.{all, concatMap}
+use Rattle.words.specs.Lists.{all, concatMap}
 use Rattle.task.specs.Task.{Atom, Fact, Schema, Task, argsFit, distinct, rolesAscend, schemaAtoms}
-use Rattle.task.proofs.Laws.{In, here, there, append-concatMap, map-append}
+use Rattle.words.proofs.Lists.{In, here, there, append-concatMap, map-append}
 use Rattle.task.proofs.Tests.{TaskTests}
 use Rattle.text.specs.Reading.{goOn}
 use Rattle.text.specs.Text.{atomLine, atomEntry, Key, task, objects, arity, schema, pre, add, del, part, init}
-use Rattle.text.specs.Text.{goal, end, Line}
-use Rattle.text.specs.Text.{taskLine, objectsLine, schemaLine, endLine, arityLine, initLine, goalLine, factEntry}
-use Rattle.text.specs.Text.{schemaLines, taskLines, Phase, atTask, atObjects, atArity, between, inPre, inAdd}
-use Rattle.text.specs.Text.{inDel, inInit, inGoal, keysAt, rolePhase, Draft, TaskTurn, withSchemas, withInit}
-use Rattle.text.specs.Text.{withGoal}
+use Rattle.text.specs.Text.{goal, end, Line, taskLine, objectsLine, schemaLine, endLine, arityLine, initLine}
+use Rattle.text.specs.Text.{goalLine, factEntry, schemaLines, taskLines, Phase, atTask, atObjects, atArity}
+use Rattle.text.specs.Text.{between, inPre, inAdd, inDel, inInit, inGoal, keysAt, rolePhase, Draft, TaskTurn}
+use Rattle.text.specs.Text.{withSchemas, withInit, withGoal}
 use Rattle.text.proofs.Growing.{lastRole}
 use Rattle.text.proofs.TaskWritten.{initLines, goalLines, atomLines}
 

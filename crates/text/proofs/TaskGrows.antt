@@ -8,25 +8,23 @@ use native.Mathlib.Omega.{arith}
 use lib.ListN.{length, length-append, length-map}
 use lib.Dec.{eqb, ltb, leb}
 use borrow.Author.Tests.{ltb-true, eqb-true, lt-ltb, le-leb}
-use Rattle.task.specs.Lists.{all, any, sum}
+use Rattle.words.specs.Lists.{all, any, sum}
 use Rattle.task.specs.Task.{factsFit, Atom, Fact, Schema, Task, argsFit, sameAtom, distinct, rolesAscend, schemaFits}
-use Rattle.task.specs.Task.{allNamed}
-use Rattle.task.specs.Task.{noGap, schemaAtoms}
+use Rattle.task.specs.Task.{allNamed, noGap, schemaAtoms}
 use Rattle.task.proofs.Tests.{SchemaTests, tests-schema, TaskTests}
 use Rattle.text.specs.Lines.{Entry}
 use Rattle.text.specs.Reading.{goOn}
 use Rattle.text.specs.Text.{TaskTurn, Line, schemaLine, partLine, atomLine, initLine, goalLine, factEntry}
-use Rattle.text.specs.Text.{atomEntry}
-use Rattle.text.specs.Text.{schemaLines, Phase, between, inInit, inGoal, rolePhase, Draft, noSchema, atPhase}
-use Rattle.text.specs.Text.{withSchemas, withInit, withGoal, addAtom, withParts, closeSchema, follows, addFact}
+use Rattle.text.specs.Text.{atomEntry, schemaLines, Phase, between, inInit, inGoal, rolePhase, Draft, noSchema}
+use Rattle.text.specs.Text.{atPhase, withSchemas, withInit, withGoal, addAtom, withParts, closeSchema, follows}
+use Rattle.text.specs.Text.{addFact}
 use Rattle.text.proofs.Reading.{need-went}
 use Rattle.text.proofs.Growing.{all-snoc, more-room, more-facts, lastRole-snoc, roles-snoc, distinct-snoc}
-use Rattle.text.proofs.Parts.{bare, all-map, roles-bare, distinct-bare, allNamedIn, named-bare}
-use Rattle.text.proofs.Parts.{parts-are, parts-same, below-count}
+use Rattle.text.proofs.Parts.{bare, all-map, roles-bare, distinct-bare, allNamedIn, named-bare, parts-are}
+use Rattle.text.proofs.Parts.{parts-same, below-count}
 use Rattle.text.proofs.TaskWritten.{draft, atomLines, schemaAtoms-part}
 use Rattle.text.proofs.TaskDraft.{wholeOf, opened, soFar, whole-goal, whole-init, whole-schema, opened-atom}
-use Rattle.text.proofs.TaskDraft.{Open, Next, next}
-use Rattle.text.proofs.TaskDraft.{known-role, soFar-role}
+use Rattle.text.proofs.TaskDraft.{Open, Next, next, known-role, soFar-role}
 
 -- ---- initial and goal atoms
 abbrev pub factOf : Entry → Fact

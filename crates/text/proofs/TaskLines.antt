@@ -15,10 +15,10 @@ use Rattle.text.specs.Text.{initLine, goalLine, keyOf, bodyOf, writeLine
 use Rattle.text.specs.Text.{atArity, between, inPre, inAdd, inDel, inInit, inGoal, keysAt, Draft, nextLine}
 use Rattle.text.proofs.NumberLists.{Small, SmallEntry, numbers-written, listing-written, entry-written}
 use Rattle.text.proofs.NumberLists.{numbers-read, listing-read}
-use Rattle.text.proofs.Lines.{ended-written, ended-read, apart}
 use Rattle.text.proofs.Reading.{Exact}
 use Rattle.text.proofs.Bodies.{number-ends, BodyRead, line-made, number-line, entry-line, Allows, Bodies}
 use Rattle.text.proofs.Bodies.{lines-exact}
+use Rattle.text.proofs.KeyedLines.{ended-written, ended-read, apart}
 
 pub data Says : Key → Line → Type 0 where
   says-task : {n : ℕ} → n < 100000 → Says task (taskLine n)

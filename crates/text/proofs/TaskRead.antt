@@ -8,10 +8,10 @@ use native.Mathlib.Omega.{arith}
 use lib.ListN.{length}
 use lib.Dec.{eqb, ltb, leb}
 use borrow.Author.Tests.{ltb-true, leb-true, eqb-true, le-leb}
-use Rattle.task.specs.Lists.{all, any, concatMap, sum}
+use Rattle.words.specs.Lists.{all, any, concatMap, sum}
 use Rattle.task.specs.Task.{Atom, Fact, Schema, Task, argsFit, sameAtom, rolesAscend, distinct, factsFit, ascending}
 use Rattle.task.specs.Task.{allNamed, noGap, wellFormed, schemaAtoms}
-use Rattle.task.proofs.Laws.{and-left, and-right, In}
+use Rattle.words.proofs.Lists.{and-left, and-right, In}
 use Rattle.task.proofs.Tests.{TaskTests, tests-task}
 use Rattle.text.specs.Lines.{Entry}
 use Rattle.text.specs.Reading.{goOn, finish, need, read}

@@ -9,10 +9,10 @@ use native.Mathlib.Omega.{arith}
 use lib.ListN.{length, length-append, length-map}
 use lib.Dec.{ltb, leb}
 use borrow.Author.Tests.{ltb-true, leb-true, lt-ltb, eq-eqb}
-use Rattle.task.specs.Lists.{all, concatMap, sum}
+use Rattle.words.specs.Lists.{all, concatMap, sum}
 use Rattle.task.specs.Task.{Atom, Fact, Schema, Task, argsFit, distinct, rolesAscend, schemaFits, factsFit, ascending}
 use Rattle.task.specs.Task.{noGap, wellFormed, schemaAtoms}
-use Rattle.task.proofs.Laws.{and-both, In, here, there, in-right, all-in, sum-append, map-append}
+use Rattle.words.proofs.Lists.{and-both, In, here, there, in-right, all-in, sum-append, map-append}
 use Rattle.task.proofs.States.{argsFit-fitting}
 use Rattle.task.proofs.Tests.{SchemaTests, schema-tests, fits, fact-tests, TaskTests, task-tests}
 use Rattle.text.specs.Lines.{Entry}

@@ -1,6 +1,7 @@
 -- Bodies as the code reads them, step after step: a list that may be empty, an atom, and a body with its line's end.
+use Rattle.text.specs.declared.lists.List.{List as Listing}
 use Prim.Native.Nat.{ℕ, _≤_}
-use mathlib.Core.Path.{_≡_, refl, sym, _∙_, ap}
+use mathlib.Core.Path.{_≡_, refl, sym, _∙_, ap, subst}
 use mathlib.Core.Bool.{Bool, true, false}
 use mathlib.Core.List.{List, [], _∷_}
 use mathlib.Core.Option.{Option, none, some}
@@ -10,7 +11,7 @@ use borrow.Author.Tests.{ne-eqb, eqb-false}
 use Rattle.text.specs.declared.cursor.Cursor.{Cursor}
 use Rattle.text.specs.Lines.{newline, colon, Taken, taken, andThen, after, number, numbers, listing, Entry, entry}
 use Rattle.text.specs.Lines.{ended}
-use Rattle.text.specs.ReadCode.{whole, Placed, Moved, Onward, NextLine, WordHere, EndHere}
+use Rattle.text.specs.ReadCode.{whole, Placed, Moved, Onward, NextLine, WordHere, EndHere, ListPlaced, ListAt}
 use Rattle.text.proofs.Taken.{no-none, after-read, if-false}
 
 -- ---- a list that may be empty
@@ -119,6 +120,10 @@ module _ {text : List ℕ} {c next : Cursor} (p : Placed text c) where
       let l = m .line in
       record { inside = m .inside; line = omega arith }
 
+pub list-placed : {text : List ℕ} {c : Cursor} → Placed text c → (body : Option (Taken (List ℕ))) (kept : List ℕ)
+    {found : Listing} → ListAt text c body kept found → ListPlaced text found
+list-placed {text} {c} p body kept h count next e = onward-placed p (subst (ListAt text c body kept) e h .onward)
+
 -- further on, and then at the next line
 pub to-next : {text : List ℕ} {c d next : Cursor} → c .at ≤ d .at → d .line ≡ c .line → EndHere text d next →
     NextLine text c next
@@ -127,7 +132,8 @@ to-next a l e =
     let m = e .line in
     record { on = omega arith; inside = e .inside; line = omega arith }
 
-pub onward-both : {text : List ℕ} {c d e : Cursor} → c .at ≤ d .at → d .line ≡ c .line → Onward text d e → Onward text c e
+pub onward-both : {text : List ℕ} {c d e : Cursor} → c .at ≤ d .at → d .line ≡ c .line → Onward text d e →
+    Onward text c e
 onward-both a l o =
     let b = o .on in
     let m = o .line in

@@ -9,7 +9,7 @@ use lib.ListN.{length, getD, length-append}
 use lib.Dec.{leb}
 use borrow.Author.Tests.{le-leb}
 use Rattle.task.specs.declared.Place.the-variants as place
-use Rattle.task.specs.Lists.{over}
+use Rattle.words.specs.Lists.{over}
 use Rattle.task.specs.Limits.{tableWords}
 use Rattle.task.specs.Answers.{result, refused, refuseUnless, inOrder}
 use Rattle.task.specs.Table.{atomBase, taskOf, longEnough, isTable}

@@ -1,12 +1,12 @@
 -- What writing does by the first check that fails: refusals 1 and 2 leave all as found.
+use Rattle.task.specs.declared.Place.the-variants as place
 use Prim.Native.Nat.{ℕ}
 use mathlib.Core.Path.{_≡_, refl, _∙_}
 use mathlib.Core.Bool.{true, false}
 use mathlib.Core.List.{List, [], _∷_}
 use lib.ListN.{length}
 use lib.Dec.{leb}
-use Rattle.task.specs.declared.Place.the-variants as place
-use Rattle.task.specs.Lists.{over}
+use Rattle.words.specs.Lists.{over}
 use Rattle.task.specs.Answers.{result, Check, Outcome, refuseUnless, inOrder}
 use Rattle.task.specs.Table.{taskOf, longEnough, isTable}
 use Rattle.task.proofs.Answers.{asFound, check-passes, check-refuses}
@@ -17,7 +17,7 @@ module _ (w text : List ℕ) where
   abbrev written : List ℕ
   written = write (taskOf w)
 
-  abbrev done : Outcome
+  abbrev done : Outcome (List ℕ)
   done = record { told = result (length written ∷ []); buffer = over written text }
 
   abbrev roomCheck : List Check

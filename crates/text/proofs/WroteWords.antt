@@ -1,16 +1,15 @@
 -- Words written into a table, by index: a run grows by one word, what stands elsewhere stays, and a list that was
 -- written stands there. And comparisons and searches in a row of words, turn by turn.
-use Prim.Native.Nat.{ℕ, suc, _+_, _-_, _≤_, _<_}
+use Prim.Native.Nat.{ℕ, _+_, _-_, _≤_, _<_}
 use mathlib.Core.Path.{_≡_, refl, sym, _∙_, ap, subst}
 use mathlib.Core.Bool.{Bool, true, false}
-use mathlib.Core.List.{List, [], _∷_}
-use mathlib.Core.Logic.{_⊎_, inl, inr, ⊎-elim}
+use mathlib.Core.List.{List}
 use native.Mathlib.Omega.{arith}
 use lib.ListN.{length, getD, set, length-set}
 use lib.Seq.{getD-set-same, getD-set-other}
 use lib.Dec.{eqb}
 use borrow.Author.Tests.{eqb-true, eqb-false}
-use Rattle.task.proofs.Tables.{At}
+use Rattle.words.proofs.Words.{At}
 use Rattle.text.specs.ReadCode.{Wrote}
 
 pub wrote-none : (w : List ℕ) (at : ℕ) (f : ℕ → ℕ) → Wrote w at 0 f w

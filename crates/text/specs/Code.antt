@@ -3,16 +3,12 @@ use Prim.Native.Nat.{ℕ, zero, suc, _+_, _*_, _≤_, _<_}
 use mathlib.Core.Path.{_≡_}
 use mathlib.Core.List.{List, [], _∷_, _++_, map}
 use lib.ListN.{length, getD}
-use Rattle.task.specs.Lists.{upTo, concatMap, put}
+use Rattle.words.specs.Lists.{upTo, concatMap}
 use Rattle.task.specs.Limits.{headWords, atomSize, mostArity}
-use Rattle.task.specs.Table.{wordsAt, arityIn, taskOf}
+use Rattle.words.specs.Words.{wordsAt}
+use Rattle.task.specs.Table.{arityIn, taskOf}
 use Rattle.text.specs.Lines.{bytes, equals, Entry, digits, commaed, entryBytes, line}
 use Rattle.text.specs.Text.{Key, pre, add, del, init, goal, keyName, writeLine, schemaLines}
-
--- a text after bytes were put into it from a place on, and the place behind them
-pub record Puts (text : List ℕ) (at : ℕ) (bytes : List ℕ) (after : List ℕ) (next : ℕ) : Type 0 where
-  pub stored : after ≡ put text at bytes
-  pub place : next ≡ at + length bytes
 
 -- n words of a table, each `step` words behind the one before
 unfoldable pub spaced : List ℕ → ℕ → ℕ → ℕ → List ℕ

@@ -1,44 +1,49 @@
 -- How the code holds the draft of a task while it reads: counts beside the table, and the words that the table has so
 -- far. And what the code's turn at a line says of the definitions' turn.
+use Rattle.text.specs.declared.draft.Kind.the-variants as kind
+use Rattle.text.specs.declared.draft.Turn.the-variants as turn
+use Rattle.text.specs.declared.draft.Check.the-variants as check
 use Prim.Native.Nat.{ℕ, suc, _+_, _-_, _*_, _≤_, _<_}
 use mathlib.Core.Path.{_≡_}
 use mathlib.Core.Bool.{true}
 use mathlib.Core.List.{List, [], _∷_, _++_, map}
 use mathlib.Core.Option.{Option}
-use lib.ListN.{length, getD, drop}
+use lib.ListN.{length, getD}
 use lib.Dec.{ltb, leb}
-use Rattle.task.specs.Limits.{tableWords}
-use Rattle.task.specs.Lists.{all, concatMap}
-use Rattle.task.specs.Task.{Task, Fact, argsFit, schemaAtoms, initial, goalRole}
+use Rattle.task.specs.Limits.{tableWords, mostInitial, mostGoal, mostObjects, mostPredicates, mostSchemas}
+use Rattle.task.specs.Limits.{mostSchemaAtoms, mostArity, mostParameters, mostAtoms, mostParts, headWords, atomSize}
+use Rattle.words.specs.Lists.{all, concatMap}
+use Rattle.task.specs.Task.{Task, Fact, argsFit, schemaAtoms, initial, goalRole, deletion}
 use Rattle.task.specs.Table.{atomWords, factWords, schemasFrom}
 use Rattle.text.specs.declared.cursor.Cursor.{Cursor}
-use Rattle.text.specs.declared.counts.Counts.{Counts}
-use Rattle.text.specs.declared.counts.Turn.{Turn}
-use Rattle.text.specs.declared.counts.Turn.the-variants as turn
-use Rattle.text.specs.declared.counts.Check.{Check}
-use Rattle.text.specs.declared.counts.Check.the-variants as check
-use Rattle.text.specs.Lines.{Taken}
+use Rattle.text.specs.Lines.{Taken, Entry}
 use Rattle.text.specs.Reading.{Reading, goOn, refuse, refusedAt, atEnd, lineAt}
 use Rattle.text.specs.Text.{Line, between, Draft, rolePhase, noSchema, atPhase, withSchemas, withParts}
-use Rattle.text.specs.Text.{addAtom, closeSchema, addFact, takeLine}
-use Rattle.text.specs.ReadCode.{rest, Standing, Wrote, NextLine, phaseNumber, bareAtom}
+use Rattle.text.specs.Text.{closeSchema, takeLine, Key, init, goal, initLine, goalLine, Phase, inInit, inGoal}
+use Rattle.text.specs.Text.{withInit, withGoal, pre, roleKey, atTask, atArity, inPre, inDel}
+use Rattle.text.specs.ReadCode.{rest, Standing, NextLine, phaseNumber, bareAtom, keyNumber, mayStand}
+use Rattle.text.specs.declared.draft.Counts.{Counts}
+use Rattle.text.specs.declared.draft.Facts.{Facts}
+use Rattle.text.specs.declared.draft.Kind.{Kind}
+use Rattle.text.specs.declared.draft.Turn.{Turn}
+use Rattle.text.specs.declared.draft.Check.{Check}
 
 -- ---- counts
 -- the limits of document 01
 pub record Few (c : Counts) : Type 0 where
-  pub predicates : c .predicates ≤ 400
-  pub schemas : c .schemas ≤ 200
-  pub params : c .params ≤ 12
-  pub objects : c .objects ≤ 1000
-  pub atoms : c .atoms ≤ 64
-  pub total : c .closed + c .atoms ≤ 1000
-  pub initial : c .initial ≤ 500
-  pub goal : c .goal ≤ 100
+  pub predicates : c .predicates ≤ mostPredicates
+  pub schemas : c .schemas ≤ mostSchemas
+  pub params : c .params ≤ mostParameters
+  pub objects : c .objects ≤ mostObjects
+  pub atoms : c .atoms ≤ mostAtoms
+  pub total : c .closed + c .atoms ≤ mostSchemaAtoms
+  pub initial : c .initial ≤ mostInitial
+  pub goal : c .goal ≤ mostGoal
 
 -- nothing is read yet
 abbrev pub noCounts : Counts
 noCounts = record {
-  phase = 0;
+  phase = phaseNumber atTask;
   objects = 0;
   predicates = 0;
   schemas = 0;
@@ -49,9 +54,16 @@ noCounts = record {
   goal = 0;
 }
 
--- where the next atom's row comes
+-- where the rows of the atoms begin: behind the counts, room for all parameter counts that may come, and the arities
+abbrev pub rowsAt : ℕ → ℕ
+rowsAt predicates = headWords + mostSchemas + predicates
+
+-- where the rows of the schema that is being read begin, and where the next atom's row comes
+abbrev pub firstRow : Counts → ℕ
+firstRow c = rowsAt (c .predicates) + atomSize * c .closed
+
 abbrev pub rowAt : Counts → ℕ
-rowAt c = 206 + c .predicates + 8 * (((c .closed + c .atoms) + c .initial) + c .goal)
+rowAt c = rowsAt (c .predicates) + atomSize * (((c .closed + c .atoms) + c .initial) + c .goal)
 
 -- ---- a draft in counts and words
 -- the words of the atoms that are read
@@ -64,13 +76,13 @@ rowsOf d =
 
 -- "Fixed order": what cannot have come yet, by the number of the place in the order
 pub record Order (d : Draft) (phase : ℕ) : Type 0 where
-  pub no-arity : phase < 3 → d .task .arities ≡ []
-  pub no-schema : phase < 3 → d .task .schemas ≡ []
-  pub not-open : phase < 3 → d .current ≡ noSchema
-  pub closed : 6 < phase → d .current ≡ noSchema
-  pub no-init : phase < 8 → d .task .init ≡ []
-  pub no-goal : phase < 9 → d .task .goal ≡ []
-  pub room : 2 < phase → phase < 7 → length (d .task .schemas) < 200
+  pub no-arity : phase ≤ phaseNumber atArity → d .task .arities ≡ []
+  pub no-schema : phase ≤ phaseNumber atArity → d .task .schemas ≡ []
+  pub not-open : phase ≤ phaseNumber atArity → d .current ≡ noSchema
+  pub closed : phaseNumber between ≤ phase → d .current ≡ noSchema
+  pub no-init : phase ≤ phaseNumber between → d .task .init ≡ []
+  pub no-goal : phase ≤ phaseNumber inInit → d .task .goal ≡ []
+  pub room : phaseNumber inPre ≤ phase → phase ≤ phaseNumber inDel → length (d .task .schemas) < mostSchemas
 
 pub record Holds (d : Draft) (w : List ℕ) (c : Counts) : Type 0 where
   pub phase : c .phase ≡ phaseNumber (d .phase)
@@ -84,15 +96,15 @@ pub record Holds (d : Draft) (w : List ℕ) (c : Counts) : Type 0 where
   pub goal : c .goal ≡ length (d .task .goal)
   pub few : Few c
   pub order : Order d (c .phase)
-  pub low : all (λ n. leb n 4) (d .task .arities) ≡ true
+  pub low : all (λ n. leb n mostArity) (d .task .arities) ≡ true
   pub fit : all (λ a. argsFit (d .task .arities) (d .current .params) (a .pred) (a .args)) (d .current .atoms) ≡ true
   pub init-fit : all (λ f. argsFit (d .task .arities) (d .task .objects) (f .pred) (f .args)) (d .task .init) ≡ true
   pub goal-fit : all (λ f. argsFit (d .task .arities) (d .task .objects) (f .pred) (f .args)) (d .task .goal) ≡ true
   pub long : tableWords ≤ length w
-  pub arities-stand : Standing w 6 (d .task .arities)
-  pub params-stand : Standing w (6 + length (d .task .arities)) (map (λ s. s .params) (d .task .schemas))
-  pub rows-stand : Standing w (206 + length (d .task .arities)) (rowsOf d)
-  pub rows-length : length (rowsOf d) ≡ 8 * (((c .closed + c .atoms) + c .initial) + c .goal)
+  pub arities-stand : Standing w headWords (d .task .arities)
+  pub params-stand : Standing w (headWords + length (d .task .arities)) (map (λ s. s .params) (d .task .schemas))
+  pub rows-stand : Standing w (rowsAt (length (d .task .arities))) (rowsOf d)
+  pub rows-length : length (rowsOf d) ≡ atomSize * (((c .closed + c .atoms) + c .initial) + c .goal)
 
 -- some draft is held so
 pub record Drafted (w : List ℕ) (c : Counts) : Type 0 where
@@ -105,6 +117,10 @@ pub record Touched (w after : List ℕ) : Type 0 where
   pub beyond : (j : ℕ) → tableWords ≤ j → getD after j 0 ≡ getD w j 0
 
 -- ---- turns
+-- the fixed order allows a line with this key here
+abbrev pub Allows : Counts → Key → Type 0
+Allows c k = mayStand (c .phase) (keyNumber k) ≡ true
+
 abbrev pub Next : Type 0
 Next = Draft → List ℕ → Reading Task
 
@@ -124,7 +140,7 @@ pub record GoesOn (text : List ℕ) (from : Cursor) (d : Draft) (l : Option (Tak
 pub record Finishes (text : List ℕ) (from : Cursor) (d : Draft) (l : Option (Taken Line)) (at : Cursor) : Type 0 where
   pub is : (n : ℕ) (next : Next) → lineAt n (takeLine d) l next ≡ atEnd (d .task) (suc n) (rest text at)
   pub line : NextLine text from at
-  pub closed : 7 ≤ phaseNumber (d .phase)
+  pub closed : phaseNumber between ≤ phaseNumber (d .phase)
 
 -- what the code does at a line whose body begins at a cursor, with the words before it and after it
 abbrev pub Turned : List ℕ → Cursor → Draft → Option (Taken Line) → List ℕ → Turn → List ℕ → Type 0
@@ -132,12 +148,30 @@ Turned text from d l w (turn.GoOn read at) after = GoesOn text from d l after re
 Turned text from d l w (turn.Finish at) after = Finishes text from d l at × (after ≡ w)
 Turned text from d l w (turn.Refuse k) after = Refuses d l k
 
+-- the turn at a line with this body: it is taken by every draft that the code may hold
+abbrev pub Takes : (List ℕ → Option (Taken Line)) → List ℕ → Cursor → Counts → List ℕ → Turn → List ℕ → Type 0
+Takes body text from c w r after = (d : Draft) → Holds d w c → Turned text from d (body (rest text from)) w r after
+
+-- a line whose check passes, and the draft that it leaves, which the code holds again
+pub record Grows (d : Draft) (l : Line) (read : Counts) (after : List ℕ) : Type 0 where
+  pub draft : Draft
+  pub is : takeLine d l ≡ goOn draft
+  pub holds : Holds draft after read
+
+-- what the code's check of a line says, with the counts and the words behind it
+abbrev pub Checked : Draft → Line → Counts → Check → List ℕ → Type 0
+Checked d l read check.Passes after = Grows d l read after
+Checked d l read (check.Refuses k) after = takeLine d l ≡ refuse k
+
+-- "An atom is predicate, colon, arguments"
+abbrev pub entryOf : ℕ → List ℕ → Entry
+entryOf p args = record { head = p; list = args }
+
 -- ---- atoms
--- inside a schema, where an atom of a role may come
+-- an atom of a role may come, one of the schema that is being read
 pub record InSchema (c : Counts) (role : ℕ) : Type 0 where
-  pub opened : 3 ≤ c .phase
-  pub before : c .phase ≤ 3 + role
-  pub known : role ≤ 2
+  pub known : role ≤ deletion
+  pub allowed : Allows c (roleKey role)
 
 -- the draft and the counts with one atom more
 unfoldable pub withAtom : Draft → ℕ → ℕ → List ℕ → Draft
@@ -149,7 +183,7 @@ withAtom d r p args = record {
 
 abbrev pub oneAtomMore : Counts → ℕ → Counts
 oneAtomMore c r = record {
-  phase = 3 + r;
+  phase = keyNumber pre + r;
   objects = c .objects;
   predicates = c .predicates;
   schemas = c .schemas;
@@ -160,37 +194,47 @@ oneAtomMore c r = record {
   goal = c .goal;
 }
 
--- an atom was added, or refused
-abbrev pub AtomTurn : Draft → Counts → ℕ → ℕ → List ℕ → Check → List ℕ → Type 0
-AtomTurn d c r p args check.Passes after =
-    (addAtom d r (record { head = p; list = args }) ≡ goOn (withAtom d r p args)) ×
-    Holds (withAtom d r p args) after (oneAtomMore c r)
-AtomTurn d c r p args (check.Refuses k) after = addAtom d r (record { head = p; list = args }) ≡ refuse k
-
 -- ---- facts
--- where a fact of a kind may come, behind `read` of them
-pub record FactPlace (c : Counts) (role read most : ℕ) : Type 0 where
-  pub known : role ≤ 4
-  pub few : read < most → c .initial + c .goal < 600
-  pub counted : read ≤ c .initial + c .goal
+-- the key of a kind of ground atoms, its line, and the atoms of the kind in a task
+abbrev pub factKey : Kind → Key
+factKey kind.Initial = init
+factKey kind.Goal = goal
 
--- the facts of a kind that are read, the last ones in the table
-pub record FactsRead (d : Draft) (w : List ℕ) (c : Counts) (role read : ℕ) (fs : List Fact) : Type 0 where
-  pub count : read ≡ length fs
-  pub fit : all (λ f. argsFit (d .task .arities) (d .task .objects) (f .pred) (f .args)) fs ≡ true
-  pub stand : Standing w (206 + c .predicates + 8 * (((c .closed + c .atoms) + c .initial) + c .goal - read))
-      (concatMap (factWords role) fs)
+abbrev pub factLine : Kind → Entry → Line
+factLine kind.Initial e = initLine e
+factLine kind.Goal e = goalLine e
 
--- a fact was added behind those of its kind, or refused
-abbrev pub FactTurn : Draft → List Fact → Counts → List ℕ → ℕ → ℕ → ℕ → List ℕ → Check → List ℕ → Type 0
-FactTurn d fs c w role most p args check.Passes after =
-    ((grown : List Fact → Draft) → addFact (d .task) most fs (record { head = p; list = args }) grown ≡
-    goOn (grown (fs ++ (record { pred = p; args = args } ∷ [])))) ×
-    (argsFit (d .task .arities) (d .task .objects) p args ≡ true) ×
-    Wrote w (rowAt c) 8 (λ k. getD (factWords role (record { pred = p; args = args })) k 0) after ×
-    (length fs < most)
-FactTurn d fs c w role most p args (check.Refuses k) after =
-    (grown : List Fact → Draft) → addFact (d .task) most fs (record { head = p; list = args }) grown ≡ refuse k
+abbrev pub factsOf : Kind → Task → List Fact
+factsOf kind.Initial t = t .init
+factsOf kind.Goal t = t .goal
+
+-- the draft behind a line of a kind, with these atoms of the kind
+abbrev pub withFacts : Kind → Draft → List Fact → Draft
+withFacts kind.Initial d fs = atPhase inInit (withInit (d .task) fs)
+withFacts kind.Goal d fs = atPhase inGoal (withGoal (d .task) fs)
+
+-- "role (.. 3 initial, 4 goal)", "initial atoms (at most 500), goal atoms (at most 100)"
+abbrev pub soFar : Counts → Kind → Facts
+soFar c kind.Initial = record { role = initial; read = c .initial; most = mostInitial }
+soFar c kind.Goal = record { role = goalRole; read = c .goal; most = mostGoal }
+
+-- the counts behind a line, with so many of either kind
+abbrev pub withCounted : Counts → Phase → ℕ → ℕ → Counts
+withCounted c p inits goals = record {
+  phase = phaseNumber p;
+  objects = c .objects;
+  predicates = c .predicates;
+  schemas = c .schemas;
+  params = c .params;
+  closed = c .closed;
+  atoms = c .atoms;
+  initial = inits;
+  goal = goals;
+}
+
+abbrev pub oneFactMore : Counts → Kind → Counts
+oneFactMore c kind.Initial = withCounted c inInit (c .initial + 1) (c .goal)
+oneFactMore c kind.Goal = withCounted c inGoal (c .initial) (c .goal + 1)
 
 -- ---- parts
 -- the draft whose current schema is closed with its parts
@@ -204,5 +248,5 @@ abbrev pub PartsTurn : Draft → List ℕ → Check → Type 0
 PartsTurn d ps check.Passes =
     (closeSchema d ps ≡ goOn (withClosed d ps)) ×
     (length ps ≡ length (d .current .atoms)) ×
-    (all (λ p. ltb p 16) ps ≡ true)
+    (all (λ p. ltb p mostParts) ps ≡ true)
 PartsTurn d ps (check.Refuses k) = closeSchema d ps ≡ refuse k

@@ -4,7 +4,7 @@ use Prim.Native.String.{String}
 use mathlib.Core.List.{List, [], _∷_, _++_, map}
 use lib.ListN.{length}
 use lib.Dec.{eqb, ltb}
-use Rattle.task.specs.Lists.{concatMap}
+use Rattle.words.specs.Lists.{concatMap}
 use Rattle.task.specs.Limits.{stepSize}
 use Rattle.task.specs.Task.{Task}
 use Rattle.task.specs.Run.{Step, isStep}

@@ -1,5 +1,6 @@
 -- What the code of a plan's text promises, by the definitions of `Plan`: the turn at a line with the words of the steps
 -- before it and after it, and a step's line by its words.
+use Rattle.text.specs.declared.plan.PlanTurn.the-variants as turn
 use Prim.Native.Nat.{ℕ, suc, _+_, _*_, _<_}
 use mathlib.Core.Path.{_≡_}
 use mathlib.Core.Bool.{true}
@@ -10,13 +11,12 @@ use Rattle.task.specs.Task.{Task}
 use Rattle.task.specs.Run.{Step, isStep, stepWords}
 use Rattle.text.specs.declared.cursor.Cursor.{Cursor}
 use Rattle.text.specs.declared.plan.PlanTurn.{PlanTurn}
-use Rattle.text.specs.declared.plan.PlanTurn.the-variants as turn
-use Rattle.text.specs.Lines.{Taken, colon, newline, digits, commaed}
-use Rattle.text.specs.Lines.{bytes, equals}
+use Rattle.text.specs.Lines.{Taken, colon, newline, digits, commaed, bytes, equals}
 use Rattle.text.specs.Reading.{Reading, refusedAt, atEnd, lineAt}
-use Rattle.text.specs.Plan.{PlanLine, step, planKeyName, takePlanLine}
+use Rattle.text.specs.Plan.{PlanLine, step, planKeyName, takePlanLine, mostPlanSteps}
 use Rattle.text.specs.Code.{spaced}
 use Rattle.text.specs.ReadCode.{rest, Wrote, NextLine}
+use Rattle.task.specs.Limits.{stepSize}
 
 -- a step as it is read: "schema, colon, objects"
 abbrev pub stepOf : ℕ → List ℕ → Step
@@ -40,9 +40,9 @@ module _ (t : Task) (text : List ℕ) (from : Cursor) (xs : List Step) (l : Opti
   pub record PlanGoesOn (at : Cursor) (w after : List ℕ) : Type 0 where
     pub last : Step
     pub is-step : isStep t last ≡ true
-    pub room : length xs < 100
+    pub room : length xs < mostPlanSteps
     pub is : (n : ℕ) (next : PlanNext) → lineAt n (takePlanLine t xs) l next ≡ next (xs ++ (last ∷ [])) (rest text at)
-    pub put : Wrote w (13 * length xs) 13 (λ k. getD (stepWords last) k 0) after
+    pub put : Wrote w (stepSize * length xs) stepSize (λ k. getD (stepWords last) k 0) after
     pub line : NextLine text from at
 
 -- what the code does at a line behind the steps xs, with the words before it and after it

@@ -1,5 +1,13 @@
 -- What the inner functions of the reader answer, by the readers of `Lines` at a cursor: a cursor at an offset `at` of a
 -- text has `drop at text` before it.
+use Rattle.text.specs.declared.lists.Atom.{Atom as AtomRead}
+use Rattle.text.specs.declared.lists.List.{List as Listing}
+use Rattle.text.specs.declared.cursor.Digit.the-variants as digit
+use Rattle.text.specs.declared.cursor.Number.the-variants as found
+use Rattle.text.specs.declared.cursor.Behind.the-variants as behind
+use Rattle.text.specs.declared.lists.List.the-variants as list
+use Rattle.text.specs.declared.lists.Atom.the-variants as atomRead
+use Rattle.text.specs.declared.keys.Keyed.the-variants as keyed
 use Prim.Native.Nat.{ℕ, suc, _+_, _*_, _≤_, _<_, max}
 use mathlib.Core.Path.{_≡_}
 use mathlib.Core.Bool.{Bool, true, cond, _&&_}
@@ -7,26 +15,18 @@ use mathlib.Core.List.{List, [], _∷_, _++_}
 use mathlib.Core.Option.{Option, none, some}
 use lib.ListN.{length, getD, drop}
 use lib.Dec.{eqb, ltb, leb}
-use Rattle.task.specs.Lists.{all, any, upTo, eqList}
+use Rattle.words.specs.Lists.{all, any, upTo, eqList}
 use Rattle.task.specs.Task.{Atom, argsFit}
-use Rattle.task.specs.Table.{wordsAt}
+use Rattle.words.specs.Words.{wordsAt, wordBound}
 use Rattle.text.specs.declared.cursor.Cursor.{Cursor}
 use Rattle.text.specs.declared.cursor.Digit.{Digit}
-use Rattle.text.specs.declared.cursor.Digit.the-variants as digit
 use Rattle.text.specs.declared.cursor.Number.{Number}
-use Rattle.text.specs.declared.cursor.Number.the-variants as found
 use Rattle.text.specs.declared.cursor.Behind.{Behind}
-use Rattle.text.specs.declared.cursor.Behind.the-variants as behind
-use Rattle.text.specs.declared.lists.List.{List as Listing}
-use Rattle.text.specs.declared.lists.List.the-variants as list
-use Rattle.text.specs.declared.lists.Atom.{Atom as AtomRead}
-use Rattle.text.specs.declared.lists.Atom.the-variants as atomRead
 use Rattle.text.specs.declared.keys.Keyed.{Keyed}
-use Rattle.text.specs.declared.keys.Keyed.the-variants as keyed
-use Rattle.text.specs.Lines.{bytes, equals}
+use Rattle.text.specs.Lines.{bytes, equals, newline, leadingDigits, Taken, taken, after, number, entry, ended}
 use Rattle.text.specs.Text.{Key, task, objects, arity, schema, pre, add, del, part, init, goal, end, keyName}
 use Rattle.text.specs.Text.{Phase, atTask, atObjects, atArity, between, inPre, inAdd, inDel, inInit, inGoal}
-use Rattle.text.specs.Lines.{newline, leadingDigits, Taken, taken, after, number, Entry, entry, ended}
+use Rattle.task.specs.Limits.{mostArity, headWords, atomSize}
 
 -- what remains of a text at a cursor
 abbrev pub rest : List ℕ → Cursor → List ℕ
@@ -57,9 +57,13 @@ abbrev pub DigitAt : List ℕ → Cursor → Digit → Type 0
 DigitAt text c (digit.Of d next) = DigitHere text c d next
 DigitAt text c digit.Missing = leadingDigits (rest text c) ≡ []
 
+-- "Numbers have 1 to 5 digits": each is below
+abbrev pub numberLimit : ℕ
+numberLimit = 100000
+
 pub record NumberHere (text : List ℕ) (c : Cursor) (n : ℕ) (next : Cursor) : Type 0 where
   pub is : number (rest text c) ≡ taken n (rest text next)
-  pub small : n < 100000
+  pub small : n < numberLimit
   pub moved : Moved text c next
 
 abbrev pub NumberAt : List ℕ → Cursor → Number → Type 0
@@ -118,6 +122,10 @@ abbrev pub ListAt : List ℕ → Cursor → Option (Taken (List ℕ)) → List �
 ListAt text c found kept (list.Of count next) = ListHere text c found count kept next
 ListAt text c found kept list.Missing = found ≡ none
 
+-- the cursor behind a list lies in the text
+abbrev pub ListPlaced : List ℕ → Listing → Type 0
+ListPlaced text found = (count : ℕ) (next : Cursor) → found ≡ list.Of count next → Placed text next
+
 pub record EntryHere (text : List ℕ) (c : Cursor) (head count : ℕ) (kept : List ℕ) (next : Cursor) : Type 0 where
   pub ns : List ℕ
   pub is : entry (rest text c) ≡ taken (record { head = head; list = ns }) (rest text next)
@@ -134,7 +142,7 @@ whole {A} o = ended {A = A} {L = A} (λ a. a) o
 
 pub record NumberLine (text : List ℕ) (c : Cursor) (n : ℕ) (next : Cursor) : Type 0 where
   pub is : whole (number (rest text c)) ≡ taken n (rest text next)
-  pub small : n < 100000
+  pub small : n < numberLimit
   pub line : NextLine text c next
 
 abbrev pub NumberLineAt : List ℕ → Cursor → Number → Type 0
@@ -168,7 +176,7 @@ abbrev pub keyBytes : Key → List ℕ
 keyBytes k = bytes (keyName k) ++ (equals ∷ [])
 
 -- keys that may stand at one place of the fixed order have numbers that follow one another
-unfoldable pub keyNumber : Key → ℕ
+abbrev pub keyNumber : Key → ℕ
 keyNumber task = 0
 keyNumber objects = 1
 keyNumber arity = 2
@@ -182,7 +190,7 @@ keyNumber goal = 9
 keyNumber end = 10
 
 -- a place in the order has the number of the first key that it allows
-unfoldable pub phaseNumber : Phase → ℕ
+abbrev pub phaseNumber : Phase → ℕ
 phaseNumber atTask = 0
 phaseNumber atObjects = 1
 phaseNumber atArity = 2
@@ -193,8 +201,15 @@ phaseNumber between = 7
 phaseNumber inInit = 8
 phaseNumber inGoal = 9
 
+-- the last key that a place allows, by their numbers
 unfoldable pub lastKey : ℕ → ℕ
-lastKey phase = cond (ltb phase 3) phase (cond (ltb phase 7) 6 10)
+lastKey phase =
+    cond (ltb phase (phaseNumber inPre)) phase
+    (cond (ltb phase (phaseNumber between)) (keyNumber part) (keyNumber end))
+
+-- whether the order allows a key at a place, by their numbers
+abbrev pub mayStand : ℕ → ℕ → Bool
+mayStand phase key = leb phase key && leb key (lastKey phase)
 
 pub record KeyHere (text : List ℕ) (c : Cursor) (number : ℕ) (body : Cursor) : Type 0 where
   pub key : Key
@@ -232,7 +247,7 @@ pub record Wrote (w : List ℕ) (at n : ℕ) (f : ℕ → ℕ) (after : List ℕ
 -- the first n of some numbers are words
 pub record Words (n : ℕ) (xs : List ℕ) : Type 0 where
   pub enough : n ≤ length xs
-  pub small : (k : ℕ) → k < n → getD xs k 0 < 65536
+  pub small : (k : ℕ) → k < n → getD xs k 0 < wordBound
 
 -- one more than the highest number, 0 for none
 unfoldable pub oneAbove : List ℕ → ℕ
@@ -250,22 +265,24 @@ abbrev pub bareAtom : ℕ → ℕ → List ℕ → Atom
 bareAtom r p args = record { role = r; pred = p; part = 0; args = args }
 
 -- whether an atom's predicate and arguments fit, told of the numbers that were kept of its arguments
-pub record Fitting (w : List ℕ) (predicates bound predicate : ℕ) (kept : List ℕ) (count : ℕ) (told : Bool) : Type 0 where
-  pub is : (arities ns : List ℕ) → length arities ≡ predicates → Standing w 6 arities →
-      all (λ n. leb n 4) arities ≡ true → length kept ≡ 4 → Listed ns count kept → told ≡ argsFit arities bound predicate ns
+pub record Fitting (w : List ℕ) (predicates bound predicate : ℕ) (kept : List ℕ) (count : ℕ) (told : Bool) :
+    Type 0 where
+  pub is : (arities ns : List ℕ) → length arities ≡ predicates → Standing w headWords arities →
+      all (λ n. leb n mostArity) arities ≡ true → length kept ≡ mostArity → Listed ns count kept →
+      told ≡ argsFit arities bound predicate ns
   pub known : told ≡ true → predicate < predicates
   pub enough : told ≡ true → count ≤ length kept
   pub low : told ≡ true → (k : ℕ) → k < count → getD kept k 0 < bound
 
 -- a row whose predicate has at most four arguments
 pub record RowIn (w : List ℕ) (row : ℕ) : Type 0 where
-  pub inside : row + 8 ≤ length w
-  pub known : 6 + getD w (row + 2) 0 < length w
-  pub few : getD w (6 + getD w (row + 2) 0) 0 ≤ 4
+  pub inside : row + atomSize ≤ length w
+  pub known : headWords + getD w (row + 2) 0 < length w
+  pub few : getD w (headWords + getD w (row + 2) 0) 0 ≤ mostArity
 
 unfoldable pub rowNames : List ℕ → ℕ → ℕ → Bool
 unfolding any wordsAt
-rowNames w row x = any (λ y. eqb x y) (wordsAt w (row + 4) (getD w (6 + getD w (row + 2) 0) 0))
+rowNames w row x = any (λ y. eqb x y) (wordsAt w (row + 4) (getD w (headWords + getD w (row + 2) 0) 0))
 
 unfoldable pub rowSame : List ℕ → ℕ → ℕ → Bool
 unfolding eqList wordsAt
@@ -275,5 +292,5 @@ rowSame w a b =
 -- the part words of n rows were written, and no other word
 pub record PartsPut (w : List ℕ) (first n : ℕ) (parts after : List ℕ) : Type 0 where
   pub size : length after ≡ length w
-  pub put : (k : ℕ) → k < n → getD after (first + 8 * k + 3) 0 ≡ getD parts k 0
-  pub other : (j : ℕ) → ((k : ℕ) → k < n → j ≡ first + 8 * k + 3 → ⊥) → getD after j 0 ≡ getD w j 0
+  pub put : (k : ℕ) → k < n → getD after (first + atomSize * k + 3) 0 ≡ getD parts k 0
+  pub other : (j : ℕ) → ((k : ℕ) → k < n → j ≡ first + atomSize * k + 3 → ⊥) → getD after j 0 ≡ getD w j 0

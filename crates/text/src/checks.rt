@@ -4,8 +4,9 @@ ghost use mathlib.Core.Bool.{true};
 ghost use Prim.Native.Nat.{_+_, _≤_, _<_};
 ghost use lib.ListN.{length, getD, take};
 ghost use lib.Dec.{eqb, ltb};
-ghost use Rattle.task.specs.Lists.{all, any};
+ghost use Rattle.words.specs.Lists.{all, any};
 ghost use Rattle.text.specs.ReadCode.{oneAbove, noGapIn};
+ghost use Rattle.task.specs.Limits.{mostParts};
 
 // Number k of a list of n, and 0 behind its end.
 pub fn number_or_zero(list: &[u32], n: usize, k: usize) -> u32
@@ -47,7 +48,7 @@ pub fn has_number(list: &[u32], n: usize, number: u32) -> bool
 // One more than the highest of the first n numbers, 0 for none.
 pub fn one_above(list: &[u32], n: usize) -> u32
     requires { ⌜ n ≤ length (now list) ⌝ }
-    requires { ⌜ all (λ a. ltb a 16) (take n (now list)) ≡ true ⌝ }
+    requires { ⌜ all (λ a. ltb a mostParts) (take n (now list)) ≡ true ⌝ }
     ensures { λ r. ⌜ r ≡ oneAbove (take n (now (list .entry))) ⌝ }
 {
     let mut above: u32 = 0;
@@ -63,7 +64,7 @@ pub fn one_above(list: &[u32], n: usize) -> u32
 // "numbered without a gap": each number below the highest of the first n stands among them.
 pub fn without_gap(list: &[u32], n: usize) -> bool
     requires { ⌜ n ≤ length (now list) ⌝ }
-    requires { ⌜ all (λ a. ltb a 16) (take n (now list)) ≡ true ⌝ }
+    requires { ⌜ all (λ a. ltb a mostParts) (take n (now list)) ≡ true ⌝ }
     ensures { λ r. ⌜ r ≡ noGapIn (take n (now (list .entry))) ⌝ }
 {
     let above = one_above(list, n);

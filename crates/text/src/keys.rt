@@ -1,11 +1,10 @@
-// "Each line is a key, =, a body and byte 10. Fixed order": which key stands at a cursor, and whether the order allows it.
-// Keys are numbered so that those of a place in the order follow one another, and a place bears the number of its first.
+// "Each line is a key, =, a body and byte 10. Fixed order": which key stands at a cursor, and whether the order allows
+// it. Keys are numbered so that those of a place in the order follow one another, and a place bears the number of its
+// first.
 use crate::cursor::Behind;
 use crate::cursor::Cursor;
 ghost use mathlib.Core.Path.{_≡_};
-ghost use mathlib.Core.Bool.{_&&_};
-ghost use lib.Dec.{leb};
-ghost use Rattle.text.specs.ReadCode.{Placed, KeyAt, OnceKeyAt, lastKey};
+ghost use Rattle.text.specs.ReadCode.{Placed, KeyAt, OnceKeyAt, lastKey, mayStand};
 
 pub const TASK: u16 = 0;
 
@@ -99,7 +98,7 @@ fn last_key(phase: u16) -> u16
 
 // Whether the order allows a key at a place.
 pub fn allowed(phase: u16, key: u16) -> bool
-    ensures { λ r. ⌜ r ≡ (leb phase key && leb key (lastKey phase)) ⌝ }
+    ensures { λ r. ⌜ r ≡ mayStand phase key ⌝ }
 {
     if key < phase {
         return false;

@@ -1,12 +1,16 @@
-// Bodies of lines at a cursor: a number, a list, or "predicate, colon, arguments", with the line's end behind it. A list
-// goes into lent numbers as far as they reach, and is counted to its end.
+// Bodies of lines at a cursor: a number, a list, or "predicate, colon, arguments", with the line's end behind it. A
+// list goes into lent numbers as far as they reach, and is counted to its end.
 use crate::cursor::Behind;
 use crate::cursor::Cursor;
 use crate::cursor::Number;
+ghost use mathlib.Core.List.{List as Many};
 ghost use mathlib.Core.Path.{_≡_};
 ghost use lib.ListN.{set};
-ghost use Rattle.text.specs.Lines.{numbers as numberList, listing as anyList};
+ghost use Rattle.text.specs.Lines.{numbers as numberList, listing as anyList, Taken};
 ghost use Rattle.text.specs.ReadCode.{rest, Placed, ListAt, ListLineAt, EntryAt, EntryLineAt, NumberLineAt};
+ghost use Rattle.text.specs.ReadCode.{ListPlaced};
+ghost use mathlib.Core.Option.{Option};
+ghost use Prim.Native.Nat.{ℕ};
 
 // How many numbers a list has, and the cursor behind it.
 pub enum List {
@@ -32,7 +36,9 @@ fn keep(list: &mut [u32], at: usize, n: u32)
 // One number or more, "commas between".
 pub fn numbers(text: &[u8], from: Cursor, list: &mut [u32]) -> List
     requires { ⌜ Placed (now text) from ⌝ }
-    ensures { λ r. ⌜ ListAt (now (text .entry)) from (numberList (rest (now (text .entry)) from)) (now (list .exit)) r ⌝ }
+    ensures { λ r. do
+      let bs = now (text .entry)
+      ⌜ ListAt bs from (numberList (rest bs from)) (now (list .exit)) r ⌝ }
 {
     let mut here = from;
     let mut count: usize = 0;
@@ -52,7 +58,9 @@ pub fn numbers(text: &[u8], from: Cursor, list: &mut [u32]) -> List
 // "Argument and part lists may be empty in form": then the line ends where the list would begin.
 pub fn listing(text: &[u8], from: Cursor, list: &mut [u32]) -> List
     requires { ⌜ Placed (now text) from ⌝ }
-    ensures { λ r. ⌜ ListAt (now (text .entry)) from (anyList (rest (now (text .entry)) from)) (now (list .exit)) r ⌝ }
+    ensures { λ r. do
+      let bs = now (text .entry)
+      ⌜ ListAt bs from (anyList (rest bs from)) (now (list .exit)) r ⌝ }
 {
     let Behind::At(_) = from.word(text, b"\n") else {
         return numbers(text, from, list);
@@ -91,26 +99,15 @@ pub fn number_line(text: &[u8], from: Cursor) -> Number
     Number::Of(n, next)
 }
 
-// A line whose body is a list of one number or more.
-pub fn numbers_line(text: &[u8], from: Cursor, list: &mut [u32]) -> List
-    requires { ⌜ Placed (now text) from ⌝ }
-    ensures { λ r. ⌜ ListLineAt (now (text .entry)) from (numberList (rest (now (text .entry)) from)) (now (list .exit)) r ⌝ }
+// A line whose body is a list, of one number or more or one that may be empty, as it was found.
+pub fn list_line(text: &[u8], found: List) -> List
+    requires { ⌜ ListPlaced (now text) found ⌝ }
+    ensures { λ r. do
+      let bs = now (text .entry)
+      ⌜ ((c : Cursor) (body : Option (Taken (Many ℕ))) (kept : Many ℕ) → ListAt bs c body kept found →
+          ListLineAt bs c body kept r) ⌝ }
 {
-    let List::Of(count, behind) = numbers(text, from, list) else {
-        return List::Missing;
-    };
-    let Behind::At(next) = behind.line_end(text) else {
-        return List::Missing;
-    };
-    List::Of(count, next)
-}
-
-// A line whose body is a list that may be empty.
-pub fn listing_line(text: &[u8], from: Cursor, list: &mut [u32]) -> List
-    requires { ⌜ Placed (now text) from ⌝ }
-    ensures { λ r. ⌜ ListLineAt (now (text .entry)) from (anyList (rest (now (text .entry)) from)) (now (list .exit)) r ⌝ }
-{
-    let List::Of(count, behind) = listing(text, from, list) else {
+    let List::Of(count, behind) = found else {
         return List::Missing;
     };
     let Behind::At(next) = behind.line_end(text) else {

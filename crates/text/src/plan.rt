@@ -12,25 +12,30 @@ use crate::put::put_bytes;
 use crate::put::put_list;
 use crate::put::put_number;
 use crate::put::wide;
-use crate::words::clear;
-use crate::words::put_words;
+use crate::storing::clear;
+use crate::storing::put_words;
 use task::Place;
+use task::limits::HEAD_WORDS;
+use task::limits::MOST_PARAMETERS;
+use task::limits::STEP_SIZE;
 ghost use mathlib.Core.Path.{_≡_};
 ghost use mathlib.Core.Bool.{true};
 ghost use mathlib.Core.List.{List};
 ghost use mathlib.Core.Option.{none};
 ghost use Prim.Native.Nat.{ℕ, _+_, _*_, _≤_, _<_};
 ghost use lib.ListN.{length, getD, take};
-ghost use Rattle.task.specs.Lists.{over};
+ghost use Rattle.words.specs.Lists.{over};
 ghost use Rattle.task.specs.Task.{Task};
 ghost use Rattle.task.specs.Table.{taskOf, isTable};
 ghost use Rattle.task.specs.Run.{Step, isStep, stepWords, paramCount, stepsIn, badStep};
 ghost use Rattle.text.specs.Lines.{ended, number, entry};
 ghost use Rattle.text.specs.Plan.{planWords, stepLine, endLine, nextPlanLine, writePlan};
 ghost use Rattle.text.specs.Outcomes.{planOutcome, planAnswerTold};
-ghost use Rattle.text.specs.Code.{Puts};
+ghost use Rattle.words.specs.Putting.{Puts};
 ghost use Rattle.text.specs.ReadCode.{rest, Placed, Listed, Wrote};
 ghost use Rattle.text.specs.PlanCode.{stepOf, PlanTurned, stepText};
+ghost use Rattle.words.specs.Words.{wordBound};
+ghost use Rattle.task.specs.Limits.{mostParameters, stepSize};
 
 // What reading a plan answers: how many steps it has, or a refusal.
 pub enum PlanAnswer {
@@ -48,19 +53,11 @@ pub enum PlanTurn {
 // "at most 100 `step=` lines".
 const MOST_STEPS: usize = 100;
 
-// "A step is 13 words: schema, one object per parameter, zeros".
-const STEP_SIZE: usize = 13;
-
 // The words of so many steps.
 pub const PLAN_WORDS: usize = STEP_SIZE * MOST_STEPS;
 
-const MOST_PARAMETERS: usize = 12;
-
 // No text of 1,600 steps of at most 12 objects is longer, and the plan of 100 steps unfolds to no more.
 pub const LONGEST_PLAN: usize = 134406;
-
-// The six counts of a table stand first.
-const HEAD_WORDS: usize = 6;
 
 // How many parameters a schema of the task has.
 fn param_count(table: &[u16], schema: usize) -> usize
@@ -74,7 +71,7 @@ fn param_count(table: &[u16], schema: usize) -> usize
 // Refusal 5: "a wrong schema, object or number of objects".
 fn is_step(table: &[u16], schema: u32, objects: &[u32], count: usize) -> bool
     requires { ⌜ isTable (now table) ≡ true ⌝ }
-    requires { ⌜ length (now objects) ≡ 12 ⌝ }
+    requires { ⌜ length (now objects) ≡ mostParameters ⌝ }
     ensures { λ r. ⌜ ((ns : List ℕ) → Listed ns count (now (objects .entry)) →
         r ≡ isStep (taskOf (now (table .entry))) (stepOf schema ns)) ⌝ }
 {
@@ -90,10 +87,10 @@ fn is_step(table: &[u16], schema: u32, objects: &[u32], count: usize) -> bool
 
 // "schema, one object per parameter, zeros": puts a step's words at a place.
 fn put_step(steps: &mut [u16], at: usize, schema: u32, objects: &[u32], count: usize)
-    requires { ⌜ at + 13 ≤ length (now steps) ⌝ }
-    requires { ⌜ (schema < 65536) × (count ≤ 12) × (count ≤ length (now objects)) ⌝ }
-    requires { ⌜ ((k : ℕ) → k < count → getD (now objects) k 0 < 65536) ⌝ }
-    ensures { λ _. ⌜ Wrote (now (steps .entry)) at 13
+    requires { ⌜ at + stepSize ≤ length (now steps) ⌝ }
+    requires { ⌜ (schema < wordBound) × (count ≤ mostParameters) × (count ≤ length (now objects)) ⌝ }
+    requires { ⌜ ((k : ℕ) → k < count → getD (now objects) k 0 < wordBound) ⌝ }
+    ensures { λ _. ⌜ Wrote (now (steps .entry)) at stepSize
         (λ k. getD (stepWords (stepOf schema (take count (now (objects .entry))))) k 0) (now (steps .exit)) ⌝ }
 {
     steps[at] = schema as u16;
@@ -113,7 +110,7 @@ fn step_line(table: &[u16], text: &[u8], from: Cursor, steps: &mut [u16], n: usi
           PlanTurned (taskOf (now (table .entry))) bs from xs (ended stepLine (entry (rest bs from)))
           (now (steps .entry)) r (now (steps .exit))) ⌝ }
 {
-    let mut objects = [0u32; 12];
+    let mut objects = [0u32; MOST_PARAMETERS];
     let Atom::Of(schema, count, next) = entry_line(text, from, &mut objects) else {
         return PlanTurn::Refuse(3);
     };

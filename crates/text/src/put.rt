@@ -5,7 +5,8 @@ ghost use mathlib.Core.List.{[], _∷_, _++_};
 ghost use Prim.Native.Nat.{ℕ, _+_, _*_, _^_, _≤_, _<_};
 ghost use lib.ListN.{length};
 ghost use Rattle.text.specs.Lines.{comma, newline, digits, commaed};
-ghost use Rattle.text.specs.Code.{Puts, spaced};
+ghost use Rattle.words.specs.Putting.{Puts};
+ghost use Rattle.text.specs.Code.{spaced};
 
 // A word as an index.
 pub fn wide(word: u16) -> usize

@@ -1,17 +1,11 @@
 // A text read line after line into a table: the turn at each line by its key, and the end of reading.
 use crate::ReadAnswer;
-use crate::atoms::atom_line;
-use crate::atoms::goal_line;
-use crate::atoms::init_line;
-use crate::counts::Counts;
-use crate::counts::Turn;
 use crate::cursor::Cursor;
-use crate::heads::arity_line;
-use crate::heads::end_line;
-use crate::heads::objects_line;
-use crate::heads::schema_line;
-use crate::heads::task_line;
-use crate::keys::GOAL;
+use crate::draft::Counts;
+use crate::draft::Kind;
+use crate::draft::ROWS_AT;
+use crate::draft::Turn;
+use crate::keys::END;
 use crate::keys::INIT;
 use crate::keys::Keyed;
 use crate::keys::OBJECTS;
@@ -21,38 +15,40 @@ use crate::keys::SCHEMA;
 use crate::keys::TASK;
 use crate::keys::allowed;
 use crate::keys::key_at;
-use crate::schemas::part_line;
-use crate::words::clear;
-use crate::words::move_down;
-use crate::words::put_words;
+use crate::lines::atom::atom_line;
+use crate::lines::atom::fact_line;
+use crate::lines::head::arity_line;
+use crate::lines::head::end_line;
+use crate::lines::head::objects_line;
+use crate::lines::head::schema_line;
+use crate::lines::head::task_line;
+use crate::lines::part::part_line;
+use crate::storing::clear;
+use crate::storing::move_down;
+use crate::storing::put_words;
 use task::Place;
+use task::limits::ATOM_SIZE;
+use task::limits::HEAD_WORDS;
+use task::limits::TABLE_WORDS;
 ghost use mathlib.Core.Path.{_≡_};
-ghost use mathlib.Core.Bool.{true, _&&_};
-ghost use Prim.Native.Nat.{ℕ, _+_, _≤_, _<_};
+ghost use mathlib.Core.Bool.{true};
+ghost use Prim.Native.Nat.{_+_, _≤_, _<_};
 ghost use lib.ListN.{length};
-ghost use lib.Dec.{leb};
 ghost use Rattle.task.specs.Limits.{tableWords};
-ghost use Rattle.task.specs.Lists.{over};
+ghost use Rattle.words.specs.Lists.{over};
 ghost use Rattle.task.specs.Task.{wellFormed};
 ghost use Rattle.task.specs.Table.{wordsOf};
-ghost use Rattle.text.specs.Text.{Draft, Key, readBody, nextLine, readText};
+ghost use Rattle.text.specs.Text.{Draft, Key, readBody, nextLine, readText, pre, init, goal, between};
 ghost use Rattle.text.specs.Outcomes.{readDone, readAnswerTold};
-ghost use Rattle.text.specs.ReadCode.{rest, Placed, Wrote, keyNumber, lastKey};
-ghost use Rattle.text.specs.Holding.{Holds, Drafted, Touched, Turned};
-
-const TABLE_WORDS: usize = 13406;
-
-const ROWS_AT: usize = 206;
-
-const HEAD_WORDS: usize = 6;
-
-const ROW_WORDS: usize = 8;
+ghost use Rattle.text.specs.ReadCode.{rest, Placed, Wrote, keyNumber, mayStand, phaseNumber};
+ghost use Rattle.text.specs.Holding.{Holds, Drafted, Touched, Turned, factKey};
 
 // The turn at the body of a line that comes before all schemas.
 fn head_turn(text: &[u8], table: &mut [u16], body: Cursor, counts: Counts, key: u16) -> Turn
     requires { ⌜ Placed (now text) body ⌝ }
     requires { ⌜ Drafted (now table) counts ⌝ }
-    requires { ⌜ (counts .phase ≡ key) × (key ≤ 2) ⌝ }
+    requires { ⌜ mayStand (counts .phase) key ≡ true ⌝ }
+    requires { ⌜ key < keyNumber pre ⌝ }
     ensures { λ r. ⌜ Touched (now (table .entry)) (now (table .exit)) ⌝ }
     ensures { λ r. do
       let bs = now (text .entry)
@@ -68,11 +64,22 @@ fn head_turn(text: &[u8], table: &mut [u16], body: Cursor, counts: Counts, key: 
     arity_line(text, table, body, counts)
 }
 
+// The kind of ground atoms that a key names.
+fn kind_of(key: u16) -> Kind
+    requires { ⌜ (keyNumber init ≤ key) × (key ≤ keyNumber goal) ⌝ }
+    ensures { λ r. ⌜ keyNumber (factKey r) ≡ key ⌝ }
+{
+    if key == INIT {
+        return Kind::Initial;
+    }
+    Kind::Goal
+}
+
 // The turn at the body of a line whose key the fixed order allows.
 fn body_turn(text: &[u8], table: &mut [u16], body: Cursor, counts: Counts, key: u16) -> Turn
     requires { ⌜ Placed (now text) body ⌝ }
     requires { ⌜ Drafted (now table) counts ⌝ }
-    requires { ⌜ (leb (counts .phase) key && leb key (lastKey (counts .phase))) ≡ true ⌝ }
+    requires { ⌜ mayStand (counts .phase) key ≡ true ⌝ }
     ensures { λ r. ⌜ Touched (now (table .entry)) (now (table .exit)) ⌝ }
     ensures { λ r. do
       let bs = now (text .entry)
@@ -91,11 +98,8 @@ fn body_turn(text: &[u8], table: &mut [u16], body: Cursor, counts: Counts, key: 
     if key == SCHEMA {
         return schema_line(text, body, counts);
     }
-    if key == INIT {
-        return init_line(text, table, body, counts);
-    }
-    if key == GOAL {
-        return goal_line(text, table, body, counts);
+    if key < END {
+        return fact_line(text, table, body, counts, kind_of(key));
     }
     end_line(text, body)
 }
@@ -122,11 +126,11 @@ fn turn_at(text: &[u8], table: &mut [u16], from: Cursor, counts: Counts) -> Turn
 // The table of the task that is read: the rows move down to their place, zeros follow them, and the counts come first.
 fn lay_out(table: &mut [u16], counts: Counts)
     requires { ⌜ Drafted (now table) counts ⌝ }
-    ensures { λ r. ⌜ ((d : Draft) → Holds d (now (table .entry)) counts → 6 < counts .phase → wellFormed (d .task) ≡ true →
-        now (table .exit) ≡ over (wordsOf (d .task)) (now (table .entry))) ⌝ }
+    ensures { λ r. ⌜ ((d : Draft) → Holds d (now (table .entry)) counts → phaseNumber between ≤ counts .phase →
+        wellFormed (d .task) ≡ true → now (table .exit) ≡ over (wordsOf (d .task)) (now (table .entry))) ⌝ }
 {
     let to = HEAD_WORDS + counts.predicates + counts.schemas;
-    let n = ROW_WORDS * (counts.closed + counts.atoms + counts.initial + counts.goal);
+    let n = ATOM_SIZE * (counts.closed + counts.atoms + counts.initial + counts.goal);
     move_down(table, ROWS_AT + counts.predicates, to, n);
     clear(table, to + n, TABLE_WORDS - (to + n));
     let head = [

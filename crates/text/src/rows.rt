@@ -2,22 +2,22 @@
 // being read, each tested and written by the place where it begins.
 use crate::checks::all_below;
 use crate::checks::number_or_zero;
-use crate::words::has_word;
-use crate::words::put_words;
-use crate::words::same_words;
+use crate::storing::put_words;
+use task::limits::ATOM_SIZE;
+use task::limits::HEAD_WORDS;
+use words::runs::has_word;
+use words::runs::same_words;
 ghost use mathlib.Core.Path.{_≡_};
 ghost use mathlib.Core.Bool.{true};
 ghost use Prim.Native.Nat.{ℕ, _+_, _*_, _≤_, _<_};
 ghost use lib.ListN.{length, getD, take};
-ghost use Rattle.task.specs.Lists.{all, any, upTo};
+ghost use Rattle.words.specs.Lists.{all, any, upTo};
 ghost use Rattle.task.specs.Table.{atomWords};
 ghost use Rattle.text.specs.ReadCode.{Wrote, Fitting, RowIn, rowNames, rowSame, PartsPut, bareAtom};
+ghost use Rattle.words.specs.Words.{wordBound};
+ghost use Rattle.task.specs.Limits.{mostArity, headWords, atomSize};
 
 // The six counts stand first, then the arities.
-const HEAD_WORDS: usize = 6;
-
-const ROW_WORDS: usize = 8;
-
 // Refusal 5: "predicate unknown, wrong number of arguments, argument too high".
 pub fn fits(
     table: &[u16],
@@ -27,7 +27,7 @@ pub fn fits(
     args: &[u32],
     count: usize,
 ) -> bool
-    requires { ⌜ 6 + predicates ≤ length (now table) ⌝ }
+    requires { ⌜ headWords + predicates ≤ length (now table) ⌝ }
     ensures { λ r. ⌜ Fitting (now (table .entry)) predicates bound predicate (now (args .entry)) count r ⌝ }
 {
     let p = predicate as usize;
@@ -53,19 +53,20 @@ pub fn put_row(
     args: &[u32],
     count: usize,
 )
-    requires { ⌜ at + 8 ≤ length (now table) ⌝ }
-    requires { ⌜ (schema < 65536) × (role < 65536) × (predicate < 65536) × (count ≤ length (now args)) × (count ≤ 4) ⌝ }
-    requires { ⌜ ((k : ℕ) → k < count → getD (now args) k 0 < 65536) ⌝ }
+    requires { ⌜ at + atomSize ≤ length (now table) ⌝ }
+    requires { ⌜ (schema < wordBound) × (role < wordBound) × (predicate < wordBound) ×
+        (count ≤ length (now args)) × (count ≤ mostArity) ⌝ }
+    requires { ⌜ ((k : ℕ) → k < count → getD (now args) k 0 < wordBound) ⌝ }
     ensures { λ r. do
       let a = bareAtom role predicate (take count (now (args .entry)))
-      ⌜ Wrote (now (table .entry)) at 8 (λ k. getD (atomWords schema a) k 0) (now (table .exit)) ⌝ }
+      ⌜ Wrote (now (table .entry)) at atomSize (λ k. getD (atomWords schema a) k 0) (now (table .exit)) ⌝ }
 {
     let a = number_or_zero(args, count, 0);
     let b = number_or_zero(args, count, 1);
     let c = number_or_zero(args, count, 2);
     let d = number_or_zero(args, count, 3);
     let row = [schema, role, predicate, 0, a, b, c, d];
-    put_words(table, at, &row, ROW_WORDS);
+    put_words(table, at, &row, ATOM_SIZE);
 }
 
 // Whether a parameter stands in the atom of a row.
@@ -80,11 +81,11 @@ fn names(table: &[u16], row: usize, parameter: u16) -> bool
 
 // Whether a parameter stands in an atom of the n rows from a place on.
 fn named(table: &[u16], first: usize, n: usize, parameter: u16) -> bool
-    requires { ⌜ ((i : ℕ) → i < n → RowIn (now table) (first + 8 * i)) ⌝ }
-    ensures { λ r. ⌜ r ≡ any (λ i. rowNames (now (table .entry)) (first + 8 * i) parameter) (upTo n) ⌝ }
+    requires { ⌜ ((i : ℕ) → i < n → RowIn (now table) (first + atomSize * i)) ⌝ }
+    ensures { λ r. ⌜ r ≡ any (λ i. rowNames (now (table .entry)) (first + atomSize * i) parameter) (upTo n) ⌝ }
 {
     for i in 0..n {
-        if names(table, first + ROW_WORDS * i, parameter) {
+        if names(table, first + ATOM_SIZE * i, parameter) {
             return true;
         }
     }
@@ -93,10 +94,10 @@ fn named(table: &[u16], first: usize, n: usize, parameter: u16) -> bool
 
 // "every parameter stands in some atom".
 pub fn all_named(table: &[u16], first: usize, n: usize, params: u16) -> bool
-    requires { ⌜ ((i : ℕ) → i < n → RowIn (now table) (first + 8 * i)) ⌝ }
+    requires { ⌜ ((i : ℕ) → i < n → RowIn (now table) (first + atomSize * i)) ⌝ }
     ensures { λ r. do
       let w = now (table .entry)
-      ⌜ r ≡ all (λ x. any (λ i. rowNames w (first + 8 * i) x) (upTo n)) (upTo params) ⌝ }
+      ⌜ r ≡ all (λ x. any (λ i. rowNames w (first + atomSize * i) x) (upTo n)) (upTo params) ⌝ }
 {
     for x in 0..params {
         if !named(table, first, n, x) {
@@ -108,7 +109,7 @@ pub fn all_named(table: &[u16], first: usize, n: usize, params: u16) -> bool
 
 // Whether two rows have the same role, predicate and arguments.
 fn same_atom(table: &[u16], a: usize, b: usize) -> bool
-    requires { ⌜ (a + 8 ≤ length (now table)) × (b + 8 ≤ length (now table)) ⌝ }
+    requires { ⌜ (a + atomSize ≤ length (now table)) × (b + atomSize ≤ length (now table)) ⌝ }
     ensures { λ r. ⌜ r ≡ rowSame (now (table .entry)) a b ⌝ }
 {
     if !same_words(table, a + 1, b + 1, 2) {
@@ -119,11 +120,11 @@ fn same_atom(table: &[u16], a: usize, b: usize) -> bool
 
 // Refusal 6: "atom repeated", among the n rows from a place on.
 pub fn repeated(table: &[u16], row: usize, first: usize, n: usize) -> bool
-    requires { ⌜ (row + 8 ≤ length (now table)) × (first + 8 * n ≤ length (now table)) ⌝ }
-    ensures { λ r. ⌜ r ≡ any (λ i. rowSame (now (table .entry)) row (first + 8 * i)) (upTo n) ⌝ }
+    requires { ⌜ (row + atomSize ≤ length (now table)) × (first + atomSize * n ≤ length (now table)) ⌝ }
+    ensures { λ r. ⌜ r ≡ any (λ i. rowSame (now (table .entry)) row (first + atomSize * i)) (upTo n) ⌝ }
 {
     for i in 0..n {
-        if same_atom(table, row, first + ROW_WORDS * i) {
+        if same_atom(table, row, first + ATOM_SIZE * i) {
             return true;
         }
     }
@@ -132,11 +133,11 @@ pub fn repeated(table: &[u16], row: usize, first: usize, n: usize) -> bool
 
 // "`part` (a part for each atom)": puts the parts into the n rows from a place on.
 pub fn put_parts(table: &mut [u16], first: usize, parts: &[u32], n: usize)
-    requires { ⌜ (first + 8 * n ≤ length (now table)) × (n ≤ length (now parts)) ⌝ }
-    requires { ⌜ ((k : ℕ) → k < n → getD (now parts) k 0 < 65536) ⌝ }
+    requires { ⌜ (first + atomSize * n ≤ length (now table)) × (n ≤ length (now parts)) ⌝ }
+    requires { ⌜ ((k : ℕ) → k < n → getD (now parts) k 0 < wordBound) ⌝ }
     ensures { λ r. ⌜ PartsPut (now (table .entry)) first n (now (parts .entry)) (now (table .exit)) ⌝ }
 {
     for k in 0..n {
-        table[first + ROW_WORDS * k + 3] = parts[k] as u16;
+        table[first + ATOM_SIZE * k + 3] = parts[k] as u16;
     }
 }

@@ -12,6 +12,8 @@ use crate::put::put_number;
 use crate::put::put_number_line;
 use crate::put::wide;
 use task::Place;
+use task::limits::ATOM_SIZE;
+use task::limits::HEAD_WORDS;
 ghost use mathlib.Core.Path.{_≡_};
 ghost use mathlib.Core.Bool.{true};
 ghost use Prim.Native.Nat.{ℕ, _+_, _*_, _^_, _≤_, _<_};
@@ -20,13 +22,10 @@ ghost use lib.Dec.{leb};
 ghost use Rattle.task.specs.Table.{taskOf, isTable};
 ghost use Rattle.text.specs.Text.{write};
 ghost use Rattle.text.specs.Outcomes.{writeOutcome, writeAnswerTold};
-ghost use Rattle.text.specs.Code.{Puts, AtomInside, keyBytes, atomText, atomsText, schemaText};
-ghost use Rattle.text.specs.Code.{headText, schemasText, SchemaRun, factsBase, factCount};
-
-// The six counts stand first; an atom takes 8 words.
-const HEAD_WORDS: usize = 6;
-
-const ATOM_SIZE: usize = 8;
+ghost use Rattle.words.specs.Putting.{Puts};
+ghost use Rattle.text.specs.Code.{AtomInside, keyBytes, atomText, atomsText, schemaText, headText, schemasText};
+ghost use Rattle.text.specs.Code.{SchemaRun, factsBase, factCount};
+ghost use Rattle.task.specs.Limits.{headWords, atomSize};
 
 // "role (0 precondition, 1 add, 2 delete, 3 initial, 4 goal)": the key of an atom's line, and its =.
 fn key_size(role: u16) -> usize
@@ -78,7 +77,7 @@ fn put_atom(text: &mut [u8], at: usize, table: &[u16], base: usize) -> usize
 
 // The lines of n atoms, whose words begin at `base`.
 fn atoms_size(table: &[u16], base: usize, n: usize) -> usize
-    requires { ⌜ ((k : ℕ) → k < n → AtomInside (now table) (base + 8 * k)) ⌝ }
+    requires { ⌜ ((k : ℕ) → k < n → AtomInside (now table) (base + atomSize * k)) ⌝ }
     requires { ⌜ length (atomsText (now table) base n) < 2 ^ 64 ⌝ }
     ensures { λ r. ⌜ r ≡ length (atomsText (now (table .entry)) base n) ⌝ }
 {
@@ -90,7 +89,7 @@ fn atoms_size(table: &[u16], base: usize, n: usize) -> usize
 }
 
 fn put_atoms(text: &mut [u8], at: usize, table: &[u16], base: usize, n: usize) -> usize
-    requires { ⌜ ((k : ℕ) → k < n → AtomInside (now table) (base + 8 * k)) ⌝ }
+    requires { ⌜ ((k : ℕ) → k < n → AtomInside (now table) (base + atomSize * k)) ⌝ }
     requires { ⌜ at + length (atomsText (now table) base n) ≤ length (now text) ⌝ }
     ensures { λ r. ⌜ Puts (now (text .entry)) at (atomsText (now (table .entry)) base n) (now (text .exit)) r ⌝ }
 {
@@ -103,7 +102,7 @@ fn put_atoms(text: &mut [u8], at: usize, table: &[u16], base: usize, n: usize) -
 
 // How many of the `left` atoms, whose words begin at `base`, stand before one of another schema.
 fn atoms_of(table: &[u16], base: usize, left: usize, schema: usize) -> usize
-    requires { ⌜ ((k : ℕ) → k < left → base + 8 * k < length (now table)) ⌝ }
+    requires { ⌜ ((k : ℕ) → k < left → base + atomSize * k < length (now table)) ⌝ }
     ensures { λ r. ⌜ SchemaRun (now (table .entry)) base left schema r ⌝ }
 {
     for n in 0..left {
@@ -116,7 +115,7 @@ fn atoms_of(table: &[u16], base: usize, left: usize, schema: usize) -> usize
 
 // "`schema` (parameter count), `pre`, `add`, `del` lines, `part` (a part for each atom)".
 fn schema_size(table: &[u16], params: u16, base: usize, n: usize) -> usize
-    requires { ⌜ ((k : ℕ) → k < n → AtomInside (now table) (base + 8 * k)) ⌝ }
+    requires { ⌜ ((k : ℕ) → k < n → AtomInside (now table) (base + atomSize * k)) ⌝ }
     requires { ⌜ base ≤ length (now table) ⌝ }
     requires { ⌜ length (schemaText (now table) params base n) < 2 ^ 64 ⌝ }
     ensures { λ r. ⌜ r ≡ length (schemaText (now (table .entry)) params base n) ⌝ }
@@ -134,7 +133,7 @@ fn put_schema(
     base: usize,
     n: usize,
 ) -> usize
-    requires { ⌜ ((k : ℕ) → k < n → AtomInside (now table) (base + 8 * k)) ⌝ }
+    requires { ⌜ ((k : ℕ) → k < n → AtomInside (now table) (base + atomSize * k)) ⌝ }
     requires { ⌜ base ≤ length (now table) ⌝ }
     requires { ⌜ at + length (schemaText (now table) params base n) ≤ length (now text) ⌝ }
     ensures { λ r. ⌜ Puts (now (text .entry)) at
@@ -148,7 +147,7 @@ fn put_schema(
 // One of a table's six counts.
 fn count(table: &[u16], i: usize) -> usize
     requires { ⌜ isTable (now table) ≡ true ⌝ }
-    requires { ⌜ i < 6 ⌝ }
+    requires { ⌜ i < headWords ⌝ }
     ensures { λ r. ⌜ r ≡ getD (now (table .entry)) i 0 ⌝ }
 {
     wide(table[i])

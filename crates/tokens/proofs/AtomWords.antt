@@ -7,16 +7,19 @@ use mathlib.Core.List.{List}
 use native.Mathlib.Omega.{arith}
 use lib.ListN.{length, getD, length-map}
 use borrow.Author.Tests.{leb-true}
-use Rattle.task.specs.Lists.{upFrom}
+use Rattle.words.specs.Lists.{upFrom}
 use Rattle.task.specs.Task.{Atom, schemaFits}
 use Rattle.task.specs.Run.{schemaAt}
-use Rattle.task.specs.Table.{wordsAt, arityIn, atomBase, atomIn, schemaNumberIn, taskOf, isTable}
-use Rattle.task.proofs.Laws.{In, all-in, in-getD, length-upFrom, getD-map, getD-upFrom}
+use Rattle.words.specs.Words.{wordsAt}
+use Rattle.task.specs.Table.{arityIn, atomBase, atomIn, schemaNumberIn, taskOf, isTable}
+use Rattle.words.proofs.Lists.{In, all-in, in-getD, length-upFrom, getD-map, getD-upFrom}
 use Rattle.task.proofs.Tests.{schema-tests, task-tests}
-use Rattle.task.proofs.Tables.{noAtom, noSchema, startOf, of-table}
+use Rattle.task.proofs.Tables.{noAtom, noSchema, of-table}
 use Rattle.task.proofs.TablesByIndex.{table-frame, schemas-word, arities-word, arity-at, atom-at, atom-lies, start-suc}
 use Rattle.task.proofs.States.{Fitting, schemaFits-fits}
 use Rattle.arcs.specs.Code.{IsSchemaAtom}
+use Rattle.task.specs.Turns.{firstAtom}
+use Rattle.task.specs.Limits.{mostParameters, mostArity}
 
 -- a table's schemas fit
 pub schema-fits : (w : List ℕ) → isTable w ≡ true → (s : ℕ) → s < length (taskOf w .schemas) →
@@ -40,14 +43,14 @@ module _ (w : List ℕ) (i : ℕ) (is : IsSchemaAtom w i) where
       let lies = atom-lies w fr i (is .known) in
       let n = schemas-word w fr in
       let g = start-suc w fr s (lies .known) in
-      let l : i - startOf t s < length (schemaAt t s .atoms) =
+      let l : i - firstAtom t s < length (schemaAt t s .atoms) =
       let x = lies .from-start in let y = lies .before-next in omega arith in
-      let e : startOf t s + (i - startOf t s) ≡ i = let x = lies .from-start in omega arith in
+      let e : firstAtom t s + (i - firstAtom t s) ≡ i = let x = lies .from-start in omega arith in
       record {
         known = let x = lies .known in omega arith;
         atom = subst (λ (a : Atom). In a (schemaAt t s .atoms))
-            (sym (ap (atomIn w) (sym e) ∙ atom-at w fr s (i - startOf t s) (lies .known) l))
-            (in-getD (schemaAt t s .atoms) (i - startOf t s) noAtom l);
+            (sym (ap (atomIn w) (sym e) ∙ atom-at w fr s (i - firstAtom t s) (lies .known) l))
+            (in-getD (schemaAt t s .atoms) (i - firstAtom t s) noAtom l);
       }
 
   fits : schemaFits (taskOf w .arities) (schemaAt (taskOf w) (schemaNumberIn w i)) ≡ true
@@ -63,14 +66,14 @@ module _ (w : List ℕ) (i : ℕ) (is : IsSchemaAtom w i) where
   pub predicate-known : atomIn w i .pred < getD w 1 0
   predicate-known = let f = fitting .known in let e = arities-word w (table-frame w (is .table)) in omega arith
 
-  pub argument-small : (x : ℕ) → In x (atomIn w i .args) → x < 12
+  pub argument-small : (x : ℕ) → In x (atomIn w i .args) → x < mostParameters
   argument-small x k =
       let t = taskOf w in
       let s = schemaAt t (schemaNumberIn w i) in
-      let b = leb-true (s .params) 12 (schema-tests (t .arities) s fits .params) in
+      let b = leb-true (s .params) mostParameters (schema-tests (t .arities) s fits .params) in
       omega (arith, fitting .small x k)
 
-  pub few-arguments : length (atomIn w i .args) ≤ 4
+  pub few-arguments : length (atomIn w i .args) ≤ mostArity
   unfolding schemaAt
   few-arguments =
       let t = taskOf w in

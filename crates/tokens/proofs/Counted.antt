@@ -7,16 +7,15 @@ use mathlib.Core.Bool.{Bool, true}
 use mathlib.Core.List.{List, [], _∷_, map}
 use lib.ListN.{length}
 use lib.Dec.{leb}
-use Rattle.task.specs.Lists.{all, every, upTo}
+use Rattle.words.specs.Lists.{all, every, upTo}
 use Rattle.task.specs.Limits.{mostPredicates, mostSchemas, mostSchemaAtoms, mostAtoms, mostInitial, mostGoal}
 use Rattle.task.specs.Task.{Task, wellFormed}
 use Rattle.tokens.specs.Split.{parts, laterParts, parCount, orders, splitSchema, splitTask, withinLimits}
-use Rattle.task.proofs.Laws.{bool-ext, In, all-in, in-all, in-map, in-upTo, upTo-in}
-use Rattle.tokens.proofs.Lists.{in-concatMap}
+use Rattle.words.proofs.Lists.{bool-ext, In, all-in, in-all, in-map, in-upTo, upTo-in, in-concatMap}
 use Rattle.tokens.proofs.Accepted.{Ordered}
 use Rattle.tokens.proofs.Predicates.{predicate-count}
 use Rattle.tokens.proofs.WellSplit.{part-of, schema-of-part}
-use Rattle.tokens.proofs.Sums.{total}
+use Rattle.words.proofs.Sums.{total}
 use Rattle.tokens.proofs.Sizes.{init-count, goal-count, partSize, part-size, schema-count}
 use Rattle.tokens.proofs.Totals.{schemaTotal, atom-total}
 

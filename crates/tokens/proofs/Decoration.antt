@@ -12,7 +12,7 @@ use Rattle.task.specs.Task.{Task, precondition, addition, deletion}
 use Rattle.task.specs.Run.{schemaAt}
 use Rattle.tokens.specs.Split.{firstPosition, lastPosition, own, required, handedOn, lone, firstHere, lastHere}
 use Rattle.tokens.specs.Split.{laterHere, splitSchema}
-use Rattle.task.proofs.Laws.{and-both, In}
+use Rattle.words.proofs.Lists.{and-both, In}
 use Rattle.tokens.proofs.Places.{At, at-first, at-last, first-at, last-at, params-in}
 use Rattle.tokens.proofs.RoleAtoms.{parAtom, of-parameter, to-role, of-pre, of-add, of-del, in-schema}
 

@@ -1,5 +1,5 @@
 -- What is known of one schema of a table whose parts are kept: its stretch of atoms, and that its numbers are small.
-use Prim.Native.Nat.{ℕ, _+_, _-_, _≤_, _<_}
+use Prim.Native.Nat.{ℕ, _+_, _-_, _≤_, _<_, suc}
 use mathlib.Core.Path.{_≡_, sym, _∙_, ap, ap₂, subst}
 use mathlib.Core.Bool.{true}
 use mathlib.Core.List.{List}
@@ -7,11 +7,11 @@ use native.Mathlib.Omega.{arith}
 use native.Mathlib.Numerals.{add-one}
 use lib.ListN.{length, getD}
 use borrow.Author.Tests.{leb-true}
-use Rattle.task.specs.Lists.{upTo}
-use Rattle.task.specs.Task.{schemaFits}
+use Rattle.words.specs.Lists.{upTo}
+use Rattle.task.specs.Task.{schemaFits, Task}
 use Rattle.task.specs.Run.{schemaAt}
-use Rattle.task.specs.Table.{taskOf, isTable}
-use Rattle.task.proofs.Laws.{in-getD}
+use Rattle.task.specs.Table.{taskOf}
+use Rattle.words.proofs.Lists.{in-getD}
 use Rattle.task.proofs.Tables.{noAtom}
 use Rattle.task.proofs.Tests.{SchemaTests, schema-tests}
 use Rattle.task.proofs.TablesByIndex.{table-frame, start-suc}
@@ -19,75 +19,85 @@ use Rattle.arcs.specs.Code.{IsStretch, atomsIn}
 use Rattle.arcs.proofs.OrderTaken.{OrderOf, orderOf-laws, part-small}
 use Rattle.arcs.proofs.Stretches.{schema-atoms, schema-stretch}
 use Rattle.tokens.specs.Split.{parts, orders}
-use Rattle.tokens.specs.Code.{startOf, PartsKept, SchemaKept}
 use Rattle.tokens.proofs.AtomWords.{schema-fits}
 use Rattle.tokens.proofs.PartParameters.{schema-known}
 use Rattle.tokens.proofs.KeptSchemas.{schemas-few, order-few}
+use mathlib.Core.Option.{some}
+use Rattle.task.specs.Limits.{mostSchemas, mostParts, mostAtoms, mostParameters}
+use Rattle.task.specs.Turns.{firstAtom}
+use Rattle.arcs.specs.Order.{orderOf}
+use Rattle.words.specs.Sets.{wordBits}
+use Rattle.tokens.specs.Kept.{keptStart, keptEnd, keptCount, ParamsKept, SchemaKept}
 
--- one schema of many
-pub schema-kept : (w : List ℕ) → isTable w ≡ true → (s from to count : ℕ) (starts counts order own : List ℕ) →
-    s < length (taskOf w .schemas) → PartsKept (taskOf w) (length (taskOf w .schemas)) starts counts order own →
-    from ≡ getD starts s 0 → to ≡ getD starts (s + 1) 0 → count ≡ getD counts s 0 →
-    SchemaKept w s from to count order own
-schema-kept w h s from to count starts counts order own l kept a b c = record {
-  table = h;
-  known = l;
-  starts = a ∙ kept .start s (omega arith);
-  ends = b ∙ kept .start (s + 1) (omega arith) ∙ ap (startOf (taskOf w)) (add-one s);
-  taken = kept .taken s l;
-  counted = c ∙ kept .count s l;
-  part = λ j. kept .part s j l;
-  params = λ j x. kept .params s j x l;
-}
+module _ {w : List ℕ} {s : ℕ} {kept : List ℕ} (K : SchemaKept w s kept) where
+  abbrev t : Task
+  t = taskOf w
 
-module _ (w : List ℕ) (s from to count : ℕ) (order own : List ℕ) (kept : SchemaKept w s from to count order own) where
-  pub schema-small : s < 200
-  schema-small = let l = schemas-few w (kept .table) in let k = kept .known in omega arith
+  pub schema-small : s < mostSchemas
+  schema-small = let l = schemas-few w (K .table) in let k = K .known in omega arith
 
-  pub count-small : count ≤ 16
-  count-small = let c = kept .counted in omega (arith, order-few w (kept .table) s (kept .known) (kept .taken))
+  starts : keptStart kept s ≡ firstAtom t s
+  starts = let k = K .known in K .all .start s (omega arith)
 
-  pub kept-stretch : IsStretch w from to
-  kept-stretch =
-      subst (λ (n : ℕ). IsStretch w n to) (sym (kept .starts))
-      (subst (λ (n : ℕ). IsStretch w (startOf (taskOf w) s) n) (sym (kept .ends))
-      (schema-stretch w (kept .table) s (schema-known w (kept .table) s (kept .known))))
+  ends : keptEnd kept s ≡ firstAtom t (suc s)
+  ends = let k = K .known in K .all .start (s + 1) (omega arith) ∙ ap (firstAtom t) (add-one s)
 
-  pub kept-atoms : schemaAt (taskOf w) s .atoms ≡ atomsIn w from to
-  kept-atoms =
-      schema-atoms w (kept .table) s (schema-known w (kept .table) s (kept .known)) ∙
-      ap₂ (atomsIn w) (sym (kept .starts)) (sym (kept .ends))
+  pub taken : orderOf (schemaAt t s) ≡ some (orders t s)
+  taken = K .all .taken s (K .known)
 
-  pub kept-fits : schemaFits (taskOf w .arities) (schemaAt (taskOf w) s) ≡ true
-  kept-fits = schema-fits w (kept .table) s (kept .known)
+  pub counted : keptCount kept s ≡ length (orders t s)
+  counted = K .all .count s (K .known)
 
-  tests : SchemaTests (taskOf w .arities) (schemaAt (taskOf w) s)
-  tests = schema-tests (taskOf w .arities) (schemaAt (taskOf w) s) kept-fits
+  pub params-kept : ParamsKept t s (orders t s) kept
+  params-kept = record { count = counted; params = λ j x. K .all .params s j x (K .known) }
 
-  pub kept-params : schemaAt (taskOf w) s .params ≤ 16
-  kept-params = let b = leb-true (schemaAt (taskOf w) s .params) 12 (tests .params) in omega arith
+  pub count-small : keptCount kept s ≤ mostParts
+  count-small = let c = counted in omega (arith, order-few w (K .table) s (K .known) taken)
 
-  pub stretch-small : to - from ≤ 64
-  stretch-small =
-      let b = leb-true (length (schemaAt (taskOf w) s .atoms)) 64 (tests .few) in
-      let a = kept .starts in
-      let c = kept .ends in
-      omega (arith, start-suc w (table-frame w (kept .table)) s (schema-known w (kept .table) s (kept .known)))
+  word-known : s < getD w 2 0
+  word-known = schema-known w (K .table) s (K .known)
+
+  pub kept-fits : schemaFits (t .arities) (schemaAt t s) ≡ true
+  kept-fits = schema-fits w (K .table) s (K .known)
+
+  tests : SchemaTests (t .arities) (schemaAt t s)
+  tests = schema-tests (t .arities) (schemaAt t s) kept-fits
+
+  pub kept-params : schemaAt t s .params ≤ wordBits
+  kept-params = let b = leb-true (schemaAt t s .params) mostParameters (tests .params) in omega arith
+
+  -- its atoms, from where they begin to where they end
+  module _ {from to : ℕ} (begins : from ≡ keptStart kept s) (stops : to ≡ keptEnd kept s) where
+    pub kept-stretch : IsStretch w from to
+    kept-stretch =
+        subst (λ (n : ℕ). IsStretch w n to) (sym (begins ∙ starts))
+        (subst (λ (n : ℕ). IsStretch w (firstAtom t s) n) (sym (stops ∙ ends))
+        (schema-stretch w (K .table) s word-known))
+
+    pub kept-atoms : schemaAt t s .atoms ≡ atomsIn w from to
+    kept-atoms =
+        schema-atoms w (K .table) s word-known ∙ ap₂ (atomsIn w) (sym (begins ∙ starts)) (sym (stops ∙ ends))
+
+    pub stretch-small : to - from ≤ mostAtoms
+    stretch-small =
+        let b = leb-true (length (schemaAt t s .atoms)) mostAtoms (tests .few) in
+        let x = starts in
+        let y = ends in
+        omega (arith, start-suc w (table-frame w (K .table)) s word-known)
 
   -- the order taken is one of the parts
-  pub kept-order : OrderOf (schemaAt (taskOf w) s .atoms) (parts (schemaAt (taskOf w) s))
-      (upTo (parts (schemaAt (taskOf w) s))) (orders (taskOf w) s)
+  pub kept-order : OrderOf (schemaAt t s .atoms) (parts (schemaAt t s)) (upTo (parts (schemaAt t s))) (orders t s)
   unfolding parts
-  kept-order = orderOf-laws (schemaAt (taskOf w) s) (orders (taskOf w) s) (kept .taken)
+  kept-order = orderOf-laws (schemaAt t s) (orders t s) taken
 
-  pub count-parts : count ≡ parts (schemaAt (taskOf w) s)
-  count-parts = kept .counted ∙ kept-order .size
+  pub count-parts : keptCount kept s ≡ parts (schemaAt t s)
+  count-parts = counted ∙ kept-order .size
 
   -- a schema has an atom, and so a part
-  pub count-some : 1 ≤ count
+  pub count-some : 1 ≤ keptCount kept s
   unfolding parts
   count-some =
-      let b = leb-true 1 (length (schemaAt (taskOf w) s .atoms)) (tests .some-atom) in
-      let p = part-small (in-getD (schemaAt (taskOf w) s .atoms) 0 noAtom b) in
+      let b = leb-true 1 (length (schemaAt t s .atoms)) (tests .some-atom) in
+      let p = part-small (in-getD (schemaAt t s .atoms) 0 noAtom b) in
       let e = count-parts in
       omega arith

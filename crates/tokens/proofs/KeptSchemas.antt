@@ -1,36 +1,52 @@
 -- What is kept of the parts grows schema by schema, as long as an order complies; and the first schema for which none
--- does is the circular one. A schema has sixteen places, and its order has at most sixteen parts, so a store for one
--- schema leaves the places of earlier ones.
+-- does is the circular one. A row is written behind those of earlier schemas, so these stay.
 use Prim.Native.Nat.{ℕ, suc, _+_, _-_, _*_, _≤_, _<_}
 use mathlib.Core.Path.{_≡_, sym, _∙_, ap, subst}
 use mathlib.Core.Bool.{Bool, true, false, cond}
-use mathlib.Core.List.{List, [], _++_, map}
+use mathlib.Core.List.{List, [], _++_, map, _∷_}
 use mathlib.Core.Option.{Option, none, some}
 use native.Mathlib.Omega.{arith}
 use native.Mathlib.Decide.{decLt}
 use native.Mathlib.Numerals.{add-one}
-use lib.ListN.{length, getD, set, take, length-map}
-use lib.Seq.{getD-set-same, getD-set-other, getD-take, length-take-le}
+use lib.ListN.{length, getD, take, length-map}
+use lib.Seq.{getD-take, length-take-le}
 use borrow.Author.Tests.{leb-true}
-use Rattle.task.specs.Lists.{sum, filter, keepIf, head, first, upTo, upFrom}
+use Rattle.words.specs.Lists.{sum, filter, keepIf, head, first, upTo, upFrom}
 use Rattle.task.specs.Task.{Task, schemaAtoms, partCount}
 use Rattle.task.specs.Run.{schemaAt}
 use Rattle.task.specs.Table.{taskOf, isTable}
 use Rattle.task.specs.declared.Part.{Part}
-use Rattle.task.proofs.Laws.{getD-map, in-getD, upFrom-in, upTo-in}
+use Rattle.words.proofs.Lists.{getD-map, in-getD, upFrom-in, upTo-in, filter-append, filter-none, upFrom-append}
+use Rattle.words.proofs.Lists.{map-append, sum-append, upTo-suc}
 use Rattle.task.proofs.Tests.{schema-tests, task-tests}
-use Rattle.task.proofs.Tables.{of-table, filter-append, filter-none, upFrom-append}
+use Rattle.task.proofs.Tables.{of-table}
 use Rattle.task.proofs.TablesByIndex.{table-frame, atoms-word}
 use Rattle.arcs.specs.declared.Order.{Order}
 use Rattle.arcs.specs.Order.{orderOf}
-use Rattle.arcs.specs.Code.{member, atomsIn, orderTold}
+use Rattle.words.specs.Sets.{member}
+use Rattle.arcs.specs.Code.{atomsIn, orderTold}
 use Rattle.arcs.proofs.OrderTaken.{orderOf-laws}
 use Rattle.tokens.specs.Split.{has, isNone, orderAt, orEmpty, orders, parts}
-use Rattle.tokens.specs.Code.{startOf, partAt, OrderKept, PartsKept}
+use Rattle.tokens.specs.Code.{partAt, OrderKept}
 use Rattle.tokens.proofs.Accepted.{circularAt}
 use Rattle.tokens.proofs.AtomWords.{schema-fits}
 use Rattle.tokens.proofs.PartParameters.{inPart}
 use Rattle.tokens.proofs.KeptParts.{part-is}
+use Rattle.task.specs.Limits.{mostParts, mostSchemas, mostSchemaAtoms}
+use Rattle.task.specs.Turns.{firstAtom}
+use Rattle.tokens.specs.Kept.{startPlace, firstPlace, countPlace, orderPlace, ownPlace, keptRow, keptWords, field}
+use Rattle.tokens.specs.Kept.{withField, keptStart, keptFirst, keptCount, keptPart, keptOwn, partsBefore}
+use Rattle.tokens.specs.Kept.{PartsKept}
+use Rattle.tokens.proofs.KeptRows.{field-long, field-put, field-stays, before-stays}
+
+-- ---- the parts of the schemas before one
+pub before-step : (t : Task) (s : ℕ) → partsBefore t (suc s) ≡ partsBefore t s + length (orders t s)
+unfolding partsBefore sum
+before-step t s =
+    let n : ℕ → ℕ = λ q. length (orders t q) in
+    let a = ap (λ (z : List ℕ). sum (map n z)) (upTo-suc s) ∙ ap sum (map-append n (upTo s) (s ∷ [])) in
+    let b = sum-append (map n (upTo s)) (n s ∷ []) in
+    omega arith
 
 -- ---- the parts of an order found
 -- the parts that an answer hands back
@@ -62,8 +78,8 @@ module _ (t : Task) (s : ℕ) (f : Order) (told : orderTold f ≡ orderOf (schem
   told-order e = ap orEmpty (told-some e)
 
   -- each part found is one of the schema's
-  pub found-small : f .found ≡ true → f .count ≤ length (f .parts) → partCount (schemaAt t s .atoms) ≤ 16 →
-      (j : ℕ) → j < f .count → partAt (f .parts) j < 16
+  pub found-small : f .found ≡ true → f .count ≤ length (f .parts) → partCount (schemaAt t s .atoms) ≤ mostParts →
+      (j : ℕ) → j < f .count → partAt (f .parts) j < mostParts
   found-small e l b j k =
       let n = found-count f l in
       let laws = orderOf-laws (schemaAt t s) (partsFound f) (told-some e) in
@@ -71,54 +87,84 @@ module _ (t : Task) (s : ℕ) (f : Order) (told : orderTold f ≡ orderOf (schem
       let m = upTo-in (partCount (schemaAt t s .atoms)) (getD (partsFound f) j 0) (laws .from _ i) in
       omega (arith, found-part f j l k)
 
+  -- the next schema's parts come behind those of this one
+  pub first-more : f .found ≡ true → f .count ≤ length (f .parts) → (first : ℕ) → first ≡ partsBefore t s →
+      first + f .count ≡ partsBefore t (s + 1)
+  first-more e l first h =
+      let n = ap length (told-order e) ∙ found-count f l in
+      omega (arith, before-step t s, ap (partsBefore t) (add-one s))
+
   told-taken : f .found ≡ true → orderOf (schemaAt t s) ≡ some (orders t s)
   told-taken e = told-some e ∙ ap some (sym (told-order e))
 
 -- ---- a table's schemas
 module _ (w : List ℕ) (h : isTable w ≡ true) where
-  pub schemas-few : length (taskOf w .schemas) ≤ 200
-  schemas-few = leb-true (length (taskOf w .schemas)) 200 (task-tests (taskOf w) (of-table w h .0) .schemas)
+  pub schemas-few : length (taskOf w .schemas) ≤ mostSchemas
+  schemas-few = leb-true (length (taskOf w .schemas)) mostSchemas (task-tests (taskOf w) (of-table w h .0) .schemas)
 
-  pub atoms-few : getD w 3 0 ≤ 1000
+  pub atoms-few : getD w 3 0 ≤ mostSchemaAtoms
   atoms-few =
-      let b = leb-true (schemaAtoms (taskOf w .schemas)) 1000 (task-tests (taskOf w) (of-table w h .0) .atoms) in
+      let tests = task-tests (taskOf w) (of-table w h .0) in
+      let b = leb-true (schemaAtoms (taskOf w .schemas)) mostSchemaAtoms (tests .atoms) in
       omega (arith, atoms-word w (table-frame w h))
 
   -- "It has 1 to 16 parts"
-  pub parts-few : (s : ℕ) → s < length (taskOf w .schemas) → partCount (schemaAt (taskOf w) s .atoms) ≤ 16
+  pub parts-few : (s : ℕ) → s < length (taskOf w .schemas) → partCount (schemaAt (taskOf w) s .atoms) ≤ mostParts
   parts-few s l =
       let t = taskOf w in
-      leb-true (partCount (schemaAt t s .atoms)) 16
+      leb-true (partCount (schemaAt t s .atoms)) mostParts
       (schema-tests (t .arities) (schemaAt t s) (schema-fits w h s l) .parts)
 
   pub order-few : (s : ℕ) → s < length (taskOf w .schemas) →
       orderOf (schemaAt (taskOf w) s) ≡ some (orders (taskOf w) s) →
-      length (orders (taskOf w) s) ≤ 16
+      length (orders (taskOf w) s) ≤ mostParts
   order-few s l e =
       let b = parts-few s l in
       omega (arith, orderOf-laws (schemaAt (taskOf w) s) (orders (taskOf w) s) e .size)
 
   -- ---- schema by schema
-  pub parts-none : (starts counts order own : List ℕ) → 0 < length starts →
-      PartsKept (taskOf w) 0 (set starts 0 0) counts order own
-  unfolding sum
-  parts-none starts counts order own l = record {
+  pub parts-none : (kept : List ℕ) → length kept ≡ keptWords →
+      PartsKept (taskOf w) 0 (withField (withField kept 0 startPlace 0) 0 firstPlace 0)
+  unfolding sum partsBefore upTo upFrom
+  parts-none kept l = record {
+    long = field-long one 0 firstPlace 0 (field-long kept 0 startPlace 0 l);
     start = λ s k. let e : s ≡ 0 = omega arith in
-        subst (λ (n : ℕ). getD (set starts 0 0) n 0 ≡ startOf (taskOf w) n) (sym e) (getD-set-same starts 0 0 0 l);
+        subst (λ (n : ℕ). keptStart both n ≡ firstAtom (taskOf w) n) (sym e)
+        (field-stays one 0 firstPlace 0 0 startPlace (omega arith) (omega arith) (λ z. omega arith) ∙
+        field-put kept 0 startPlace 0 l (omega arith) (omega arith));
+    first = λ s k. let e : s ≡ 0 = omega arith in
+        subst (λ (n : ℕ). keptFirst both n ≡ partsBefore (taskOf w) n) (sym e)
+        (field-put one 0 firstPlace 0 (field-long kept 0 startPlace 0 l) (omega arith) (omega arith));
     taken = λ s k. absurd (omega arith);
     count = λ s k. absurd (omega arith);
     part = λ s j k. absurd (omega arith);
     params = λ s j x k. absurd (omega arith);
   }
+    where
+      one : List ℕ
+      one = withField kept 0 startPlace 0
 
-  module _ (s from to : ℕ) (l : s < length (taskOf w .schemas)) (ends : to ≡ startOf (taskOf w) (suc s))
+      both : List ℕ
+      both = withField one 0 firstPlace 0
+
+  module _ (s from to next : ℕ) (l : s < length (taskOf w .schemas)) (ends : to ≡ firstAtom (taskOf w) (suc s))
       (atoms : schemaAt (taskOf w) s .atoms ≡ atomsIn w from to) (f : Order) (fits : f .count ≤ length (f .parts))
       (found : f .found ≡ true) (told : orderTold f ≡ orderOf (schemaAt (taskOf w) s))
-      (starts counts order own order′ own′ : List ℕ)
-      (new : OrderKept w from to s (f .count) (f .parts) order own order′ own′)
-      (old : PartsKept (taskOf w) s starts counts order own) where
+      (goes-on : next ≡ partsBefore (taskOf w) (s + 1)) (kept ordered : List ℕ)
+      (new : OrderKept w from to s (f .count) (f .parts) (withField kept s countPlace (f .count)) ordered)
+      (old : PartsKept (taskOf w) s kept) where
     abbrev t : Task
     t = taskOf w
+
+    -- the array with the count, then with the order, then with the next row begun
+    abbrev counted : List ℕ
+    counted = withField kept s countPlace (f .count)
+
+    abbrev begun : List ℕ
+    begun = withField ordered (s + 1) startPlace to
+
+    abbrev after : List ℕ
+    after = withField begun (s + 1) firstPlace next
 
     -- what holds of each schema before s and of s
     up-to : (P : ℕ → Type 0) → ((r : ℕ) → r < s → P r) → P s → (r : ℕ) → r < s + 1 → P r
@@ -127,9 +173,29 @@ module _ (w : List ℕ) (h : isTable w ≡ true) where
       | no m ↦ let e : s ≡ r = omega arith in subst P e b
     ]
 
-    -- a place of an earlier schema
-    earlier : (r j : ℕ) → r < s → j < length (orders t r) → 16 * r + j < 16 * s
-    earlier r j k m = omega (arith, order-few r (omega arith) (old .taken r k))
+    -- what stood before the row's count still stands, and the row itself as the order was kept
+    stays : (i : ℕ) → i < keptRow * s + countPlace → getD after i 0 ≡ getD kept i 0
+    stays i k =
+        before-stays begun (s + 1) firstPlace next i (omega arith) ∙
+        before-stays ordered (s + 1) startPlace to i (omega arith) ∙
+        new .stays i (omega arith) ∙ before-stays kept s countPlace (f .count) i k
+
+    row-stays : (i : ℕ) → i < keptRow → field after s i ≡ field ordered s i
+    row-stays i k =
+        before-stays begun (s + 1) firstPlace next (keptRow * s + i) (omega arith) ∙
+        before-stays ordered (s + 1) startPlace to (keptRow * s + i) (omega arith)
+
+    few : s < mostSchemas
+    few = let n = schemas-few in omega arith
+
+    counted-long : length counted ≡ keptWords
+    counted-long = field-long kept s countPlace (f .count) (old .long)
+
+    ordered-long : length ordered ≡ keptWords
+    ordered-long = new .long ∙ counted-long
+
+    begun-long : length begun ≡ keptWords
+    begun-long = field-long ordered (s + 1) startPlace to ordered-long
 
     here-count : length (orders t s) ≡ f .count
     here-count = ap length (told-order t s f told found) ∙ found-count f fits
@@ -137,38 +203,74 @@ module _ (w : List ℕ) (h : isTable w ≡ true) where
     here-part : (j : ℕ) → j < f .count → partAt (f .parts) j ≡ getD (orders t s) j 0
     here-part j k = sym (ap (λ (o : List ℕ). getD o j 0) (told-order t s f told found) ∙ found-part f j fits k)
 
+    here-few : f .count ≤ mostParts
+    here-few = let e = here-count in let n = order-few s l (told-taken t s f told found) in omega arith
+
     here-params : (j x : ℕ) → j < f .count →
-        member (getD own′ (16 * s + j) 0) x ≡ has (schemaAt t s) x (getD (orders t s) j 0)
+        member (keptOwn ordered s j) x ≡ has (schemaAt t s) x (getD (orders t s) j 0)
     unfolding has
     here-params j x k =
         new .params j x k ∙
         ap (inPart (partAt (f .parts) j) x) (sym atoms) ∙
         ap (λ (p : ℕ). inPart p x (schemaAt t s .atoms)) (here-part j k)
 
-    pub parts-more : s + 1 < length starts → s < length counts →
-        PartsKept t (s + 1) (set starts (s + 1) to) (set counts s (f .count)) order′ own′
-    parts-more a b = record {
-      start = λ r k. elim (decLt r (s + 1)) [
-        | yes m ↦ getD-set-other starts (s + 1) r to 0 (λ z. omega arith) ∙ old .start r (omega arith)
-        | no m ↦
-            let e : s + 1 ≡ r = omega arith in
-            subst (λ (n : ℕ). getD (set starts (s + 1) to) n 0 ≡ startOf t n) e
-            (getD-set-same starts (s + 1) to 0 a ∙ ends ∙ ap (startOf t) (sym (add-one s)))
-      ];
+    starts-more : (r : ℕ) → r ≤ s + 1 → keptStart after r ≡ firstAtom t r
+    starts-more r k = elim (decLt r (s + 1)) [
+      | yes m ↦ stays (keptRow * r + startPlace) (omega arith) ∙ old .start r (omega arith)
+      | no m ↦
+          let e : s + 1 ≡ r = omega arith in
+          subst (λ (n : ℕ). keptStart after n ≡ firstAtom t n) e
+          (field-stays begun (s + 1) firstPlace next (s + 1) startPlace (omega arith) (omega arith) (λ z. omega arith) ∙
+          field-put ordered (s + 1) startPlace to ordered-long (omega (arith, few)) (omega arith) ∙
+          ends ∙ ap (firstAtom t) (sym (add-one s)))
+    ]
+
+    firsts-more : (r : ℕ) → r ≤ s + 1 → keptFirst after r ≡ partsBefore t r
+    firsts-more r k = elim (decLt r (s + 1)) [
+      | yes m ↦ stays (keptRow * r + firstPlace) (omega arith) ∙ old .first r (omega arith)
+      | no m ↦
+          let e : s + 1 ≡ r = omega arith in
+          subst (λ (n : ℕ). keptFirst after n ≡ partsBefore t n) e
+          (field-put begun (s + 1) firstPlace next begun-long (omega (arith, few)) (omega arith) ∙ goes-on)
+    ]
+
+    counts-more : (r : ℕ) → r < s + 1 → keptCount after r ≡ length (orders t r)
+    counts-more = up-to (λ r. keptCount after r ≡ length (orders t r))
+        (λ r k. stays (keptRow * r + countPlace) (omega arith) ∙ old .count r k)
+        (row-stays countPlace (omega arith) ∙ new .stays (keptRow * s + countPlace) (omega arith) ∙
+        field-put kept s countPlace (f .count) (old .long) (omega (arith, few)) (omega arith) ∙ sym here-count)
+
+    orders-more : (r : ℕ) → r < s + 1 → (j : ℕ) → j < length (orders t r) → keptPart after r j ≡ getD (orders t r) j 0
+    orders-more = up-to (λ r. (j : ℕ) → j < length (orders t r) → keptPart after r j ≡ getD (orders t r) j 0)
+        (λ r m j n.
+        let b = order-few r (omega arith) (old .taken r m) in
+        stays (keptRow * r + (orderPlace + j)) (omega arith) ∙ old .part r j m n)
+        (λ j n.
+        let q = here-count in
+        let b = here-few in
+        row-stays (orderPlace + j) (omega arith) ∙ new .part j (omega arith) ∙ here-part j (omega arith))
+
+    owns-more : (r : ℕ) → r < s + 1 → (j x : ℕ) → j < length (orders t r) →
+        member (keptOwn after r j) x ≡ has (schemaAt t r) x (getD (orders t r) j 0)
+    owns-more = up-to (λ r. (j x : ℕ) → j < length (orders t r) →
+        member (keptOwn after r j) x ≡ has (schemaAt t r) x (getD (orders t r) j 0))
+        (λ r m j x n.
+        let b = order-few r (omega arith) (old .taken r m) in
+        ap (λ (v : ℕ). member v x) (stays (keptRow * r + (ownPlace + j)) (omega arith)) ∙ old .params r j x m n)
+        (λ j x n.
+        let q = here-count in
+        let b = here-few in
+        ap (λ (v : ℕ). member v x) (row-stays (ownPlace + j) (omega arith)) ∙ here-params j x (omega arith))
+
+    pub parts-more : PartsKept t (s + 1) after
+    parts-more = record {
+      long = field-long begun (s + 1) firstPlace next begun-long;
+      start = starts-more;
+      first = firsts-more;
       taken = up-to (λ r. orderOf (schemaAt t r) ≡ some (orders t r)) (old .taken) (told-taken t s f told found);
-      count = up-to (λ r. getD (set counts s (f .count)) r 0 ≡ length (orders t r))
-          (λ r k. getD-set-other counts s r (f .count) 0 (λ z. omega arith) ∙ old .count r k)
-          (getD-set-same counts s (f .count) 0 b ∙ sym here-count);
-      part = λ r j k. up-to
-          (λ r. (j : ℕ) → j < length (orders t r) → getD order′ (16 * r + j) 0 ≡ getD (orders t r) j 0)
-          (λ r m j n. new .orders-stay (16 * r + j) (earlier r j m n) ∙ old .part r j m n)
-          (λ j n. let q = here-count in new .part j (omega arith) ∙ here-part j (omega arith)) r k j;
-      params = λ r j x k. up-to
-          (λ r. (j : ℕ) → j < length (orders t r) →
-          member (getD own′ (16 * r + j) 0) x ≡ has (schemaAt t r) x (getD (orders t r) j 0))
-          (λ r m j n. ap (λ (v : ℕ). member v x) (new .owns-stay (16 * r + j) (earlier r j m n)) ∙
-          old .params r j x m n)
-          (λ j n. let q = here-count in here-params j x (omega arith)) r k j;
+      count = counts-more;
+      part = λ r j k. orders-more r k j;
+      params = λ r j x k. owns-more r k j x;
     }
 
 -- ---- the circular schema

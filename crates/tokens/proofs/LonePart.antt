@@ -10,15 +10,13 @@ use native.Mathlib.Decide.{decLt}
 use lib.ListN.{length, getD}
 use lib.Dec.{eqb}
 use borrow.Author.Tests.{le-ltb, eq-eqb, ne-eqb}
-use Rattle.task.specs.Lists.{upTo, upFrom, indexOf}
+use Rattle.words.specs.Lists.{upTo, upFrom, indexOf}
 use Rattle.task.specs.Task.{Atom, Task, precondition, addition, deletion}
 use Rattle.task.specs.Run.{schemaAt, ofRole}
 use Rattle.tokens.specs.Split.{has, paramsOf, firstPosition, parts, procnone, token, own, oldAtoms, required}
 use Rattle.tokens.specs.Split.{lone, laterHere, pars, splitSchema}
-use Rattle.task.proofs.Laws.{In, in-getD, filter-in, upTo-in, length-upTo}
-use Rattle.task.proofs.Tables.{filter-all, filter-none}
+use Rattle.words.proofs.Lists.{In, in-getD, filter-in, upTo-in, length-upTo, filter-all, filter-none, map-keeps}
 use Rattle.arcs.proofs.OrderTaken.{part-small}
-use Rattle.tokens.proofs.Lists.{map-keeps}
 use Rattle.tokens.proofs.Places.{atom-has}
 use Rattle.tokens.proofs.RoleAtoms.{renumber, atomsHere, parAtom, here-atom}
 use Rattle.tokens.proofs.PartRoles.{PartOf, facts}

@@ -1,6 +1,6 @@
 -- Where a par is added, required and deleted, by the parts that have its parameter before and after a position: a
 -- parameter of the part stood before where its first position is lower, and stands again where its last is higher.
-use Prim.Native.Nat.{ℕ, zero, suc, _+_, _-_, _*_, _≤_, _<_}
+use Prim.Native.Nat.{ℕ, zero, suc, _+_, _-_, _≤_, _<_}
 use mathlib.Core.Path.{_≡_, refl, sym, _∙_, ap, ap₂}
 use mathlib.Core.Bool.{Bool, true, false, not, _&&_, _||_}
 use mathlib.Core.List.{List}
@@ -9,20 +9,20 @@ use native.Mathlib.Decide.{decLt}
 use lib.ListN.{length, getD}
 use lib.Dec.{eqb, ltb}
 use borrow.Author.Tests.{eq-eqb, ne-eqb, ltb-true, lt-ltb, le-ltb}
-use Rattle.task.specs.Lists.{any, filter, upTo, upFrom}
+use Rattle.words.specs.Lists.{any, filter, upTo, upFrom}
 use Rattle.task.specs.Task.{Schema, Task, schemaFits}
 use Rattle.task.specs.Run.{schemaAt}
-use Rattle.task.proofs.Laws.{bool-ext, and-left, any-in, in-any, in-upFrom, upFrom-in, upFrom-last}
+use Rattle.words.proofs.Lists.{bool-ext, and-left, any-in, in-any, in-upFrom, upFrom-in, upFrom-last, filter-same}
 use Rattle.task.proofs.States.{schemaFits-fits}
-use Rattle.arcs.specs.Code.{member, members}
+use Rattle.words.specs.Sets.{member, members}
 use Rattle.arcs.proofs.ArcSets.{any-more}
 use Rattle.tokens.specs.Split.{has, paramsOf, firstPosition, lastPosition, own, firstHere, lastHere, laterHere}
-use Rattle.tokens.specs.Code.{ParamsKept, ParsHere}
+use Rattle.tokens.specs.Code.{ParsHere}
 use Rattle.tokens.specs.declared.pars.Pars.{Pars}
-use Rattle.tokens.proofs.Lists.{filter-same}
 use Rattle.tokens.proofs.Places.{At, at-first, at-last, first-at, last-at, has-small}
-use Rattle.tokens.proofs.Sums.{eqb-turn, filter-filter}
-use Rattle.tokens.proofs.SetMembers.{filter-below}
+use Rattle.words.proofs.Sums.{eqb-turn, filter-filter}
+use Rattle.words.proofs.SetMembers.{filter-below}
+use Rattle.tokens.specs.Kept.{keptOwn, ParamsKept}
 
 -- ---- positions, one after another
 pub between-none : (test : ℕ → Bool) (from : ℕ) → any test (upFrom from (from - from)) ≡ false
@@ -123,13 +123,13 @@ module _ (t : Task) (s : ℕ) (o : List ℕ) (j : ℕ) (l : j < length o) (kept 
     (known : ParamsKept t s o kept) where
   -- the set kept at a position
   abbrev at : ℕ → ℕ
-  at i = getD kept (16 * s + i) 0
+  at i = keptOwn kept s i
 
   same-tests : (x from n : ℕ) → from + n ≤ length o →
       any (λ i. member (at i) x) (upFrom from n) ≡ any (λ i. has (schemaAt t s) x (getD o i 0)) (upFrom from n)
   unfolding any upFrom
   same-tests x from zero h = refl
-  same-tests x from (suc n) h = ap₂ _||_ (known from x (omega arith)) (same-tests x (suc from) n (omega arith))
+  same-tests x from (suc n) h = ap₂ _||_ (known .params from x (omega arith)) (same-tests x (suc from) n (omega arith))
 
   module _ (r : Pars) (before after : ℕ)
       (is-own : (x : ℕ) → member (r .own) x ≡ member (at j) x)
@@ -147,16 +147,16 @@ module _ (t : Task) (s : ℕ) (o : List ℕ) (j : ℕ) (l : j < length o) (kept 
 
     pub pars-here : ParsHere t s o j r
     pars-here = record {
-      own = λ x. is-own x ∙ known j x l;
+      own = λ x. is-own x ∙ known .params j x l;
       later = λ x.
-          is-later x ∙ ap (λ c. c && member before x) (known j x l) ∙
+          is-later x ∙ ap (λ c. c && member before x) (known .params j x l) ∙
           later-is t s o j l x (member before x) (member after x) (before-is x) (after-is x);
       first = λ x.
-          is-first x ∙ ap (λ c. (c && not (member before x)) && member after x) (known j x l) ∙
+          is-first x ∙ ap (λ c. (c && not (member before x)) && member after x) (known .params j x l) ∙
           first-is t s o j l x (member before x) (member after x) (before-is x) (after-is x);
       last = λ x.
           is-last x ∙ ap (λ c. c && not (member after x)) (is-later x) ∙
-          ap (λ c. (c && member before x) && not (member after x)) (known j x l) ∙
+          ap (λ c. (c && member before x) && not (member after x)) (known .params j x l) ∙
           last-is t s o j l x (member before x) (member after x) (before-is x) (after-is x);
     }
 

@@ -11,19 +11,22 @@ use lib.ListN.{length, getD, set, take, replicate}
 use lib.Seq.{take-suc, take-length, getD-set-same, getD-set-other}
 use lib.Dec.{eqb}
 use borrow.Author.Tests.{eqb-true, eqb-false, eq-eqb, ne-eqb}
-use Rattle.task.specs.Lists.{any, upFrom}
+use Rattle.words.specs.Lists.{any, upFrom}
 use Rattle.task.specs.Task.{Atom, names}
 use Rattle.task.specs.Table.{atomIn, schemaNumberIn, taskOf, isTable}
-use Rattle.task.proofs.Laws.{and-right, any-in, map-in, upFrom-in}
+use Rattle.words.proofs.Lists.{and-right, any-in, map-in, upFrom-in}
 use Rattle.task.proofs.States.{names-in}
 use Rattle.task.proofs.TablesByIndex.{table-frame, schemas-word, start-suc, schema-of-atom, atom-lies}
-use Rattle.arcs.specs.Code.{member, IsStretch, atomsIn}
-use Rattle.arcs.proofs.ArcSets.{or-false, or-assoc, any-more}
-use Rattle.arcs.proofs.BitSets.{member-zero}
+use Rattle.words.specs.Sets.{member}
+use Rattle.arcs.specs.Code.{IsStretch, atomsIn}
+use Rattle.words.proofs.Ranges.{or-false}
+use Rattle.arcs.proofs.ArcSets.{or-assoc, any-more}
+use Rattle.words.proofs.BitSets.{member-zero}
 use Rattle.arcs.proofs.Stretches.{zeros-at, stretch-atom, atoms-none, atoms-more}
-use Rattle.tokens.specs.Code.{startOf}
-use Rattle.tokens.proofs.Sums.{eqb-turn}
+use Rattle.words.proofs.Sums.{eqb-turn}
 use Rattle.tokens.proofs.AtomWords.{argument-small}
+use Rattle.task.specs.Turns.{firstAtom}
+use Rattle.task.specs.Limits.{mostParameters, mostParts}
 
 -- ---- an atom's arguments
 -- x is in the set, or among the first k arguments
@@ -96,7 +99,7 @@ module _ (w : List ℕ) (from p : ℕ) where
       sym (grown i x l)
 
   -- parameters are below 12
-  pub part-small : (to x : ℕ) → IsStretch w from to → inPart p x (atomsIn w from to) ≡ true → x < 12
+  pub part-small : (to x : ℕ) → IsStretch w from to → inPart p x (atomsIn w from to) ≡ true → x < mostParameters
   unfolding atomsIn
   part-small to x s h =
       let (a, i, e) = any-in (λ a. eqb p (a .part) && names x a) (atomsIn w from to) h in
@@ -125,8 +128,8 @@ module _ (w : List ℕ) (from : ℕ) where
   abbrev pub Named : ℕ → List ℕ → Type 0
   Named i sets = (p x : ℕ) → member (getD sets p 0) x ≡ inPart p x (atomsIn w from i)
 
-  pub named-nowhere : Named from (replicate 16 0)
-  named-nowhere p x = ap (λ (n : ℕ). member n x) (zeros-at 16 p) ∙ part-none w from p x (member-zero x)
+  pub named-nowhere : Named from (replicate mostParts 0)
+  named-nowhere p x = ap (λ (n : ℕ). member n x) (zeros-at mostParts p) ∙ part-none w from p x (member-zero x)
 
   pub named-further : (i q r : ℕ) (sets : List ℕ) → from ≤ i → q ≡ atomIn w i .part → q < length sets →
       Named i sets → ((x : ℕ) → member r x ≡ member (getD sets q 0) x || names x (atomIn w i)) →
@@ -142,19 +145,20 @@ module _ (w : List ℕ) (h : isTable w ≡ true) (s : ℕ) (l : s < length (task
   schema-known = let e = schemas-word w (table-frame w h) in omega arith
 
   -- an atom of another schema stands at the end
-  pub ends-here : (i : ℕ) → startOf (taskOf w) s ≤ i → i ≤ startOf (taskOf w) (suc s) → (schemaNumberIn w i ≡ s → ⊥) →
-      i ≡ startOf (taskOf w) (suc s)
-  ends-here i a b n = elim (decLt i (startOf (taskOf w) (suc s))) [
+  pub ends-here : (i : ℕ) → firstAtom (taskOf w) s ≤ i → i ≤ firstAtom (taskOf w) (suc s) →
+      (schemaNumberIn w i ≡ s → ⊥) → i ≡ firstAtom (taskOf w) (suc s)
+  ends-here i a b n = elim (decLt i (firstAtom (taskOf w) (suc s))) [
     | yes k ↦
         let t = taskOf w in
         let fr = table-frame w h in
         let g = start-suc w fr s schema-known in
-        let e : startOf t s + (i - startOf t s) ≡ i = omega arith in
-        absurd (n (ap (schemaNumberIn w) (sym e) ∙ schema-of-atom w fr s (i - startOf t s) schema-known (omega arith)))
+        let e : firstAtom t s + (i - firstAtom t s) ≡ i = omega arith in
+        absurd (n (ap (schemaNumberIn w) (sym e) ∙
+        schema-of-atom w fr s (i - firstAtom t s) schema-known (omega arith)))
     | no k ↦ omega arith
   ]
 
   -- an atom of the schema stands before it
-  pub goes-on : (i : ℕ) → i < getD w 3 0 → schemaNumberIn w i ≡ s → i < startOf (taskOf w) (suc s)
+  pub goes-on : (i : ℕ) → i < getD w 3 0 → schemaNumberIn w i ≡ s → i < firstAtom (taskOf w) (suc s)
   goes-on i k e =
-      subst (λ (x : ℕ). i < startOf (taskOf w) (suc x)) e (atom-lies w (table-frame w h) i k .before-next)
+      subst (λ (x : ℕ). i < firstAtom (taskOf w) (suc x)) e (atom-lies w (table-frame w h) i k .before-next)

@@ -9,19 +9,17 @@ use native.Mathlib.Omega.{arith}
 use lib.ListN.{length, getD, length-map}
 use lib.Dec.{eqb}
 use borrow.Author.Tests.{ltb-true}
-use Rattle.task.specs.Lists.{filter, upTo, indexOf}
+use Rattle.words.specs.Lists.{filter, upTo, indexOf}
 use Rattle.task.specs.Task.{Atom, Schema, Task, schemaFits}
 use Rattle.task.specs.Run.{schemaAt, ofRole}
-use Rattle.tokens.specs.Split.{has, paramsOf, firstPosition, lastPosition, parts, parCount, procnone, token}
-use Rattle.tokens.specs.Split.{own, oldAtoms, required, handedOn, firstHere, lastHere, laterHere, pars}
-use Rattle.tokens.specs.Split.{splitTask}
-use Rattle.task.proofs.Laws.{and-right, In, here, there, in-empty, in-getD, map-in, upTo-in}
+use Rattle.tokens.specs.Split.{has, paramsOf, firstPosition, lastPosition, parts, parCount, procnone, token, own}
+use Rattle.tokens.specs.Split.{oldAtoms, required, handedOn, firstHere, lastHere, laterHere, pars, splitTask}
+use Rattle.words.proofs.Lists.{and-right, In, here, there, in-empty, in-getD, map-in, upTo-in}
 use Rattle.task.proofs.Tests.{SchemaTests, schema-tests}
 use Rattle.task.proofs.States.{Fitting, SchemaFits, schemaFits-fits}
-use Rattle.arcs.proofs.PartLists.{Once, once-upFrom, once-filter}
+use Rattle.words.proofs.Ascending.{Once, once-upFrom, once-filter}
 use Rattle.arcs.proofs.OrderTaken.{OrderOf}
-use Rattle.tokens.proofs.Places.{index-small, getD-index, atom-has, in-params, params-in, At, first-at}
-use Rattle.tokens.proofs.Places.{last-at}
+use Rattle.tokens.proofs.Places.{index-small, getD-index, atom-has, in-params, params-in, At, first-at, last-at}
 use Rattle.tokens.proofs.AtomLists.{SameAtom, Apart, apart-cons, distinct-apart, apart-append, apart-filter}
 use Rattle.tokens.proofs.AtomLists.{apart-map, apart-once}
 use Rattle.tokens.proofs.RoleAtoms.{renumber, atomsHere, parAtom, roleAtoms, an-old, the-token, of-parameter}

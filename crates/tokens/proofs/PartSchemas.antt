@@ -10,23 +10,22 @@ use native.Mathlib.Omega.{arith}
 use lib.ListN.{length, getD}
 use lib.Dec.{eqb, leb}
 use borrow.Author.Tests.{leb-true, le-leb, eq-eqb}
-use Rattle.task.specs.Lists.{any, upTo, indexOf}
+use Rattle.words.specs.Lists.{any, upTo, indexOf}
 use Rattle.task.specs.Limits.{mostParameters, mostAtoms, mostParts}
 use Rattle.task.specs.Task.{Atom, Schema, Task, argsFit, rolesAscend, names, partCount, schemaFits, precondition}
 use Rattle.task.specs.Task.{addition, deletion}
 use Rattle.task.specs.Run.{schemaAt}
 use Rattle.tokens.specs.Split.{has, paramsOf, token, own, required, handedOn, lone, firstHere, lastHere}
 use Rattle.tokens.specs.Split.{laterHere, splitSchema, splitTask}
-use Rattle.task.proofs.Laws.{In, in-empty, in-append, in-all, in-any, in-eq, in-getD, in-map, upTo-in, length-upTo}
+use Rattle.words.proofs.Lists.{In, in-empty, in-append, in-all, in-any, in-eq, in-getD, in-map, upTo-in, length-upTo}
+use Rattle.words.proofs.Lists.{some-length}
 use Rattle.task.proofs.Tests.{tests-schema, hasPart}
 use Rattle.task.proofs.States.{Fitting, fitting-argsFit, in-names}
-use Rattle.arcs.proofs.PartLists.{filter-le}
+use Rattle.words.proofs.Ascending.{filter-le}
 use Rattle.tokens.proofs.Places.{index-getD, has-atom, in-params}
 use Rattle.tokens.proofs.AtomLists.{Apart, apart-distinct, apart-append, roles-append, role-small, one-part}
-use Rattle.tokens.proofs.RoleAtoms.{renumber, an-old, the-token, to-role, part-is, preAtoms, addAtoms}
-use Rattle.tokens.proofs.RoleAtoms.{delAtoms, of-pre, of-add, of-del, of-schema, in-schema, pre-role, add-role}
-use Rattle.tokens.proofs.RoleAtoms.{del-role}
-use Rattle.tokens.proofs.Lists.{some-length}
+use Rattle.tokens.proofs.RoleAtoms.{renumber, an-old, the-token, to-role, part-is, preAtoms, addAtoms, delAtoms}
+use Rattle.tokens.proofs.RoleAtoms.{of-pre, of-add, of-del, of-schema, in-schema, pre-role, add-role, del-role}
 use Rattle.tokens.proofs.PartRoles.{PartOf, tests, pre-tokens, add-tokens, del-tokens, role-fits, role-apart}
 
 -- a schema has just the parameters that its atoms name

@@ -7,24 +7,24 @@ use mathlib.Core.List.{List, [], _∷_, _++_, map}
 use native.Mathlib.Omega.{arith}
 use lib.ListN.{length, getD, length-append}
 use lib.Seq.{getD-append-add}
-use Rattle.task.specs.Lists.{filter, keepIf, concatMap, upFrom, upTo, indexOf}
+use Rattle.words.specs.Lists.{filter, keepIf, concatMap, upFrom, upTo, indexOf}
 use Rattle.task.specs.Task.{Atom, Task, precondition, addition, deletion}
 use Rattle.task.specs.Run.{schemaAt}
 use Rattle.task.specs.Table.{atomWords, taskOf}
-use Rattle.task.proofs.Laws.{In, map-same, filter-in, append-concatMap}
-use Rattle.task.proofs.Tables.{filter-append, upFrom-append}
-use Rattle.arcs.specs.Code.{member, members, atomsIn}
-use Rattle.tokens.specs.Split.{has, paramsOf, orders, parToken, token, own, oldAtoms, required, handedOn, lone}
-use Rattle.tokens.specs.Split.{firstHere, lastHere, laterHere, pars, splitSchema}
+use Rattle.words.proofs.Lists.{In, map-same, filter-in, append-concatMap, filter-append, upFrom-append, filter-same}
+use Rattle.words.specs.Sets.{member, members}
+use Rattle.tokens.specs.Split.{has, paramsOf, orders, parToken, token, own, oldAtoms, required, lone, firstHere}
+use Rattle.tokens.specs.Split.{lastHere, laterHere, pars, splitSchema}
 use Rattle.tokens.specs.Writing.{newNumber, renumbered, oldIn, parIn, oldWords, parWords, roleWords, partWords}
-use Rattle.tokens.specs.Writing.{PlaceOf}
+use Rattle.tokens.specs.Writing.{PlaceOf, TokensOf}
 use Rattle.tokens.specs.declared.part_atoms.PartPlace.{PartPlace}
-use Rattle.tokens.proofs.Lists.{filter-same}
-use Rattle.tokens.proofs.Sums.{filter-filter}
+use Rattle.words.proofs.Sums.{filter-filter}
 use Rattle.tokens.proofs.Places.{index-getD, in-params}
 use Rattle.tokens.proofs.RoleAtoms.{renumber, atomsHere, parAtom, roleAtoms, here-atom, preAtoms, addAtoms}
 use Rattle.tokens.proofs.RoleAtoms.{delAtoms, schema-atoms}
 use Rattle.tokens.proofs.PartRoles.{PartOf, own-in}
+use Rattle.tokens.specs.declared.part_atoms.PartTokens.{PartTokens}
+use Rattle.tokens.specs.declared.part_atoms.RoleTokens.{RoleTokens}
 
 -- ---- numbers in a set of bits
 module _ (set n x : ℕ) (l : x < n) (e : member set x ≡ true) where
@@ -38,7 +38,8 @@ module _ (set n x : ℕ) (l : x < n) (e : member set x ≡ true) where
       ap (filter (member set)) (upFrom-append 0 x (suc (n - suc x))) ∙
       filter-append (member set) (upFrom 0 x) (upFrom (0 + x) (suc (n - suc x))) ∙
       ap (λ (k : ℕ). filter (member set) (upFrom 0 x) ++ filter (member set) (upFrom k (suc (n - suc x)))) z ∙
-      ap (λ (b : Bool). filter (member set) (upFrom 0 x) ++ keepIf b x (filter (member set) (upFrom (suc x) (n - suc x)))) e
+      ap (λ (b : Bool). filter (member set) (upFrom 0 x) ++
+      keepIf b x (filter (member set) (upFrom (suc x) (n - suc x)))) e
 
   -- a member's index is the number of those below it
   pub index-member : newNumber set x ≡ indexOf x (members set n)
@@ -70,7 +71,8 @@ module _ (t : Task) (s : ℕ) (o : List ℕ) (j : ℕ) (P : PartOf t s o j) (set
   pub own-members : own t s o j ≡ members set (schemaAt t s .params)
   unfolding own paramsOf members
   own-members =
-      filter-same (λ x. has (schemaAt t s) x (getD o j 0)) (member set) (upTo (schemaAt t s .params)) (λ x i. sym (is x))
+      filter-same (λ x. has (schemaAt t s) x (getD o j 0)) (member set) (upTo (schemaAt t s .params))
+      (λ x i. sym (is x))
 
   new-index : (x : ℕ) → In x (own t s o j) → newNumber set x ≡ indexOf x (own t s o j)
   unfolding own
@@ -83,7 +85,8 @@ module _ (t : Task) (s : ℕ) (o : List ℕ) (j : ℕ) (P : PartOf t s o j) (set
   old-same r = map-same (renumbered set r) (renumber t s o j r) (atomsHere t s o j r) (λ a i.
       let (k, q, p) = here-atom t s o j r a i in
       ap {B = Atom} (λ (args : List ℕ). record { role = r; pred = a .pred; part = 0; args = args })
-      (map-same (newNumber set) (λ x. indexOf x (own t s o j)) (a .args) (λ x m. new-index x (own-in t s o j P a k p x m))))
+      (map-same (newNumber set) (λ x. indexOf x (own t s o j)) (a .args)
+      (λ x m. new-index x (own-in t s o j P a k p x m))))
 
   par-same : (par r which : ℕ) (test : ℕ → Bool) → par ≡ parToken t 0 →
       filter test (own t s o j) ≡ members which (schemaAt t s .params) →
@@ -108,43 +111,50 @@ module _ (w : List ℕ) (s j : ℕ) (here : PartPlace) (place : PlaceOf w s j he
   abbrev words : List Atom → List ℕ
   words = concatMap (atomWords (here .number))
 
-  role-words : (r : ℕ) (without : Bool) (bare which : ℕ) (test : ℕ → Bool) →
-      filter test (own t s o j) ≡ members which (schemaAt t s .params) →
-      roleWords w here r without bare which ≡ words (roleAtoms t s o j r without bare test)
+  role-words : (r : ℕ) (tokens : RoleTokens) (test : ℕ → Bool) →
+      filter test (own t s o j) ≡ members (tokens .which) (schemaAt t s .params) →
+      roleWords w here r tokens ≡ words (roleAtoms t s o j r (tokens .lone) (tokens .bare) test)
   unfolding concatMap
-  role-words r without bare which test e =
-      ap₂ (λ (xs ys : List ℕ). xs ++ cond without [] (atomWords (here .number) (token r bare []) ++ ys)) old new ∙
-      (go without ∙ sym (append-concatMap (atomWords (here .number)) (oldAtoms t s o j r)
-      (cond without [] (token r bare [] ∷ pars t s o j r test))))
+  role-words r tokens test e =
+      ap₂ (λ (xs ys : List ℕ).
+      xs ++ cond (tokens .lone) [] (atomWords (here .number) (token r (tokens .bare) []) ++ ys)) old new ∙
+      (go (tokens .lone) ∙ sym (append-concatMap (atomWords (here .number)) (oldAtoms t s o j r)
+      (cond (tokens .lone) [] (token r (tokens .bare) [] ∷ pars t s o j r test))))
     where
       old : oldWords w here r ≡ words (oldAtoms t s o j r)
       old =
           ap₂ (λ (p : ℕ) (atoms : List Atom). words (oldIn (here .own) r p atoms)) (place .part) (place .atoms) ∙
           ap words (old-same t s o j P (here .own) (place .own) r)
 
-      new : parWords here r which ≡ words (pars t s o j r test)
+      new : parWords here r (tokens .which) ≡ words (pars t s o j r test)
       new =
-          ap (λ (n : ℕ). words (map (parIn (here .own) (here .par) r) (members which n))) (place .params) ∙
-          ap words (par-same t s o j P (here .own) (place .own) (here .par) r which test (place .par) e)
+          ap (λ (n : ℕ). words (map (parIn (here .own) (here .par) r) (members (tokens .which) n))) (place .params) ∙
+          ap words (par-same t s o j P (here .own) (place .own) (here .par) r (tokens .which) test (place .par) e)
 
       go : (b : Bool) →
           words (oldAtoms t s o j r) ++
-          cond b [] (atomWords (here .number) (token r bare []) ++ words (pars t s o j r test)) ≡
-          words (oldAtoms t s o j r) ++ words (cond b [] (token r bare [] ∷ pars t s o j r test))
+          cond b [] (atomWords (here .number) (token r (tokens .bare) []) ++ words (pars t s o j r test)) ≡
+          words (oldAtoms t s o j r) ++ words (cond b [] (token r (tokens .bare) [] ∷ pars t s o j r test))
       go true = refl
       go false = refl
 
-  pub part-words : (later first last : ℕ) →
-      filter (laterHere t s o j) (own t s o j) ≡ members later (schemaAt t s .params) →
-      filter (firstHere t s o j) (own t s o j) ≡ members first (schemaAt t s .params) →
-      filter (lastHere t s o j) (own t s o j) ≡ members last (schemaAt t s .params) →
-      partWords w here (lone t s o j) (required t s o j) (handedOn t s o j) later first last ≡
-      words (splitSchema t s o j .atoms)
-  part-words later first last e f g =
-      ap₂ (λ (xs ys : List ℕ). xs ++ ys) (role-words precondition false (required t s o j) later (laterHere t s o j) e)
+  pub part-words : (tokens : PartTokens) → TokensOf t s j tokens →
+      partWords w here tokens ≡ words (splitSchema t s o j .atoms)
+  part-words tokens T =
+      let sets = tokens .pars in
+      let bare = tokens .required in
+      let e = here-members t s o j (sets .later) (laterHere t s o j) (T .pars .later) in
+      let f = here-members t s o j (sets .first) (firstHere t s o j) (T .pars .first) in
+      let g = here-members t s o j (sets .last) (lastHere t s o j) (T .pars .last) in
+      ap₂ (λ (xs ys : List ℕ). xs ++ ys)
+      (role-words precondition (record { lone = false; bare = bare; which = sets .later }) (laterHere t s o j) e ∙
+      ap (λ (p : ℕ). words (roleAtoms t s o j precondition false p (laterHere t s o j))) (T .before))
       (ap₂ (λ (xs ys : List ℕ). xs ++ ys)
-      (role-words addition (lone t s o j) (handedOn t s o j) first (firstHere t s o j) f)
-      (role-words deletion (lone t s o j) (required t s o j) last (lastHere t s o j) g) ∙
+      (role-words addition (record { lone = tokens .lone; bare = tokens .handed; which = sets .first })
+      (firstHere t s o j) f ∙
+      ap₂ (λ (b : Bool) (p : ℕ). words (roleAtoms t s o j addition b p (firstHere t s o j))) (T .alone) (T .behind))
+      (role-words deletion (record { lone = tokens .lone; bare = bare; which = sets .last }) (lastHere t s o j) g ∙
+      ap₂ (λ (b : Bool) (p : ℕ). words (roleAtoms t s o j deletion b p (lastHere t s o j))) (T .alone) (T .before)) ∙
       sym (append-concatMap (atomWords (here .number)) (addAtoms t s o j) (delAtoms t s o j))) ∙
       (sym (append-concatMap (atomWords (here .number)) (preAtoms t s o j) (addAtoms t s o j ++ delAtoms t s o j)) ∙
       ap words (sym (schema-atoms t s o j)))

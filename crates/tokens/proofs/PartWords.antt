@@ -1,6 +1,6 @@
 -- The words of a part's atoms as its loops put them: one atom or one par further, a word run is longer by that atom's
 -- words where the test takes it, and the same where it doesn't.
-use Prim.Native.Nat.{ℕ, suc, _+_, _-_, _≤_, _<_}
+use Prim.Native.Nat.{ℕ, _+_, _-_, _≤_, _<_}
 use mathlib.Core.Path.{_≡_, refl, sym, _∙_, ap, subst}
 use mathlib.Core.Bool.{Bool, true, false, _&&_}
 use mathlib.Core.List.{List, [], _∷_, _++_, map, append-nil}
@@ -10,27 +10,29 @@ use lib.ListN.{length, getD, take, replicate, length-map}
 use lib.Seq.{take-suc, take-all}
 use lib.Dec.{eqb, ltb}
 use borrow.Author.Tests.{ltb-true, lt-ltb}
-use Rattle.task.specs.Lists.{filter, keepIf, concatMap, upTo, padded}
+use Rattle.words.specs.Lists.{filter, keepIf, concatMap, upTo, padded}
 use Rattle.task.specs.Task.{Atom}
 use Rattle.task.specs.Run.{ofRole}
 use Rattle.task.specs.Table.{atomIn, atomWords}
-use Rattle.task.proofs.Laws.{In, and-left, and-right, upTo-in, map-append, append-concatMap}
-use Rattle.task.proofs.Tables.{filter-append, filter-none, length-padded}
-use Rattle.arcs.specs.Code.{member, members, atomsIn}
-use Rattle.arcs.proofs.BitSets.{member-zero}
+use Rattle.words.proofs.Lists.{and-right, upTo-in, map-append, append-concatMap, filter-append, filter-none}
+use Rattle.words.proofs.Lists.{length-padded, filter-same}
+use Rattle.words.specs.Sets.{member, members, wordBits}
+use Rattle.arcs.specs.Code.{atomsIn}
+use Rattle.words.proofs.BitSets.{member-zero}
 use Rattle.arcs.proofs.Stretches.{atoms-none, atoms-more}
-use Rattle.tokens.specs.Writing.{Puts, newNumber, renumbered, oldIn, parIn}
-use Rattle.tokens.proofs.Lists.{filter-same}
-use Rattle.tokens.proofs.Runs.{puts-then}
-use Rattle.tokens.proofs.SetMembers.{members-more, filter-below}
+use Rattle.words.specs.Putting.{Puts}
+use Rattle.tokens.specs.Writing.{newNumber, renumbered, oldIn, parIn}
+use Rattle.words.proofs.Puts.{puts-then}
+use Rattle.words.proofs.SetMembers.{members-more, filter-below}
 
 -- ---- a parameter's new number
 -- the members of a set below x, as a set
-pub members-below : (own x below : ℕ) → x ≤ 16 → ((k : ℕ) → member below k ≡ member own k && ltb k x) →
-    members below 16 ≡ members own x
+pub members-below : (own x below : ℕ) → x ≤ wordBits → ((k : ℕ) → member below k ≡ member own k && ltb k x) →
+    members below wordBits ≡ members own x
 unfolding members
 members-below own x below l h =
-    filter-below (member below) x 16 l (λ k e. ltb-true k x (and-right (member own k) (ltb k x) (sym (h k) ∙ e))) ∙
+    filter-below (member below) x wordBits l
+    (λ k e. ltb-true k x (and-right (member own k) (ltb k x) (sym (h k) ∙ e))) ∙
     filter-same (member below) (member own) (upTo x) (λ k i. h k ∙ inside k (member own k) (upTo-in x k i))
   where
     inside : (k : ℕ) (b : Bool) → k < x → b && ltb k x ≡ b
@@ -45,7 +47,8 @@ arguments-more own xs k l =
     map-append (newNumber own) (take k xs) (getD xs k 0 ∷ [])
 
 -- all arguments, and zeros up to four words
-pub arguments-end : (w : List ℕ) (at own : ℕ) (args : List ℕ) (k : ℕ) (out : List ℕ) (count : ℕ) {after : List ℕ} {end : ℕ} →
+pub arguments-end : (w : List ℕ) (at own : ℕ) (args : List ℕ) (k : ℕ) (out : List ℕ) (count : ℕ)
+    {after : List ℕ} {end : ℕ} →
     Puts w at (map (newNumber own) (take k args)) out (at + k) → k ≡ count → count ≡ length args → length args ≤ 4 →
     Puts out (at + count) (replicate (4 - count) 0) after end →
     Puts w at (padded 4 (map (newNumber own) args)) after end × (end ≡ at + 4)
@@ -55,8 +58,9 @@ arguments-end w at own args k out count front e n l zeros =
     let a : Puts w at (map (newNumber own) args) out (at + count) =
     subst (λ (j : ℕ). Puts w at (map (newNumber own) args) out (at + j)) e
     (subst (λ (xs : List ℕ). Puts w at (map (newNumber own) xs) out (at + k)) (take-all k args (omega arith)) front) in
+    let z : length (map (newNumber own) args) ≡ count = omega arith in
     let all = puts-then a zeros (padded 4 (map (newNumber own) args))
-    (ap (λ (j : ℕ). map (newNumber own) args ++ replicate (4 - j) 0) (let z : length (map (newNumber own) args) ≡ count = omega arith in z)) in
+    (ap (λ (j : ℕ). map (newNumber own) args ++ replicate (4 - j) 0) z) in
     (all, omega (arith, all .place, length-padded 4 (map (newNumber own) args) (omega arith)))
 
 -- ---- words of atoms
@@ -88,7 +92,8 @@ module _ (own r p : ℕ) where
       ap (λ (l : List Atom). map (renumbered own r) (filter part (filter role xs)) ++ l) (last (role a) (part a) refl)
     where
       last : (b d : Bool) → eqb p (a .part) ≡ d →
-          map (renumbered own r) (filter (λ a. eqb p (a .part)) (keepIf b a [])) ≡ keepIf (b && d) (renumbered own r a) []
+          map (renumbered own r) (filter (λ a. eqb p (a .part)) (keepIf b a [])) ≡
+          keepIf (b && d) (renumbered own r a) []
       last true true e = ap (λ (b : Bool). map (renumbered own r) (keepIf b a [])) e
       last true false e = ap (λ (b : Bool). map (renumbered own r) (keepIf b a [])) e
       last false d e = refl
@@ -143,7 +148,8 @@ module _ (own par r number which : ℕ) where
       last true = refl
       last false = refl
 
-  pub pars-taken : (x : ℕ) → member which x ≡ true → parsUpTo (x + 1) ≡ parsUpTo x ++ atomWords number (parIn own par r x)
+  pub pars-taken : (x : ℕ) → member which x ≡ true →
+      parsUpTo (x + 1) ≡ parsUpTo x ++ atomWords number (parIn own par r x)
   pars-taken x h =
       ap (concatMap (atomWords number)) (pars-step x) ∙
       words-taken (atomWords number) (map (parIn own par r) (members which x)) (parIn own par r x) _ h

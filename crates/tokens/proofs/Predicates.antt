@@ -10,13 +10,12 @@ use native.Mathlib.Decide.{decLt}
 use lib.ListN.{length, getD, replicate, length-append, length-replicate, getD-replicate, List·getD-append}
 use lib.Seq.{take-length, getD-append-add}
 use borrow.Author.Tests.{lt-ltb}
-use Rattle.task.specs.Lists.{filter, upFrom, upTo, lastOr}
+use Rattle.words.specs.Lists.{filter, upFrom, upTo, lastOr}
 use Rattle.task.specs.Task.{Schema, Task}
 use Rattle.task.specs.Run.{schemaAt}
-use Rattle.tokens.specs.Split.{has, parts, laterParts, shared, sharedBound, maximum, parCount, procnone}
-use Rattle.tokens.specs.Split.{doToken, parToken, splitTask}
-use Rattle.task.proofs.Laws.{In, here, there, in-empty, in-filter, in-getD, in-map, in-upFrom, in-upTo}
-use Rattle.tokens.proofs.Lists.{some-length}
+use Rattle.tokens.specs.Split.{has, parts, laterParts, shared, sharedBound, maximum, parCount, procnone, doToken}
+use Rattle.tokens.specs.Split.{parToken, splitTask}
+use Rattle.words.proofs.Lists.{In, here, there, in-empty, in-filter, in-getD, in-map, in-upFrom, in-upTo, some-length}
 use Rattle.tokens.proofs.Places.{last-most}
 use Rattle.tokens.proofs.Accepted.{later-step, later-mono, tokenAt, token-zero, token-end, token-inside}
 

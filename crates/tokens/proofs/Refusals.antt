@@ -8,14 +8,14 @@ use mathlib.Core.Option.{Option, none, some}
 use native.Mathlib.Omega.{arith}
 use native.Mathlib.Decide.{decLt}
 use lib.ListN.{length}
-use Rattle.task.specs.Lists.{head, first, filter, keepIf, upTo, upFrom}
+use Rattle.words.specs.Lists.{head, first, filter, keepIf, upTo, upFrom}
 use Rattle.task.specs.Task.{Task}
 use Rattle.task.specs.Run.{schemaAt}
 use Rattle.arcs.specs.Order.{orderOf}
-use Rattle.arcs.proofs.PartLists.{some-inj, no-none}
+use Rattle.words.proofs.Ascending.{some-inj, no-none}
 use Rattle.tokens.specs.Split.{orderAt, orEmpty, orders, splitTask, circular, tooLarge, splitAs, isNone}
 use Rattle.tokens.specs.Split.{withinLimits, settle, split}
-use Rattle.task.proofs.Laws.{no-tf, no-ft}
+use Rattle.words.proofs.Lists.{no-tf, no-ft}
 use Rattle.tokens.proofs.Accepted.{circularAt, Ordered, none-circular, ordered-split}
 
 -- ---- the first number that passes a test

@@ -1,16 +1,15 @@
 -- The words of the split's schemas as its loops put them: one part or one schema further, and no more at a place on
 -- the way than in all.
 use Prim.Native.Nat.{ℕ, suc, _+_, _-_, _≤_}
-use mathlib.Core.Path.{_≡_, refl, sym, _∙_, ap}
+use mathlib.Core.Path.{_≡_, sym, _∙_, ap}
 use mathlib.Core.List.{List, [], _∷_, _++_, map, append-nil, append-assoc}
 use native.Mathlib.Omega.{arith}
 use native.Mathlib.Numerals.{add-one}
 use lib.ListN.{length, length-append, length-map}
-use Rattle.task.specs.Lists.{concatMap, upFrom, upTo}
+use Rattle.words.specs.Lists.{concatMap, upFrom, upTo}
 use Rattle.task.specs.Task.{Schema}
 use Rattle.task.specs.Table.{atomWords, schemasFrom}
-use Rattle.task.proofs.Laws.{map-append, append-concatMap, upTo-suc, length-upTo}
-use Rattle.task.proofs.Tables.{upFrom-append}
+use Rattle.words.proofs.Lists.{map-append, append-concatMap, upTo-suc, length-upTo, upFrom-append}
 
 pub schemas-append : (n : ℕ) (xs ys : List Schema) →
     schemasFrom n (xs ++ ys) ≡ schemasFrom n xs ++ schemasFrom (n + length xs) ys
@@ -20,7 +19,8 @@ schemas-append n (x ∷ xs) ys =
     let z : suc n + length xs ≡ n + suc (length xs) = omega arith in
     ap (λ (l : List ℕ). concatMap (atomWords n) (x .atoms) ++ l)
     (schemas-append (suc n) xs ys ∙ ap (λ (k : ℕ). schemasFrom (suc n) xs ++ schemasFrom k ys) z) ∙
-    sym (append-assoc (concatMap (atomWords n) (x .atoms)) (schemasFrom (suc n) xs) (schemasFrom (n + suc (length xs)) ys))
+    sym (append-assoc (concatMap (atomWords n) (x .atoms)) (schemasFrom (suc n) xs)
+    (schemasFrom (n + suc (length xs)) ys))
 
 -- numbers up to a place, and those behind it
 upTo-split : (k n : ℕ) → k ≤ n → upTo n ≡ upTo k ++ upFrom k (n - k)
@@ -59,7 +59,8 @@ module _ (n : ℕ) (f : ℕ → Schema) where
       let e : n + length (map f (upTo j)) ≡ n + j = omega (arith, length-map (upTo j) f, length-upTo j) in
       ap partsUpTo (add-one j) ∙ (ap (λ (js : List ℕ). schemasFrom n (map f js)) (upTo-suc j) ∙
       (ap (schemasFrom n) (map-append f (upTo j) (j ∷ [])) ∙ (schemas-append n (map f (upTo j)) (f j ∷ []) ∙
-      (ap (λ (l : List ℕ). partsUpTo j ++ l) (append-nil (concatMap (atomWords (n + length (map f (upTo j)))) (f j .atoms))) ∙
+      (ap (λ (l : List ℕ). partsUpTo j ++ l)
+      (append-nil (concatMap (atomWords (n + length (map f (upTo j)))) (f j .atoms))) ∙
       ap (λ (k : ℕ). partsUpTo j ++ concatMap (atomWords k) (f j .atoms)) e))))
 
   pub parts-fewer : (j m : ℕ) → j ≤ m → length (partsUpTo j) ≤ length (partsUpTo m)

@@ -1,31 +1,29 @@
 -- Parameters found in two parts, as the code counts them: how many positions passed have a parameter, and whether that
 -- is more than none and more than one. Then the largest of them.
-use Prim.Native.Nat.{ℕ, suc, _+_, _*_, _≤_, _<_}
+use Prim.Native.Nat.{ℕ, _+_, _≤_, _<_}
 use mathlib.Core.Path.{_≡_, refl, sym, _∙_, ap, ap₂}
-use mathlib.Core.Bool.{Bool, true, false, cond, _&&_, _||_}
-use mathlib.Core.List.{List, [], _∷_, _++_, map, append-nil}
+use mathlib.Core.Bool.{Bool, true, false, _&&_, _||_}
+use mathlib.Core.List.{List, [], _∷_, _++_}
 use native.Mathlib.Omega.{arith}
 use native.Mathlib.Decide.{decLt}
 use native.Mathlib.Numerals.{add-one}
 use lib.ListN.{length, getD, length-append}
 use lib.Dec.{ltb}
 use borrow.Author.Tests.{lt-ltb, le-ltb, ltb-true}
-use Rattle.task.specs.Lists.{filter, keepIf, lastOr, upTo, upFrom}
+use Rattle.words.specs.Lists.{filter, keepIf, upTo, upFrom}
 use Rattle.task.specs.Task.{Schema, Task, schemaFits}
 use Rattle.task.specs.Run.{schemaAt}
-use Rattle.task.proofs.Laws.{filter-in, in-getD, map-append, upTo-in, upTo-suc}
-use Rattle.task.proofs.Tables.{filter-append}
+use Rattle.words.proofs.Lists.{filter-in, in-getD, upTo-in, upTo-suc, filter-append, filter-same}
 use Rattle.task.proofs.States.{schemaFits-fits}
-use Rattle.arcs.specs.Code.{member, members}
-use Rattle.arcs.proofs.ArcSets.{or-false}
+use Rattle.words.specs.Sets.{member, members, wordBits}
+use Rattle.words.proofs.Ranges.{or-false}
 use Rattle.arcs.proofs.OrderTaken.{OrderOf}
 use Rattle.tokens.specs.Split.{has, positions, parts, shared, sharedBound}
-use Rattle.tokens.specs.Code.{ParamsKept}
-use Rattle.tokens.proofs.Lists.{filter-same}
 use Rattle.tokens.proofs.Places.{has-small}
-use Rattle.tokens.proofs.Sums.{one, length-keep}
-use Rattle.tokens.proofs.SetMembers.{members-more, filter-below}
+use Rattle.words.proofs.Sums.{one, length-keep}
+use Rattle.words.proofs.SetMembers.{above, filter-below}
 use Rattle.tokens.proofs.Totals.{positions-found}
+use Rattle.tokens.specs.Kept.{keptOwn, ParamsKept}
 
 -- ---- one more
 pub filter-more : {A : Type 0} (p : A → Bool) (xs : List A) (x : A) →
@@ -64,66 +62,42 @@ more-than-one n true = elim (decLt 0 n) [
 -- ---- the positions passed
 -- how many of the first j sets kept of schema s have x
 abbrev pub passed : List ℕ → ℕ → ℕ → ℕ → ℕ
-passed own s x j = length (filter (λ i. member (getD own (16 * s + i) 0) x) (upTo j))
+passed kept s x j = length (filter (λ i. member (keptOwn kept s i) x) (upTo j))
 
-module _ (own : List ℕ) (s : ℕ) where
-  passed-more : (x j : ℕ) → passed own s x (j + 1) ≡ passed own s x j + one (member (getD own (16 * s + j) 0) x)
+module _ (kept : List ℕ) (s : ℕ) where
+  passed-more : (x j : ℕ) → passed kept s x (j + 1) ≡ passed kept s x j + one (member (keptOwn kept s j) x)
   passed-more x j =
-      ap (passed own s x) (add-one j) ∙
-      ap (λ (xs : List ℕ). length (filter (λ i. member (getD own (16 * s + i) 0) x) xs)) (upTo-suc j) ∙
-      filter-more (λ i. member (getD own (16 * s + i) 0) x) (upTo j) j
+      ap (passed kept s x) (add-one j) ∙
+      ap (λ (xs : List ℕ). length (filter (λ i. member (keptOwn kept s i) x) xs)) (upTo-suc j) ∙
+      filter-more (λ i. member (keptOwn kept s i) x) (upTo j) j
 
-  pub seen-more : (seen r here j : ℕ) → here ≡ getD own (16 * s + j) 0 →
-      ((x : ℕ) → member seen x ≡ ltb 0 (passed own s x j)) → ((x : ℕ) → member r x ≡ member seen x || member here x) →
-      (x : ℕ) → member r x ≡ ltb 0 (passed own s x (j + 1))
+  pub seen-more : (seen r here j : ℕ) → here ≡ keptOwn kept s j →
+      ((x : ℕ) → member seen x ≡ ltb 0 (passed kept s x j)) → ((x : ℕ) → member r x ≡ member seen x || member here x) →
+      (x : ℕ) → member r x ≡ ltb 0 (passed kept s x (j + 1))
   seen-more seen r here j e h g x =
       g x ∙ ap₂ _||_ (h x) (ap (λ (v : ℕ). member v x) e) ∙
-      sym (ap (ltb 0) (passed-more x j) ∙ more-than-none (passed own s x j) (member (getD own (16 * s + j) 0) x))
+      sym (ap (ltb 0) (passed-more x j) ∙ more-than-none (passed kept s x j) (member (keptOwn kept s j) x))
 
-  pub twice-more : (seen twice both r here j : ℕ) → here ≡ getD own (16 * s + j) 0 →
-      ((x : ℕ) → member seen x ≡ ltb 0 (passed own s x j)) → ((x : ℕ) → member twice x ≡ ltb 1 (passed own s x j)) →
+  pub twice-more : (seen twice both r here j : ℕ) → here ≡ keptOwn kept s j →
+      ((x : ℕ) → member seen x ≡ ltb 0 (passed kept s x j)) → ((x : ℕ) → member twice x ≡ ltb 1 (passed kept s x j)) →
       ((x : ℕ) → member both x ≡ member seen x && member here x) →
       ((x : ℕ) → member r x ≡ member twice x || member both x) →
-      (x : ℕ) → member r x ≡ ltb 1 (passed own s x (j + 1))
+      (x : ℕ) → member r x ≡ ltb 1 (passed kept s x (j + 1))
   twice-more seen twice both r here j e h k f g x =
       g x ∙ ap₂ _||_ (k x) (f x ∙ ap₂ _&&_ (h x) (ap (λ (v : ℕ). member v x) e)) ∙
-      sym (ap (ltb 1) (passed-more x j) ∙ more-than-one (passed own s x j) (member (getD own (16 * s + j) 0) x))
+      sym (ap (ltb 1) (passed-more x j) ∙ more-than-one (passed kept s x j) (member (keptOwn kept s j) x))
 
-  pub none-passed : (n x : ℕ) → member 0 x ≡ false → member 0 x ≡ ltb n (passed own s x 0)
+  pub none-passed : (n x : ℕ) → member 0 x ≡ false → member 0 x ≡ ltb n (passed kept s x 0)
   unfolding filter upTo upFrom
   none-passed n x e = e ∙ sym (le-ltb n 0 (omega arith))
 
   -- all are passed
-  pub all-passed : (t : Task) (o : List ℕ) → ParamsKept t s o own → (x : ℕ) →
-      passed own s x (length o) ≡ length (positions (schemaAt t s) o x)
+  pub all-passed : (t : Task) (o : List ℕ) → ParamsKept t s o kept → (x : ℕ) →
+      passed kept s x (length o) ≡ length (positions (schemaAt t s) o x)
   unfolding positions
   all-passed t o known x =
-      ap length (filter-same (λ i. member (getD own (16 * s + i) 0) x) (λ i. has (schemaAt t s) x (getD o i 0))
-      (upTo (length o)) (λ i k. known i x (upTo-in (length o) i k)))
-
--- ---- the largest
--- one more than the last number of a list, or 0
-abbrev pub above : List ℕ → ℕ
-above xs = lastOr (map suc xs) 0
-
-last-end : (xs : List ℕ) (y d : ℕ) → lastOr (xs ++ (y ∷ [])) d ≡ y
-unfolding lastOr
-last-end [] y d = refl
-last-end (x ∷ xs) y d = last-end xs y x
-
-pub above-none : (set : ℕ) → above (members set 0) ≡ 0
-unfolding members filter upTo upFrom lastOr
-above-none set = refl
-
-pub above-more : (set k : ℕ) → above (members set (k + 1)) ≡ cond (member set k) (k + 1) (above (members set k))
-unfolding keepIf
-above-more set k = ap above (members-more set k) ∙ go (member set k)
-  where
-    go : (b : Bool) → above (members set k ++ keepIf b k []) ≡ cond b (k + 1) (above (members set k))
-    go true =
-        ap (λ (xs : List ℕ). lastOr xs 0) (map-append suc (members set k) (k ∷ [])) ∙
-        last-end (map suc (members set k)) (suc k) 0 ∙ sym (add-one k)
-    go false = ap above (append-nil (members set k))
+      ap length (filter-same (λ i. member (keptOwn kept s i) x) (λ i. has (schemaAt t s) x (getD o i 0))
+      (upTo (length o)) (λ i k. known .params i x (upTo-in (length o) i k)))
 
 -- one that two parts have is a parameter
 some-filtered : (p : ℕ → Bool) (xs : List ℕ) → 1 < length (filter p xs) → (x : ℕ) × (p x ≡ true)
@@ -132,14 +106,14 @@ some-filtered p xs l =
     (getD (filter p xs) 0 0, filter-in p xs (getD (filter p xs) 0 0) i .1)
 
 pub shared-bounded : (t : Task) (s : ℕ) (o : List ℕ) (set : ℕ) → schemaFits (t .arities) (schemaAt t s) ≡ true →
-    schemaAt t s .params ≤ 16 →
+    schemaAt t s .params ≤ wordBits →
     OrderOf (schemaAt t s .atoms) (parts (schemaAt t s)) (upTo (parts (schemaAt t s))) o →
     ((x : ℕ) → member set x ≡ ltb 1 (length (positions (schemaAt t s) o x))) →
-    above (members set 16) ≡ sharedBound (schemaAt t s)
+    above (members set wordBits) ≡ sharedBound (schemaAt t s)
 unfolding sharedBound shared members
 shared-bounded t s o set fits few order h =
-    ap above (filter-same (member set) (shared old) (upTo 16) (λ x i. is-shared x) ∙
-    filter-below (shared old) (old .params) 16 few small)
+    ap above (filter-same (member set) (shared old) (upTo wordBits) (λ x i. is-shared x) ∙
+    filter-below (shared old) (old .params) wordBits few small)
   where
     old : Schema
     old = schemaAt t s

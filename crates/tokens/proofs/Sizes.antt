@@ -8,20 +8,19 @@ use mathlib.Core.List.{List, [], _∷_, _++_, map}
 use native.Mathlib.Omega.{arith}
 use lib.ListN.{length, getD, length-append, length-map}
 use lib.Dec.{eqb}
-use Rattle.task.specs.Lists.{filter, keepIf, sum, upTo}
+use Rattle.words.specs.Lists.{filter, keepIf, sum, upTo}
 use Rattle.task.specs.Task.{Atom, Schema, Task, precondition, addition, deletion, schemaAtoms, schemaFits, wellFormed}
 use Rattle.task.specs.Run.{schemaAt, ofRole}
 use Rattle.tokens.specs.Split.{parts, token, own, oldAtoms, required, handedOn, lone, firstHere, lastHere}
 use Rattle.tokens.specs.Split.{laterHere, pars, orders, free, splitSchema, splitTask}
-use Rattle.task.proofs.Laws.{In, here, there, map-same, length-concatMap, length-upTo, upTo-in}
+use Rattle.words.proofs.Lists.{In, here, there, map-same, length-concatMap, length-upTo, upTo-in, map-map}
 use Rattle.task.proofs.Tests.{schema-tests}
 use Rattle.arcs.proofs.OrderTaken.{orderOf-laws}
 use Rattle.tokens.proofs.Accepted.{Ordered}
 use Rattle.tokens.proofs.AtomLists.{role-small}
 use Rattle.tokens.proofs.RoleAtoms.{renumber, atomsHere, parAtom, roleAtoms, preAtoms, addAtoms, delAtoms}
 use Rattle.tokens.proofs.WellSplit.{part-of}
-use Rattle.tokens.proofs.Lists.{map-map}
-use Rattle.tokens.proofs.Sums.{one, total, length-keep, total-same, total-concatMap, by-place}
+use Rattle.words.proofs.Sums.{one, total, length-keep, total-same, total-concatMap, by-place}
 
 -- ---- initial and goal atoms
 pub init-count : (t : Task) → length (splitTask t .init) ≡ length (t .init) + 1

@@ -6,12 +6,12 @@ use mathlib.Core.List.{List, map}
 use native.Mathlib.Omega.{arith}
 use lib.ListN.{length, getD, take}
 use lib.Seq.{take-length}
-use Rattle.task.specs.Lists.{every, upTo, concatMap}
+use Rattle.words.specs.Lists.{every, upTo, concatMap}
 use Rattle.task.specs.Task.{Schema, Task, schemaAtoms}
 use Rattle.task.specs.Table.{taskOf, isTable}
 use Rattle.task.proofs.TablesByIndex.{table-frame, arities-word, init-word, goal-word}
 use Rattle.tokens.specs.Split.{laterParts, sharedBound, maximum, parCount, splitTask, limitTests, withinLimits}
-use Rattle.tokens.specs.Code.{partSchemas, areFew, numbersFit, sizesFit, SizesBefore, SizesTold}
+use Rattle.tokens.specs.Code.{partSchemas, areFew, sizesFit, SizesBefore, SizesTold, areWithin}
 use Rattle.tokens.specs.declared.measure.Sizes.{Sizes}
 use Rattle.tokens.proofs.Predicates.{predicate-count}
 use Rattle.tokens.proofs.Sizes.{init-count, goal-count}
@@ -58,7 +58,7 @@ module _ (w : List ℕ) (h : isTable w ≡ true) (r : Sizes) (n : ℕ) (all-coun
   goal-told = let e = goal-count t in let a = goal-word w (table-frame w h) in omega arith
 
   within-told : sizesFit w r ≡ withinLimits (splitTask t)
-  unfolding sizesFit numbersFit withinLimits limitTests every areFew
+  unfolding sizesFit areWithin withinLimits limitTests every areFew
   within-told =
       rw (predicates-told, schemas-told, atoms-told, few-told, init-told, goal-told) refl
 

@@ -7,14 +7,14 @@ use mathlib.Core.List.{List, [], _∷_}
 use native.Mathlib.Omega.{arith}
 use lib.ListN.{length}
 use borrow.Author.Tests.{le-leb}
-use Rattle.task.specs.Lists.{over}
+use Rattle.words.specs.Lists.{over}
 use Rattle.task.specs.Limits.{tableWords}
 use Rattle.task.specs.Answers.{toldNumber, result, Outcome, refuseUnless, inOrder}
 use Rattle.task.specs.Task.{Task, wellFormed}
 use Rattle.task.specs.Table.{taskOf, wordsOf, longEnough, isTable}
 use Rattle.tokens.specs.Split.{splitTask, Splitting, circular, tooLarge, splitAs, splitCheck, split, splitOutcome}
-use Rattle.task.proofs.Laws.{and-left}
-use Rattle.task.proofs.Put.{take-over}
+use Rattle.words.proofs.Lists.{and-left}
+use Rattle.words.proofs.Puts.{take-over}
 use Rattle.task.proofs.Tables.{words-length, of-table}
 use Rattle.task.proofs.TablesByIndex.{table-of, table-long}
 use Rattle.tokens.proofs.Accepted.{split-is}
@@ -34,10 +34,10 @@ module _ (table out : List ℕ) where
   abbrev t : Task
   t = taskOf table
 
-  abbrev given : Outcome
+  abbrev given : Outcome (List ℕ)
   given = record { told = result []; buffer = over (wordsOf (splitTask t)) out }
 
-  abbrev checked : Bool → Bool → Splitting → Outcome
+  abbrev checked : Bool → Bool → Splitting → Outcome (List ℕ)
   checked long is r = inOrder (refuseUnless long 1 ∷ refuseUnless is 2 ∷ splitCheck r ∷ []) out given
 
   -- a result has passed all checks

@@ -1,5 +1,7 @@
 -- What splitting finds, the first check of acceptance that fails by what is found, and what splitting does then:
 -- refusals 1, 2, 9 and 10 leave all as found.
+use Rattle.task.specs.declared.Place.the-variants as place
+use Rattle.tokens.specs.declared.acceptance.Acceptance.the-variants as acceptance
 use Prim.Native.Nat.{ℕ}
 use mathlib.Core.Path.{_≡_, refl, _∙_, ap, subst}
 use mathlib.Core.Bool.{Bool, true, false, cond, _&&_}
@@ -7,18 +9,16 @@ use mathlib.Core.List.{List, [], _∷_}
 use mathlib.Core.Option.{Option, none, some}
 use lib.ListN.{length}
 use Rattle.task.specs.declared.Place.{Place}
-use Rattle.task.specs.declared.Place.the-variants as place
-use Rattle.task.specs.Lists.{first, upTo, over}
-use Rattle.task.specs.Answers.{result, Check, Outcome, refuseUnless, inOrder}
+use Rattle.words.specs.Lists.{first, upTo, over}
+use Rattle.task.specs.Answers.{result, Check, Outcome, refuseUnless, inOrder, firstRefusal}
 use Rattle.task.specs.Task.{Task}
 use Rattle.task.specs.Table.{taskOf, wordsOf, longEnough, isTable}
-use Rattle.tokens.specs.Split.{orderAt, isNone, circular, tooLarge, splitAs, settle, split}
-use Rattle.tokens.specs.Split.{splitTask, withinLimits, splitCheck, splitOutcome}
+use Rattle.tokens.specs.Split.{orderAt, isNone, circular, tooLarge, splitAs, settle, split, splitTask}
+use Rattle.tokens.specs.Split.{withinLimits, splitCheck, splitOutcome, Splitting}
 use Rattle.tokens.specs.declared.measure.Sizes.{Sizes}
 use Rattle.tokens.specs.declared.acceptance.Acceptance.{Acceptance}
-use Rattle.tokens.specs.declared.acceptance.Acceptance.the-variants as acceptance
 use Rattle.tokens.specs.Code.{acceptedThen, RefusedAs, AcceptedKept, AcceptanceTold}
-use Rattle.task.proofs.Answers.{asFound, check-passes, check-refuses, passes-on, refuses-at}
+use Rattle.task.proofs.Answers.{asFound, check-refuses, first-passes, first-refuses, same-refusal, refusal-stands}
 
 -- ---- what splitting gives, by what is found of the orders and the sizes
 module _ (t : Task) where
@@ -49,52 +49,49 @@ module _ (w : List ℕ) where
   tableThen more = refuseUnless (isTable w) 2 ∷ splitThen more
 
   pub refused-short : longEnough w ≡ false → RefusedAs w 1 place.Nowhere
-  refused-short h more found done = check-refuses 1 (tableThen more) found done h
+  refused-short h more = first-refuses 1 (tableThen more) h
 
   module _ (long : longEnough w ≡ true) where
     pub refused-no-table : isTable w ≡ false → RefusedAs w 2 place.Nowhere
-    refused-no-table h more found done =
-        check-passes 1 (tableThen more) found done long ∙ check-refuses 2 (splitThen more) found done h
+    refused-no-table h more = first-passes 1 (tableThen more) long ∙ first-refuses 2 (splitThen more) h
 
     module _ (table : isTable w ≡ true) where
       -- the split decides
-      decided : (more : List Check) (found : List ℕ) (done : Outcome) →
-          inOrder (acceptedThen w more) found done ≡ inOrder (splitThen more) found done
-      decided more found done =
-          check-passes 1 (tableThen more) found done long ∙ check-passes 2 (splitThen more) found done table
+      decided : {r : Splitting} → split (taskOf w) ≡ r → (more : List Check) →
+          firstRefusal (acceptedThen w more) ≡ firstRefusal (splitCheck r ∷ more)
+      decided e more =
+          first-passes 1 (tableThen more) long ∙ (first-passes 2 (splitThen more) table ∙
+          ap (λ (r : Splitting). firstRefusal (splitCheck r ∷ more)) e)
 
       pub refused-nine : {s : ℕ} → split (taskOf w) ≡ circular s → RefusedAs w 9 (place.Schema s)
-      unfolding splitCheck
-      refused-nine e more found done = decided more found done ∙ refuses-at more found done (ap splitCheck e)
+      unfolding splitCheck firstRefusal
+      refused-nine e more = decided e more
 
       pub refused-ten : split (taskOf w) ≡ tooLarge → RefusedAs w 10 place.Nowhere
-      unfolding splitCheck
-      refused-ten e more found done = decided more found done ∙ refuses-at more found done (ap splitCheck e)
+      unfolding splitCheck firstRefusal
+      refused-ten e more = decided e more
 
       pub accepted-passes : {t′ : Task} → split (taskOf w) ≡ splitAs t′ →
-          (more : List Check) (found : List ℕ) (done : Outcome) →
+          {Buffers : Type 0} (more : List Check) (found : Buffers) (done : Outcome Buffers) →
           inOrder (acceptedThen w more) found done ≡ inOrder more found done
-      unfolding splitCheck
-      accepted-passes e more found done = decided more found done ∙ passes-on more found done (ap splitCheck e)
+      unfolding splitCheck firstRefusal
+      accepted-passes e more found done = same-refusal (acceptedThen w more) more found done (decided e more)
 
 -- ---- what the answer tells
-pub told-accepted : {w : List ℕ} {r : Acceptance} {sizes : Sizes} {starts counts order own : List ℕ} →
-    r ≡ acceptance.Accepted sizes → AcceptanceTold w r starts counts order own →
-    AcceptedKept w sizes starts counts order own
+pub told-accepted : {w : List ℕ} {r : Acceptance} {sizes : Sizes} {kept : List ℕ} → r ≡ acceptance.Accepted sizes →
+    AcceptanceTold w r kept → AcceptedKept w sizes kept
 unfolding AcceptanceTold
-told-accepted {w} {r} {sizes} {starts} {counts} {order} {own} e h =
-    subst (λ (r : Acceptance). AcceptanceTold w r starts counts order own) e h
+told-accepted {w} {r} {sizes} {kept} e h = subst (λ (r : Acceptance). AcceptanceTold w r kept) e h
 
-pub told-refused : (w starts counts order own : List ℕ) {r : Acceptance} {n : ℕ} {at : Place} →
-    r ≡ acceptance.Refused n at → AcceptanceTold w r starts counts order own → RefusedAs w n at
+pub told-refused : (w kept : List ℕ) {r : Acceptance} {n : ℕ} {at : Place} → r ≡ acceptance.Refused n at →
+    AcceptanceTold w r kept → RefusedAs w n at
 unfolding AcceptanceTold
-told-refused w starts counts order own e h =
-    subst (λ (r : Acceptance). AcceptanceTold w r starts counts order own) e h
+told-refused w kept e h = subst (λ (r : Acceptance). AcceptanceTold w r kept) e h
 
 -- ---- the outcome of splitting
 module _ (w out : List ℕ) where
   -- what is done where no check fails
-  abbrev pub done : Outcome
+  abbrev pub done : Outcome (List ℕ)
   done = record { told = result []; buffer = over (wordsOf (splitTask (taskOf w))) out }
 
   -- the table's length is told by the first check, together with that of the words lent for the split
@@ -119,7 +116,7 @@ module _ (w out : List ℕ) where
         and-true false h = refl
 
     pub split-refused : {n : ℕ} {at : Place} → RefusedAs w n at → splitOutcome w out ≡ asFound n at out
-    split-refused h = begins ∙ h [] out done
+    split-refused h = begins ∙ refusal-stands (acceptedThen w []) out done (h [])
 
     pub split-done : longEnough w ≡ true → isTable w ≡ true → {t′ : Task} → split (taskOf w) ≡ splitAs t′ →
         splitOutcome w out ≡ done

@@ -1,6 +1,6 @@
 -- The sizes of the split as the code counts them: the atoms of a part one by one, the parts of a schema one by one, and
 -- schema by schema. Each size is of a list that grows at its end.
-use Prim.Native.Nat.{ℕ, _+_, _-_, _*_, _≤_, _<_, max}
+use Prim.Native.Nat.{ℕ, _+_, _-_, _≤_, _<_, max}
 use mathlib.Core.Path.{_≡_, refl, sym, _∙_, ap, ap₂}
 use mathlib.Core.Bool.{Bool, true, false, cond, _&&_}
 use mathlib.Core.List.{List, [], _∷_, _++_, map, append-nil}
@@ -9,27 +9,29 @@ use native.Mathlib.Numerals.{add-one}
 use lib.ListN.{length, getD, take, length-append, length-map}
 use lib.Seq.{take-suc}
 use lib.Dec.{eqb, leb}
-use Rattle.task.specs.Lists.{all, filter, sum, concatMap, upTo, upFrom}
-use Rattle.task.specs.Limits.{mostAtoms}
+use Rattle.words.specs.Lists.{all, filter, sum, concatMap, upTo, upFrom}
+use Rattle.task.specs.Limits.{mostAtoms, mostParts}
 use Rattle.task.specs.Task.{Atom, Schema, Task, schemaAtoms}
 use Rattle.task.specs.Run.{schemaAt}
 use Rattle.task.specs.Table.{atomIn, taskOf}
-use Rattle.task.proofs.Laws.{append-concatMap, length-upTo, map-append, sum-append, upTo-suc}
+use Rattle.words.proofs.Lists.{append-concatMap, length-upTo, map-append, sum-append, upTo-suc}
 use Rattle.task.proofs.Tables.{noSchema}
-use Rattle.arcs.specs.Code.{member, members, atomsIn}
+use Rattle.words.specs.Sets.{member, members, wordBits}
+use Rattle.arcs.specs.Code.{atomsIn}
 use Rattle.arcs.proofs.Stretches.{atoms-none, atoms-more}
 use Rattle.tokens.specs.Split.{has, parts, laterParts, sharedBound, maximum, orders, lone, firstHere, lastHere}
 use Rattle.tokens.specs.Split.{laterHere, splitSchema}
-use Rattle.tokens.specs.Code.{SchemaKept, ParsHere, partSchemas, areFew, SchemaSized, SizesBefore}
+use Rattle.tokens.specs.Code.{ParsHere, partSchemas, areFew, SchemaSized, SizesBefore}
 use Rattle.tokens.specs.declared.pars.Pars.{Pars}
 use Rattle.tokens.specs.declared.measure.Measured.{Measured}
 use Rattle.tokens.specs.declared.measure.Sizes.{Sizes}
 use Rattle.tokens.proofs.Accepted.{later-step}
-use Rattle.tokens.proofs.Sums.{one}
+use Rattle.words.proofs.Sums.{one}
 use Rattle.tokens.proofs.Sizes.{atomsOf, parsOf, part-size}
-use Rattle.tokens.proofs.KeptSchema.{kept-atoms, kept-fits, kept-params}
+use Rattle.tokens.proofs.KeptSchema.{kept-atoms, kept-fits, kept-params, counted}
 use Rattle.tokens.proofs.ParPlaces.{picked-listed}
 use Rattle.tokens.proofs.SharedParameters.{filter-more}
+use Rattle.tokens.specs.Kept.{keptStart, keptEnd, keptCount, keptPart, SchemaKept}
 
 -- ---- the old atoms of a part
 abbrev pub inPartCount : ℕ → List Atom → ℕ
@@ -47,37 +49,36 @@ module _ (w : List ℕ) (from p : ℕ) where
       filter-more (λ a. eqb p (a .part)) (atomsIn w from i) (atomIn w i)
 
 -- ---- a part of the split
-module _ (w : List ℕ) (s from to count : ℕ) (order own : List ℕ) (kept : SchemaKept w s from to count order own) where
+module _ {w : List ℕ} {s : ℕ} {kept : List ℕ} (K : SchemaKept w s kept) where
   abbrev t : Task
   t = taskOf w
 
   abbrev o : List ℕ
   o = orders (taskOf w) s
 
-  pub part-counted : (j : ℕ) (r : Pars) (old : ℕ) → j < count → ParsHere t s o j r →
-      old ≡ inPartCount (getD order (16 * s + j) 0) (atomsIn w from to) →
+  pub part-counted : {from to : ℕ} → from ≡ keptStart kept s → to ≡ keptEnd kept s → (p j : ℕ) → p ≡ keptPart kept s j →
+      j < keptCount kept s → (r : Pars) (old : ℕ) → ParsHere t s o j r → old ≡ inPartCount p (atomsIn w from to) →
       length (splitSchema t s o j .atoms) ≡
-      old + 1 + length (members (r .later) 16) +
-      cond (eqb count 1) 0 (1 + length (members (r .first) 16) + (1 + length (members (r .last) 16)))
+      old + 1 + length (members (r .later) wordBits) +
+      cond (eqb (keptCount kept s) 1) 0
+      (1 + length (members (r .first) wordBits) + (1 + length (members (r .last) wordBits)))
   unfolding lone
-  part-counted j r old l here e =
-      let n = kept .counted in
-      let size = part-size t s o j (kept-fits w s from to count order own kept) in
+  part-counted begins stops p j is-part l r old here e =
+      let n = counted K in
+      let size = part-size t s o j (kept-fits K) in
       let atoms : old ≡ atomsOf (schemaAt t s) (getD o j 0) =
-      e ∙ ap₂ inPartCount (kept .part j (omega arith)) (sym (kept-atoms w s from to count order own kept)) in
+      e ∙ ap₂ inPartCount (is-part ∙ K .all .part s j (K .known) (omega arith)) (sym (kept-atoms K begins stops)) in
       let later = pars (r .later) (laterHere t s o j) (here .later) in
       let first = pars (r .first) (firstHere t s o j) (here .first) in
       let last = pars (r .last) (lastHere t s o j) (here .last) in
       let more = (1 + parsOf t s o j (firstHere t s o j)) + (1 + parsOf t s o j (lastHere t s o j)) in
       let lone-is = ap (λ (n : ℕ). cond (eqb n 1) 0 more) n in
-      let tokens = ap₂ (λ (a b : ℕ). cond (eqb count 1) 0 (1 + a + (1 + b))) first last in
+      let tokens = ap₂ (λ (a b : ℕ). cond (eqb (keptCount kept s) 1) 0 (1 + a + (1 + b))) first last in
       omega arith
     where
       pars : (set : ℕ) (test : ℕ → Bool) → ((x : ℕ) → member set x ≡ has (schemaAt t s) x (getD o j 0) && test x) →
-          length (members set 16) ≡ parsOf t s o j test
-      pars set test h =
-          ap length (picked-listed t s o j 16 (kept-fits w s from to count order own kept)
-          (kept-params w s from to count order own kept) set test h)
+          length (members set wordBits) ≡ parsOf t s o j test
+      pars set test h = ap length (picked-listed t s o j wordBits (kept-fits K) (kept-params K) set test h)
 
 -- ---- the parts of a schema, and schema by schema
 atoms-append : (xs ys : List Schema) → schemaAtoms (xs ++ ys) ≡ schemaAtoms xs + schemaAtoms ys
@@ -169,7 +170,7 @@ module _ (t : Task) where
   }
 
   pub sizes-more : (n : ℕ) (r next : Sizes) (one : Measured) (count : ℕ) → n < length (t .schemas) →
-      count ≡ length (orders t n) → count ≡ parts (schemaAt t n) → count ≤ 16 → SchemaSized t n one →
+      count ≡ length (orders t n) → count ≡ parts (schemaAt t n) → count ≤ mostParts → SchemaSized t n one →
       SizesBefore t n r →
       next .later ≡ r .later + (count - 1) → next .pars ≡ max (r .pars) (one .shared) →
       next .schemas ≡ r .schemas + count → next .atoms ≡ r .atoms + one .atoms → next .within ≡ r .within && one .few →

@@ -1,35 +1,40 @@
 -- What holds where a split is written: the split is well formed, its counts are small, and what is kept of a part is
 -- the part's place.
-use Prim.Native.Nat.{ℕ, zero, suc, _+_, _-_, _*_, _≤_, _<_}
-use mathlib.Core.Path.{_≡_, refl, sym, _∙_, ap, ap₂}
-use mathlib.Core.Bool.{Bool, true, cond}
+use Prim.Native.Nat.{ℕ, zero, suc, _+_, _-_, _≤_, _<_}
+use mathlib.Core.Path.{_≡_, refl, sym, _∙_, ap}
+use mathlib.Core.Bool.{true, cond}
 use mathlib.Core.List.{List, [], _∷_}
 use native.Mathlib.Omega.{arith}
-use lib.ListN.{length, getD, take, length-append, length-map}
+use lib.ListN.{length, getD, take, length-map}
 use lib.Seq.{take-length}
 use lib.Dec.{eqb}
 use borrow.Author.Tests.{leb-true}
-use Rattle.task.specs.Lists.{filter, concatMap, sum, upTo}
+use Rattle.words.specs.Lists.{concatMap, sum, upTo, upFrom}
 use Rattle.task.specs.Task.{Atom, Task, partCount, schemaFits, wellFormed}
 use Rattle.task.specs.Run.{schemaAt}
 use Rattle.task.specs.Table.{atomWords, taskOf}
-use Rattle.task.proofs.Laws.{all-in, in-getD, length-upTo}
+use Rattle.words.proofs.Lists.{all-in, in-getD, length-upTo, length-concatMap, map-same}
 use Rattle.task.proofs.Tests.{TaskTests, task-tests, schema-tests, SchemaTests}
-use Rattle.task.proofs.Tables.{counts, noSchema, startOf, of-table, length-content}
-use Rattle.task.proofs.TablesByIndex.{table-frame, table-long, arities-word, schemas-word, atoms-word, params-at, start-suc}
-use Rattle.arcs.specs.Code.{member, members, atomsIn}
+use Rattle.task.proofs.Tables.{noSchema, of-table, length-content}
+use Rattle.task.proofs.TablesByIndex.{table-frame, table-long, arities-word, schemas-word, params-at}
+use Rattle.words.specs.Sets.{member}
 use Rattle.arcs.proofs.OrderTaken.{orderOf-laws}
-use Rattle.arcs.proofs.Stretches.{schema-atoms}
-use Rattle.tokens.specs.Split.{parts, laterParts, parCount, procnone, doToken, parToken, orders, own, required}
-use Rattle.tokens.specs.Split.{handedOn, lone, firstHere, lastHere, laterHere, splitSchema, splitTask}
-use Rattle.tokens.specs.Writing.{PlaceOf, Splits, partWords, partSchemas}
+use Rattle.tokens.specs.Split.{parts, laterParts, parCount, procnone, doToken, parToken, orders, splitSchema}
+use Rattle.tokens.specs.Split.{splitTask}
+use Rattle.tokens.specs.Writing.{PlaceOf, partWords, TokensOf}
 use Rattle.tokens.specs.declared.part_atoms.PartPlace.{PartPlace}
-use Rattle.tokens.proofs.Accepted.{Ordered, later-step, later-mono, tokenAt, required-is, handedOn-is}
+use Rattle.tokens.proofs.Accepted.{Ordered, later-step, later-mono, tokenAt, split-within}
 use Rattle.tokens.proofs.Predicates.{predicate-count}
-use Rattle.tokens.proofs.PartRoles.{PartOf}
 use Rattle.tokens.proofs.WellSplit.{part-of, limits-only}
 use Rattle.tokens.proofs.PartSplit.{part-words}
-use Rattle.tokens.proofs.SchemaRuns.{all-more, schemasUpTo}
+use Rattle.tokens.proofs.SchemaRuns.{schemasUpTo, all-fewer}
+use Rattle.task.specs.Limits.{headWords, mostSchemas, mostPredicates, mostParts, mostParameters}
+use Rattle.tokens.specs.Kept.{keptStart, keptEnd, keptFirst, keptPart, keptOwn, partsBefore, SchemaKept}
+use Rattle.tokens.specs.Code.{AcceptedKept, partSchemas}
+use Rattle.tokens.specs.declared.measure.Sizes.{Sizes}
+use Rattle.tokens.specs.declared.part_atoms.PartTokens.{PartTokens}
+use Rattle.tokens.proofs.KeptSchemas.{before-step}
+use Rattle.tokens.proofs.KeptSchema.{kept-stretch, kept-atoms, stretch-small}
 
 -- a schema with an atom has a part
 some-count : (atoms : List Atom) → 1 ≤ length atoms → 1 ≤ partCount atoms
@@ -37,13 +42,7 @@ unfolding partCount
 some-count [] h = absurd (omega arith)
 some-count (a ∷ rest) h = omega arith
 
-sum-take : (cs : List ℕ) (m : ℕ) → sum (take m cs) ≤ sum cs
-unfolding sum
-sum-take cs zero = omega arith
-sum-take [] (suc m) = omega arith
-sum-take (c ∷ cs) (suc m) = let l = sum-take cs m in omega arith
-
-module _ {w starts counted order sets : List ℕ} (S : Splits w starts counted order sets) where
+module _ {w : List ℕ} {sizes : Sizes} {kept : List ℕ} (S : AcceptedKept w sizes kept) where
   abbrev pub t : Task
   t = taskOf w
 
@@ -52,28 +51,31 @@ module _ {w starts counted order sets : List ℕ} (S : Splits w starts counted o
   well = of-table w (S .table) .0
 
   pub ordered : Ordered t
-  ordered = S .kept .taken
+  ordered = S .parts .taken
 
   pub split-well : wellFormed (splitTask t) ≡ true
-  split-well = limits-only t well ordered ∙ S .within
+  split-well = limits-only t well ordered ∙ split-within t (splitTask t) (S .accepted)
 
   pub split-tests : TaskTests (splitTask t)
   split-tests = task-tests (splitTask t) split-well
 
-  pub few-schemas : length (t .schemas) ≤ 200
-  few-schemas = leb-true (length (t .schemas)) 200 (task-tests t well .schemas)
+  pub few-schemas : length (t .schemas) ≤ mostSchemas
+  few-schemas = leb-true (length (t .schemas)) mostSchemas (task-tests t well .schemas)
 
-  pub few-split-schemas : length (splitTask t .schemas) ≤ 200
-  few-split-schemas = leb-true (length (splitTask t .schemas)) 200 (split-tests .schemas)
+  pub few-split-schemas : length (splitTask t .schemas) ≤ mostSchemas
+  few-split-schemas = leb-true (length (splitTask t .schemas)) mostSchemas (split-tests .schemas)
 
-  pub few-predicates : length (t .arities) + 1 + laterParts (t .schemas) + parCount t ≤ 400
+  pub few-predicates : length (t .arities) + 1 + laterParts (t .schemas) + parCount t ≤ mostPredicates
   few-predicates =
-      omega (arith, predicate-count t, leb-true (length (splitTask t .arities)) 400 (split-tests .preds))
+      omega (arith, predicate-count t, leb-true (length (splitTask t .arities)) mostPredicates (split-tests .preds))
 
   pub predicates-word : length (t .arities) ≡ getD w 1 0
   predicates-word = arities-word w (table-frame w (S .table))
 
   module _ (s : ℕ) (l : s < length (t .schemas)) where
+    pub schema-kept : SchemaKept w s kept
+    schema-kept = record { table = S .table; known = l; all = S .parts }
+
     tests-of : SchemaTests (t .arities) (schemaAt t s)
     unfolding schemaAt
     tests-of =
@@ -84,20 +86,18 @@ module _ {w starts counted order sets : List ℕ} (S : Splits w starts counted o
     unfolding parts
     order-size = orderOf-laws (schemaAt t s) (orders t s) (ordered s l) .size
 
-    pub few-parts : length (orders t s) ≤ 16
+    pub few-parts : length (orders t s) ≤ mostParts
     unfolding parts
-    few-parts = omega (arith, order-size, leb-true (partCount (schemaAt t s .atoms)) 16 (tests-of .parts))
+    few-parts = omega (arith, order-size, leb-true (partCount (schemaAt t s .atoms)) mostParts (tests-of .parts))
 
     pub some-part : 1 ≤ length (orders t s)
     unfolding parts
     some-part =
-        omega (arith, order-size, some-count (schemaAt t s .atoms) (leb-true 1 (length (schemaAt t s .atoms)) (tests-of .some-atom)))
+        let some = leb-true 1 (length (schemaAt t s .atoms)) (tests-of .some-atom) in
+        omega (arith, order-size, some-count (schemaAt t s .atoms) some)
 
-    pub few-params : schemaAt t s .params ≤ 12
-    few-params = leb-true (schemaAt t s .params) 12 (tests-of .params)
-
-    few-atoms : length (schemaAt t s .atoms) ≤ 64
-    few-atoms = leb-true (length (schemaAt t s .atoms)) 64 (tests-of .few)
+    pub few-params : schemaAt t s .params ≤ mostParameters
+    few-params = leb-true (schemaAt t s .params) mostParameters (tests-of .params)
 
     -- its parameter count lies in the table
     pub params-inside : 6 + getD w 1 0 + s < length w
@@ -108,71 +108,72 @@ module _ {w starts counted order sets : List ℕ} (S : Splits w starts counted o
     -- later parts in the schemas before
     pub few-before : laterParts (take s (t .schemas)) ≤ laterParts (t .schemas)
     few-before =
-        omega (arith, later-mono (t .schemas) s (length (t .schemas)) (omega arith), ap laterParts (take-length (t .schemas)))
+        let all = ap laterParts (take-length (t .schemas)) in
+        omega (arith, later-mono (t .schemas) s (length (t .schemas)) (omega arith))
 
     -- one schema further: later parts
-    pub before-more : laterParts (take (s + 1) (t .schemas)) ≡ laterParts (take s (t .schemas)) + (length (orders t s) - 1)
+    later-more : laterParts (take (suc s) (t .schemas)) ≡ laterParts (take s (t .schemas)) + (length (orders t s) - 1)
     unfolding schemaAt
-    before-more =
-        let z : s + 1 ≡ suc s = omega arith in
-        omega (arith, ap (λ (k : ℕ). laterParts (take k (t .schemas))) z, later-step (t .schemas) s noSchema l, order-size)
+    later-more = omega (arith, later-step (t .schemas) s noSchema l, order-size)
 
     -- ---- the place of a part
     module _ (j : ℕ) (h : j < length (orders t s)) (here : PartPlace) where
-      pub place-of : here .from ≡ getD starts s 0 → here .to ≡ getD starts (suc s) 0 →
-          here .part .0 ≡ getD order (16 * s + j) 0 → here .own ≡ getD sets (16 * s + j) 0 →
-          here .params ≡ getD w (6 + getD w 1 0 + s) 0 → here .par ≡ getD w 1 0 + laterParts (t .schemas) + 1 →
-          PlaceOf w s j here
+      pub place-is : here .from ≡ keptStart kept s → here .to ≡ keptEnd kept s → here .part .0 ≡ keptPart kept s j →
+          here .own ≡ keptOwn kept s j → here .params ≡ getD w (headWords + getD w 1 0 + s) 0 →
+          here .par ≡ getD w 1 0 + laterParts (t .schemas) + 1 → PlaceOf w s j here
       unfolding parToken procnone
-      place-of e₁ e₂ e₃ e₄ e₅ e₆ =
+      place-is e₁ e₂ e₃ e₄ e₅ e₆ =
           let fr = table-frame w (S .table) in
           let n = schemas-word w fr in
           let a = arities-word w fr in
-          let f = e₁ ∙ S .kept .start s (omega arith) in
-          let g = e₂ ∙ S .kept .start (suc s) l in
-          let next = start-suc w fr s (omega arith) in
           let p = e₅ ∙ sym (params-at w fr s (omega arith)) in
           record {
-            stretch = record {
-              table = S .table;
-              forward = omega arith;
-              known = omega (arith, sum-take (counts (t .schemas)) (suc s), atoms-word w fr);
-            };
-            short = omega (arith, few-atoms);
-            atoms = ap₂ (atomsIn w) f g ∙ sym (schema-atoms w (S .table) s (omega arith));
-            part = e₃ ∙ S .kept .part s j l h;
+            stretch = kept-stretch schema-kept e₁ e₂;
+            short = stretch-small schema-kept e₁ e₂;
+            atoms = sym (kept-atoms schema-kept e₁ e₂);
+            part = e₃ ∙ S .parts .part s j l h;
             params = p;
             few = omega (arith, few-params);
-            own = λ x. ap (λ (k : ℕ). member k x) e₄ ∙ S .kept .params s j x l h;
+            own = λ x. ap (λ (k : ℕ). member k x) e₄ ∙ S .parts .params s j x l h;
             par = omega arith;
             low = omega (arith, few-predicates);
           }
 
       -- its words, by what the code finds of it
-      pub words-of : PlaceOf w s j here → (alone : Bool) (before behind later first last : ℕ) → alone ≡ lone t s (orders t s) j →
-          before ≡ tokenAt t s (orders t s) j → behind ≡ tokenAt t s (orders t s) (suc j) →
-          filter (laterHere t s (orders t s) j) (own t s (orders t s) j) ≡ members later (schemaAt t s .params) →
-          filter (firstHere t s (orders t s) j) (own t s (orders t s) j) ≡ members first (schemaAt t s .params) →
-          filter (lastHere t s (orders t s) j) (own t s (orders t s) j) ≡ members last (schemaAt t s .params) →
-          partWords w here alone before behind later first last ≡
-          concatMap (atomWords (here .number)) (splitSchema t s (orders t s) j .atoms)
-      words-of place alone before behind later first last e f g x y z =
-          let f' = f ∙ sym (required-is t s (orders t s) j h) in
-          let g' = g ∙ sym (handedOn-is t s (orders t s) j) in
-          (λ i. partWords w here (e i) (f' i) (g' i) later first last) ∙
-          part-words w s j here place (part-of t well ordered s j l h) later first last x y z
+      pub words-of : PlaceOf w s j here → (tokens : PartTokens) → TokensOf t s j tokens →
+          partWords w here tokens ≡ concatMap (atomWords (here .number)) (splitSchema t s (orders t s) j .atoms)
+      words-of place tokens T = part-words w s j here place (part-of t well ordered s j l h) tokens T
 
--- one schema further: the schemas of the split
-pub number-more : (t : Task) (s : ℕ) →
-    length (schemasUpTo (partSchemas t) (s + 1)) ≡ length (schemasUpTo (partSchemas t) s) + length (orders t s)
-number-more t s =
-    omega (
-      arith,
-      ap length (all-more (partSchemas t) s),
-      length-append (schemasUpTo (partSchemas t) s) (partSchemas t s),
-      length-map (upTo (length (orders t s))) (splitSchema t s (orders t s)),
-      length-upTo (length (orders t s)),
-    )
+  -- ---- the parts of the schemas before one
+  -- each schema before has one part that is no later one
+  later-before : (s : ℕ) → s ≤ length (t .schemas) → partsBefore t s ≡ laterParts (take s (t .schemas)) + s
+  unfolding partsBefore laterParts sum upTo upFrom
+  later-before zero l = refl
+  later-before (suc s) l =
+      omega (arith, before-step t s, later-more s l, some-part s l, later-before s (omega arith))
+
+  pub kept-before : (s : ℕ) → s < length (t .schemas) → keptFirst kept s ≡ laterParts (take s (t .schemas)) + s
+  kept-before s l = S .parts .first s (omega arith) ∙ later-before s (omega arith)
+
+  -- they are the split's schemas before its first part
+  pub kept-number : (s : ℕ) → s < length (t .schemas) → keptFirst kept s ≡ length (schemasUpTo (partSchemas t) s)
+  unfolding partsBefore
+  kept-number s l =
+      S .parts .first s (omega arith) ∙
+      sym (length-concatMap (partSchemas t) (upTo s) ∙
+      ap sum (map-same (λ q. length (partSchemas t q)) (λ q. length (orders t q)) (upTo s) (λ q i.
+      length-map (upTo (length (orders t q))) (splitSchema t q (orders t q)) ∙ length-upTo (length (orders t q)))))
+
+  -- and so they are few
+  pub kept-few : (s : ℕ) → s < length (t .schemas) → keptFirst kept s ≤ mostSchemas
+  unfolding splitTask
+  kept-few s l =
+      omega (
+        arith,
+        kept-number s l,
+        few-split-schemas,
+        all-fewer (partSchemas t) s (length (t .schemas)) (omega arith),
+      )
 
 pub split-schemas : (t : Task) → splitTask t .schemas ≡ schemasUpTo (partSchemas t) (length (t .schemas))
 unfolding splitTask

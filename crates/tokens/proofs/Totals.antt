@@ -10,18 +10,17 @@ use native.Mathlib.Decide.{decLt}
 use lib.ListN.{length, getD}
 use lib.Dec.{eqb, ltb}
 use borrow.Author.Tests.{lt-ltb, le-ltb, eqb-true, eq-eqb}
-use Rattle.task.specs.Lists.{filter, keepIf, sum, upTo, firstOr, lastOr}
+use Rattle.words.specs.Lists.{filter, keepIf, sum, upTo, firstOr, lastOr}
 use Rattle.task.specs.Task.{Atom, Schema, Task, schemaAtoms, wellFormed}
 use Rattle.task.specs.Run.{schemaAt}
 use Rattle.tokens.specs.Split.{has, paramsOf, positions, firstPosition, lastPosition, parts, shared, own, lone}
 use Rattle.tokens.specs.Split.{firstHere, lastHere, laterHere, orders, splitTask}
-use Rattle.task.proofs.Laws.{In, here, there, in-eq, in-upTo, upTo-in, length-upTo}
-use Rattle.task.proofs.Tables.{filter-all, filter-none}
-use Rattle.arcs.proofs.PartLists.{Once, once-cons, once-upFrom, once-filter}
+use Rattle.words.proofs.Lists.{In, here, there, in-eq, in-upTo, upTo-in, length-upTo, filter-all, filter-none}
+use Rattle.words.proofs.Ascending.{Once, once-cons, once-upFrom, once-filter}
 use Rattle.arcs.proofs.OrderTaken.{OrderOf, orderOf-laws, part-small}
 use Rattle.tokens.proofs.Places.{last-in, first-least, last-most}
-use Rattle.tokens.proofs.Sums.{one, total, total-same, total-add, total-one, length-filter, filter-filter}
-use Rattle.tokens.proofs.Sums.{exchange, by-place, once-apart, eqb-turn, pick-one, reorder}
+use Rattle.words.proofs.Sums.{one, total, total-same, total-add, total-one, length-filter, filter-filter, exchange}
+use Rattle.words.proofs.Sums.{by-place, once-apart, eqb-turn, pick-one, reorder}
 use Rattle.tokens.proofs.Accepted.{Ordered}
 use Rattle.tokens.proofs.Sizes.{atomsOf, parsOf, partSize, atom-count}
 

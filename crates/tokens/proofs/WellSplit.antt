@@ -10,19 +10,17 @@ use native.Mathlib.Omega.{arith}
 use lib.ListN.{length, replicate}
 use lib.Dec.{leb}
 use borrow.Author.Tests.{le-leb}
-use Rattle.task.specs.Lists.{all, upTo}
+use Rattle.words.specs.Lists.{all, upTo}
 use Rattle.task.specs.Task.{Fact, Schema, Task, argsFit, factsFit, schemaFits, schemaAtoms, wellFormed}
-use Rattle.task.specs.Limits.{mostPredicates, mostSchemas, mostSchemaAtoms, mostAtoms, mostInitial, mostGoal}
-use Rattle.task.specs.Limits.{mostArity}
+use Rattle.task.specs.Limits.{mostPredicates, mostSchemas, mostSchemaAtoms, mostAtoms, mostInitial, mostGoal, mostArity}
 use Rattle.task.specs.Run.{schemaAt}
 use Rattle.tokens.specs.Split.{parts, laterParts, parCount, procnone, orders, free, splitSchema, splitTask}
 use Rattle.tokens.specs.Split.{limitTests, withinLimits, splitAs, split}
-use Rattle.task.proofs.Laws.{and-both, bool-ext, every-at, met-none, met-more, met-every, In, here, there, in-empty}
-use Rattle.task.proofs.Laws.{in-append, all-in, in-all, map-in, in-getD, upTo-in}
+use Rattle.words.proofs.Lists.{and-both, bool-ext, every-at, met-none, met-more, met-every, In, here, there, in-empty}
+use Rattle.words.proofs.Lists.{in-append, all-in, in-all, map-in, in-getD, upTo-in, concatMap-in, replicate-in}
 use Rattle.task.proofs.Tests.{TaskTests, task-tests, tests-task, schema-tests}
 use Rattle.task.proofs.States.{asc-snoc, asc-ascending, Fitting, fitting-argsFit, State, factsFit-state, less-pred}
 use Rattle.arcs.proofs.OrderTaken.{orderOf-laws}
-use Rattle.tokens.proofs.Lists.{concatMap-in, replicate-in}
 use Rattle.tokens.proofs.Accepted.{Ordered, split-is, split-within, split-orders}
 use Rattle.tokens.proofs.Predicates.{predicate-count, old-arity, bare-arity}
 use Rattle.tokens.proofs.PartRoles.{PartOf}

@@ -2,24 +2,25 @@
 -- an entry point cites these.
 use Prim.Native.Nat.{ℕ, _+_, _-_, _*_, _≤_, _<_}
 use mathlib.Core.Path.{_≡_}
-use mathlib.Core.Bool.{Bool, true, false, cond}
+use mathlib.Core.Bool.{false, cond}
 use mathlib.Core.List.{List, [], _∷_, _++_, map}
-use lib.ListN.{length, getD}
+use lib.ListN.{length, getD, replicate}
 use lib.Dec.{eqb}
-use Rattle.task.specs.Lists.{put, filter, concatMap, upTo}
-use Rattle.task.specs.Task.{Atom, Schema, Task, precondition, addition, deletion}
-use Rattle.task.specs.Limits.{mostAtoms, mostParameters}
-use Rattle.task.specs.Table.{atomWords, taskOf, isTable}
+use Rattle.words.specs.Lists.{filter, concatMap, upTo}
+use Rattle.task.specs.Task.{Atom, Task, precondition, addition, deletion}
+use Rattle.task.specs.Limits.{mostAtoms, mostParameters, headWords, atomSize}
+use Rattle.task.specs.Table.{atomWords, taskOf}
 use Rattle.task.specs.Run.{ofRole, schemaAt}
-use Rattle.arcs.specs.Code.{IsStretch, member, members, atomsIn}
-use Rattle.tokens.specs.Split.{has, orders, parToken, token, splitSchema, splitTask, withinLimits}
-use Rattle.tokens.specs.Code.{PartsKept}
+use Rattle.arcs.specs.Code.{IsStretch, atomsIn}
+use Rattle.words.specs.Sets.{member, members, wordBits}
+use Rattle.tokens.specs.Split.{has, orders, parToken, token, required, handedOn, lone}
 use Rattle.tokens.specs.declared.part_atoms.PartPlace.{PartPlace}
-
--- words put one after another from a place on, and the place behind them
-pub record Puts (lent : List ℕ) (at : ℕ) (run after : List ℕ) (next : ℕ) : Type 0 where
-  pub words : after ≡ put lent at run
-  pub place : next ≡ at + length run
+use Rattle.words.specs.Words.{wordsAt}
+use Rattle.tokens.specs.Kept.{keptCount, keptOwn}
+use Rattle.tokens.specs.Code.{ParsHere}
+use Rattle.tokens.specs.declared.measure.Sizes.{Sizes}
+use Rattle.tokens.specs.declared.part_atoms.PartTokens.{PartTokens}
+use Rattle.tokens.specs.declared.part_atoms.RoleTokens.{RoleTokens}
 
 -- ---- a part's atoms, over the set of its parameters
 -- a parameter's new number: how many of the set are below it
@@ -35,7 +36,10 @@ unfoldable pub oldIn : ℕ → ℕ → ℕ → List Atom → List Atom
 unfolding filter ofRole members
 oldIn own r p atoms = map (renumbered own r) (filter (λ a. eqb p (a .part)) (ofRole r atoms))
 
--- the par of parameter x, the predicate of par 0 being `par`
+-- the par of parameter x, the predicate of par 0 being `par`, which is low enough that its number fits a word
+abbrev pub parBound : ℕ
+parBound = 1000
+
 abbrev pub parIn : ℕ → ℕ → ℕ → ℕ → Atom
 parIn own par r x = token r (par + x) (newNumber own x ∷ [])
 
@@ -51,14 +55,24 @@ parWords here r which =
     concatMap (atomWords (here .number)) (map (parIn (here .own) (here .par) r) (members which (here .params)))
 
 -- the old atoms of role r, then, but for the only part of a schema, a bare token and pars
-abbrev pub roleWords : List ℕ → PartPlace → ℕ → Bool → ℕ → ℕ → List ℕ
-roleWords w here r lone bare which =
-    oldWords w here r ++ cond lone [] (atomWords (here .number) (token r bare []) ++ parWords here r which)
+abbrev pub roleWords : List ℕ → PartPlace → ℕ → RoleTokens → List ℕ
+roleWords w here r tokens =
+    oldWords w here r ++
+    cond (tokens .lone) [] (atomWords (here .number) (token r (tokens .bare) []) ++ parWords here r (tokens .which))
 
-abbrev pub partWords : List ℕ → PartPlace → Bool → ℕ → ℕ → ℕ → ℕ → ℕ → List ℕ
-partWords w here lone required handed later first last =
-    roleWords w here precondition false required later ++
-    (roleWords w here addition lone handed first ++ roleWords w here deletion lone required last)
+-- of all three roles: the only part of a schema has tokens among its preconditions alone
+abbrev pub partWords : List ℕ → PartPlace → PartTokens → List ℕ
+partWords w here tokens =
+    roleWords w here precondition
+    (record { lone = false; bare = tokens .required; which = tokens .pars .later }) ++
+    (roleWords w here addition
+    (record { lone = tokens .lone; bare = tokens .handed; which = tokens .pars .first }) ++
+    roleWords w here deletion
+    (record { lone = tokens .lone; bare = tokens .required; which = tokens .pars .last }))
+
+-- the words that they take at most
+abbrev pub mostPartWords : ℕ
+mostPartWords = 3 * (atomSize * (mostAtoms + 1 + mostParameters))
 
 -- ---- a part of the task
 -- the place of the part of schema s at position j of its order
@@ -71,18 +85,33 @@ pub record PlaceOf (w : List ℕ) (s j : ℕ) (here : PartPlace) : Type 0 where
   pub few : here .params ≤ mostParameters
   pub own : (x : ℕ) → member (here .own) x ≡ has (schemaAt (taskOf w) s) x (getD (orders (taskOf w) s) j 0)
   pub par : here .par ≡ parToken (taskOf w) 0
-  pub low : here .par < 1000
+  pub low : here .par < parBound
 
--- what splitting has found before it writes: a table, its parts, and that the split is within the limits
-pub record Splits (w starts counts order own : List ℕ) : Type 0 where
-  pub table : isTable w ≡ true
-  pub kept : PartsKept (taskOf w) (length (taskOf w .schemas)) starts counts order own
-  pub within : withinLimits (splitTask (taskOf w)) ≡ true
+-- the tokens of that part: which it requires and hands on, whether it is the only one, and its pars
+pub record TokensOf (t : Task) (s j : ℕ) (r : PartTokens) : Type 0 where
+  pub alone : r .lone ≡ lone t s (orders t s) j
+  pub before : r .required ≡ required t s (orders t s) j
+  pub behind : r .handed ≡ handedOn t s (orders t s) j
+  pub pars : ParsHere t s (orders t s) j (r .pars)
 
--- the schemas of a schema's parts
-abbrev pub partSchemas : Task → ℕ → List Schema
-partSchemas t s = map (splitSchema t s (orders t s)) (upTo (length (orders t s)))
+-- ---- the head, the arities, and the parameter counts of the parts
+-- the six counts of the split, by its sizes
+abbrev pub countWords : List ℕ → Sizes → List ℕ
+countWords w r =
+    getD w 0 0 ∷ (getD w 1 0 + 1 + r .later + r .pars) ∷ r .schemas ∷ r .atoms ∷ (getD w 4 0 + 1) ∷
+    (getD w 5 0 + 1) ∷ []
 
--- the size of the set kept for position j of schema s
+-- the old arities, 0 for procnone and each do, 1 for each par
+abbrev pub arityWords : List ℕ → Sizes → List ℕ
+arityWords w r = wordsAt w headWords (getD w 1 0) ++ (replicate (r .later + 1) 0 ++ replicate (r .pars) 1)
+
+-- where the words of a table's initial atoms begin
+abbrev pub factsBase : List ℕ → ℕ
+factsBase w = headWords + getD w 1 0 + getD w 2 0 + atomSize * getD w 3 0
+
+-- the size of the set kept for position j of schema s, and the sizes for all its parts
 abbrev pub setSize : List ℕ → ℕ → ℕ → ℕ
-setSize own s j = length (members (getD own (16 * s + j) 0) 16)
+setSize kept s j = length (members (keptOwn kept s j) wordBits)
+
+abbrev pub setSizes : List ℕ → ℕ → List ℕ
+setSizes kept s = map (setSize kept s) (upTo (keptCount kept s))

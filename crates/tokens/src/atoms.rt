@@ -1,16 +1,21 @@
 // What splitting asks of a table's schema atoms: the schema of one, and its arguments.
+use arcs::atoms::word_of;
+use task::Parameter;
+use task::limits::HEAD_WORDS;
+use words::runs::word;
 ghost use Prim.Native.Nat.{_≤_, _<_};
 ghost use mathlib.Core.Path.{_≡_};
 ghost use lib.ListN.{length, getD};
 ghost use Rattle.task.specs.Table.{atomIn, schemaNumberIn};
 ghost use Rattle.arcs.specs.Code.{IsSchemaAtom};
-use arcs::atoms::word_of;
-use task::Parameter;
+ghost use Rattle.task.specs.Limits.{mostArity, mostParameters};
 
-// The places of an atom's schema, predicate and first argument among its words.
+// The places of an atom's schema, role, predicate and first argument among its words.
 const SCHEMA: usize = 0;
 
-const PREDICATE: usize = 2;
+pub const ROLE: usize = 1;
+
+pub const PREDICATE: usize = 2;
 
 const ARGUMENTS: usize = 4;
 
@@ -25,10 +30,10 @@ pub fn schema_of(table: &[u16], i: usize) -> usize
 pub fn argument_count(table: &[u16], i: usize) -> usize
     requires { ⌜ IsSchemaAtom (now table) i ⌝ }
     ensures { λ r. ⌜ r ≡ length (atomIn (now (table .entry)) i .args) ⌝ }
-    ensures { λ r. ⌜ r ≤ 4 ⌝ }
+    ensures { λ r. ⌜ r ≤ mostArity ⌝ }
 {
     let predicate = word_of(table, i, PREDICATE) as usize;
-    table[6 + predicate] as usize
+    word(table, HEAD_WORDS + predicate)
 }
 
 // Argument k of atom i.
@@ -36,7 +41,7 @@ pub fn argument(table: &[u16], i: usize, k: usize) -> Parameter
     requires { ⌜ IsSchemaAtom (now table) i ⌝ }
     requires { ⌜ k < length (atomIn (now table) i .args) ⌝ }
     ensures { λ r. ⌜ r .0 ≡ getD (atomIn (now (table .entry)) i .args) k 0 ⌝ }
-    ensures { λ r. ⌜ r .0 < 12 ⌝ }
+    ensures { λ r. ⌜ r .0 < mostParameters ⌝ }
 {
     Parameter(word_of(table, i, ARGUMENTS + k))
 }

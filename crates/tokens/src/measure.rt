@@ -1,20 +1,39 @@
 // The sizes of the split, counted before anything is written.
-ghost use Prim.Native.Nat.{_+_, _-_, _≤_, _<_, max};
+use crate::kept::Kept;
+use crate::kept::count_of;
+use crate::kept::end_of;
+use crate::kept::part_at;
+use crate::kept::start_of;
+use crate::pars::pars_at;
+use crate::pars::shared_in;
+use arcs::atoms::part_of;
+use task::Part;
+use task::limits::GOAL_ATOMS;
+use task::limits::INITIAL_ATOMS;
+use task::limits::MOST_ATOMS;
+use task::limits::MOST_GOAL;
+use task::limits::MOST_INITIAL;
+use task::limits::MOST_PREDICATES;
+use task::limits::MOST_SCHEMA_ATOMS;
+use task::limits::MOST_SCHEMAS;
+use task::limits::PREDICATES;
+use task::limits::SCHEMAS;
+use words::runs::word;
+use words::sets::bound;
+use words::sets::size;
+ghost use Prim.Native.Nat.{_+_, _-_, _≤_, _<_, max, _*_};
 ghost use mathlib.Core.Path.{_≡_};
 ghost use mathlib.Core.Bool.{true, _&&_};
 ghost use lib.ListN.{length};
 ghost use lib.Dec.{eqb};
-ghost use Rattle.task.specs.Lists.{filter};
+ghost use Rattle.words.specs.Lists.{filter};
 ghost use Rattle.task.specs.Table.{taskOf, isTable};
 ghost use Rattle.arcs.specs.Code.{IsStretch, atomsIn};
 ghost use Rattle.tokens.specs.Split.{orders, splitSchema};
-ghost use Rattle.tokens.specs.Code.{SchemaKept, PartsKept, SchemaSized, SizesTold, numbersFit, sizesFit};
-use crate::pars::pars_at;
-use crate::pars::shared_in;
-use crate::sets::bound;
-use crate::sets::size;
-use arcs::atoms::part_of;
-use task::Part;
+ghost use Rattle.tokens.specs.Code.{SchemaSized, SizesTold, sizesFit, mostPartAtoms, areWithin};
+ghost use Rattle.task.specs.Limits.{mostParts, mostSchemas};
+ghost use Rattle.words.specs.Sets.{wordBits};
+ghost use Rattle.tokens.specs.Kept.{keptCount, PartsKept, SchemaKept};
 
 // The sizes that a table limits: later parts, pars, schemas and schema atoms; and whether all limits are kept.
 pub struct Sizes {
@@ -33,27 +52,6 @@ pub struct Measured {
     pub shared: usize,
 }
 
-// A number that a word holds.
-fn number(word: u16) -> usize
-    ensures { λ r. ⌜ r ≡ word ⌝ }
-    ensures { λ r. ⌜ r < 65536 ⌝ }
-{
-    word as usize
-}
-
-// What a table has at most: predicates, schemas, schema atoms, atoms of one schema, initial and goal atoms.
-const MOST_PREDICATES: usize = 400;
-
-const MOST_SCHEMAS: usize = 200;
-
-const MOST_SCHEMA_ATOMS: usize = 1000;
-
-const MOST_ATOMS: usize = 64;
-
-const MOST_INITIAL: usize = 500;
-
-const MOST_GOAL: usize = 100;
-
 // How many of the atoms `from` to `to - 1` are in a part.
 fn atoms_in(table: &[u16], from: usize, to: usize, part: Part) -> usize
     requires { ⌜ IsStretch (now table) from to ⌝ }
@@ -71,51 +69,40 @@ fn atoms_in(table: &[u16], from: usize, to: usize, part: Part) -> usize
     n
 }
 
-// The atoms of the part at position j: its old ones, procnone or do, and pars.
-fn part_size(
-    table: &[u16],
-    s: usize,
-    from: usize,
-    to: usize,
-    count: usize,
-    j: usize,
-    order: &[u16; 3200],
-    own: &[u16; 3200],
-) -> usize
-    requires { ⌜ SchemaKept (now table) s from to count (now order) (now own) ⌝ }
-    requires { ⌜ j < count ⌝ }
+// The atoms of the part at position j of schema s: its old ones, procnone or do, and pars.
+fn part_size(table: &[u16], kept: &Kept, s: usize, j: usize) -> usize
+    requires { ⌜ SchemaKept (now table) s (now kept) ⌝ }
+    requires { ⌜ j < keptCount (now kept) s ⌝ }
     ensures { λ r. ⌜ r ≡
         length (splitSchema (taskOf (now (table .entry))) s (orders (taskOf (now (table .entry))) s) j .atoms) ⌝ }
-    ensures { λ r. ⌜ r ≤ 115 ⌝ }
+    ensures { λ r. ⌜ r ≤ mostPartAtoms ⌝ }
 {
-    let old = atoms_in(table, from, to, Part(order[16 * s + j]));
-    let pars = pars_at(own, s, count, j);
+    let old = atoms_in(
+        table,
+        start_of(kept, s),
+        end_of(kept, s),
+        part_at(kept, s, j),
+    );
+    let pars = pars_at(kept, s, j);
     let required = old + 1 + size(pars.later);
-    if count == 1 {
+    if count_of(kept, s) == 1 {
         return required;
     }
     required + (1 + size(pars.first) + (1 + size(pars.last)))
 }
 
 // Of one schema: its parts' atoms, whether each part has few enough, and its shared parameters.
-fn measure_schema(
-    table: &[u16],
-    s: usize,
-    from: usize,
-    to: usize,
-    count: usize,
-    order: &[u16; 3200],
-    own: &[u16; 3200],
-) -> Measured
-    requires { ⌜ SchemaKept (now table) s from to count (now order) (now own) ⌝ }
+fn measure_schema(table: &[u16], kept: &Kept, s: usize) -> Measured
+    requires { ⌜ SchemaKept (now table) s (now kept) ⌝ }
     ensures { λ r. ⌜ SchemaSized (taskOf (now (table .entry))) s r ⌝ }
 {
-    let shared = bound(shared_in(own, s, count));
+    let shared = bound(shared_in(kept, s));
+    let count = count_of(kept, s);
     let mut atoms = 0;
     let mut few = true;
     let mut j = 0;
     while j < count {
-        let n = part_size(table, s, from, to, count, j, order, own);
+        let n = part_size(table, kept, s, j);
         if MOST_ATOMS < n {
             few = false;
         }
@@ -127,9 +114,10 @@ fn measure_schema(
 
 // The sizes of some schemas and of one more, which has `count` parts.
 fn with_schema(sizes: Sizes, one: Measured, count: usize) -> Sizes
-    requires { ⌜ (1 ≤ count) × (count ≤ 16) ⌝ }
-    requires { ⌜ (sizes .later ≤ 3200) × (sizes .schemas ≤ 3200) × (sizes .atoms ≤ 368000) ⌝ }
-    requires { ⌜ one .atoms ≤ 1840 ⌝ }
+    requires { ⌜ (1 ≤ count) × (count ≤ mostParts) ⌝ }
+    requires { ⌜ (sizes .later ≤ mostParts * mostSchemas) × (sizes .schemas ≤ mostParts * mostSchemas) ⌝ }
+    requires { ⌜ sizes .atoms ≤ mostParts * mostPartAtoms * mostSchemas ⌝ }
+    requires { ⌜ one .atoms ≤ mostParts * mostPartAtoms ⌝ }
     ensures { λ r. ⌜ r .later ≡ sizes .later + (count - 1) ⌝ }
     ensures { λ r. ⌜ r .pars ≡ max (sizes .pars) (one .shared) ⌝ }
     ensures { λ r. ⌜ r .schemas ≡ sizes .schemas + count ⌝ }
@@ -158,7 +146,7 @@ fn are_within(
     initial: usize,
     goal: usize,
 ) -> bool
-    ensures { λ r. ⌜ r ≡ numbersFit predicates schemas atoms few initial goal ⌝ }
+    ensures { λ r. ⌜ r ≡ areWithin predicates schemas atoms few initial goal ⌝ }
 {
     if MOST_PREDICATES < predicates {
         return false;
@@ -181,12 +169,12 @@ fn are_within(
 // Whether the split has no more than a table can.
 fn within_limits(table: &[u16], sizes: Sizes) -> bool
     requires { ⌜ isTable (now table) ≡ true ⌝ }
-    requires { ⌜ (sizes .later ≤ 3200) × (sizes .pars ≤ 16) ⌝ }
+    requires { ⌜ (sizes .later ≤ mostParts * mostSchemas) × (sizes .pars ≤ wordBits) ⌝ }
     ensures { λ r. ⌜ r ≡ sizesFit (now (table .entry)) sizes ⌝ }
 {
-    let old = number(table[1]);
-    let initial = number(table[4]);
-    let goal = number(table[5]);
+    let old = word(table, PREDICATES);
+    let initial = word(table, INITIAL_ATOMS);
+    let goal = word(table, GOAL_ATOMS);
     let predicates = old + 1 + sizes.later + sizes.pars;
     are_within(
         predicates,
@@ -199,19 +187,12 @@ fn within_limits(table: &[u16], sizes: Sizes) -> bool
 }
 
 // The sizes of the split of a table whose parts are kept.
-pub fn sizes_of(
-    table: &[u16],
-    starts: &[u16; 201],
-    counts: &[u16; 200],
-    order: &[u16; 3200],
-    own: &[u16; 3200],
-) -> Sizes
+pub fn sizes_of(table: &[u16], kept: &Kept) -> Sizes
     requires { ⌜ isTable (now table) ≡ true ⌝ }
-    requires { ⌜ PartsKept (taskOf (now table)) (length (taskOf (now table) .schemas)) (now starts) (now counts)
-        (now order) (now own) ⌝ }
+    requires { ⌜ PartsKept (taskOf (now table)) (length (taskOf (now table) .schemas)) (now kept) ⌝ }
     ensures { λ r. ⌜ SizesTold (taskOf (now (table .entry))) r ⌝ }
 {
-    let schemas = number(table[2]);
+    let schemas = word(table, SCHEMAS);
     let mut sizes = Sizes {
         later: 0,
         pars: 0,
@@ -221,11 +202,8 @@ pub fn sizes_of(
     };
     let mut s = 0;
     while s < schemas {
-        let from = number(starts[s]);
-        let to = number(starts[s + 1]);
-        let count = number(counts[s]);
-        let one = measure_schema(table, s, from, to, count, order, own);
-        sizes = with_schema(sizes, one, count);
+        let one = measure_schema(table, kept, s);
+        sizes = with_schema(sizes, one, count_of(kept, s));
         s += 1;
     }
     let within = within_limits(table, sizes);

@@ -1,30 +1,34 @@
 // The atoms of one part's schema, role by role: the part's old atoms renumbered, then procnone or a do, then pars.
-ghost use Prim.Native.Nat.{_+_, _-_, _*_, _≤_, _<_};
-ghost use mathlib.Core.Path.{_≡_};
-ghost use mathlib.Core.Bool.{_&&_};
-ghost use mathlib.Core.List.{[], _∷_, map};
-ghost use lib.ListN.{length};
-ghost use lib.Dec.{eqb};
-ghost use Rattle.task.specs.Lists.{padded};
-ghost use Rattle.task.specs.Table.{atomIn, atomWords};
-ghost use Rattle.arcs.specs.Code.{IsSchemaAtom, IsStretch};
-ghost use Rattle.tokens.specs.Split.{token};
-ghost use Rattle.tokens.specs.Writing.{Puts, newNumber, renumbered, parIn, oldWords, parWords, roleWords, partWords};
+use crate::atoms::PREDICATE;
+use crate::atoms::ROLE;
 use crate::atoms::argument;
 use crate::atoms::argument_count;
-use crate::sets;
-use crate::words::fill;
-use crate::words::four;
+use crate::pars::Pars;
 use arcs::atoms::part_of;
 use arcs::atoms::word_of;
 use task::Parameter;
 use task::Part;
+use task::limits::MOST_ARITY;
+use words::putting::fill;
+use words::putting::four;
+use words::sets;
+ghost use Prim.Native.Nat.{_+_, _-_, _*_, _≤_, _<_};
+ghost use mathlib.Core.Path.{_≡_};
+ghost use mathlib.Core.Bool.{_&&_};
+ghost use mathlib.Core.List.{[], map};
+ghost use lib.ListN.{length};
+ghost use lib.Dec.{eqb};
+ghost use Rattle.words.specs.Lists.{padded};
+ghost use Rattle.task.specs.Table.{atomIn, atomWords};
+ghost use Rattle.arcs.specs.Code.{IsSchemaAtom, IsStretch};
+ghost use Rattle.tokens.specs.Split.{token};
+ghost use Rattle.words.specs.Putting.{Puts};
+ghost use Rattle.tokens.specs.Writing.{newNumber, renumbered, parIn, oldWords, parWords, roleWords, partWords};
+ghost use Rattle.tokens.specs.Writing.{parBound};
+ghost use Rattle.task.specs.Limits.{atomSize, mostArity, mostParameters};
+ghost use Rattle.words.specs.Sets.{wordBits};
 
-// The places of an atom's role and predicate among its words.
-const ROLE: usize = 1;
-
-const PREDICATE: usize = 2;
-
+// "role (0 precondition, 1 add, 2 delete, 3 initial, 4 goal)"
 const PRECONDITION: u16 = 0;
 
 const ADDITION: u16 = 1;
@@ -43,22 +47,38 @@ pub struct PartPlace {
     pub par: u16,
 }
 
+// The tokens of a part: which it requires and which it hands on, the pars of its parameters, and whether it is the only
+// part of its schema.
+pub struct PartTokens {
+    pub lone: bool,
+    pub required: u16,
+    pub handed: u16,
+    pub pars: Pars,
+}
+
+// Those of one role: a bare token and the pars of the parameters in a set; none for the only part of a schema.
+struct RoleTokens {
+    lone: bool,
+    bare: u16,
+    which: u64,
+}
+
 // A parameter's number among those of the part.
 fn renumbered_in(own: u64, x: Parameter) -> Parameter
-    requires { ⌜ x .0 < 16 ⌝ }
+    requires { ⌜ x .0 < wordBits ⌝ }
     ensures { λ r. ⌜ r .0 ≡ newNumber own (x .0) ⌝ }
 {
-    let before = sets::common(own, arcs::sets::below(x.0 as usize));
+    let before = sets::common(own, sets::below(x.0 as usize));
     Parameter(sets::size(before) as u16)
 }
 
 // The four words of an old atom's arguments, renumbered.
 fn arguments(table: &[u16], i: usize, own: u64, out: &mut [u16], at: usize) -> usize
     requires { ⌜ IsSchemaAtom (now table) i ⌝ }
-    requires { ⌜ at + 4 ≤ length (now out) ⌝ }
-    ensures { λ r. ⌜ Puts (now (out .entry)) at (padded 4 (map (newNumber own) (atomIn (now (table .entry)) i .args)))
-        (now (out .exit)) r ⌝ }
-    ensures { λ r. ⌜ r ≡ at + 4 ⌝ }
+    requires { ⌜ at + mostArity ≤ length (now out) ⌝ }
+    ensures { λ r. ⌜ Puts (now (out .entry)) at
+        (padded mostArity (map (newNumber own) (atomIn (now (table .entry)) i .args))) (now (out .exit)) r ⌝ }
+    ensures { λ r. ⌜ r ≡ at + mostArity ⌝ }
 {
     let count = argument_count(table, i);
     let mut k = 0;
@@ -66,7 +86,7 @@ fn arguments(table: &[u16], i: usize, own: u64, out: &mut [u16], at: usize) -> u
         out[at + k] = renumbered_in(own, argument(table, i, k)).0;
         k += 1;
     }
-    fill(out, at + count, 4 - count, 0)
+    fill(out, at + count, MOST_ARITY - count, 0)
 }
 
 // An old atom, renumbered.
@@ -80,10 +100,10 @@ fn old_atom(
     at: usize,
 ) -> usize
     requires { ⌜ IsSchemaAtom (now table) i ⌝ }
-    requires { ⌜ at + 8 ≤ length (now out) ⌝ }
+    requires { ⌜ at + atomSize ≤ length (now out) ⌝ }
     ensures { λ r. ⌜ Puts (now (out .entry)) at (atomWords number (renumbered own role (atomIn (now (table .entry)) i)))
         (now (out .exit)) r ⌝ }
-    ensures { λ r. ⌜ r ≡ at + 8 ⌝ }
+    ensures { λ r. ⌜ r ≡ at + atomSize ⌝ }
 {
     let predicate = word_of(table, i, PREDICATE);
     let next = four(out, at, number, role, predicate, 0);
@@ -93,7 +113,8 @@ fn old_atom(
 // Whether an atom is in a role and in a part.
 fn is_here(table: &[u16], i: usize, role: u16, part: Part) -> bool
     requires { ⌜ IsSchemaAtom (now table) i ⌝ }
-    ensures { λ r. ⌜ r ≡ eqb role (atomIn (now (table .entry)) i .role) && eqb (part .0) (atomIn (now (table .entry)) i .part) ⌝ }
+    ensures { λ r. ⌜ r ≡
+        eqb role (atomIn (now (table .entry)) i .role) && eqb (part .0) (atomIn (now (table .entry)) i .part) ⌝ }
 {
     if role == word_of(table, i, ROLE) {
         part.0 == part_of(table, i).0
@@ -105,9 +126,9 @@ fn is_here(table: &[u16], i: usize, role: u16, part: Part) -> bool
 // The old atoms of one role, in file order.
 fn old_atoms(table: &[u16], here: PartPlace, role: u16, out: &mut [u16], at: usize) -> usize
     requires { ⌜ IsStretch (now table) (here .from) (here .to) ⌝ }
-    requires { ⌜ at + 8 * (here .to - here .from) ≤ length (now out) ⌝ }
+    requires { ⌜ at + atomSize * (here .to - here .from) ≤ length (now out) ⌝ }
     ensures { λ r. ⌜ Puts (now (out .entry)) at (oldWords (now (table .entry)) here role) (now (out .exit)) r ⌝ }
-    ensures { λ r. ⌜ r ≤ at + 8 * (here .to - here .from) ⌝ }
+    ensures { λ r. ⌜ r ≤ at + atomSize * (here .to - here .from) ⌝ }
 {
     let to = here.to;
     let mut next = at;
@@ -123,9 +144,9 @@ fn old_atoms(table: &[u16], here: PartPlace, role: u16, out: &mut [u16], at: usi
 
 // A bare token: procnone or a do.
 pub fn bare_token(number: u16, role: u16, predicate: u16, out: &mut [u16], at: usize) -> usize
-    requires { ⌜ at + 8 ≤ length (now out) ⌝ }
+    requires { ⌜ at + atomSize ≤ length (now out) ⌝ }
     ensures { λ r. ⌜ Puts (now (out .entry)) at (atomWords number (token role predicate [])) (now (out .exit)) r ⌝ }
-    ensures { λ r. ⌜ r ≡ at + 8 ⌝ }
+    ensures { λ r. ⌜ r ≡ at + atomSize ⌝ }
 {
     let next = four(out, at, number, role, predicate, 0);
     four(out, next, 0, 0, 0, 0)
@@ -133,12 +154,12 @@ pub fn bare_token(number: u16, role: u16, predicate: u16, out: &mut [u16], at: u
 
 // The par of a parameter.
 fn par_atom(here: PartPlace, role: u16, x: Parameter, out: &mut [u16], at: usize) -> usize
-    requires { ⌜ x .0 < 16 ⌝ }
-    requires { ⌜ here .par < 1000 ⌝ }
-    requires { ⌜ at + 8 ≤ length (now out) ⌝ }
+    requires { ⌜ x .0 < wordBits ⌝ }
+    requires { ⌜ here .par < parBound ⌝ }
+    requires { ⌜ at + atomSize ≤ length (now out) ⌝ }
     ensures { λ r. ⌜ Puts (now (out .entry)) at (atomWords (here .number) (parIn (here .own) (here .par) role (x .0)))
         (now (out .exit)) r ⌝ }
-    ensures { λ r. ⌜ r ≡ at + 8 ⌝ }
+    ensures { λ r. ⌜ r ≡ at + atomSize ⌝ }
 {
     let next = four(out, at, here.number, role, here.par + x.0, 0);
     let renumbered = renumbered_in(here.own, x);
@@ -147,11 +168,11 @@ fn par_atom(here: PartPlace, role: u16, x: Parameter, out: &mut [u16], at: usize
 
 // The pars of the parameters in a set, ascending.
 fn par_atoms(here: PartPlace, role: u16, which: u64, out: &mut [u16], at: usize) -> usize
-    requires { ⌜ here .params ≤ 12 ⌝ }
-    requires { ⌜ here .par < 1000 ⌝ }
-    requires { ⌜ at + 8 * (here .params) ≤ length (now out) ⌝ }
+    requires { ⌜ here .params ≤ mostParameters ⌝ }
+    requires { ⌜ here .par < parBound ⌝ }
+    requires { ⌜ at + atomSize * (here .params) ≤ length (now out) ⌝ }
     ensures { λ r. ⌜ Puts (now (out .entry)) at (parWords here role which) (now (out .exit)) r ⌝ }
-    ensures { λ r. ⌜ r ≤ at + 8 * (here .params) ⌝ }
+    ensures { λ r. ⌜ r ≤ at + atomSize * (here .params) ⌝ }
 {
     if which == 0 {
         return at;
@@ -160,7 +181,7 @@ fn par_atoms(here: PartPlace, role: u16, which: u64, out: &mut [u16], at: usize)
     let mut next = at;
     let mut x = 0;
     while x < params {
-        if arcs::sets::has(which, x) {
+        if sets::has(which, x) {
             next = par_atom(here, role, Parameter(x as u16), out, next);
         }
         x += 1;
@@ -168,55 +189,62 @@ fn par_atoms(here: PartPlace, role: u16, which: u64, out: &mut [u16], at: usize)
     next
 }
 
-// All atoms of one role. The only part of a schema has tokens among its preconditions alone.
+// All atoms of one role.
 fn role_atoms(
     table: &[u16],
     here: PartPlace,
     role: u16,
-    lone: bool,
-    bare: u16,
-    which: u64,
+    tokens: RoleTokens,
     out: &mut [u16],
     at: usize,
 ) -> usize
     requires { ⌜ IsStretch (now table) (here .from) (here .to) ⌝ }
-    requires { ⌜ here .params ≤ 12 ⌝ }
-    requires { ⌜ here .par < 1000 ⌝ }
-    requires { ⌜ at + 8 * (here .to - here .from + 1 + here .params) ≤ length (now out) ⌝ }
-    ensures { λ r. ⌜ Puts (now (out .entry)) at (roleWords (now (table .entry)) here role lone bare which)
+    requires { ⌜ here .params ≤ mostParameters ⌝ }
+    requires { ⌜ here .par < parBound ⌝ }
+    requires { ⌜ at + atomSize * (here .to - here .from + 1 + here .params) ≤ length (now out) ⌝ }
+    ensures { λ r. ⌜ Puts (now (out .entry)) at (roleWords (now (table .entry)) here role tokens)
         (now (out .exit)) r ⌝ }
-    ensures { λ r. ⌜ r ≤ at + 8 * (here .to - here .from + 1 + here .params) ⌝ }
+    ensures { λ r. ⌜ r ≤ at + atomSize * (here .to - here .from + 1 + here .params) ⌝ }
 {
     let next = old_atoms(table, here, role, out, at);
-    if lone {
+    if tokens.lone {
         return next;
     }
-    let behind = bare_token(here.number, role, bare, out, next);
-    par_atoms(here, role, which, out, behind)
+    let behind = bare_token(here.number, role, tokens.bare, out, next);
+    par_atoms(here, role, tokens.which, out, behind)
 }
 
-// All atoms of the part's schema: which token it requires and which it hands on, and the parameters whose par it
-// requires, adds and deletes.
+// All atoms of the part's schema. The only part of a schema has tokens among its preconditions alone.
 pub fn part_atoms(
     table: &[u16],
     here: PartPlace,
-    lone: bool,
-    required: u16,
-    handed: u16,
-    later: u64,
-    first: u64,
-    last: u64,
+    tokens: PartTokens,
     out: &mut [u16],
     at: usize,
 ) -> usize
     requires { ⌜ IsStretch (now table) (here .from) (here .to) ⌝ }
-    requires { ⌜ here .params ≤ 12 ⌝ }
-    requires { ⌜ here .par < 1000 ⌝ }
-    requires { ⌜ at + 24 * (here .to - here .from + 1 + here .params) ≤ length (now out) ⌝ }
-    ensures { λ r. ⌜ Puts (now (out .entry)) at (partWords (now (table .entry)) here lone required handed later first last)
-        (now (out .exit)) r ⌝ }
+    requires { ⌜ here .params ≤ mostParameters ⌝ }
+    requires { ⌜ here .par < parBound ⌝ }
+    requires { ⌜ at + 3 * (atomSize * (here .to - here .from + 1 + here .params)) ≤ length (now out) ⌝ }
+    ensures { λ r. ⌜ Puts (now (out .entry)) at (partWords (now (table .entry)) here tokens) (now (out .exit)) r ⌝ }
 {
-    let pre = role_atoms(table, here, PRECONDITION, false, required, later, out, at);
-    let add = role_atoms(table, here, ADDITION, lone, handed, first, out, pre);
-    role_atoms(table, here, DELETION, lone, required, last, out, add)
+    let pars = tokens.pars;
+    let required = RoleTokens {
+        lone: false,
+        bare: tokens.required,
+        which: pars.later,
+    };
+    let added = RoleTokens {
+        lone: tokens.lone,
+        bare: tokens.handed,
+        which: pars.first,
+    };
+    let deleted = RoleTokens {
+        lone: tokens.lone,
+        bare: tokens.required,
+        which: pars.last,
+    };
+    let pre = role_atoms(table, here, PRECONDITION, required, out, at);
+    let add = role_atoms(table, here, ADDITION, added, out, pre);
+    role_atoms(table, here, DELETION, deleted, out, add)
 }

@@ -1,55 +1,64 @@
 // The schemas of the split, part by part: their parameter counts, and their atoms.
+use crate::kept::Kept;
+use crate::kept::count_of;
+use crate::kept::end_of;
+use crate::kept::first_of;
+use crate::kept::own_at;
+use crate::kept::part_at;
+use crate::kept::start_of;
+use crate::measure::Sizes;
+use crate::pars::pars_at;
+use crate::part_atoms::PartPlace;
+use crate::part_atoms::PartTokens;
+use crate::part_atoms::part_atoms;
+use task::limits::HEAD_WORDS;
+use task::limits::PREDICATES;
+use task::limits::SCHEMAS;
+use words::runs::word;
+use words::sets;
 ghost use Prim.Native.Nat.{ℕ, _+_, _*_, _≤_, _<_};
 ghost use mathlib.Core.Path.{_≡_};
 ghost use mathlib.Core.Bool.{cond};
-ghost use mathlib.Core.List.{map};
-ghost use lib.ListN.{length, getD, take};
+ghost use lib.ListN.{length};
 ghost use lib.Dec.{eqb};
-ghost use Rattle.task.specs.Lists.{concatMap, upTo};
+ghost use Rattle.words.specs.Lists.{concatMap, upTo};
 ghost use Rattle.task.specs.Table.{taskOf, atomWords, schemasFrom};
-ghost use Rattle.tokens.specs.Split.{laterParts, orders, splitSchema, splitTask};
-ghost use Rattle.tokens.specs.Writing.{Puts, Splits, partSchemas, setSize};
-use crate::pars::pars_at;
-use crate::part_atoms::PartPlace;
-use crate::part_atoms::part_atoms;
-use crate::sets;
-use crate::words::wide;
-use task::Part;
+ghost use Rattle.tokens.specs.Split.{orders, splitSchema, splitTask};
+ghost use Rattle.words.specs.Putting.{Puts};
+ghost use Rattle.task.specs.Limits.{mostParts, mostSchemas};
+ghost use Rattle.words.specs.Words.{wordBound};
+ghost use Rattle.tokens.specs.Kept.{keptFirst, keptCount};
+ghost use Rattle.tokens.specs.Code.{AcceptedKept, partSchemas, AcceptedParts};
+ghost use Rattle.tokens.specs.Writing.{PlaceOf, TokensOf, mostPartWords, setSizes};
 
 // The parameter counts of a schema's parts.
-fn part_params(own: &[u16; 3200], s: usize, count: usize, out: &mut [u16], at: usize) -> usize
-    requires { ⌜ s < 200 ⌝ }
-    requires { ⌜ count ≤ 16 ⌝ }
-    requires { ⌜ at + count ≤ length (now out) ⌝ }
-    ensures { λ r. ⌜ Puts (now (out .entry)) at (map (setSize (now (own .entry)) s) (upTo count)) (now (out .exit)) r ⌝ }
+fn part_params(kept: &Kept, s: usize, out: &mut [u16], at: usize) -> usize
+    requires { ⌜ s < mostSchemas ⌝ }
+    requires { ⌜ keptCount (now kept) s ≤ mostParts ⌝ }
+    requires { ⌜ at + keptCount (now kept) s ≤ length (now out) ⌝ }
+    ensures { λ r. ⌜ Puts (now (out .entry)) at (setSizes (now (kept .entry)) s) (now (out .exit)) r ⌝ }
 {
+    let count = count_of(kept, s);
     let mut j = 0;
     while j < count {
-        out[at + j] = sets::size(sets::held(own[16 * s + j])) as u16;
+        out[at + j] = sets::size(own_at(kept, s, j)) as u16;
         j += 1;
     }
     at + count
 }
 
 // Those of all parts.
-pub fn all_params(
-    counts: &[u16; 200],
-    own: &[u16; 3200],
-    schemas: usize,
-    out: &mut [u16],
-    at: usize,
-) -> usize
-    requires { ⌜ schemas ≤ 200 ⌝ }
-    requires { ⌜ ((s : ℕ) → s < schemas → getD (now counts) s 0 ≤ 16) ⌝ }
-    requires { ⌜ at + 16 * schemas ≤ length (now out) ⌝ }
-    ensures { λ r. ⌜ Puts (now (out .entry)) at
-        (concatMap (λ s. map (setSize (now (own .entry)) s) (upTo (getD (now (counts .entry)) s 0))) (upTo schemas))
+pub fn all_params(kept: &Kept, schemas: usize, out: &mut [u16], at: usize) -> usize
+    requires { ⌜ schemas ≤ mostSchemas ⌝ }
+    requires { ⌜ ((s : ℕ) → s < schemas → keptCount (now kept) s ≤ mostParts) ⌝ }
+    requires { ⌜ at + mostParts * schemas ≤ length (now out) ⌝ }
+    ensures { λ r. ⌜ Puts (now (out .entry)) at (concatMap (setSizes (now (kept .entry))) (upTo schemas))
         (now (out .exit)) r ⌝ }
 {
     let mut next = at;
     let mut s = 0;
     while s < schemas {
-        next = part_params(own, s, wide(counts[s]), out, next);
+        next = part_params(kept, s, out, next);
         s += 1;
     }
     next
@@ -57,7 +66,7 @@ pub fn all_params(
 
 // The token that stands before position j of a schema's order: procnone before the first and behind the last.
 fn token_at(procnone: usize, before: usize, count: usize, j: usize) -> u16
-    requires { ⌜ procnone + before + count < 65536 ⌝ }
+    requires { ⌜ procnone + before + count < wordBound ⌝ }
     requires { ⌜ j ≤ count ⌝ }
     ensures { λ r. ⌜ r ≡ cond (eqb j 0) procnone (cond (eqb j count) procnone (procnone + before + j)) ⌝ }
 {
@@ -70,152 +79,109 @@ fn token_at(procnone: usize, before: usize, count: usize, j: usize) -> u16
     (procnone + before + j) as u16
 }
 
-// The atoms of the part of schema s at position j, with `before` later parts in the schemas before and `later` in all.
+// The place of the part of schema s at position j.
+fn place_of(table: &[u16], kept: &Kept, sizes: Sizes, s: usize, j: usize) -> PartPlace
+    requires { ⌜ AcceptedKept (now table) sizes (now kept) ⌝ }
+    requires { ⌜ s < length (taskOf (now table) .schemas) ⌝ }
+    requires { ⌜ j < length (orders (taskOf (now table)) s) ⌝ }
+    ensures { λ r. ⌜ PlaceOf (now (table .entry)) s j r ⌝ }
+    ensures { λ r. ⌜ r .number ≡ keptFirst (now (kept .entry)) s + j ⌝ }
+{
+    let procnone = word(table, PREDICATES);
+    PartPlace {
+        from: start_of(kept, s),
+        to: end_of(kept, s),
+        part: part_at(kept, s, j),
+        own: own_at(kept, s, j),
+        params: word(table, HEAD_WORDS + procnone + s),
+        number: (first_of(kept, s) + j) as u16,
+        par: (procnone + sizes.later + 1) as u16,
+    }
+}
+
+// The tokens of that part. The schemas before have as many later parts as they have parts less one each.
+fn tokens_of(table: &[u16], kept: &Kept, s: usize, j: usize) -> PartTokens
+    requires { ⌜ AcceptedParts (now table) (now kept) ⌝ }
+    requires { ⌜ s < length (taskOf (now table) .schemas) ⌝ }
+    requires { ⌜ j < length (orders (taskOf (now table)) s) ⌝ }
+    ensures { λ r. ⌜ TokensOf (taskOf (now (table .entry))) s j r ⌝ }
+{
+    let procnone = word(table, PREDICATES);
+    let before = first_of(kept, s) - s;
+    let count = count_of(kept, s);
+    let pars = pars_at(kept, s, j);
+    PartTokens {
+        lone: count == 1,
+        required: token_at(procnone, before, count, j),
+        handed: token_at(procnone, before, count, j + 1),
+        pars,
+    }
+}
+
+// The atoms of that part.
 fn one_part(
     table: &[u16],
-    starts: &[u16; 201],
-    counts: &[u16; 200],
-    order: &[u16; 3200],
-    own: &[u16; 3200],
-    later: usize,
+    kept: &Kept,
+    sizes: Sizes,
     s: usize,
     j: usize,
-    number: usize,
-    before: usize,
     out: &mut [u16],
     at: usize,
 ) -> usize
-    requires { ⌜ Splits (now table) (now starts) (now counts) (now order) (now own) ⌝ }
-    requires { ⌜ later ≡ laterParts (taskOf (now table) .schemas) ⌝ }
+    requires { ⌜ AcceptedKept (now table) sizes (now kept) ⌝ }
     requires { ⌜ s < length (taskOf (now table) .schemas) ⌝ }
     requires { ⌜ j < length (orders (taskOf (now table)) s) ⌝ }
-    requires { ⌜ before ≡ laterParts (take s (taskOf (now table) .schemas)) ⌝ }
-    requires { ⌜ number < 65536 ⌝ }
-    requires { ⌜ at + 1848 ≤ length (now out) ⌝ }
+    requires { ⌜ at + mostPartWords ≤ length (now out) ⌝ }
     ensures { λ r. ⌜ Puts (now (out .entry)) at
-        (concatMap (atomWords number)
+        (concatMap (atomWords (keptFirst (now (kept .entry)) s + j))
         (splitSchema (taskOf (now (table .entry))) s (orders (taskOf (now (table .entry))) s) j .atoms))
         (now (out .exit)) r ⌝ }
 {
-    let procnone = wide(table[1]);
-    let count = wide(counts[s]);
-    let from = wide(starts[s]);
-    let to = wide(starts[s + 1]);
-    let part = Part(order[16 * s + j]);
-    let set = sets::held(own[16 * s + j]);
-    let params = wide(table[6 + procnone + s]);
-    let par = (procnone + later + 1) as u16;
-    let here = PartPlace {
-        from,
-        to,
-        part,
-        own: set,
-        params,
-        number: number as u16,
-        par,
-    };
-    let pars = pars_at(own, s, count, j);
-    let required = token_at(procnone, before, count, j);
-    let handed = token_at(procnone, before, count, j + 1);
-    part_atoms(
-        table,
-        here,
-        count == 1,
-        required,
-        handed,
-        pars.later,
-        pars.first,
-        pars.last,
-        out,
-        at,
-    )
+    let here = place_of(table, kept, sizes, s, j);
+    let tokens = tokens_of(table, kept, s, j);
+    part_atoms(table, here, tokens, out, at)
 }
 
-// The atoms of all parts of schema s, the first of them being schema `number` of the split.
+// The atoms of all parts of schema s.
 fn schema_parts(
     table: &[u16],
-    starts: &[u16; 201],
-    counts: &[u16; 200],
-    order: &[u16; 3200],
-    own: &[u16; 3200],
-    later: usize,
+    kept: &Kept,
+    sizes: Sizes,
     s: usize,
-    number: usize,
-    before: usize,
     out: &mut [u16],
     at: usize,
 ) -> usize
-    requires { ⌜ Splits (now table) (now starts) (now counts) (now order) (now own) ⌝ }
-    requires { ⌜ later ≡ laterParts (taskOf (now table) .schemas) ⌝ }
+    requires { ⌜ AcceptedKept (now table) sizes (now kept) ⌝ }
     requires { ⌜ s < length (taskOf (now table) .schemas) ⌝ }
-    requires { ⌜ before ≡ laterParts (take s (taskOf (now table) .schemas)) ⌝ }
-    requires { ⌜ number + 16 < 65536 ⌝ }
-    requires { ⌜ at + length (schemasFrom number (partSchemas (taskOf (now table)) s)) + 1848 ≤ length (now out) ⌝ }
-    ensures { λ r. ⌜ Puts (now (out .entry)) at (schemasFrom number (partSchemas (taskOf (now (table .entry))) s))
+    requires { ⌜ at + length (schemasFrom (keptFirst (now kept) s) (partSchemas (taskOf (now table)) s)) +
+        mostPartWords ≤ length (now out) ⌝ }
+    ensures { λ r. ⌜ Puts (now (out .entry)) at
+        (schemasFrom (keptFirst (now (kept .entry)) s) (partSchemas (taskOf (now (table .entry))) s))
         (now (out .exit)) r ⌝ }
 {
-    let count = wide(counts[s]);
+    let count = count_of(kept, s);
     let mut next = at;
     let mut j = 0;
     while j < count {
-        next = one_part(
-            table,
-            starts,
-            counts,
-            order,
-            own,
-            later,
-            s,
-            j,
-            number + j,
-            before,
-            out,
-            next,
-        );
+        next = one_part(table, kept, sizes, s, j, out, next);
         j += 1;
     }
     next
 }
 
 // The atoms of all schemas of the split.
-pub fn all_parts(
-    table: &[u16],
-    starts: &[u16; 201],
-    counts: &[u16; 200],
-    order: &[u16; 3200],
-    own: &[u16; 3200],
-    later: usize,
-    out: &mut [u16],
-    at: usize,
-) -> usize
-    requires { ⌜ Splits (now table) (now starts) (now counts) (now order) (now own) ⌝ }
-    requires { ⌜ later ≡ laterParts (taskOf (now table) .schemas) ⌝ }
-    requires { ⌜ at + length (schemasFrom 0 (splitTask (taskOf (now table)) .schemas)) + 1848 ≤ length (now out) ⌝ }
+pub fn all_parts(table: &[u16], kept: &Kept, sizes: Sizes, out: &mut [u16], at: usize) -> usize
+    requires { ⌜ AcceptedKept (now table) sizes (now kept) ⌝ }
+    requires { ⌜ at + length (schemasFrom 0 (splitTask (taskOf (now table)) .schemas)) + mostPartWords ≤
+        length (now out) ⌝ }
     ensures { λ r. ⌜ Puts (now (out .entry)) at (schemasFrom 0 (splitTask (taskOf (now (table .entry))) .schemas))
         (now (out .exit)) r ⌝ }
 {
-    let schemas = wide(table[2]);
+    let schemas = word(table, SCHEMAS);
     let mut next = at;
-    let mut number = 0;
-    let mut before = 0;
     let mut s = 0;
     while s < schemas {
-        next = schema_parts(
-            table,
-            starts,
-            counts,
-            order,
-            own,
-            later,
-            s,
-            number,
-            before,
-            out,
-            next,
-        );
-        let count = wide(counts[s]);
-        number += count;
-        before += count - 1;
+        next = schema_parts(table, kept, sizes, s, out, next);
         s += 1;
     }
     next

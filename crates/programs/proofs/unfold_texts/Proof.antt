@@ -1,52 +1,33 @@
 -- `programs::unfold_texts` meets its contract: a task that is read lies as a table, of which the plan is read and
 -- printed; a refusal is the one that is printed.
-use Prim.Native.Nat.{ℕ}
-use mathlib.Core.Path.{_≡_, sym, _∙_, ap, subst}
-use mathlib.Core.List.{List}
+use Rattle.programs.proofs.unfold_texts.Tie as tie
+use mathlib.Core.Path.{sym, _∙_, ap}
 use native.Mathlib.Omega.{arith}
-use lib.ListN.{take}
-use lib.Seq.{length-take-le}
 use Rattle.text.specs.Outcomes.{readAnswerTold}
-use Rattle.text.specs.Text.{readText}
 use Rattle.text.specs.Code.{longestText}
 use Rattle.text.specs.PlanCode.{longestPlan}
-use Rattle.programs.specs.Programs.{taken, printReading}
+use Rattle.programs.specs.Programs.{taken}
 use Rattle.programs.proofs.Answered.{TableRead, table-zeros, table-read, read-refused}
 use Rattle.programs.proofs.Printed.{prints-same}
 use Rattle.programs.proofs.PlanUnfolded.{printsPlan, texts-unfold, texts-refused}
 use borrow.Author.Needs.{needs}
 use Rattle.programs.proofs.unfold_texts.Statement.{statement}
-use Rattle.programs.proofs.unfold_texts.Tie as tie
 
-abbrev start : tie.After-read → tie.Start
-start c = c .before .before .before .before .before .before
-
--- the text that is read is what the program takes
-is-taken : (c : tie.After-read) → let b = c .before .before .before .bytes-taken in
-    take (b .result) (start c .args .task .now) ≡ taken (start c .args .task .now)
-is-taken c = c .before .before .before .bytes-taken .ensures .1
+abbrev start : tie.After-read-table → tie.Start
+start c = c .before .before .before .before
 
 table : (c : tie.After-enum-told) → let k = c .before .before .before in
-    TableRead (taken (start k .args .task .now)) (k .read .last .1 .0)
+    TableRead (taken (start k .args .task .now)) (k .read-table .last .1 .0)
 unfolding readAnswerTold
 table c =
-    let k = c .before .before .before in
-    subst (λ (bs : List ℕ). TableRead bs (k .read .last .1 .0)) (is-taken k)
-    (table-read _ _ (sym (ap readAnswerTold (c .enum-told .given .1)) ∙ k .read .ensures .0) (k .read .ensures .1))
+    let r = c .before .before .before .read-table in
+    table-read _ _ (sym (ap readAnswerTold (c .enum-told .given .1)) ∙ r .ensures .0) (r .ensures .1)
 
-bytes-taken-requires : tie.Need-bytes-taken-requires
-bytes-taken-requires c κs = search needs
+slice-aggregate-read-table : tie.Need-slice-aggregate-read-table
+slice-aggregate-read-table c = search needs
 
-slice-aggregate-read : tie.Need-slice-aggregate-read
-slice-aggregate-read c =
-    let b = c .before .bytes-taken in
-    sym (length-take-le (b .result) (c .before .before .before .before .args .task .now) (b .ensures .0))
-
-slice-aggregate-read-2 : tie.Need-slice-aggregate-read-2
-slice-aggregate-read-2 c = search needs
-
-read-requires : tie.Need-read-requires
-read-requires c κs = search needs
+read-table-requires : tie.Need-read-table-requires
+read-table-requires c κs = search needs
 
 enum-told : tie.Need-enum-told
 enum-told c = search needs
@@ -70,7 +51,7 @@ returns c =
     let g = c .before .before .before in
     let k = g .before .before .before in
     let a = start k .args in
-    let same = texts-unfold (a .task .now) (a .plan .now) (k .read .last .1 .0) (table g) in
+    let same = texts-unfold (a .task .now) (a .plan .now) (k .read-table .last .1 .0) (table g) in
     let p = prints-same same (c .put-plan .ensures) in
     (p .bytes, p .count)
 
@@ -80,25 +61,13 @@ returns-2 c =
     let n = c .before .before .before in
     let k = n .before .before .before in
     let a = start k .args in
-    let prints = printsPlan (a .plan .now) in
-    let told = sym (ap readAnswerTold (n .number .given .1)) ∙ k .read .ensures .0 in
-    let p = prints-same (texts-refused (a .task .now) (a .plan .now) _
-    (read-refused _ _ table-zeros told prints ∙ ap (λ (bs : List ℕ). printReading prints (readText bs)) (is-taken k)))
-    (c .put-refusal .ensures) in
+    let told = sym (ap readAnswerTold (n .number .given .1)) ∙ k .read-table .ensures .0 in
+    let refused = read-refused _ _ table-zeros told (printsPlan (a .plan .now)) in
+    let p = prints-same (texts-refused (a .task .now) (a .plan .now) _ refused) (c .put-refusal .ensures) in
     (p .bytes, p .count)
 
 pub unfold-texts-spec : {M : Type 1} → statement M
 unfold-texts-spec =
     tie.close
-    (tie.spec
-    bytes-taken-requires
-    slice-aggregate-read
-    slice-aggregate-read-2
-    read-requires
-    enum-told
-    slice-aggregate-put-plan
-    put-plan-requires
-    enum-known-number
-    put-refusal-requires
-    returns
-    returns-2)
+    (tie.spec slice-aggregate-read-table read-table-requires enum-told slice-aggregate-put-plan put-plan-requires
+    enum-known-number put-refusal-requires returns returns-2)

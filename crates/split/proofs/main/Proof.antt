@@ -46,14 +46,6 @@ returns c = search needs
 pub main-spec : {M : Type 1} → statement M
 main-spec =
     tie.close
-    (tie.spec
-    large-buffer-requires
-    slice-aggregate-read-full
-    read-full-requires
-    array-share-prefix-text
-    slice-aggregate-split-text
-    split-text-requires
-    array-share-prefix-out
-    slice-aggregate-write-all
-    write-all-requires
+    (tie.spec large-buffer-requires slice-aggregate-read-full read-full-requires array-share-prefix-text
+    slice-aggregate-split-text split-text-requires array-share-prefix-out slice-aggregate-write-all write-all-requires
     returns)

@@ -1,18 +1,17 @@
 -- `task::run` meets its contract: each check that fails is the outcome's first, and where all pass the outcome is what
 -- `run_steps` does.
-use Prim.Native.Nat.{ℕ}
+use Rattle.task.proofs.run.Tie as tie
 use mathlib.Core.Path.{_≡_, sym, _∙_, ap}
 use mathlib.Core.Bool.{true}
 use mathlib.Core.Option.{none}
 use borrow.Author.Needs.{needs}
 use borrow.Author.Tests.{not-true, not-false}
-use Rattle.task.specs.Answers.{Outcome}
 use Rattle.task.specs.Table.{taskOf, longEnough, isTable}
 use Rattle.task.specs.Run.{badStep, badStepFound, isState, runAnswerTold}
 use Rattle.task.proofs.LongEnough.{too-short, long-enough, has-table-words}
 use Rattle.task.proofs.RunOutcome.{run-short, run-no-table, run-bad-step, run-no-state, run-done}
 use Rattle.task.proofs.run.Statement.{statement}
-use Rattle.task.proofs.run.Tie as tie
+use Rattle.task.proofs.Answers.{both}
 
 -- ---- what is known behind each check
 long : (c : tie.Else1) → longEnough (c .before .before .before .before .args .table .now) ≡ true
@@ -29,10 +28,6 @@ good : (c : tie.After-enum-told) →
     none
 unfolding badStepFound
 good c = sym (c .before .before .bad-step .ensures) ∙ ap badStepFound (c .enum-told .given .1)
-
--- an outcome's two parts, from what it is
-both : {o p : Outcome} → o ≡ p → (p .told ≡ o .told) × (p .buffer ≡ o .buffer)
-both e = (ap (λ (o : Outcome). o .told) (sym e), ap (λ (o : Outcome). o .buffer) (sym e))
 
 -- ---- the checks
 returns : tie.Need-returns
@@ -113,17 +108,5 @@ returns-5 c =
 pub run-spec : {M : Type 1} → statement M
 run-spec =
     tie.close
-    (tie.spec
-    returns
-    is-table-requires
-    returns-2
-    bad-step-requires
-    enum-known-bad
-    returns-3
-    enum-told
-    is-state-requires
-    same-length
-    returns-4
-    run-steps-requires
-    same-length-2
-    returns-5)
+    (tie.spec returns is-table-requires returns-2 bad-step-requires enum-known-bad returns-3 enum-told is-state-requires
+    same-length returns-4 run-steps-requires same-length-2 returns-5)

@@ -1,21 +1,22 @@
 // An atom of a table: its words, whether its arguments fit, and two atoms compared.
-use super::words::all_below;
-use super::words::less_words;
-use super::words::same_words;
-use super::words::word;
-use super::words::zeros;
 use crate::limits;
+use words::runs::all_below;
+use words::runs::less_words;
+use words::runs::same_words;
+use words::runs::word;
+use words::runs::zeros;
 ghost use mathlib.Core.Path.{_≡_};
 ghost use Prim.Native.Nat.{_+_, _<_, _≤_};
 ghost use lib.ListN.{length, getD};
 ghost use Rattle.task.specs.Task.{sameAtom, factLess};
 ghost use Rattle.task.specs.Table.{arityIn, atomBase, schemaNumberIn, atomIn, factIn};
+ghost use Rattle.words.specs.Words.{wordBound};
 ghost use Rattle.task.specs.WordTests.{argWordsFit, atomTotal, Roomy};
 
 // Where atom i begins.
 pub(crate) fn atom_base(table: &[u16], i: usize) -> usize
     requires { ⌜ 2 < length (now table) ⌝ }
-    requires { ⌜ i ≤ 65536 ⌝ }
+    requires { ⌜ i ≤ wordBound ⌝ }
     ensures { λ r. ⌜ r ≡ atomBase (now (table .entry)) i ⌝ }
 {
     limits::HEAD_WORDS + word(table, 1) + word(table, 2) + limits::ATOM_SIZE * i
@@ -53,7 +54,7 @@ pub(crate) fn part(table: &[u16], i: usize) -> usize
     requires { ⌜ Roomy (now table) ⌝ }
     requires { ⌜ i < atomTotal (now table) ⌝ }
     ensures { λ r. ⌜ r ≡ atomIn (now (table .entry)) i .part ⌝ }
-    ensures { λ r. ⌜ r < 65536 ⌝ }
+    ensures { λ r. ⌜ r < wordBound ⌝ }
 {
     word(table, atom_base(table, i) + 3)
 }

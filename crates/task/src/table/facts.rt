@@ -4,10 +4,10 @@ use super::atoms::fact_less;
 use super::atoms::part;
 use super::atoms::role;
 use super::atoms::schema_number;
-use super::words::word;
+use words::runs::word;
 ghost use mathlib.Core.Path.{_≡_};
 ghost use Prim.Native.Nat.{_-_, _<_, _≤_};
-ghost use Rattle.task.specs.Lists.{all, upFrom};
+ghost use Rattle.words.specs.Lists.{all, upFrom};
 ghost use Rattle.task.specs.Task.{ascending};
 ghost use Rattle.task.specs.WordTests.{factWordsFit, factsWordsFit, factsIn, atomTotal, Roomy, KnownIn};
 

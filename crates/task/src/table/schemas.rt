@@ -7,20 +7,21 @@ use super::atoms::predicate;
 use super::atoms::role;
 use super::atoms::same_atom;
 use super::atoms::schema_number;
-use super::sets::has_all;
-use super::sets::joined;
-use super::sets::joined_words;
-use super::words::word;
 use crate::limits;
+use words::runs::word;
+use words::sets::has_all;
+use words::sets::joined_words;
+use words::sets::with;
 ghost use mathlib.Core.Path.{_≡_};
 ghost use mathlib.Core.Bool.{true};
 ghost use Prim.Native.Nat.{ℕ, _-_, _<_, _≤_};
 ghost use lib.ListN.{getD};
 ghost use lib.Dec.{eqb};
-ghost use Rattle.task.specs.Lists.{all, any, upTo, upFrom};
+ghost use Rattle.words.specs.Lists.{all, any, upTo, upFrom};
 ghost use Rattle.task.specs.Task.{distinct, rolesAscend, names, partCount};
 ghost use Rattle.task.specs.Table.{atomIn};
-ghost use Rattle.task.specs.WordTests.{bit, argWordsFit, numbersFit, schemaWordsFit, schemasFit, partsFit};
+ghost use Rattle.words.specs.Sets.{member};
+ghost use Rattle.task.specs.WordTests.{argWordsFit, numbersFit, schemaWordsFit, schemasFit, partsFit};
 ghost use Rattle.task.specs.WordTests.{standsAgain, atomsIn, atomTotal, Roomy, KnownIn, RolesRise, RunOf};
 
 // "preconditions first, then adds, then deletes", of the atoms from one index to another.
@@ -99,7 +100,7 @@ fn parameters(table: &[u16], bound: usize, first: usize, end: usize) -> u64
     requires { ⌜ Roomy (now table) ⌝ }
     requires { ⌜ (bound ≤ 64) × (end ≤ atomTotal (now table)) ⌝ }
     requires { ⌜ all (argWordsFit (now table) bound) (upFrom first (end - first)) ≡ true ⌝ }
-    ensures { λ r. ⌜ ((x : ℕ) → bit r x ≡ any (names x) (atomsIn (now (table .entry)) first (end - first))) ⌝ }
+    ensures { λ r. ⌜ ((x : ℕ) → member r x ≡ any (names x) (atomsIn (now (table .entry)) first (end - first))) ⌝ }
 {
     let mut set = 0;
     let mut i = first;
@@ -145,12 +146,12 @@ fn parts(table: &[u16], first: usize, end: usize) -> u64
     requires { ⌜ end ≤ atomTotal (now table) ⌝ }
     requires { ⌜ partCount (atomsIn (now table) first (end - first)) ≤ 64 ⌝ }
     ensures { λ r. ⌜ ((p : ℕ) →
-        bit r p ≡ any (λ a. eqb p (a .part)) (atomsIn (now (table .entry)) first (end - first))) ⌝ }
+        member r p ≡ any (λ a. eqb p (a .part)) (atomsIn (now (table .entry)) first (end - first))) ⌝ }
 {
     let mut set = 0;
     let mut i = first;
     while i < end {
-        set = joined(set, part(table, i));
+        set = with(set, part(table, i));
         i += 1;
     }
     set

@@ -1,16 +1,12 @@
-use Prim.Native.Nat.{ℕ, suc, _+_, _-_, _*_, _≤_, _<_}
-use mathlib.Core.Path.{_≡_, refl, sym, _∙_, ap}
+use Rattle.text.proofs.read.Tie as tie
+use mathlib.Core.Path.{_∙_}
 use native.Mathlib.Omega.{arith}
 use borrow.Author.Needs.{needs}
-use Rattle.task.specs.Answers.{Outcome}
 use Rattle.task.proofs.Tables.{tableWords-is}
 use Rattle.text.specs.Outcomes.{readAnswerTold}
 use Rattle.text.proofs.ReadLoop.{short-outcome, long-outcome}
 use Rattle.text.proofs.read.Statement.{statement}
-use Rattle.text.proofs.read.Tie as tie
-use Rattle.text.proofs.read.Reads as reads
-use Rattle.text.proofs.read.Lts as lts
-use Rattle.text.proofs.reader.read_task.Reads as read-task-reads
+use Rattle.task.proofs.Answers.{both}
 
 returns : tie.Need-returns
 unfolding readAnswerTold
@@ -18,7 +14,7 @@ returns c =
     let start = c .before .before .before in
     let z = tableWords-is in
     let is = short-outcome (start .args .text .now) (start .args .table .now) (omega arith) in
-    (sym (ap (λ (o : Outcome). o .told) is), sym (ap (λ (o : Outcome). o .buffer) is))
+    both is
 
 read-task-requires : tie.Need-read-task-requires
 read-task-requires c κs = let z = tableWords-is in omega arith
@@ -32,7 +28,7 @@ returns-2 c =
     let z = tableWords-is in
     let is = long-outcome (start .args .text .now) (start .args .table .now) (omega arith) in
     let done = c .before .before .read-task .ensures in
-    (done .0 ∙ sym (ap (λ (o : Outcome). o .told) is), done .1 ∙ sym (ap (λ (o : Outcome). o .buffer) is))
+    (done .0 ∙ both is .0, done .1 ∙ both is .1)
 
 pub read-spec : {M : Type 1} → statement M
 read-spec = tie.close (tie.spec returns read-task-requires same-length returns-2)

@@ -1,19 +1,14 @@
 -- `text::write` meets its contract: each check that fails is the outcome's first, and behind them the outcome is what
 -- `write_task` does.
-use mathlib.Core.Path.{_≡_, sym, _∙_, ap}
-use mathlib.Core.Bool.{true}
+use Rattle.text.proofs.write.Tie as tie
+use mathlib.Core.Path.{sym, _∙_}
 use borrow.Author.Needs.{needs}
 use borrow.Author.Tests.{not-true, not-false}
-use Rattle.task.specs.Answers.{Outcome}
 use Rattle.task.proofs.LongEnough.{too-short, long-enough, has-table-words}
 use Rattle.text.specs.Outcomes.{writeAnswerTold}
 use Rattle.text.proofs.WriteOutcome.{write-short, write-no-table}
 use Rattle.text.proofs.write.Statement.{statement}
-use Rattle.text.proofs.write.Tie as tie
-
--- an outcome's two parts, from what it is
-both : {o p : Outcome} → o ≡ p → (p .told ≡ o .told) × (p .buffer ≡ o .buffer)
-both e = (ap (λ (o : Outcome). o .told) (sym e), ap (λ (o : Outcome). o .buffer) (sym e))
+use Rattle.task.proofs.Answers.{both}
 
 returns : tie.Need-returns
 unfolding writeAnswerTold
@@ -44,5 +39,4 @@ returns-3 : tie.Need-returns-3
 returns-3 c = search needs
 
 pub write-spec : {M : Type 1} → statement M
-write-spec =
-    tie.close (tie.spec returns is-table-requires returns-2 write-task-requires same-length returns-3)
+write-spec = tie.close (tie.spec returns is-table-requires returns-2 write-task-requires same-length returns-3)

@@ -67,21 +67,7 @@ returns c = search needs
 pub main-spec : {M : Type 1} → statement M
 main-spec =
     tie.close
-    (tie.spec
-    large-buffer-requires
-    slice-aggregate-read-file
-    slice-aggregate-read-file-2
-    read-file-requires
-    large-buffer-requires-2
-    slice-aggregate-read-file-3
-    slice-aggregate-read-file-4
-    read-file-requires-2
-    array-share-prefix-task
-    slice-aggregate-unfold-texts
-    array-share-prefix-plan
-    slice-aggregate-unfold-texts-2
-    unfold-texts-requires
-    array-share-prefix-out
-    slice-aggregate-write-all
-    write-all-requires
-    returns)
+    (tie.spec large-buffer-requires slice-aggregate-read-file slice-aggregate-read-file-2 read-file-requires
+    large-buffer-requires-2 slice-aggregate-read-file-3 slice-aggregate-read-file-4 read-file-requires-2
+    array-share-prefix-task slice-aggregate-unfold-texts array-share-prefix-plan slice-aggregate-unfold-texts-2
+    unfold-texts-requires array-share-prefix-out slice-aggregate-write-all write-all-requires returns)

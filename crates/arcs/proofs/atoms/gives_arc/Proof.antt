@@ -62,5 +62,6 @@ returns-2 c =
 
 pub gives-arc-spec : {M : Type 1} → statement M
 gives-arc-spec =
-    tie.close (tie.spec word-of-requires word-of-requires-2 word-of-requires-3 word-of-requires-4
-    role-before-requires returns returns-2)
+    tie.close
+    (tie.spec word-of-requires word-of-requires-2 word-of-requires-3 word-of-requires-4 role-before-requires returns
+    returns-2)

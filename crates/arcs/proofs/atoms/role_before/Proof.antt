@@ -5,7 +5,7 @@ use mathlib.Core.Bool.{_||_}
 use lib.Dec.{eqb}
 use borrow.Author.Tests.{ne-eqb}
 use Rattle.arcs.specs.Order.{roleBefore}
-use Rattle.arcs.proofs.ArcSets.{or-false}
+use Rattle.words.proofs.Ranges.{or-false}
 use Rattle.arcs.proofs.atoms.role_before.Statement.{statement}
 use Rattle.arcs.proofs.atoms.role_before.Tie as tie
 

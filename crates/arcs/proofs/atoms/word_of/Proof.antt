@@ -59,5 +59,6 @@ returns c = refl
 
 pub word-of-spec : {M : Type 1} → statement M
 word-of-spec =
-    tie.close (tie.spec shared-slice-read-result cast-result add-result shared-slice-read-result-2 cast-result-2
-    add-result-2 mul-result add-result-3 add-result-4 mul-result-2 shared-slice-read-result-3 returns)
+    tie.close
+    (tie.spec shared-slice-read-result cast-result add-result shared-slice-read-result-2 cast-result-2 add-result-2
+    mul-result add-result-3 add-result-4 mul-result-2 shared-slice-read-result-3 returns)

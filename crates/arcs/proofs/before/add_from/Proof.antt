@@ -88,14 +88,5 @@ returns-2 c =
 pub add-from-spec : {M : Type 1} → statement M
 add-from-spec =
     tie.close
-    (tie.spec
-    Inv-loop
-    μ-loop
-    is-addition-requires
-    returns
-    loop-holds
-    add-pair-requires
-    add-j
-    loop-less
-    loop-again
+    (tie.spec Inv-loop μ-loop is-addition-requires returns loop-holds add-pair-requires add-j loop-less loop-again
     returns-2)

@@ -8,7 +8,7 @@ use borrow.Author.Needs.{needs}
 use borrow.Author.Tests.{not-true, not-false}
 use Rattle.task.specs.Task.{Atom}
 use Rattle.task.specs.Table.{atomIn}
-use Rattle.task.proofs.Laws.{both-ft}
+use Rattle.words.proofs.Lists.{both-ft}
 use Rattle.arcs.proofs.ArcSets.{pair-joins, pair-joins-none}
 use Rattle.arcs.proofs.before.add_pair.Statement.{statement}
 use Rattle.arcs.proofs.before.add_pair.Tie as tie
@@ -84,5 +84,6 @@ returns-3 c =
 
 pub add-pair-spec : {M : Type 1} → statement M
 add-pair-spec =
-    tie.close (tie.spec gives-arc-requires returns part-of-requires cast-p part-of-requires-2 cast-q mul-with
+    tie.close
+    (tie.spec gives-arc-requires returns part-of-requires cast-p part-of-requires-2 cast-q mul-with
     element-copy-out-with with-requires mul-before element-write-before returns-2 returns-3)

@@ -70,13 +70,4 @@ returns c =
 pub arcs-of-spec : {M : Type 1} → statement M
 arcs-of-spec =
     tie.close
-    (tie.spec
-    Inv-loop
-    μ-loop
-    effects-of-requires
-    loop-holds
-    add-from-requires
-    add-i
-    loop-less
-    loop-again
-    returns)
+    (tie.spec Inv-loop μ-loop effects-of-requires loop-holds add-from-requires add-i loop-less loop-again returns)

@@ -53,13 +53,4 @@ returns-2 c = c .before .loop .inv
 pub effects-of-spec : {M : Type 1} → statement M
 effects-of-spec =
     tie.close
-    (tie.spec
-    Inv-loop
-    μ-loop
-    loop-holds
-    is-precondition-requires
-    returns
-    add-i
-    loop-less
-    loop-again
-    returns-2)
+    (tie.spec Inv-loop μ-loop loop-holds is-precondition-requires returns add-i loop-less loop-again returns-2)

@@ -71,5 +71,6 @@ returns-3 c =
 
 pub better-of-spec : {M : Type 1} → statement M
 better-of-spec =
-    tie.close (tie.spec enum-known-found enum-told cast-t6 returns cast-q mul-if1 element-copy-out-if1 mul-if1-2
+    tie.close
+    (tie.spec enum-known-found enum-told cast-t6 returns cast-q mul-if1 element-copy-out-if1 mul-if1-2
     element-copy-out-if1-2 cast-t18 returns-2 returns-3)

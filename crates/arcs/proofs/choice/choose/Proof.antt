@@ -80,5 +80,6 @@ returns c =
 
 pub choose-spec : {M : Type 1} → statement M
 choose-spec =
-    tie.close (tie.spec Inv-loop μ-loop loop-holds sub-p is-ready-requires better-of-requires loop-less loop-again
-    loop-less-2 loop-again-2 returns)
+    tie.close
+    (tie.spec Inv-loop μ-loop loop-holds sub-p is-ready-requires better-of-requires loop-less loop-again loop-less-2
+    loop-again-2 returns)

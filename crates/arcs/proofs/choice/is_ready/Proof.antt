@@ -3,7 +3,7 @@ use mathlib.Core.Path.{sym, _∙_, ap}
 use mathlib.Core.Bool.{Bool, not, _&&_}
 use borrow.Author.Needs.{needs}
 use Rattle.arcs.specs.Order.{ready}
-use Rattle.arcs.specs.Code.{members}
+use Rattle.words.specs.Sets.{members}
 use Rattle.arcs.proofs.Choosing.{ready-apart}
 use Rattle.arcs.proofs.choice.is_ready.Statement.{statement}
 use Rattle.arcs.proofs.choice.is_ready.Tie as tie

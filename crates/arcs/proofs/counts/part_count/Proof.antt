@@ -61,5 +61,5 @@ returns c =
 
 pub part-count-spec : {M : Type 1} → statement M
 part-count-spec =
-    tie.close (tie.spec Inv-loop μ-loop loop-holds part-of-requires cast-part add-count add-i loop-less loop-again
-    returns)
+    tie.close
+    (tie.spec Inv-loop μ-loop loop-holds part-of-requires cast-part add-count add-i loop-less loop-again returns)

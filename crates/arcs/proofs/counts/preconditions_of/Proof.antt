@@ -105,5 +105,6 @@ returns c =
 
 pub preconditions-of-spec : {M : Type 1} → statement M
 preconditions-of-spec =
-    tie.close (tie.spec Inv-loop μ-loop loop-holds is-precondition-requires part-of-requires cast-part mul-counts
+    tie.close
+    (tie.spec Inv-loop μ-loop loop-holds is-precondition-requires part-of-requires cast-part mul-counts
     array-read-counts add-counts array-write-counts add-i loop-less loop-again returns)

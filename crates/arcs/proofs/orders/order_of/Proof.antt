@@ -8,9 +8,10 @@ use lib.ListN.{length, replicate, length-set}
 use borrow.Author.Needs.{needs}
 use Rattle.task.specs.declared.Part.{Part}
 use Rattle.task.specs.Task.{Atom}
-use Rattle.arcs.specs.Code.{AreArcs, AreCounts, SetBelow, atomsIn, chosen, orderTold}
-use Rattle.arcs.proofs.Placing.{Placed, placed-none, placed-more, placed-stuck, placed-all, order-is}
-use Rattle.arcs.proofs.Placing.{below-all, below-without}
+use Rattle.arcs.specs.Code.{AreArcs, AreCounts, atomsIn, chosen, orderTold}
+use Rattle.words.specs.Sets.{SetBelow}
+use Rattle.arcs.proofs.Placing.{Placed, placed-none, placed-more, placed-stuck, placed-all, order-is, below-all}
+use Rattle.arcs.proofs.Placing.{below-without}
 use Rattle.arcs.proofs.orders.order_of.Statement.{statement}
 use Rattle.arcs.proofs.orders.order_of.Tie as tie
 
@@ -152,6 +153,7 @@ returns-2 c = (
 
 pub order-of-spec : {M : Type 1} → statement M
 order-of-spec =
-    tie.close (tie.spec Inv-loop μ-loop arcs-of-requires preconditions-of-requires part-count-requires
-    below-requires loop-holds choose-requires enum-known-part enum-told returns mul-parts array-set-from-parts
-    cast-without without-requires add-placed loop-less loop-again returns-2)
+    tie.close
+    (tie.spec Inv-loop μ-loop arcs-of-requires preconditions-of-requires part-count-requires below-requires loop-holds
+    choose-requires enum-known-part enum-told returns mul-parts array-set-from-parts cast-without without-requires
+    add-placed loop-less loop-again returns-2)

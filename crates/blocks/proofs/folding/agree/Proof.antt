@@ -1,5 +1,6 @@
 -- `blocks::folding::agree` meets its contract. The invariant: whether all objects agree is whether those of the
 -- parameters from p on do. The measure is the parameters left.
+use Rattle.blocks.proofs.folding.agree.Tie as tie
 use Prim.Native.Nat.{ℕ, _+_, _-_, _≤_}
 use mathlib.Core.Path.{_≡_, sym, _∙_, ap, ap₂, subst}
 use mathlib.Core.Bool.{Bool, _&&_}
@@ -9,32 +10,28 @@ use mathlib.Core.Option.{none}
 use native.Mathlib.Omega.{arith}
 use lib.ListN.{getD}
 use borrow.Author.Tests.{not-true, not-false}
-use Rattle.arcs.specs.Code.{members}
-use Rattle.blocks.specs.Blocks.{Bound, agrees, fits}
-use Rattle.blocks.specs.FoldCode.{Held, givenObjects}
-use Rattle.blocks.proofs.PartObjects.{paramsFrom, objectsFrom, params-all, objects-all, fits-in}
-use Rattle.blocks.proofs.PartObjects.{fits-out, fits-end, fits-none}
+use Rattle.words.specs.Sets.{members}
+use Rattle.blocks.specs.FoldCode.{givenObjects}
+use Rattle.blocks.proofs.PartObjects.{paramsFrom, objectsFrom, params-all, objects-all, fits-in, fits-out}
+use Rattle.blocks.proofs.PartObjects.{fits-end, fits-none}
 use Rattle.blocks.proofs.folding.agree.Statement.{statement}
-use Rattle.blocks.proofs.folding.agree.Tie as tie
+use Rattle.task.specs.Bindings.{Bound, agrees, fits, Held}
 
--- whether the objects from a word on agree with those found for the parameters from p on
-abbrev fitsFrom : Bound → List ℕ → ℕ → ℕ → ℕ → Bool
-fitsFrom b steps next own p = fits b (paramsFrom own p) (objectsFrom steps next own p)
+-- whether the objects from the part's parameter k on agree with those found for the parameters from p on
+abbrev fitsFrom : Bound → List ℕ → ℕ → ℕ → ℕ → ℕ → Bool
+fitsFrom b steps at k own p = fits b (paramsFrom own p) (objectsFrom steps at k own p)
 
 abbrev Left : List ℕ → ℕ → ℕ → ℕ → List ℕ → ℕ → ℕ → Type 0
-Left steps at own bound found p next =
-    (next ≤ at + 1 + p) ×
+Left steps at own bound found p k =
+    (k ≤ p) ×
     ((b : Bound) → Held b bound found →
-    fits b (members own 12) (givenObjects steps at own) ≡ fitsFrom b steps next own p)
+    fits b (members own 12) (givenObjects steps at own) ≡ fitsFrom b steps at k own p)
 
 abbrev Inv-loop : tie.InvT-loop
-Inv-loop steps at own bound found set next₀ p₀ next p = (p ≤ 12) × Left steps at own bound found p next
+Inv-loop steps at own bound found k₀ p₀ k p = (p ≤ 12) × Left steps at own bound found p k
 
 abbrev μ-loop : tie.MeasureT-loop
-μ-loop steps at own bound found set next₀ p₀ next p = 12 - p
-
-add-next : tie.Need-add-next Inv-loop μ-loop
-add-next c = omega arith
+μ-loop steps at own bound found k₀ p₀ k p = 12 - p
 
 loop-holds : tie.Need-loop-holds Inv-loop μ-loop
 loop-holds c =
@@ -52,16 +49,17 @@ returns c = λ b h.
     let l = c .before .before .before in
     let a = l .before .before .args in
     sym (l .loop .inv .1 .1 b h
-    ∙ fits-end (a .steps .now) (l .loop .next) (a .own) (l .loop .p) (c .before .none-from .ensures (c .if1 .taken)) b)
+    ∙ fits-end (a .steps .now) (a .at) (l .loop .k) (a .own) (l .loop .p)
+    (c .before .none-from .ensures (c .if1 .taken)) b)
 
 has-requires : tie.Need-has-requires Inv-loop μ-loop
 has-requires c κs = omega arith
 
-cast-t13 : tie.Need-cast-t13 Inv-loop μ-loop
-cast-t13 c = omega arith
+cast-t14 : tie.Need-cast-t14 Inv-loop μ-loop
+cast-t14 c = omega arith
 
-object-at-requires : tie.Need-object-at-requires Inv-loop μ-loop
-object-at-requires c κs = omega arith
+object-of-requires : tie.Need-object-of-requires Inv-loop μ-loop
+object-of-requires c κs = omega arith
 
 agrees-with-requires : tie.Need-agrees-with-requires Inv-loop μ-loop
 agrees-with-requires c κs = omega arith
@@ -72,7 +70,7 @@ decides : (c : tie.After-agrees-with Inv-loop μ-loop) →
     let a = l .before .before .args in
     (b : Bound) → Held b (a .bound) (a .found .now) →
     fits b (members (a .own) 12) (givenObjects (a .steps .now) (a .at) (a .own)) ≡
-    c .agrees-with .result && fitsFrom b (a .steps .now) (l .loop .next + 1) (a .own) (l .loop .p + 1)
+    c .agrees-with .result && fitsFrom b (a .steps .now) (a .at) (l .loop .k + 1) (a .own) (l .loop .p + 1)
 decides c b h =
     let o = c .before in
     let has = o .before .before in
@@ -81,22 +79,23 @@ decides c b h =
     let a = l .before .before .args in
     let p = l .loop .p in
     let w = a .steps .now in
-    let rest = fitsFrom b w (l .loop .next + 1) (a .own) (p + 1) in
-    let e = ap (agrees (getD b p none)) (sym (o .object-at .ensures)) ∙ sym (c .agrees-with .ensures b h) in
+    let rest = fitsFrom b w (a .at) (l .loop .k + 1) (a .own) (p + 1) in
+    let e = ap (agrees (getD b p none)) (sym (o .object-of .ensures)) ∙ sym (c .agrees-with .ensures b h) in
     l .loop .inv .1 .1 b h
-    ∙ (fits-in w (l .loop .next) (a .own) p (turn .loop-test .taken) (sym (has .has .ensures) ∙ o .before .if2 .taken) b
+    ∙ (fits-in w (a .at) (l .loop .k) (a .own) p (turn .loop-test .taken)
+    (sym (has .has .ensures) ∙ o .before .if2 .taken) b
     ∙ ap (λ (c : Bool). c && rest) e)
 
 returns-2 : tie.Need-returns-2 Inv-loop μ-loop
 returns-2 c = λ b h.
     let l = c .before .before .before .before .before .before .before .before in
     let a = l .before .before .args in
-    let rest = fitsFrom b (a .steps .now) (l .loop .next + 1) (a .own) (l .loop .p + 1) in
+    let rest = fitsFrom b (a .steps .now) (a .at) (l .loop .k + 1) (a .own) (l .loop .p + 1) in
     sym (decides (c .before) b h
     ∙ ap (λ (c : Bool). c && rest) (not-true (c .before .agrees-with .result) (c .if3 .taken)))
 
-add-next-2 : tie.Need-add-next-2 Inv-loop μ-loop
-add-next-2 c = omega arith
+add-k : tie.Need-add-k Inv-loop μ-loop
+add-k c = omega arith
 
 add-p : tie.Need-add-p Inv-loop μ-loop
 add-p c = omega arith
@@ -118,17 +117,17 @@ loop-again c =
           (λ x. subst P (sym (x .4)) (
             omega arith,
             λ b h.
-                let read : tie.After-object-at Inv-loop μ-loop =
-                record { before = record { before = has; if2 = x .0 }; object-at = x .1 } in
+                let read : tie.After-object-of Inv-loop μ-loop =
+                record { before = record { before = has; if2 = x .0 }; object-of = x .1 } in
                 decides (record { before = read; agrees-with = x .2 }) b h
-                ∙ ap (λ (c : Bool). c && fitsFrom b w (l .loop .next + 1) (a .own) (p + 1))
+                ∙ ap (λ (c : Bool). c && fitsFrom b w (a .at) (l .loop .k + 1) (a .own) (p + 1))
                 (not-false (x .2 .result) (x .3 .left)),
           ))
           (λ x. subst P (sym (x .1)) (
             omega arith,
             λ b h.
                 l .loop .inv .1 .1 b h
-                ∙ fits-out w (l .loop .next) (a .own) p (turn .loop-test .taken)
+                ∙ fits-out w (a .at) (l .loop .k) (a .own) p (turn .loop-test .taken)
                 (sym (has .has .ensures) ∙ x .0 .left) b,
           ))
           (c .if2 .came),
@@ -141,9 +140,10 @@ returns-3 c = λ b h.
     let w = a .steps .now in
     let z : l .loop .p ≡ 12 = omega arith in
     sym (l .loop .inv .1 .1 b h
-    ∙ (ap (fitsFrom b w (l .loop .next) (a .own)) z ∙ fits-none w (l .loop .next) (a .own) b))
+    ∙ (ap (fitsFrom b w (a .at) (l .loop .k) (a .own)) z ∙ fits-none w (a .at) (l .loop .k) (a .own) b))
 
 pub agree-spec : {M : Type 1} → statement M
 agree-spec =
-    tie.close (tie.spec Inv-loop μ-loop add-next loop-holds none-from-requires returns has-requires cast-t13
-    object-at-requires agrees-with-requires returns-2 add-next-2 add-p loop-less loop-again returns-3)
+    tie.close
+    (tie.spec Inv-loop μ-loop loop-holds none-from-requires returns has-requires object-of-requires cast-t14
+    agrees-with-requires returns-2 add-k add-p loop-less loop-again returns-3)

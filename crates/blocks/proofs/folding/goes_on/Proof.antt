@@ -1,9 +1,9 @@
 -- `blocks::folding::goes_on` meets its contract: the list has ended, or another schema comes, or the objects decide.
+use Rattle.blocks.proofs.folding.goes_on.Tie as tie
 use mathlib.Core.Path.{sym, _∙_}
 use native.Mathlib.Omega.{arith}
 use Rattle.blocks.proofs.PartObjects.{fits-short, fits-other, fits-same}
 use Rattle.blocks.proofs.folding.goes_on.Statement.{statement}
-use Rattle.blocks.proofs.folding.goes_on.Tie as tie
 
 sub-if1 : tie.Need-sub-if1
 sub-if1 c = omega arith
@@ -14,18 +14,16 @@ returns c = λ b h.
     let l = c .if1 .taken in
     sym (fits-short (a .steps .now) (a .at) (a .number) (a .own) b (omega arith))
 
-mul-if2 : tie.Need-mul-if2
-mul-if2 c = omega arith
-
-shared-slice-read-if2 : tie.Need-shared-slice-read-if2
-shared-slice-read-if2 c = omega arith
+schema-at-requires : tie.Need-schema-at-requires
+schema-at-requires c κs = omega arith
 
 returns-2 : tie.Need-returns-2
 returns-2 c = λ b h.
     let e = c .before .before in
     let a = e .before .before .args in
     let l = e .if1 .left in
-    sym (fits-other (a .steps .now) (a .at) (a .number) (a .own) b (omega arith) (c .if2 .taken))
+    let f = c .before .schema-at .ensures in
+    sym (fits-other (a .steps .now) (a .at) (a .number) (a .own) b (omega arith) (λ n. c .if2 .taken (f ∙ n)))
 
 agree-requires : tie.Need-agree-requires
 agree-requires c κs = omega arith
@@ -37,8 +35,8 @@ returns-3 c = λ b h.
     let a = e .before .before .args in
     let l = e .if1 .left in
     c .agree .ensures b h
-    ∙ sym (fits-same (a .steps .now) (a .at) (a .number) (a .own) b (omega arith) (d .if2 .left))
+    ∙ sym (fits-same (a .steps .now) (a .at) (a .number) (a .own) b (omega arith)
+    (sym (d .before .schema-at .ensures) ∙ d .if2 .left))
 
 pub goes-on-spec : {M : Type 1} → statement M
-goes-on-spec =
-    tie.close (tie.spec sub-if1 returns mul-if2 shared-slice-read-if2 returns-2 agree-requires returns-3)
+goes-on-spec = tie.close (tie.spec sub-if1 returns schema-at-requires returns-2 agree-requires returns-3)

@@ -1,5 +1,6 @@
 -- `blocks::folding::join` meets its contract. The invariant: the objects of the parameters before p are found, and
 -- those from p on are still to join. The measure is the parameters left.
+use Rattle.blocks.proofs.folding.join.Tie as tie
 use Prim.Native.Nat.{ℕ, _+_, _-_, _≤_}
 use mathlib.Core.Path.{_≡_, refl, sym, _∙_, ap, ap₂, subst}
 use mathlib.Core.List.{List}
@@ -7,41 +8,37 @@ use mathlib.Core.Logic.{⊎-elim}
 use mathlib.Core.Option.{some}
 use native.Mathlib.Omega.{arith}
 use lib.ListN.{length, set, length-set}
-use Rattle.arcs.specs.Code.{SetBelow, members}
-use Rattle.blocks.specs.Blocks.{Bound, bind}
-use Rattle.blocks.specs.FoldCode.{Held, givenObjects}
-use Rattle.blocks.proofs.Holding.{held-joined}
-use Rattle.blocks.proofs.PartObjects.{paramsFrom, objectsFrom, params-all, objects-all, bind-in}
-use Rattle.blocks.proofs.PartObjects.{bind-out, bind-end, bind-none}
+use Rattle.words.specs.Sets.{SetBelow, members}
+use Rattle.blocks.specs.FoldCode.{givenObjects}
+use Rattle.blocks.proofs.PartObjects.{paramsFrom, objectsFrom, params-all, objects-all, bind-in, bind-out}
+use Rattle.blocks.proofs.PartObjects.{bind-end, bind-none}
 use Rattle.blocks.proofs.folding.join.Statement.{statement}
-use Rattle.blocks.proofs.folding.join.Tie as tie
+use Rattle.task.specs.Bindings.{Bound, bind, Held}
+use Rattle.task.proofs.Holding.{held-joined}
 
--- what is bound once the objects from a word on have joined, for the parameters from p on
-abbrev bindFrom : Bound → List ℕ → ℕ → ℕ → ℕ → Bound
-bindFrom b steps next own p = bind b (paramsFrom own p) (objectsFrom steps next own p)
+-- what is bound once the objects from the part's parameter k on have joined, for the parameters from p on
+abbrev bindFrom : Bound → List ℕ → ℕ → ℕ → ℕ → ℕ → Bound
+bindFrom b steps at k own p = bind b (paramsFrom own p) (objectsFrom steps at k own p)
 
 abbrev Joined : List ℕ → ℕ → ℕ → ℕ → List ℕ → ℕ → List ℕ → ℕ → ℕ → Type 0
-Joined steps at own bound found₀ p found known next =
-    (length found ≡ 12) × (next ≤ at + 1 + p) ×
+Joined steps at own bound found₀ p found known k =
+    (length found ≡ 12) × (k ≤ p) ×
     ((b : Bound) → Held b bound found₀ → SetBelow (length b) own →
     (c : Bound) × Held c known found × (length c ≡ length b) ×
-    (bind b (members own 12) (givenObjects steps at own) ≡ bindFrom c steps next own p))
+    (bind b (members own 12) (givenObjects steps at own) ≡ bindFrom c steps at k own p))
 
 abbrev Inv-loop : tie.InvT-loop
-Inv-loop steps at own bound found₀ set known₀ next₀ p₀ found known next p =
-    (p ≤ 12) × Joined steps at own bound found₀ p found known next
+Inv-loop steps at own bound found₀ known₀ k₀ p₀ found known k p =
+    (p ≤ 12) × Joined steps at own bound found₀ p found known k
 
 abbrev μ-loop : tie.MeasureT-loop
-μ-loop steps at own bound found₀ set known₀ next₀ p₀ found known next p = 12 - p
+μ-loop steps at own bound found₀ known₀ k₀ p₀ found known k p = 12 - p
 
 -- what holds of three values holds of those equal to them
 all-at : (P : List ℕ → ℕ → ℕ → Type 0) {f f′ : List ℕ} {k k′ n n′ : ℕ} → f ≡ f′ → k ≡ k′ → n ≡ n′ → P f′ k′ n′ → P f k n
 all-at P {f} {f′} {k} {k′} {n} {n′} a b c h =
     subst (λ (z : List ℕ). P z k n) (sym a)
     (subst (λ (z : ℕ). P f′ z n) (sym b) (subst (λ (z : ℕ). P f′ k′ z) (sym c) h))
-
-add-next : tie.Need-add-next Inv-loop μ-loop
-add-next c = omega arith
 
 loop-holds : tie.Need-loop-holds Inv-loop μ-loop
 loop-holds c =
@@ -66,16 +63,16 @@ returns c = λ b held below.
     let none = c .before .none-from .ensures (c .if1 .taken) in
     let (d, g, n, e) = h .inv .1 .2 b held below in
     subst (λ (f : Bound). Held f (h .known) (h .found))
-    (sym (e ∙ bind-end (a .steps .now) (h .next) (a .own) (h .p) none d)) g
+    (sym (e ∙ bind-end (a .steps .now) (a .at) (h .k) (a .own) (h .p) none d)) g
 
 has-requires : tie.Need-has-requires Inv-loop μ-loop
 has-requires c κs = omega arith
 
-cast-t15 : tie.Need-cast-t15 Inv-loop μ-loop
-cast-t15 c = omega arith
+cast-t16 : tie.Need-cast-t16 Inv-loop μ-loop
+cast-t16 c = omega arith
 
-object-at-requires : tie.Need-object-at-requires Inv-loop μ-loop
-object-at-requires c κs = omega arith
+object-of-requires : tie.Need-object-of-requires Inv-loop μ-loop
+object-of-requires c κs = omega arith
 
 note-requires : tie.Need-note-requires Inv-loop μ-loop
 note-requires c κs = omega arith
@@ -83,8 +80,8 @@ note-requires c κs = omega arith
 with-requires : tie.Need-with-requires Inv-loop μ-loop
 with-requires c κs = omega arith
 
-add-next-2 : tie.Need-add-next-2 Inv-loop μ-loop
-add-next-2 c = omega arith
+add-k : tie.Need-add-k Inv-loop μ-loop
+add-k c = omega arith
 
 add-p : tie.Need-add-p Inv-loop μ-loop
 add-p c = omega arith
@@ -106,7 +103,7 @@ loop-again c =
       omega arith,
       ⊎-elim
           (λ x.
-          let o = x .2 .result .0 in
+          let o = x .1 .result .0 in
           let m = sym (has .has .ensures) ∙ x .0 .taken in
           all-at P (x .5 ∙ x .3 .ensures) (x .6) (x .7) (
             length-set (h .found) p o ∙ h .inv .1 .0,
@@ -118,9 +115,9 @@ loop-again c =
                   held-joined g p o (x .4 .result) (omega arith) t (x .4 .ensures),
                   length-set d p (some o) ∙ n,
                   e
-                      ∙ (bind-in w (h .next) (a .own) p t m d
-                      ∙ ap (λ (v : ℕ). bindFrom (set d p (some v)) w (h .next + 1) (a .own) (p + 1))
-                      (sym (x .2 .ensures))),
+                      ∙ (bind-in w (a .at) (h .k) (a .own) p t m d
+                      ∙ ap (λ (v : ℕ). bindFrom (set d p (some v)) w (a .at) (h .k + 1) (a .own) (p + 1))
+                      (sym (x .1 .ensures))),
                 ),
           ))
           (λ x.
@@ -130,7 +127,7 @@ loop-again c =
             omega arith,
             λ b held below.
                 let (d, g, n, e) = h .inv .1 .2 b held below in
-                (d, g, n, e ∙ bind-out w (h .next) (a .own) p t m d),
+                (d, g, n, e ∙ bind-out w (a .at) (h .k) (a .own) p t m d),
           ))
           (c .if2 .came),
     )
@@ -143,9 +140,10 @@ returns-2 c = λ b held below.
     let z : h .p ≡ 12 = omega arith in
     let (d, g, n, e) = h .inv .1 .2 b held below in
     subst (λ (f : Bound). Held f (h .known) (h .found))
-    (sym (e ∙ (ap (bindFrom d w (h .next) (a .own)) z ∙ bind-none w (h .next) (a .own) d))) g
+    (sym (e ∙ (ap (bindFrom d w (a .at) (h .k) (a .own)) z ∙ bind-none w (a .at) (h .k) (a .own) d))) g
 
 pub join-spec : {M : Type 1} → statement M
 join-spec =
-    tie.close (tie.spec Inv-loop μ-loop add-next loop-holds none-from-requires returns has-requires cast-t15
-    object-at-requires note-requires with-requires add-next-2 add-p loop-less loop-again returns-2)
+    tie.close
+    (tie.spec Inv-loop μ-loop loop-holds none-from-requires returns has-requires object-of-requires cast-t16
+    note-requires with-requires add-k add-p loop-less loop-again returns-2)

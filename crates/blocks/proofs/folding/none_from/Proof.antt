@@ -6,7 +6,7 @@ use native.Mathlib.Nat.{div-add-mod', mod-lt, zero-mul}
 use lib.Pow.{pow-pos}
 use borrow.Author.Needs.{needs}
 use borrow.Author.Tests.{eqb-true}
-use Rattle.arcs.proofs.BitSets.{member-beyond}
+use Rattle.words.proofs.BitSets.{member-beyond}
 use Rattle.blocks.proofs.folding.none_from.Statement.{statement}
 use Rattle.blocks.proofs.folding.none_from.Tie as tie
 

@@ -1,6 +1,7 @@
 -- `blocks::folding::take_apart` meets its contract. The outer invariant: the whole list is the steps taken, and what is
 -- left of it from split step i on. The inner one: the same in an open block, before position j, with the objects found
 -- held. Each block passes a split step, so the split steps left fall; inside a block the parts left do.
+use Rattle.blocks.proofs.folding.take_apart.Tie as tie
 use Prim.Native.Nat.{ℕ, _+_, _-_, _*_, _/_, _≤_, _<_}
 use mathlib.Core.Path.{_≡_, sym, _∙_, ap₂, subst}
 use mathlib.Core.Bool.{true}
@@ -9,43 +10,39 @@ use native.Mathlib.Omega.{arith}
 use lib.ListN.{length, getD}
 use borrow.Author.Tests.{not-true, not-false}
 use Rattle.task.specs.Task.{Task}
-use Rattle.arcs.specs.Code.{SetBelow, members}
 use Rattle.tokens.specs.Split.{orders}
-use Rattle.blocks.specs.Blocks.{Bound, bind}
-use Rattle.blocks.specs.FoldCode.{SplitStepsKept, Held, givenObjects, keptFits}
+use Rattle.blocks.specs.FoldCode.{SplitStepsKept, ObjectsJoin, keptFits}
 use Rattle.blocks.proofs.Beginning.{first-small}
 use Rattle.blocks.proofs.FoldWords.{step-known, goes-on}
 use Rattle.blocks.proofs.FoldTurns.{leftFrom, InBlock, TakenSo, begun-small, begun-known, none-begins}
 use Rattle.blocks.proofs.FoldTurns.{block-starts, block-broken, block-turns, block-ends, taken-start}
 use Rattle.blocks.proofs.FoldTurns.{taken-whole, taken-misfit, taken-more}
 use Rattle.blocks.proofs.folding.take_apart.Statement.{statement}
-use Rattle.blocks.proofs.folding.take_apart.Tie as tie
+use Rattle.tokens.specs.Kept.{keptFirst, keptOwn}
 
 abbrev Inv-loop : tie.InvT-loop
-Inv-loop steps firsts counts own begins count taken i₀ begun s parts found₀ bound₀ j₀ i found bound j =
+Inv-loop steps kept begins count taken i₀ begun s parts found₀ bound₀ j₀ i found bound j =
     (j ≤ parts) × (i ≡ i₀ + j) × (i ≤ count) ×
-    ((t : Task) → SplitStepsKept t steps firsts counts own begins →
+    ((t : Task) → SplitStepsKept t steps kept begins →
     InBlock t steps (TakenSo t steps taken) s j bound found i)
 
 abbrev μ-loop : tie.MeasureT-loop
-μ-loop steps firsts counts own begins count taken i₀ begun s parts found₀ bound₀ j₀ i found bound j = parts - j
+μ-loop steps kept begins count taken i₀ begun s parts found₀ bound₀ j₀ i found bound j = parts - j
 
 abbrev Inv-list : tie.InvT-list
-Inv-list steps firsts counts own begins count taken₀ i₀ taken i =
+Inv-list steps kept begins count taken₀ i₀ taken i =
     (i ≤ count) × (taken ≤ i) ×
-    ((t : Task) → SplitStepsKept t steps firsts counts own begins → TakenSo t steps taken (leftFrom t steps i))
+    ((t : Task) → SplitStepsKept t steps kept begins → TakenSo t steps taken (leftFrom t steps i))
 
 abbrev μ-list : tie.MeasureT-list
-μ-list steps firsts counts own begins count taken₀ i₀ taken i = count - i
+μ-list steps kept begins count taken₀ i₀ taken i = count - i
 
 -- ---- what is known at each place
 abbrev Start : Type 0
 Start = tie.Start Inv-loop μ-loop Inv-list μ-list
 
 abbrev Kept : Start → Task → Type 0
-Kept s t =
-    SplitStepsKept t (s .args .steps .now) (s .args .firsts .now) (s .args .counts .now) (s .args .own .now)
-    (s .args .begins .now)
+Kept s t = SplitStepsKept t (s .args .steps .now) (s .args .kept .now) (s .args .begins .now)
 
 abbrev words : Start → List ℕ
 words s = s .args .steps .now
@@ -88,7 +85,7 @@ counted : (c : Counted) (t : Task) → Kept (from (c .before .before .before)) t
     (c .count-of .result ≤ 16)
 counted c t K =
     let l = known (c .before) t K in
-    let k = K .kept .counted in
+    let k = K .blocks in
     let e = c .count-of .ensures ∙ k .count (schema (c .before)) l in
     let m = k .some-part (schema (c .before)) l in
     let n = k .few-parts (schema (c .before)) l in
@@ -108,12 +105,12 @@ abbrev s-of : Inside → ℕ
 s-of c = schema (opened c .before)
 
 within : (c : Inside) → let s = start c in
-    (s-of c < 200) × (getD (s .args .firsts .now) (s-of c) 0 ≤ 200) × (c .before .loop .j < 16)
+    (s-of c < 200) × (keptFirst (s .args .kept .now) (s-of c) ≤ 200) × (c .before .loop .j < 16)
 within c =
     let (t, K) = start c .pre in
     let l = known (opened c .before) t K in
-    let f = first-small (K .kept) (s-of c) l in
-    let n = K .kept .counted .few-schemas in
+    let f = first-small (K .blocks) (s-of c) l in
+    let n = K .blocks .few-schemas in
     let m = counted (opened c) t K in
     let j = c .loop-test .taken in
     (omega arith, omega arith, omega arith)
@@ -133,8 +130,8 @@ fitting c t K =
     let l = inner c .before .loop in
     let a = start (inner c) .args in
     c .goes-on .result ≡
-    keptFits (a .steps .now) (13 * l .i) (getD (a .firsts .now) (s-of (inner c)) 0 + l .j)
-    (getD (a .own .now) (16 * s-of (inner c) + l .j) 0) (l .inv .3 t K .objects)
+    keptFits (a .steps .now) (13 * l .i) (keptFirst (a .kept .now) (s-of (inner c)) + l .j)
+    (keptOwn (a .kept .now) (s-of (inner c)) (l .j)) (l .inv .3 t K .objects)
 
 answered : (c : Asked) (t : Task) (K : Kept (start (inner c)) t) → fitting c t K
 answered c t K =
@@ -142,8 +139,8 @@ answered c t K =
     let h = l .inv .3 t K in
     let w = words (start (inner c)) in
     c .goes-on .ensures (h .objects) (h .held)
-    ∙ ap₂ (λ (n o : ℕ). keptFits w (13 * l .i) n o (h .objects)) (c .before .before .number-of .ensures)
-    (c .before .before .before .own-of .ensures)
+    ∙ ap₂ (λ (n o : ℕ). keptFits w (13 * l .i) (n + l .j) o (h .objects)) (c .before .before .first-of .ensures)
+    (c .before .before .before .own-at .ensures)
 
 -- where it does
 abbrev On : Type 0
@@ -171,7 +168,7 @@ begun-at-requires : tie.Need-begun-at-requires Inv-loop μ-loop Inv-list μ-list
 begun-at-requires c κs =
     let (t, K) = from c .pre in
     let (w, k) = step-known K (at c) (not-ended c) in
-    let m = K .kept .few-splits in
+    let m = K .blocks .few-splits in
     ((omega arith, omega arith), begun-small K (at c) (not-ended c))
 
 sub-s : tie.Need-sub-s Inv-loop μ-loop Inv-list μ-list
@@ -181,11 +178,8 @@ count-of-requires : tie.Need-count-of-requires Inv-loop μ-loop Inv-list μ-list
 count-of-requires c κs =
     let (t, K) = from (c .before .before) .pre in
     let l = known c t K in
-    let k = K .kept .counted in
-    let n = k .few-schemas in
-    let e = k .count (schema c) l in
-    let m = k .few-parts (schema c) l in
-    (omega arith, omega arith)
+    let n = K .blocks .few-schemas in
+    omega arith
 
 -- ---- in a block
 loop-holds : tie.Need-loop-holds Inv-loop μ-loop Inv-list μ-list
@@ -202,11 +196,17 @@ loop-holds c =
 mul-at : tie.Need-mul-at Inv-loop μ-loop Inv-list μ-list
 mul-at c = let l = c .before .loop .inv .2 in omega arith
 
-own-of-requires : tie.Need-own-of-requires Inv-loop μ-loop Inv-list μ-list
-own-of-requires c κs = let w = within c in (w .0, w .2)
+own-at-requires : tie.Need-own-at-requires Inv-loop μ-loop Inv-list μ-list
+own-at-requires c κs = let w = within c in (w .0, w .2)
 
-number-of-requires : tie.Need-number-of-requires Inv-loop μ-loop Inv-list μ-list
-number-of-requires c κs = within (c .before)
+first-of-requires : tie.Need-first-of-requires Inv-loop μ-loop Inv-list μ-list
+first-of-requires c κs = let w = within (c .before) .0 in omega arith
+
+add-goes-on : tie.Need-add-goes-on Inv-loop μ-loop Inv-list μ-list
+add-goes-on c =
+    let w = within (c .before .before) in
+    let e = c .first-of .ensures in
+    omega arith
 
 goes-on-requires : tie.Need-goes-on-requires Inv-loop μ-loop Inv-list μ-list
 goes-on-requires c κs = let l = c .before .before .before .before .loop .inv .2 in omega arith
@@ -237,9 +237,7 @@ loop-again c =
     let p = not-past on in
     let r = c .join .result in
     let f = c .join .last .1 .1 .1 .1 .0 in
-    let J : ℕ → Type 0 = λ o.
-    (b : Bound) → Held b (l .bound) (l .found) → SetBelow (length b) o →
-    Held (bind b (members o 12) (givenObjects w (13 * l .i) o)) r f in (
+    let J : ℕ → Type 0 = λ o. ObjectsJoin w (13 * l .i) o (l .bound) (l .found) r f in (
       omega arith,
       omega arith,
       omega arith,
@@ -247,7 +245,7 @@ loop-again c =
           block-turns K (TakenSo t w (opened d .before .before .before .before .list .taken)) (s-of d)
           (known (opened d .before) t K) (l .j) (l .bound) (l .found) (l .i) (position d t K) (l .inv .3 t K) r f
           (sym (answered (on .before) t K) ∙ goes on)
-          (subst J (on .before .before .before .before .own-of .ensures) (c .join .ensures)),
+          (subst J (on .before .before .before .before .own-at .ensures) (c .join .ensures)),
     )
 
 -- ---- a block is complete
@@ -320,6 +318,7 @@ returns-3 c = λ t K.
 
 pub take-apart-spec : {M : Type 1} → statement M
 take-apart-spec =
-    tie.close (tie.spec Inv-loop μ-loop Inv-list μ-list list-holds mul-begun-at begun-at-requires sub-s
-    count-of-requires loop-holds mul-at own-of-requires number-of-requires goes-on-requires join-requires add-i add-j
-    loop-less loop-again add-taken list-less list-again returns returns-2 returns-3)
+    tie.close
+    (tie.spec Inv-loop μ-loop Inv-list μ-list list-holds mul-begun-at begun-at-requires sub-s count-of-requires
+    loop-holds mul-at own-at-requires first-of-requires add-goes-on goes-on-requires join-requires add-i add-j loop-less
+    loop-again add-taken list-less list-again returns returns-2 returns-3)

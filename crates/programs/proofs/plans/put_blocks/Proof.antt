@@ -1,93 +1,99 @@
--- `programs::plans::put_blocks` meets its contract: the blocks of few steps fit the words, so unfolding gives a result;
--- it lies as steps of the split, whose plan is written.
-use Prim.Native.Nat.{_*_}
-use mathlib.Core.Path.{sym, _∙_, ap}
+-- `programs::plans::put_blocks` meets its contract: the split is written as a table, the blocks of few steps fit the
+-- words and lie there as steps of the split, and their plan is written.
+use Rattle.programs.proofs.plans.put_blocks.Tie as tie
+use mathlib.Core.Path.{sym, ap}
 use native.Mathlib.Omega.{arith}
 use lib.Seq.{length-take-le}
-use Rattle.blocks.specs.Blocks.{unfoldAnswerTold}
 use Rattle.text.specs.Plan.{writePlan}
-use Rattle.programs.proofs.Answered.{zeros-long}
 use Rattle.programs.proofs.Printed.{prints-same}
-use Rattle.programs.proofs.PlanUnfolded.{BlocksWritten, blocks-written, never-refused}
+use Rattle.programs.proofs.PlanUnfolded.{BlocksWritten, blocks-written, few-steps}
 use borrow.Author.Needs.{needs}
 use Rattle.programs.proofs.plans.put_blocks.Statement.{statement}
-use Rattle.programs.proofs.plans.put_blocks.Tie as tie
+use Prim.Native.Nat.{ℕ}
+use mathlib.Core.List.{List}
+use Rattle.task.specs.Table.{taskOf}
+use Rattle.task.proofs.Tables.{tableWords-is}
+use Rattle.tokens.proofs.SplitAnswers.{AcceptedSplit}
+use Rattle.blocks.specs.Code.{StepsKept}
+use Rattle.blocks.proofs.KeptParts.{table-kept}
+use Rattle.blocks.proofs.SplitWritten.{table-zeros, split-written}
 
-abbrev start : tie.After-unfold → tie.Start
-start c = c .before .before .before .before .before .before
+abbrev start : tie.After-write-split → tie.Start
+start k = k .before .before .before .before .before
 
-written : (c : tie.After-known-told) → let u = c .before .before .before .before in
-    BlocksWritten (start u .args .table .now) (start u .args .split-table .now) (start u .args .steps .now)
-    (u .«unfold» .last .1 .1 .0) (c .before .count .given .0 .0)
-unfolding unfoldAnswerTold
-written c =
-    let u = c .before .before .before .before in
-    let s = start u in
-    blocks-written (s .args .table .now) (s .args .split-table .now) (s .args .steps .now) _ (s .pre .0) (s .pre .1 .0)
-    (zeros-long 20800) (sym (ap unfoldAnswerTold (c .before .count .given .1)) ∙ u .«unfold» .ensures .0)
-    (u .«unfold» .ensures .1)
+-- the split's table
+abbrev split-table : tie.After-write-split → List ℕ
+split-table k = k .write-split .last .1 .1 .1 .0
 
-slice-aggregate-unfold : tie.Need-slice-aggregate-unfold
-slice-aggregate-unfold c = search needs
+given : (k : tie.After-write-split) → AcceptedSplit (start k .args .table .now) (split-table k)
+given k = split-written (start k .pre .0) _ table-zeros (k .write-split .ensures)
 
-unfold-requires : tie.Need-unfold-requires
-unfold-requires c κs = search needs
+-- the steps, whose blocks are kept
+steps-kept : (k : tie.After-write-split) → let a = start k .args in
+    StepsKept (taskOf (a .table .now)) (a .steps .now) (a .kept .now)
+steps-kept k = let p = start k .pre in record { blocks = table-kept (p .0) .blocks; good = p .1 .0 .good }
 
-enum-known-count : tie.Need-enum-known-count
-enum-known-count c = search needs
+-- the words of their blocks
+abbrev split-of : tie.After-put-blocks → tie.After-write-split
+split-of b = b .before .before .before
 
-enum-told : tie.Need-enum-told
-enum-told c = search needs
+written : (b : tie.After-put-blocks) → let k = split-of b in let a = start k .args in
+    BlocksWritten (a .table .now) (split-table k) (a .steps .now) (b .put-blocks .last .1 .1 .0) (b .put-blocks .result)
+written b =
+    let k = split-of b in
+    let a = start k .args in
+    let t = taskOf (a .table .now) in
+    let h = b .put-blocks .ensures in
+    blocks-written (a .table .now) (split-table k) (a .steps .now) (given k) (start k .pre .1 .0) _
+    (h .0 t (steps-kept k)) (h .1 t (steps-kept k))
 
-returns : tie.Need-returns
-unfolding unfoldAnswerTold
-returns c =
-    let u = c .before .before .before in
-    let s = start u in
-    absurd (never-refused (s .args .table .now) (s .args .split-table .now) (s .args .steps .now) _ (s .pre .0)
-    (s .pre .1 .0) (zeros-long 20800) (sym (ap unfoldAnswerTold (c .enum-told .given .1)) ∙ u .«unfold» .ensures .0))
+slice-aggregate-write-split : tie.Need-slice-aggregate-write-split
+slice-aggregate-write-split c = search needs
 
-mul-end : tie.Need-mul-end
-mul-end c = let few = written c .few in omega arith
+write-split-requires : tie.Need-write-split-requires
+write-split-requires c κs = (c .before .before .before .before .pre .0, omega (arith, tableWords-is))
 
-array-share-prefix-words : tie.Need-array-share-prefix-words
-array-share-prefix-words c = written c .inside
+slice-aggregate-put-blocks : tie.Need-slice-aggregate-put-blocks
+slice-aggregate-put-blocks c = search needs
+
+put-blocks-requires : tie.Need-put-blocks-requires
+put-blocks-requires c κs =
+    let k = c .before .before in
+    let a = start k .args in
+    let n = few-steps (a .table .now) (split-table k) (a .steps .now) (given k) (start k .pre .1 .0) in
+    (taskOf (a .table .now), steps-kept k, omega arith)
 
 slice-aggregate-write-plan : tie.Need-slice-aggregate-write-plan
-slice-aggregate-write-plan c =
-    let u = c .before .before .before .before .before in
-    let n = c .before .before .count .given .0 .0 in
-    sym (length-take-le (13 * n) (u .«unfold» .last .1 .1 .0) (written (c .before) .inside))
+slice-aggregate-write-plan c = search needs
+
+array-share-prefix-words : tie.Need-array-share-prefix-words
+array-share-prefix-words c = written (c .before .before) .inside
+
+slice-aggregate-write-plan-2 : tie.Need-slice-aggregate-write-plan-2
+slice-aggregate-write-plan-2 c =
+    let b = c .before .before .before in
+    sym (length-take-le (b .put-blocks .result) (b .put-blocks .last .1 .1 .0) (written b .inside))
 
 write-plan-requires : tie.Need-write-plan-requires
 write-plan-requires c κs =
-    let w = written (c .before .before) in
-    let s = start (c .before .before .before .before .before .before) in
-    let fits = w .fits in
-    let room = s .pre .1 .1 in
-    (s .pre .0 .split-table, (w .good, omega arith))
+    let b = c .before .before .before .before in
+    let k = split-of b in
+    let fits = written b .fits in
+    let room = start k .pre .1 .1 in
+    (given k .split-table, (written b .good, omega arith))
 
 same-length : tie.Need-same-length
 same-length c = search needs
 
-returns-2 : tie.Need-returns-2
-returns-2 c =
-    let k = c .before .before .before .before .before in
+returns : tie.Need-returns
+returns c =
+    let b = c .before .before .before .before .before .before .before in
     let wrote = c .before .before .write-plan .ensures in
-    prints-same (ap writePlan (written k .are)) (record { bytes = wrote .1; count = wrote .0 })
+    prints-same (ap writePlan (written b .are)) (record { bytes = wrote .1; count = wrote .0 })
 
 pub put-blocks-spec : {M : Type 1} → statement M
 put-blocks-spec =
     tie.close
-    (tie.spec
-    slice-aggregate-unfold
-    unfold-requires
-    enum-known-count
-    enum-told
-    returns
-    mul-end
-    array-share-prefix-words
-    slice-aggregate-write-plan
-    write-plan-requires
-    same-length
-    returns-2)
+    (tie.spec slice-aggregate-write-split write-split-requires slice-aggregate-put-blocks put-blocks-requires
+    slice-aggregate-write-plan array-share-prefix-words slice-aggregate-write-plan-2 write-plan-requires same-length
+    returns)

@@ -1,5 +1,6 @@
 -- `programs::plans::put_plan` meets its contract: a plan that is read lies as few steps of the task, whose unfolding is
 -- printed; a refusal is the one that is printed.
+use Rattle.programs.proofs.plans.put_plan.Tie as tie
 use Prim.Native.Nat.{ℕ, _*_}
 use mathlib.Core.Path.{_≡_, sym, _∙_, ap}
 use mathlib.Core.List.{List}
@@ -12,10 +13,10 @@ use Rattle.text.specs.Outcomes.{planAnswerTold}
 use Rattle.text.proofs.PlanSteps.{planWords-is}
 use Rattle.programs.specs.Programs.{taken, printReading}
 use Rattle.programs.proofs.Printed.{prints-same}
-use Rattle.programs.proofs.PlanUnfolded.{text-room, PlanRead, plan-read, plan-refused, plan-printed, printsSteps}
+use Rattle.programs.proofs.PlanUnfolded.{text-room, plan-read, plan-refused, plan-printed, printsSteps}
+use Rattle.programs.proofs.PlanUnfolded.{StepsRead}
 use borrow.Author.Needs.{needs}
 use Rattle.programs.proofs.plans.put_plan.Statement.{statement}
-use Rattle.programs.proofs.plans.put_plan.Tie as tie
 
 abbrev start : tie.After-read-plan → tie.Start
 start c = c .before .before .before .before .before .before .before
@@ -27,7 +28,7 @@ is-taken c = c .before .before .before .bytes-taken .ensures .1
 
 plan : (c : tie.After-known-told) → let k = c .before .before .before .before in
     let b = k .before .before .before .bytes-taken in
-    PlanRead (start k .args .table .now) (take (b .result) (start k .args .plan .now))
+    StepsRead (start k .args .table .now) (take (b .result) (start k .args .plan .now))
     (k .read-plan .last .1 .1 .0) (c .before .count .given .0 .0)
 unfolding planAnswerTold
 plan c =
@@ -104,19 +105,6 @@ returns-2 c =
 pub put-plan-spec : {M : Type 1} → statement M
 put-plan-spec =
     tie.close
-    (tie.spec
-    bytes-taken-requires
-    slice-aggregate-read-plan
-    slice-aggregate-read-plan-2
-    read-plan-requires
-    enum-known-count
-    mul-end
-    array-share-prefix-steps
-    slice-aggregate-put-unfolding
-    put-unfolding-requires
-    enum-known-number
-    put-refusal-requires
-    same-length
-    returns
-    same-length-2
-    returns-2)
+    (tie.spec bytes-taken-requires slice-aggregate-read-plan slice-aggregate-read-plan-2 read-plan-requires
+    enum-known-count mul-end array-share-prefix-steps slice-aggregate-put-unfolding put-unfolding-requires
+    enum-known-number put-refusal-requires same-length returns same-length-2 returns-2)

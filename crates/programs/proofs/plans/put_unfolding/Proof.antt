@@ -1,101 +1,74 @@
--- `programs::plans::put_unfolding` meets its contract: a split that is given lies as a table, against which the blocks
--- are written; a refusal is the one that is printed.
+-- `programs::plans::put_unfolding` meets its contract: of a split that is accepted the blocks are written; a refusal is
+-- the one that is printed.
+use Rattle.programs.proofs.plans.put_unfolding.Tie as tie
 use Prim.Native.Nat.{ℕ}
-use mathlib.Core.Path.{sym, _∙_, ap}
 use mathlib.Core.List.{List}
 use Rattle.task.specs.Task.{Task}
 use Rattle.task.specs.Table.{taskOf}
 use Rattle.task.specs.Run.{stepsIn}
-use Rattle.tokens.specs.Split.{splitAnswerTold}
-use Rattle.tokens.proofs.SplitAnswers.{AcceptedSplit}
 use Rattle.blocks.specs.Blocks.{unfoldSteps}
 use Rattle.text.specs.Plan.{writePlan}
-use Rattle.blocks.proofs.SplitWritten.{split-given}
-use Rattle.programs.proofs.Answered.{table-zeros, split-printed, split-refused}
+use Rattle.programs.proofs.Answered.{split-printed}
 use Rattle.programs.proofs.Printed.{prints-same}
-use Rattle.programs.proofs.PlanUnfolded.{text-room}
+use Rattle.programs.proofs.PlanUnfolded.{text-room, refused-printed}
 use borrow.Author.Needs.{needs}
 use Rattle.programs.proofs.plans.put_unfolding.Statement.{statement}
-use Rattle.programs.proofs.plans.put_unfolding.Tie as tie
+use Rattle.tokens.proofs.SplitOutcome.{told-accepted, told-refused}
 
-abbrev start : tie.After-split → tie.Start
-start c = c .before .before .before .before .before
+abbrev start : tie.After-keep-accepted → tie.Start
+start k = k .before .before .before .before .before
 
-given : (c : tie.After-enum-told) → let k = c .before .before .before in
-    AcceptedSplit (start k .args .table .now) (k .split .last .1 .0)
-unfolding splitAnswerTold
-given c =
-    let k = c .before .before .before in
-    split-given (start k .args .table .now) _
-    (sym (ap splitAnswerTold (c .enum-told .given .1)) ∙ k .split .ensures .0) (k .split .ensures .1)
-
--- what is printed where the split is given
+-- what is printed where the split is accepted
 abbrev prints : tie.Start → Task → List ℕ
 prints s t′ =
     let t = taskOf (s .args .table .now) in
     writePlan (unfoldSteps t (stepsIn t (s .args .steps .now)))
 
-slice-aggregate-split : tie.Need-slice-aggregate-split
-slice-aggregate-split c = search needs
+keep-accepted-requires : tie.Need-keep-accepted-requires
+keep-accepted-requires c κs = search needs
 
-split-requires : tie.Need-split-requires
-split-requires c κs = search needs
-
-enum-told : tie.Need-enum-told
-enum-told c = search needs
-
-slice-aggregate-put-blocks : tie.Need-slice-aggregate-put-blocks
-slice-aggregate-put-blocks c = search needs
+enum-known-accepted : tie.Need-enum-known-accepted
+enum-known-accepted c = search needs
 
 put-blocks-requires : tie.Need-put-blocks-requires
 put-blocks-requires c κs =
-    let g = given (c .before .before) in
-    let s = start (c .before .before .before .before .before) in (
-      record { is-table = g .is-table; split-table = g .split-table; accepted = g .accepted },
-      (s .pre .1 .0, s .pre .1 .1),
-    )
+    let d = c .before .before .before in
+    let k = d .before .before in
+    let p = start k .pre in
+    (told-accepted (d .accepted .given .1) (k .keep-accepted .ensures), (p .1 .0, p .1 .1))
 
-enum-known-number : tie.Need-enum-known-number
-enum-known-number c = search needs
+enum-known-accepted-2 : tie.Need-enum-known-accepted-2
+enum-known-accepted-2 c = search needs
 
 put-refusal-requires : tie.Need-put-refusal-requires
-put-refusal-requires c κs = text-room (start (c .before .before .before .before .before) .pre .1 .1)
+put-refusal-requires c κs = text-room (start (c .before .before .before .before) .pre .1 .1)
 
 same-length : tie.Need-same-length
 same-length c = search needs
 
 returns : tie.Need-returns
 returns c =
-    let g = c .before .before .before .before .before in
-    let s = start (g .before .before .before) in
-    prints-same (split-printed (prints s) (taskOf (s .args .table .now)) (given g .accepted))
+    let d = c .before .before .before .before .before .before in
+    let k = d .before .before in
+    let s = start k in
+    let accepted = told-accepted (d .accepted .given .1) (k .keep-accepted .ensures) in
+    prints-same (split-printed (prints s) (taskOf (s .args .table .now)) (accepted .accepted))
     (c .before .before .put-blocks .ensures)
 
 same-length-2 : tie.Need-same-length-2
 same-length-2 c = search needs
 
 returns-2 : tie.Need-returns-2
-unfolding splitAnswerTold
 returns-2 c =
-    let n = c .before .before .before .before .before in
-    let k = n .before .before .before in
+    let d = c .before .before .before .before .before in
+    let k = d .before .before in
     let s = start k in
-    let told = sym (ap splitAnswerTold (n .number .given .1)) ∙ k .split .ensures .0 in
-    prints-same (split-refused (s .args .table .now) _ (s .pre .0) table-zeros told (prints s))
-    (c .before .before .put-refusal .ensures)
+    let w = s .args .table .now in
+    let refused = told-refused w (k .keep-accepted .last .1 .0) (d .accepted2 .given .1) (k .keep-accepted .ensures) in
+    prints-same (refused-printed w (s .pre .0) refused (prints s)) (c .before .before .put-refusal .ensures)
 
 pub put-unfolding-spec : {M : Type 1} → statement M
 put-unfolding-spec =
     tie.close
-    (tie.spec
-    slice-aggregate-split
-    split-requires
-    enum-told
-    slice-aggregate-put-blocks
-    put-blocks-requires
-    enum-known-number
-    put-refusal-requires
-    same-length
-    returns
-    same-length-2
-    returns-2)
+    (tie.spec keep-accepted-requires enum-known-accepted put-blocks-requires enum-known-accepted-2 put-refusal-requires
+    same-length returns same-length-2 returns-2)

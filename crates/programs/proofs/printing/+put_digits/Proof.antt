@@ -10,7 +10,7 @@ use borrow.Author.Needs.{needs}
 use borrow.Fn.Kinds.{In}
 use borrow.Fn.PlainCycle.{Measures, is, falls, and}
 use Rattle.text.specs.Lines.{digitsWithin}
-use Rattle.text.proofs.Puts.{puts-long, puts-append, puts-same}
+use Rattle.words.proofs.Puts.{puts-length, puts-append, puts-same}
 use Rattle.programs.proofs.Printed.{no-digits, last-digit, digits-before}
 use Rattle.programs.proofs.printing.put_digits.Reads as put-digits
 use Rattle.programs.proofs.printing.put_digits.Kinds as put-digits-kinds
@@ -146,7 +146,7 @@ put-digits-put-byte-requires-2 t c κs =
     let all = ap length (digits-before (s .args .most) (s .args .n) (e .if1 .left) (omega arith)) in
     let front = length-append (digitsWithin (s .args .most - 1) (s .args .n / 10)) ((48 + s .args .n % 10) ∷ []) in
     let put = c .before .before .before .before .put-digits .ensures in
-    let long = puts-long put in
+    let long = puts-length put in
     let next = put .place in
     omega arith
 

@@ -1,5 +1,6 @@
 -- `programs::printing::put_refusal` meets its contract: the key, the number, the colon, the place and byte 10 are put
 -- one behind another. A lemma for each says what is still to come behind it.
+use Rattle.programs.proofs.printing.put_refusal.Tie as tie
 use Prim.Native.Nat.{ℕ, _+_, _≤_}
 use mathlib.Core.Path.{ap}
 use mathlib.Core.List.{List, [], _∷_, _++_}
@@ -7,10 +8,9 @@ use lib.ListN.{length}
 use borrow.Author.Needs.{needs}
 use Rattle.task.specs.Answers.{placeNumber}
 use Rattle.text.specs.Lines.{colon, newline, digitsWithin, bytes}
-use Rattle.text.proofs.Puts.{Going, first-room, going-start, going-room, going-on, going-last, byte-room, puts-same}
+use Rattle.words.proofs.Puts.{Going, first-room, going-start, going-room, going-on, going-last, byte-room, puts-same}
 use Rattle.programs.proofs.Printed.{refusalBytes, refusal-is, refusal-room, puts-prints, prints-same}
 use Rattle.programs.proofs.printing.put_refusal.Statement.{statement}
-use Rattle.programs.proofs.printing.put_refusal.Tie as tie
 
 abbrev number : tie.Start → List ℕ
 number s = digitsWithin 5 (s .args .number)
@@ -57,7 +57,7 @@ placed c = c .before .before .before .before .before
 behind-place : (c : tie.After-put-digits2) → let s = keyed (numbered (parted (placed c))) in
     Left s (newline ∷ []) (c .put-digits2 .last .0) (c .put-digits2 .result)
 behind-place c =
-    going-on (behind-colon (placed c)) (puts-same (ap (digitsWithin 5) (c .before .place-number .ensures))
+    going-on (behind-colon (placed c)) (puts-same (ap (digitsWithin 5) (c .before .number .ensures))
     (c .put-digits2 .ensures))
 
 slice-aggregate-put-bytes : tie.Need-slice-aggregate-put-bytes
@@ -79,14 +79,14 @@ put-byte-requires c κs =
     let k = c .before .before .before in
     byte-room colon (place (keyed (numbered k)) ++ (newline ∷ [])) (behind-number k)
 
-place-number-requires : tie.Need-place-number-requires
-place-number-requires c κs = search needs
+number-requires : tie.Need-number-requires
+number-requires c κs = search needs
 
 put-digits-requires-2 : tie.Need-put-digits-requires-2
 put-digits-requires-2 c κs =
     let k = c .before .before .before .before in
     let s = keyed (numbered (parted k)) in
-    rw (c .place-number .ensures) (going-room (place s) (newline ∷ []) (behind-colon k))
+    rw (c .number .ensures) (going-room (place s) (newline ∷ []) (behind-colon k))
 
 put-byte-requires-2 : tie.Need-put-byte-requires-2
 put-byte-requires-2 c κs = byte-room newline [] (behind-place (c .before .before .before))
@@ -104,13 +104,5 @@ returns c =
 pub put-refusal-spec : {M : Type 1} → statement M
 put-refusal-spec =
     tie.close
-    (tie.spec
-    slice-aggregate-put-bytes
-    put-bytes-requires
-    put-digits-requires
-    put-byte-requires
-    place-number-requires
-    put-digits-requires-2
-    put-byte-requires-2
-    same-length
-    returns)
+    (tie.spec slice-aggregate-put-bytes put-bytes-requires put-digits-requires put-byte-requires number-requires
+    put-digits-requires-2 put-byte-requires-2 same-length returns)

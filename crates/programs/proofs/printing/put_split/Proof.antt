@@ -71,15 +71,5 @@ returns-2 c =
 pub put-split-spec : {M : Type 1} → statement M
 put-split-spec =
     tie.close
-    (tie.spec
-    slice-aggregate-split
-    split-requires
-    enum-told
-    slice-aggregate-put-task
-    put-task-requires
-    enum-known-number
-    put-refusal-requires
-    same-length
-    returns
-    same-length-2
-    returns-2)
+    (tie.spec slice-aggregate-split split-requires enum-told slice-aggregate-put-task put-task-requires
+    enum-known-number put-refusal-requires same-length returns same-length-2 returns-2)

@@ -1,16 +1,16 @@
 -- `programs::printing::put_task` meets its contract: where the bytes lent hold every text, writing gives a result.
+use Rattle.programs.proofs.printing.put_task.Tie as tie
 use Prim.Native.Nat.{ℕ}
 use mathlib.Core.Path.{_≡_, sym, _∙_, ap}
 use native.Mathlib.Omega.{arith}
 use borrow.Author.Needs.{needs}
-use Rattle.task.specs.Answers.{Outcome}
 use Rattle.text.specs.Outcomes.{writeOutcome, writeAnswerTold}
 use Rattle.text.specs.Text.{write}
 use Rattle.task.specs.Table.{taskOf}
 use Rattle.text.proofs.Outcomes.{writtenOver}
 use Rattle.programs.proofs.Answered.{task-written}
 use Rattle.programs.proofs.printing.put_task.Statement.{statement}
-use Rattle.programs.proofs.printing.put_task.Tie as tie
+use Rattle.task.proofs.Answers.{told-by, left-by}
 
 abbrev start : tie.After-slice-known2 → tie.Start
 start c = c .before .before .before .before .before .before
@@ -37,8 +37,8 @@ returns c =
     let w = c .before .before .before .before .before .write in
     let o = is (c .before .before .before) in
     let result = sym (ap writeAnswerTold (c .before .bytes .given .1)) ∙ w .ensures .0 in
-    let told = result ∙ ap (λ (o : Outcome). o .told) o in
-    record { bytes = w .ensures .1 ∙ ap (λ (o : Outcome). o .buffer) o; count = cc }
+    let told = result ∙ told-by o in
+    record { bytes = w .ensures .1 ∙ left-by o; count = cc }
 
 same-length-2 : tie.Need-same-length-2
 same-length-2 c = search needs
@@ -49,17 +49,10 @@ returns-2 c =
     let w = c .before .before .before .before .before .write in
     let o = is (c .before .before .before) in
     let refused = sym (ap writeAnswerTold (c .before .number .given .1)) ∙ w .ensures .0 in
-    let told = refused ∙ ap (λ (o : Outcome). o .told) o in
+    let told = refused ∙ told-by o in
     absurd (let z : _≡_ {A = ℕ} 0 1 = cc in omega arith)
 
 pub put-task-spec : {M : Type 1} → statement M
 put-task-spec =
     tie.close
-    (tie.spec
-    write-requires
-    enum-known-bytes
-    enum-known-number
-    same-length
-    returns
-    same-length-2
-    returns-2)
+    (tie.spec write-requires enum-known-bytes enum-known-number same-length returns same-length-2 returns-2)

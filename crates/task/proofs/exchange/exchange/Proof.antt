@@ -79,14 +79,5 @@ returns c =
 pub exchange-spec : {M : Type 1} → statement M
 exchange-spec =
     tie.close
-    (tie.spec
-    Inv-loop
-    μ-loop
-    loop-holds
-    exchange-one-requires
-    add-k
-    loop-less
-    loop-again
-    insert-span-requires
-    same-length
-    returns)
+    (tie.spec Inv-loop μ-loop loop-holds exchange-one-requires add-k loop-less loop-again insert-span-requires
+    same-length returns)

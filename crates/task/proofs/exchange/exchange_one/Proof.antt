@@ -170,21 +170,6 @@ returns-4 c =
 pub exchange-one-spec : {M : Type 1} → statement M
 exchange-one-spec =
     tie.close
-    (tie.spec
-    ground-requires
-    find-requires
-    is-row-requires
-    same-length
-    returns
-    first-new-requires
-    absent-requires
-    same-length-2
-    returns-2
-    replace-requires
-    add-t25
-    same-length-3
-    returns-3
-    remove-row-requires
-    sub-t29
-    same-length-4
+    (tie.spec ground-requires find-requires is-row-requires same-length returns first-new-requires absent-requires
+    same-length-2 returns-2 replace-requires add-t25 same-length-3 returns-3 remove-row-requires sub-t29 same-length-4
     returns-4)

@@ -109,15 +109,5 @@ returns-2 c =
 pub first-new-spec : {M : Type 1} → statement M
 first-new-spec =
     tie.close
-    (tie.spec
-    Inv-loop
-    μ-loop
-    loop-holds
-    ground-requires
-    find-requires
-    is-row-requires
-    returns
-    add-k
-    loop-less
-    loop-again
-    returns-2)
+    (tie.spec Inv-loop μ-loop loop-holds ground-requires find-requires is-row-requires returns add-k loop-less
+    loop-again returns-2)

@@ -36,6 +36,4 @@ returns c =
     arity-word w (start .pre .0) (start .args .predicate) (start .pre .1))
 
 pub arity-spec : {M : Type 1} → statement M
-arity-spec =
-    tie.close
-    (tie.spec wide-requires add-wide mul-wide shared-slice-read-wide wide-requires-2 returns)
+arity-spec = tie.close (tie.spec wide-requires add-wide mul-wide shared-slice-read-wide wide-requires-2 returns)

@@ -64,13 +64,5 @@ returns c =
 pub param-count-spec : {M : Type 1} → statement M
 param-count-spec =
     tie.close
-    (tie.spec
-    shared-slice-read-wide
-    wide-requires
-    add-wide
-    wide-requires-2
-    add-wide-2
-    mul-wide
-    shared-slice-read-wide-2
-    wide-requires-3
-    returns)
+    (tie.spec shared-slice-read-wide wide-requires add-wide wide-requires-2 add-wide-2 mul-wide shared-slice-read-wide-2
+    wide-requires-3 returns)

@@ -63,17 +63,5 @@ returns c = bracket-met (c .loop-test .left) (c .before .loop .inv)
 pub find-spec : {M : Type 1} → statement M
 find-spec =
     tie.close
-    (tie.spec
-    Inv-loop
-    μ-loop
-    loop-holds
-    sub-mid
-    add-mid
-    mul-number-at
-    number-at-requires
-    add-lo
-    loop-less
-    loop-again
-    loop-less-2
-    loop-again-2
-    returns)
+    (tie.spec Inv-loop μ-loop loop-holds sub-mid add-mid mul-number-at number-at-requires add-lo loop-less loop-again
+    loop-less-2 loop-again-2 returns)

@@ -2,7 +2,7 @@
 use mathlib.Core.Path.{sym, _∙_}
 use native.Mathlib.Omega.{arith}
 use borrow.Author.Tests.{eqb-true, eqb-false}
-use Rattle.task.proofs.Laws.{no-ft}
+use Rattle.words.proofs.Lists.{no-ft}
 use borrow.Author.Needs.{needs}
 use Rattle.task.proofs.records.is_row.Statement.{statement}
 use Rattle.task.proofs.records.is_row.Tie as tie

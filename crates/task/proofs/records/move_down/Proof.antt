@@ -64,17 +64,5 @@ returns c =
 pub move-down-spec : {M : Type 1} → statement M
 move-down-spec =
     tie.close
-    (tie.spec
-    Inv-loop
-    μ-loop
-    loop-holds
-    add-state
-    mul-state
-    slice-read-state
-    mul-state-2
-    slice-write-state
-    add-i
-    loop-less
-    loop-again
-    same-length
-    returns)
+    (tie.spec Inv-loop μ-loop loop-holds add-state mul-state slice-read-state mul-state-2 slice-write-state add-i
+    loop-less loop-again same-length returns)

@@ -60,17 +60,5 @@ returns c =
 pub move-up-spec : {M : Type 1} → statement M
 move-up-spec =
     tie.close
-    (tie.spec
-    Inv-loop
-    μ-loop
-    loop-holds
-    sub-i
-    mul-state
-    slice-read-state
-    add-state
-    mul-state-2
-    slice-write-state
-    loop-less
-    loop-again
-    same-length
-    returns)
+    (tie.spec Inv-loop μ-loop loop-holds sub-i mul-state slice-read-state add-state mul-state-2 slice-write-state
+    loop-less loop-again same-length returns)

@@ -51,15 +51,5 @@ returns c =
 pub number-at-spec : {M : Type 1} → statement M
 number-at-spec =
     tie.close
-    (tie.spec
-    word-requires
-    add-word
-    word-requires-2
-    add-word-2
-    word-requires-3
-    add-word-3
-    word-requires-4
-    add-word-4
-    word-requires-5
-    number-of-requires
-    returns)
+    (tie.spec word-requires add-word word-requires-2 add-word-2 word-requires-3 add-word-3 word-requires-4 add-word-4
+    word-requires-5 number-of-requires returns)

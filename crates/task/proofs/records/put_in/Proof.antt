@@ -88,16 +88,5 @@ returns-2 c =
 pub put-in-spec : {M : Type 1} → statement M
 put-in-spec =
     tie.close
-    (tie.spec
-    find-requires
-    is-row-requires
-    mul-move-up
-    mul-move-up-2
-    move-up-requires
-    mul-write-at
-    write-at-requires
-    add-result
-    same-length
-    returns
-    same-length-2
-    returns-2)
+    (tie.spec find-requires is-row-requires mul-move-up mul-move-up-2 move-up-requires mul-write-at write-at-requires
+    add-result same-length returns same-length-2 returns-2)

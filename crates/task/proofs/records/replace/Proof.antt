@@ -64,20 +64,6 @@ returns-2 c =
 pub replace-spec : {M : Type 1} → statement M
 replace-spec =
     tie.close
-    (tie.spec
-    mul-move-up
-    mul-move-up-2
-    move-up-requires
-    mul-write-at
-    write-at-requires
-    mul-move-down
-    sub-move-down
-    mul-move-down-2
-    move-down-requires
-    sub-write-at
-    mul-write-at-2
-    write-at-requires-2
-    same-length
-    returns
-    same-length-2
+    (tie.spec mul-move-up mul-move-up-2 move-up-requires mul-write-at write-at-requires mul-move-down sub-move-down
+    mul-move-down-2 move-down-requires sub-write-at mul-write-at-2 write-at-requires-2 same-length returns same-length-2
     returns-2)

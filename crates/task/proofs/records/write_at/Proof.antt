@@ -72,25 +72,6 @@ returns c = written _ _ _ (c .pre .0)
 pub write-at-spec : {M : Type 1} → statement M
 write-at-spec =
     tie.close
-    (tie.spec
-    cast-state
-    mul-state
-    slice-write-state
-    cast-state-2
-    add-state
-    mul-state-2
-    slice-write-state-2
-    cast-state-3
-    add-state-2
-    mul-state-3
-    slice-write-state-3
-    cast-state-4
-    add-state-3
-    mul-state-4
-    slice-write-state-4
-    cast-state-5
-    add-state-4
-    mul-state-5
-    slice-write-state-5
-    same-length
-    returns)
+    (tie.spec cast-state mul-state slice-write-state cast-state-2 add-state mul-state-2 slice-write-state-2 cast-state-3
+    add-state-2 mul-state-3 slice-write-state-3 cast-state-4 add-state-3 mul-state-4 slice-write-state-4 cast-state-5
+    add-state-4 mul-state-5 slice-write-state-5 same-length returns)

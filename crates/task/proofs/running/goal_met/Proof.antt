@@ -119,19 +119,5 @@ returns-2 c =
 pub goal-met-spec : {M : Type 1} → statement M
 goal-met-spec =
     tie.close
-    (tie.spec
-    Inv-loop
-    μ-loop
-    word-requires
-    word-requires-2
-    add-from
-    word-requires-3
-    add-to
-    loop-holds
-    fact-number-requires
-    held-requires
-    returns
-    add-k
-    loop-less
-    loop-again
-    returns-2)
+    (tie.spec Inv-loop μ-loop word-requires word-requires-2 add-from word-requires-3 add-to loop-holds
+    fact-number-requires held-requires returns add-k loop-less loop-again returns-2)

@@ -56,16 +56,5 @@ returns-2 c = role-ends (c .before .loop .inv) (λ l e. let z = c .loop-test .le
 pub role-end-spec : {M : Type 1} → statement M
 role-end-spec =
     tie.close
-    (tie.spec
-    Inv-loop
-    μ-loop
-    loop-holds
-    atom-at-requires
-    add-if1
-    mul-if1
-    shared-slice-read-if1
-    returns
-    add-k
-    loop-less
-    loop-again
-    returns-2)
+    (tie.spec Inv-loop μ-loop loop-holds atom-at-requires add-if1 mul-if1 shared-slice-read-if1 returns add-k loop-less
+    loop-again returns-2)

@@ -193,31 +193,7 @@ returns-3 c = (c .before .loop .inv .is-state, run-ended (c .before .loop .inv) 
 pub run-list-spec : {M : Type 1} → statement M
 run-list-spec =
     tie.close
-    (tie.spec
-    Inv-loop
-    μ-loop
-    loop-holds
-    mul-schema
-    mul-schema-2
-    shared-slice-read-schema
-    cast-schema
-    mul-start
-    shared-slice-read-start
-    cast-start
-    add-end
-    mul-end
-    shared-slice-read-end
-    cast-end
-    run-step-requires
-    enum-known-turn
-    add-i
-    loop-less
-    loop-again
-    enum-told
-    same-length
-    returns
-    enum-told-2
-    same-length-2
-    returns-2
-    same-length-3
+    (tie.spec Inv-loop μ-loop loop-holds mul-schema mul-schema-2 shared-slice-read-schema cast-schema mul-start
+    shared-slice-read-start cast-start add-end mul-end shared-slice-read-end cast-end run-step-requires enum-known-turn
+    add-i loop-less loop-again enum-told same-length returns enum-told-2 same-length-2 returns-2 same-length-3
     returns-3)

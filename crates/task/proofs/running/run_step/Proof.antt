@@ -139,15 +139,5 @@ returns-3 c =
 pub run-step-spec : {M : Type 1} → statement M
 run-step-spec =
     tie.close
-    (tie.spec
-    role-end-requires
-    role-end-requires-2
-    all-hold-requires
-    same-length
-    returns
-    has-room-requires
-    same-length-2
-    returns-2
-    exchange-requires
-    same-length-3
-    returns-3)
+    (tie.spec role-end-requires role-end-requires-2 all-hold-requires same-length returns has-room-requires
+    same-length-2 returns-2 exchange-requires same-length-3 returns-3)

@@ -146,23 +146,6 @@ returns-3 c =
 pub run-steps-spec : {M : Type 1} → statement M
 run-steps-spec =
     tie.close
-    (tie.spec
-    schema-starts-requires
-    slice-aggregate-run-list
-    run-list-requires
-    enum-known-ended
-    goal-met-requires
-    mul-clear-from
-    clear-from-requires
-    enum-known-ended-2
-    mul-clear-from-2
-    clear-from-requires-2
-    enum-known-ended-3
-    mul-clear-from-3
-    clear-from-requires-3
-    same-length
-    returns
-    same-length-2
-    returns-2
-    same-length-3
-    returns-3)
+    (tie.spec schema-starts-requires slice-aggregate-run-list run-list-requires enum-known-ended goal-met-requires
+    mul-clear-from clear-from-requires enum-known-ended-2 mul-clear-from-2 clear-from-requires-2 enum-known-ended-3
+    mul-clear-from-3 clear-from-requires-3 same-length returns same-length-2 returns-2 same-length-3 returns-3)

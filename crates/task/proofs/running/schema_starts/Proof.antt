@@ -102,20 +102,5 @@ returns c =
 pub schema-starts-spec : {M : Type 1} → statement M
 schema-starts-spec =
     tie.close
-    (tie.spec
-    Inv-loop
-    μ-loop
-    word-requires
-    loop-holds
-    atom-at-requires
-    mul-schema
-    shared-slice-read-schema
-    cast-schema
-    add-k
-    cast-starts
-    add-starts
-    mul-starts
-    element-write-starts
-    loop-less
-    loop-again
-    returns)
+    (tie.spec Inv-loop μ-loop word-requires loop-holds atom-at-requires mul-schema shared-slice-read-schema cast-schema
+    add-k cast-starts add-starts mul-starts element-write-starts loop-less loop-again returns)

@@ -58,13 +58,4 @@ returns-2 c = all-ended _ _ _ _ _ (c .loop-test .left) (c .before .loop .inv)
 pub absent-spec : {M : Type 1} → statement M
 absent-spec =
     tie.close
-    (tie.spec
-    Inv-loop
-    μ-loop
-    loop-holds
-    ground-requires
-    returns
-    add-k
-    loop-less
-    loop-again
-    returns-2)
+    (tie.spec Inv-loop μ-loop loop-holds ground-requires returns add-k loop-less loop-again returns-2)

@@ -34,6 +34,4 @@ returns-2 c =
     ap (λ (m : ℕ). leb m (roomIn (start .args .state .now))) (c .size-with .ensures)
 
 pub has-room-spec : {M : Type 1} → statement M
-has-room-spec =
-    tie.close
-    (tie.spec sub-if1 sub-if1-2 returns size-without-requires size-with-requires returns-2)
+has-room-spec = tie.close (tie.spec sub-if1 sub-if1-2 returns size-without-requires size-with-requires returns-2)

@@ -106,14 +106,4 @@ returns c = count-end _ _ _ _ (c .before .loop .inv) (c .loop-test .left)
 pub size-with-spec : {M : Type 1} → statement M
 size-with-spec =
     tie.close
-    (tie.spec
-    Inv-loop
-    μ-loop
-    loop-holds
-    ground-requires
-    comes-requires
-    add-total
-    add-k
-    loop-less
-    loop-again
-    returns)
+    (tie.spec Inv-loop μ-loop loop-holds ground-requires comes-requires add-total add-k loop-less loop-again returns)

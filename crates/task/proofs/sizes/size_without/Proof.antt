@@ -90,14 +90,4 @@ returns c = count-end _ _ _ _ (c .before .loop .inv) (c .loop-test .left)
 pub size-without-spec : {M : Type 1} → statement M
 size-without-spec =
     tie.close
-    (tie.spec
-    Inv-loop
-    μ-loop
-    loop-holds
-    ground-requires
-    stays-requires
-    sub-size
-    add-k
-    loop-less
-    loop-again
-    returns)
+    (tie.spec Inv-loop μ-loop loop-holds ground-requires stays-requires sub-size add-k loop-less loop-again returns)

@@ -87,14 +87,4 @@ returns-2 c = all-ended _ _ _ _ _ (c .loop-test .left) (c .before .loop .inv)
 pub all-hold-spec : {M : Type 1} → statement M
 all-hold-spec =
     tie.close
-    (tie.spec
-    Inv-loop
-    μ-loop
-    loop-holds
-    ground-requires
-    held-requires
-    returns
-    add-k
-    loop-less
-    loop-again
-    returns-2)
+    (tie.spec Inv-loop μ-loop loop-holds ground-requires held-requires returns add-k loop-less loop-again returns-2)

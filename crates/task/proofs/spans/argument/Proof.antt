@@ -44,6 +44,4 @@ returns-2 c =
     (ap (λ (u : Bool). cond u (argument (start)) 0) (sym (c .if1 .left)), omega arith)
 
 pub argument-spec : {M : Type 1} → statement M
-argument-spec =
-    tie.close
-    (tie.spec mul-t9 shared-slice-read-t11 object-of-requires cast-result returns returns-2)
+argument-spec = tie.close (tie.spec mul-t9 shared-slice-read-t11 object-of-requires cast-result returns returns-2)

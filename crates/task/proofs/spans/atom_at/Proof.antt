@@ -39,11 +39,4 @@ returns c =
 pub atom-at-spec : {M : Type 1} → statement M
 atom-at-spec =
     tie.close
-    (tie.spec
-    word-requires
-    add-result
-    word-requires-2
-    add-result-2
-    mul-result
-    add-result-3
-    returns)
+    (tie.spec word-requires add-result word-requires-2 add-result-2 mul-result add-result-3 returns)

@@ -60,17 +60,5 @@ returns c =
 pub fact-number-spec : {M : Type 1} → statement M
 fact-number-spec =
     tie.close
-    (tie.spec
-    atom-at-requires
-    add-word
-    word-requires
-    add-word-2
-    word-requires-2
-    add-word-3
-    word-requires-3
-    add-word-4
-    word-requires-4
-    add-word-5
-    word-requires-5
-    number-of-requires
-    returns)
+    (tie.spec atom-at-requires add-word word-requires add-word-2 word-requires-2 add-word-3 word-requires-3 add-word-4
+    word-requires-4 add-word-5 word-requires-5 number-of-requires returns)

@@ -103,19 +103,6 @@ returns c =
 pub ground-spec : {M : Type 1} → statement M
 ground-spec =
     tie.close
-    (tie.spec
-    atom-at-requires
-    add-word
-    word-requires
-    add-word-2
-    word-requires-2
-    add-argument
-    argument-requires
-    add-argument-2
-    argument-requires-2
-    add-argument-3
-    argument-requires-3
-    add-argument-4
-    argument-requires-4
-    number-of-requires
-    returns)
+    (tie.spec atom-at-requires add-word word-requires add-word-2 word-requires-2 add-argument argument-requires
+    add-argument-2 argument-requires-2 add-argument-3 argument-requires-3 add-argument-4 argument-requires-4
+    number-of-requires returns)

@@ -84,14 +84,4 @@ returns c = insert-end (c .before .loop .inv) (c .loop-test .left)
 pub insert-span-spec : {M : Type 1} → statement M
 insert-span-spec =
     tie.close
-    (tie.spec
-    Inv-loop
-    μ-loop
-    loop-holds
-    ground-requires
-    put-in-requires
-    add-k
-    loop-less
-    loop-again
-    same-length
-    returns)
+    (tie.spec Inv-loop μ-loop loop-holds ground-requires put-in-requires add-k loop-less loop-again same-length returns)

@@ -108,20 +108,6 @@ returns-3 c =
 pub is-record-spec : {M : Type 1} → statement M
 is-record-spec =
     tie.close
-    (tie.spec
-    mul-at
-    mul-predicate
-    shared-slice-read-predicate
-    predicate-count-requires
-    returns
-    arity-requires
-    add-are-objects
-    object-count-requires
-    are-objects-requires
-    returns-2
-    add-are-zero
-    add-are-zero-2
-    sub-are-zero
-    sub-are-zero-2
-    are-zero-requires
-    returns-3)
+    (tie.spec mul-at mul-predicate shared-slice-read-predicate predicate-count-requires returns arity-requires
+    add-are-objects object-count-requires are-objects-requires returns-2 add-are-zero add-are-zero-2 sub-are-zero
+    sub-are-zero-2 are-zero-requires returns-3)

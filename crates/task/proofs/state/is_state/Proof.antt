@@ -9,8 +9,9 @@ use mathlib.Core.Logic.{⊎-elim}
 use native.Mathlib.Omega.{arith}
 use borrow.Author.Tests.{not-true, not-false}
 use Rattle.task.specs.Task.{Task, wellFormed}
-use Rattle.task.specs.Lists.{lessList}
-use Rattle.task.specs.Table.{wordsAt, taskOf}
+use Rattle.words.specs.Lists.{lessList}
+use Rattle.words.specs.Words.{wordsAt}
+use Rattle.task.specs.Table.{taskOf}
 use Rattle.task.specs.Run.{roomIn}
 use Rattle.task.proofs.Tables.{of-table}
 use Rattle.task.proofs.StateWords.{GoodRows, no-rows, more-rows, rows-state, too-many, no-record, not-ascending}
@@ -102,19 +103,5 @@ returns-4 c =
 pub is-state-spec : {M : Type 1} → statement M
 is-state-spec =
     tie.close
-    (tie.spec
-    Inv-loop
-    μ-loop
-    returns
-    loop-holds
-    is-record-requires
-    returns-2
-    sub-record-less
-    mul-record-less
-    mul-record-less-2
-    record-less-requires
-    returns-3
-    add-i
-    loop-less
-    loop-again
-    returns-4)
+    (tie.spec Inv-loop μ-loop returns loop-holds is-record-requires returns-2 sub-record-less mul-record-less
+    mul-record-less-2 record-less-requires returns-3 add-i loop-less loop-again returns-4)

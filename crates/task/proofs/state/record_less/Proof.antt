@@ -5,11 +5,10 @@ use mathlib.Core.Path.{_≡_, refl, sym, _∙_}
 use mathlib.Core.List.{List}
 use native.Mathlib.Omega.{arith}
 use lib.ListN.{length, getD, drop}
-use Rattle.task.specs.Lists.{lessList}
-use Rattle.task.specs.Table.{wordsAt}
-use Rattle.task.proofs.TablesByWords.{length-wordsAt}
-use Rattle.task.proofs.WordRows.{getD-wordsAt}
-use Rattle.task.proofs.RecordOrder.{less-here, more-here, less-rest, less-end}
+use Rattle.words.specs.Lists.{lessList}
+use Rattle.words.specs.Words.{wordsAt}
+use Rattle.words.proofs.Words.{length-wordsAt, getD-wordsAt}
+use Rattle.words.proofs.Comparing.{less-here, more-here, less-rest, less-end}
 use Rattle.task.proofs.state.record_less.Statement.{statement}
 use Rattle.task.proofs.state.record_less.Tie as tie
 
@@ -110,19 +109,5 @@ returns-3 c =
 pub record-less-spec : {M : Type 1} → statement M
 record-less-spec =
     tie.close
-    (tie.spec
-    Inv-loop
-    μ-loop
-    loop-holds
-    add-x
-    mul-x
-    shared-slice-read-x
-    add-y
-    mul-y
-    shared-slice-read-y
-    returns
-    returns-2
-    add-k
-    loop-less
-    loop-again
-    returns-3)
+    (tie.spec Inv-loop μ-loop loop-holds add-x mul-x shared-slice-read-x add-y mul-y shared-slice-read-y returns
+    returns-2 add-k loop-less loop-again returns-3)

@@ -63,15 +63,5 @@ returns-2 c =
 pub bad-step-spec : {M : Type 1} → statement M
 bad-step-spec =
     tie.close
-    (tie.spec
-    Inv-loop
-    μ-loop
-    add-begun
-    sub-begun
-    loop-holds
-    is-step-requires
-    returns
-    add-i
-    loop-less
-    loop-again
+    (tie.spec Inv-loop μ-loop add-begun sub-begun loop-holds is-step-requires returns add-i loop-less loop-again
     returns-2)

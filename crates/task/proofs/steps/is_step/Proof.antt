@@ -121,22 +121,6 @@ returns-4 c =
 pub is-step-spec : {M : Type 1} → statement M
 is-step-spec =
     tie.close
-    (tie.spec
-    mul-at
-    sub-if1
-    returns
-    mul-schema
-    shared-slice-read-schema
-    schema-count-requires
-    returns-2
-    param-count-requires
-    add-are-objects
-    object-count-requires
-    are-objects-requires
-    returns-3
-    add-are-zero
-    add-are-zero-2
-    sub-are-zero
-    sub-are-zero-2
-    are-zero-requires
-    returns-4)
+    (tie.spec mul-at sub-if1 returns mul-schema shared-slice-read-schema schema-count-requires returns-2
+    param-count-requires add-are-objects object-count-requires are-objects-requires returns-3 add-are-zero
+    add-are-zero-2 sub-are-zero sub-are-zero-2 are-zero-requires returns-4)

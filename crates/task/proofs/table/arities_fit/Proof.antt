@@ -6,10 +6,10 @@ use native.Mathlib.Omega.{arith}
 use lib.ListN.{getD}
 use lib.Dec.{leb}
 use borrow.Author.Tests.{le-leb, lt-leb}
-use Rattle.task.specs.Lists.{all, upTo, upFrom}
+use Rattle.words.specs.Lists.{all, upTo, upFrom}
 use Rattle.task.specs.Table.{arityIn}
 use Rattle.task.specs.WordTests.{aritiesFit}
-use Rattle.task.proofs.Ranges.{all-more, all-fails, all-ends}
+use Rattle.words.proofs.Ranges.{all-more, all-fails, all-ends}
 use Rattle.task.proofs.table.arities_fit.Statement.{statement}
 use Rattle.task.proofs.table.arities_fit.Tie as tie
 
@@ -71,15 +71,5 @@ returns-2 c =
 pub arities-fit-spec : {M : Type 1} → statement M
 arities-fit-spec =
     tie.close
-    (tie.spec
-    Inv-loop
-    μ-loop
-    word-requires
-    loop-holds
-    add-word
-    word-requires-2
-    returns
-    add-p
-    loop-less
-    loop-again
+    (tie.spec Inv-loop μ-loop word-requires loop-holds add-word word-requires-2 returns add-p loop-less loop-again
     returns-2)

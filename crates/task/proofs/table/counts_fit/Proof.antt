@@ -58,13 +58,5 @@ returns-3 c = all-counted (start (c .before .before .before .before) .args .tabl
 pub counts-fit-spec : {M : Type 1} → statement M
 counts-fit-spec =
     tie.close
-    (tie.spec
-    word-requires
-    word-requires-2
-    returns
-    word-requires-3
-    word-requires-4
-    word-requires-5
-    word-requires-6
-    returns-2
-    returns-3)
+    (tie.spec word-requires word-requires-2 returns word-requires-3 word-requires-4 word-requires-5 word-requires-6
+    returns-2 returns-3)

@@ -9,12 +9,12 @@ use native.Mathlib.Omega.{arith}
 use lib.ListN.{getD}
 use borrow.Author.Needs.{needs}
 use borrow.Author.Tests.{not-true, not-false}
-use Rattle.task.specs.Lists.{every}
+use Rattle.words.specs.Lists.{every}
 use Rattle.task.specs.Limits.{tableWords}
 use Rattle.task.specs.Table.{atomBase}
-use Rattle.task.specs.WordTests.{countTests, aritiesFit, zerosAt, numbersFit, factsWordsFit, atomTotal, wordsUsed}
-use Rattle.task.specs.WordTests.{Roomy}
-use Rattle.task.proofs.Laws.{both-ft}
+use Rattle.task.specs.WordTests.{countTests, aritiesFit, numbersFit, factsWordsFit, atomTotal, wordsUsed, Roomy}
+use Rattle.words.specs.Words.{zerosAt}
+use Rattle.words.proofs.Lists.{both-ft}
 use Rattle.task.proofs.Counts.{counted, roomy}
 use Rattle.task.proofs.WordTables.{not-passed, rest-decides}
 use Rattle.task.proofs.table.is_table.Statement.{statement}
@@ -199,24 +199,6 @@ returns-7 c =
 pub is-table-spec : {M : Type 1} → statement M
 is-table-spec =
     tie.close
-    (tie.spec
-    counts-fit-requires
-    returns
-    arities-fit-requires
-    returns-2
-    numbers-fit-requires
-    returns-3
-    schemas-fit-requires
-    returns-4
-    word-requires
-    word-requires-2
-    add-facts
-    facts-fit-requires
-    returns-5
-    word-requires-3
-    add-end
-    facts-fit-requires-2
-    returns-6
-    atom-base-requires
-    zeros-requires
-    returns-7)
+    (tie.spec counts-fit-requires returns arities-fit-requires returns-2 numbers-fit-requires returns-3
+    schemas-fit-requires returns-4 word-requires word-requires-2 add-facts facts-fit-requires returns-5 word-requires-3
+    add-end facts-fit-requires-2 returns-6 atom-base-requires zeros-requires returns-7)

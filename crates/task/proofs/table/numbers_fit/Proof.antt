@@ -6,10 +6,10 @@ use mathlib.Core.Path.{_≡_, ap}
 use native.Mathlib.Omega.{arith}
 use lib.ListN.{getD}
 use lib.Dec.{leb}
-use Rattle.task.specs.Lists.{all, upTo, upFrom}
+use Rattle.words.specs.Lists.{all, upTo, upFrom}
 use Rattle.task.specs.Table.{schemaNumberIn}
 use Rattle.task.specs.WordTests.{numberFits, numbersFit}
-use Rattle.task.proofs.Ranges.{all-more, all-fails, all-ends}
+use Rattle.words.proofs.Ranges.{all-more, all-fails, all-ends}
 use Rattle.task.proofs.AtomWords.{number-low, number-high, number-right, number-first, number-next}
 use Rattle.task.proofs.table.numbers_fit.Statement.{statement}
 use Rattle.task.proofs.table.numbers_fit.Tie as tie
@@ -89,16 +89,5 @@ returns-3 c =
 pub numbers-fit-spec : {M : Type 1} → statement M
 numbers-fit-spec =
     tie.close
-    (tie.spec
-    Inv-loop
-    μ-loop
-    word-requires
-    word-requires-2
-    loop-holds
-    schema-number-requires
-    returns
-    returns-2
-    add-i
-    loop-less
-    loop-again
-    returns-3)
+    (tie.spec Inv-loop μ-loop word-requires word-requires-2 loop-holds schema-number-requires returns returns-2 add-i
+    loop-less loop-again returns-3)

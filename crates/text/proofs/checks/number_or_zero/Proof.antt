@@ -1,14 +1,13 @@
-use Prim.Native.Nat.{ℕ, suc, _+_, _-_, _*_, _≤_, _<_}
-use mathlib.Core.Path.{_≡_, refl, sym, _∙_, ap}
+-- `checks::number_or_zero`: a number before the end of the list is read, and behind it there is none.
+use Rattle.text.proofs.checks.number_or_zero.Tie as tie
+use Prim.Native.Nat.{_-_}
+use mathlib.Core.Path.{sym}
 use native.Mathlib.Omega.{arith}
 use borrow.Author.Needs.{needs}
-use lib.ListN.{length, getD, take}
+use lib.ListN.{take}
 use lib.Seq.{getD-take, length-take-le}
-use Rattle.text.proofs.WordTests.{past-end}
+use Rattle.words.proofs.Searches.{past-end}
 use Rattle.text.proofs.checks.number_or_zero.Statement.{statement}
-use Rattle.text.proofs.checks.number_or_zero.Tie as tie
-use Rattle.text.proofs.checks.number_or_zero.Reads as reads
-use Rattle.text.proofs.checks.number_or_zero.Lts as lts
 
 mul-result : tie.Need-mul-result
 mul-result c = search needs

@@ -1,16 +1,16 @@
-use Prim.Native.Nat.{ℕ, suc, _+_, _-_, _*_, _≤_, _<_}
-use mathlib.Core.Path.{_≡_, refl, sym, _∙_, ap}
+-- `checks::one_above`: above is one more than the highest of the numbers before place k; the measure is n - k.
+use Rattle.text.proofs.checks.one_above.Tie as tie
+use Prim.Native.Nat.{_-_, _≤_}
+use mathlib.Core.Path.{_≡_, refl}
 use native.Mathlib.Omega.{arith}
 use mathlib.Core.Logic.{⊎-elim}
 use lib.ListN.{getD, take}
 use lib.Dec.{ltb}
 use borrow.Author.Tests.{ltb-true}
 use Rattle.text.specs.ReadCode.{oneAbove}
-use Rattle.text.proofs.WordTests.{each-first, above-more}
+use Rattle.words.proofs.Searches.{each-first}
+use Rattle.text.proofs.WordTests.{above-more}
 use Rattle.text.proofs.checks.one_above.Statement.{statement}
-use Rattle.text.proofs.checks.one_above.Tie as tie
-use Rattle.text.proofs.checks.one_above.Reads as reads
-use Rattle.text.proofs.checks.one_above.Lts as lts
 
 abbrev Inv-loop : tie.InvT-loop
 Inv-loop list n above₀ k₀ above k = (k ≤ n) × (above ≡ oneAbove (take k list))
@@ -60,14 +60,5 @@ returns c =
 pub one-above-spec : {M : Type 1} → statement M
 one-above-spec =
     tie.close
-    (tie.spec
-    Inv-loop
-    μ-loop
-    loop-holds
-    mul-number
-    shared-slice-read-number
-    add-above
-    add-k
-    loop-less
-    loop-again
+    (tie.spec Inv-loop μ-loop loop-holds mul-number shared-slice-read-number add-above add-k loop-less loop-again
     returns)

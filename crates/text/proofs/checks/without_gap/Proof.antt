@@ -1,23 +1,17 @@
-use Prim.Native.Nat.{ℕ, suc, _+_, _-_, _*_, _≤_, _<_}
-use mathlib.Core.Path.{_≡_, refl, sym, _∙_, ap}
+-- `checks::without_gap`: each number below p stands among the first n; the measure is above - p.
+use Rattle.text.proofs.checks.without_gap.Tie as tie
+use Prim.Native.Nat.{ℕ, _-_, _≤_, _<_}
+use mathlib.Core.Path.{_≡_, sym, _∙_}
 use native.Mathlib.Omega.{arith}
 use mathlib.Core.Bool.{true}
-use lib.ListN.{getD, take}
+use lib.ListN.{take}
 use lib.Dec.{eqb}
-use borrow.Author.Needs.{needs}
 use borrow.Author.Tests.{not-true, not-false}
 use borrow.Author.Count.{below-more}
-use Rattle.task.specs.Lists.{any}
-use Rattle.text.specs.ReadCode.{noGapIn}
-use Rattle.text.proofs.WordTests.{all-up-to, not-all-up-to}
-use Rattle.text.specs.ReadCode.{oneAbove}
-use Rattle.task.specs.Lists.{all, upTo}
+use Rattle.words.specs.Lists.{any}
+use Rattle.text.specs.ReadCode.{noGapIn, oneAbove}
+use Rattle.words.proofs.Searches.{all-up-to, not-all-up-to}
 use Rattle.text.proofs.checks.without_gap.Statement.{statement}
-use Rattle.text.proofs.checks.without_gap.Tie as tie
-use Rattle.text.proofs.checks.without_gap.Reads as reads
-use Rattle.text.proofs.checks.without_gap.Lts as lts
-use Rattle.text.proofs.checks.has_number.Reads as has-number-reads
-use Rattle.text.proofs.checks.one_above.Reads as one-above-reads
 
 abbrev Inv-loop : tie.InvT-loop
 Inv-loop list n above p₀ p = (p ≤ above) × ((q : ℕ) → q < p → any (λ y. eqb q y) (take n list) ≡ true)
@@ -70,14 +64,5 @@ returns-2 c =
 pub without-gap-spec : {M : Type 1} → statement M
 without-gap-spec =
     tie.close
-    (tie.spec
-    Inv-loop
-    μ-loop
-    one-above-requires
-    loop-holds
-    has-number-requires
-    returns
-    add-p
-    loop-less
-    loop-again
+    (tie.spec Inv-loop μ-loop one-above-requires loop-holds has-number-requires returns add-p loop-less loop-again
     returns-2)

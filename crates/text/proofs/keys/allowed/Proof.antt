@@ -1,13 +1,9 @@
-use Prim.Native.Nat.{ℕ, suc, _+_, _-_, _*_, _≤_, _<_}
-use mathlib.Core.Path.{_≡_, refl, sym, _∙_, ap}
-use native.Mathlib.Omega.{arith}
+use Rattle.text.proofs.keys.allowed.Tie as tie
+use Prim.Native.Nat.{_-_}
+use mathlib.Core.Path.{refl, sym}
 use borrow.Author.Needs.{needs}
 use borrow.Author.Tests.{le-leb, lt-leb}
 use Rattle.text.proofs.keys.allowed.Statement.{statement}
-use Rattle.text.proofs.keys.allowed.Tie as tie
-use Rattle.text.proofs.keys.allowed.Reads as reads
-use Rattle.text.proofs.keys.allowed.Lts as lts
-use Rattle.text.proofs.keys.last_key.Reads as last-key-reads
 
 returns : tie.Need-returns
 returns c = sym (rw (lt-leb _ _ (c .if1 .taken)) refl)

@@ -1,16 +1,13 @@
-use Prim.Native.Nat.{ℕ, suc, _+_, _-_, _*_, _≤_, _<_}
-use mathlib.Core.Path.{_≡_, refl, sym, _∙_, ap, subst}
-use native.Mathlib.Omega.{arith}
+-- `keys::head_key_at`: each key of a line that stands once is looked for in turn, by its bytes.
+use Rattle.text.proofs.keys.head_key_at.Tie as tie
+use Prim.Native.Nat.{_-_}
+use mathlib.Core.Path.{subst}
 use borrow.Author.Needs.{needs}
 use Rattle.text.specs.Lines.{bytes}
 use Rattle.text.specs.Text.{task, objects, arity, end, keyName}
-use Rattle.text.specs.ReadCode.{WordAt, keyNumber}
+use Rattle.text.specs.ReadCode.{WordAt}
 use Rattle.text.proofs.KeyLines.{key-found}
 use Rattle.text.proofs.keys.head_key_at.Statement.{statement}
-use Rattle.text.proofs.keys.head_key_at.Tie as tie
-use Rattle.text.proofs.keys.head_key_at.Reads as reads
-use Rattle.text.proofs.keys.head_key_at.Lts as lts
-use Rattle.text.proofs.cursor.Cursor.word.Reads as word-reads
 
 slice-aggregate-word : tie.Need-slice-aggregate-word
 slice-aggregate-word c = search needs
@@ -22,10 +19,8 @@ enum-known-body : tie.Need-enum-known-body
 enum-known-body c = search needs
 
 returns : tie.Need-returns
-unfolding bytes keyName keyNumber
-returns c =
-    key-found task 0 refl (omega arith)
-    (subst (WordAt _ _ _) (c .before .body .given .1) (c .before .before .before .word .ensures))
+unfolding bytes keyName
+returns c = key-found task (c .before .body .given .1) (c .before .before .before .word .ensures)
 
 enum-told : tie.Need-enum-told
 enum-told c = search needs
@@ -40,10 +35,8 @@ enum-known-body-2 : tie.Need-enum-known-body-2
 enum-known-body-2 c = search needs
 
 returns-2 : tie.Need-returns-2
-unfolding bytes keyName keyNumber
-returns-2 c =
-    key-found objects 1 refl (omega arith)
-    (subst (WordAt _ _ _) (c .before .body2 .given .1) (c .before .before .before .word2 .ensures))
+unfolding bytes keyName
+returns-2 c = key-found objects (c .before .body2 .given .1) (c .before .before .before .word2 .ensures)
 
 enum-told-2 : tie.Need-enum-told-2
 enum-told-2 c = search needs
@@ -58,10 +51,8 @@ enum-known-body-3 : tie.Need-enum-known-body-3
 enum-known-body-3 c = search needs
 
 returns-3 : tie.Need-returns-3
-unfolding bytes keyName keyNumber
-returns-3 c =
-    key-found arity 2 refl (omega arith)
-    (subst (WordAt _ _ _) (c .before .body3 .given .1) (c .before .before .before .word3 .ensures))
+unfolding bytes keyName
+returns-3 c = key-found arity (c .before .body3 .given .1) (c .before .before .before .word3 .ensures)
 
 enum-told-3 : tie.Need-enum-told-3
 enum-told-3 c = search needs
@@ -76,10 +67,8 @@ enum-known-body-4 : tie.Need-enum-known-body-4
 enum-known-body-4 c = search needs
 
 returns-4 : tie.Need-returns-4
-unfolding bytes keyName keyNumber
-returns-4 c =
-    key-found end 10 refl (omega arith)
-    (subst (WordAt _ _ _) (c .before .body4 .given .1) (c .before .before .before .word4 .ensures))
+unfolding bytes keyName
+returns-4 c = key-found end (c .before .body4 .given .1) (c .before .before .before .word4 .ensures)
 
 enum-told-4 : tie.Need-enum-told-4
 enum-told-4 c = search needs
@@ -101,25 +90,6 @@ returns-5 c =
 pub head-key-at-spec : {M : Type 1} → statement M
 head-key-at-spec =
     tie.close
-    (tie.spec
-    slice-aggregate-word
-    word-requires
-    enum-known-body
-    returns
-    enum-told
-    slice-aggregate-word-2
-    word-requires-2
-    enum-known-body-2
-    returns-2
-    enum-told-2
-    slice-aggregate-word-3
-    word-requires-3
-    enum-known-body-3
-    returns-3
-    enum-told-3
-    slice-aggregate-word-4
-    word-requires-4
-    enum-known-body-4
-    returns-4
-    enum-told-4
-    returns-5)
+    (tie.spec slice-aggregate-word word-requires enum-known-body returns enum-told slice-aggregate-word-2
+    word-requires-2 enum-known-body-2 returns-2 enum-told-2 slice-aggregate-word-3 word-requires-3 enum-known-body-3
+    returns-3 enum-told-3 slice-aggregate-word-4 word-requires-4 enum-known-body-4 returns-4 enum-told-4 returns-5)

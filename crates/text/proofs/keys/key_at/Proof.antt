@@ -1,17 +1,14 @@
-use Prim.Native.Nat.{ℕ, suc, _+_, _-_, _*_, _≤_, _<_}
-use mathlib.Core.Path.{_≡_, refl, sym, _∙_, ap, subst}
-use native.Mathlib.Omega.{arith}
+-- `keys::key_at`: each key that may stand more than once is looked for in turn, by its bytes; behind them all those of
+-- lines that stand once are. The key that is found is the only one, since no two stand at one place.
+use Rattle.text.proofs.keys.key_at.Tie as tie
+use Prim.Native.Nat.{_-_}
+use mathlib.Core.Path.{subst}
 use borrow.Author.Needs.{needs}
 use Rattle.text.specs.Lines.{bytes}
 use Rattle.text.specs.Text.{pre, add, del, part, schema, init, goal, keyName}
-use Rattle.text.specs.ReadCode.{WordAt, keyNumber}
+use Rattle.text.specs.ReadCode.{WordAt}
 use Rattle.text.proofs.KeyLines.{key-found, once-key}
 use Rattle.text.proofs.keys.key_at.Statement.{statement}
-use Rattle.text.proofs.keys.key_at.Tie as tie
-use Rattle.text.proofs.keys.key_at.Reads as reads
-use Rattle.text.proofs.keys.key_at.Lts as lts
-use Rattle.text.proofs.cursor.Cursor.word.Reads as word-reads
-use Rattle.text.proofs.keys.head_key_at.Reads as head-key-at-reads
 
 slice-aggregate-word : tie.Need-slice-aggregate-word
 slice-aggregate-word c = search needs
@@ -23,10 +20,8 @@ enum-known-body : tie.Need-enum-known-body
 enum-known-body c = search needs
 
 returns : tie.Need-returns
-unfolding bytes keyName keyNumber
-returns c =
-    key-found pre 3 refl (omega arith)
-    (subst (WordAt _ _ _) (c .before .body .given .1) (c .before .before .before .word .ensures))
+unfolding bytes keyName
+returns c = key-found pre (c .before .body .given .1) (c .before .before .before .word .ensures)
 
 enum-told : tie.Need-enum-told
 enum-told c = search needs
@@ -41,10 +36,8 @@ enum-known-body-2 : tie.Need-enum-known-body-2
 enum-known-body-2 c = search needs
 
 returns-2 : tie.Need-returns-2
-unfolding bytes keyName keyNumber
-returns-2 c =
-    key-found add 4 refl (omega arith)
-    (subst (WordAt _ _ _) (c .before .body2 .given .1) (c .before .before .before .word2 .ensures))
+unfolding bytes keyName
+returns-2 c = key-found add (c .before .body2 .given .1) (c .before .before .before .word2 .ensures)
 
 enum-told-2 : tie.Need-enum-told-2
 enum-told-2 c = search needs
@@ -59,10 +52,8 @@ enum-known-body-3 : tie.Need-enum-known-body-3
 enum-known-body-3 c = search needs
 
 returns-3 : tie.Need-returns-3
-unfolding bytes keyName keyNumber
-returns-3 c =
-    key-found del 5 refl (omega arith)
-    (subst (WordAt _ _ _) (c .before .body3 .given .1) (c .before .before .before .word3 .ensures))
+unfolding bytes keyName
+returns-3 c = key-found del (c .before .body3 .given .1) (c .before .before .before .word3 .ensures)
 
 enum-told-3 : tie.Need-enum-told-3
 enum-told-3 c = search needs
@@ -77,10 +68,8 @@ enum-known-body-4 : tie.Need-enum-known-body-4
 enum-known-body-4 c = search needs
 
 returns-4 : tie.Need-returns-4
-unfolding bytes keyName keyNumber
-returns-4 c =
-    key-found part 6 refl (omega arith)
-    (subst (WordAt _ _ _) (c .before .body4 .given .1) (c .before .before .before .word4 .ensures))
+unfolding bytes keyName
+returns-4 c = key-found part (c .before .body4 .given .1) (c .before .before .before .word4 .ensures)
 
 enum-told-4 : tie.Need-enum-told-4
 enum-told-4 c = search needs
@@ -95,10 +84,8 @@ enum-known-body-5 : tie.Need-enum-known-body-5
 enum-known-body-5 c = search needs
 
 returns-5 : tie.Need-returns-5
-unfolding bytes keyName keyNumber
-returns-5 c =
-    key-found schema 7 refl (omega arith)
-    (subst (WordAt _ _ _) (c .before .body5 .given .1) (c .before .before .before .word5 .ensures))
+unfolding bytes keyName
+returns-5 c = key-found schema (c .before .body5 .given .1) (c .before .before .before .word5 .ensures)
 
 enum-told-5 : tie.Need-enum-told-5
 enum-told-5 c = search needs
@@ -113,10 +100,8 @@ enum-known-body-6 : tie.Need-enum-known-body-6
 enum-known-body-6 c = search needs
 
 returns-6 : tie.Need-returns-6
-unfolding bytes keyName keyNumber
-returns-6 c =
-    key-found init 8 refl (omega arith)
-    (subst (WordAt _ _ _) (c .before .body6 .given .1) (c .before .before .before .word6 .ensures))
+unfolding bytes keyName
+returns-6 c = key-found init (c .before .body6 .given .1) (c .before .before .before .word6 .ensures)
 
 enum-told-6 : tie.Need-enum-told-6
 enum-told-6 c = search needs
@@ -131,16 +116,18 @@ enum-known-body-7 : tie.Need-enum-known-body-7
 enum-known-body-7 c = search needs
 
 returns-7 : tie.Need-returns-7
-unfolding bytes keyName keyNumber
-returns-7 c =
-    key-found goal 9 refl (omega arith)
-    (subst (WordAt _ _ _) (c .before .body7 .given .1) (c .before .before .before .word7 .ensures))
+unfolding bytes keyName
+returns-7 c = key-found goal (c .before .body7 .given .1) (c .before .before .before .word7 .ensures)
 
 enum-told-7 : tie.Need-enum-told-7
 enum-told-7 c = search needs
 
 head-key-at-requires : tie.Need-head-key-at-requires
-head-key-at-requires c κs = c .before .before .before .before .before .before .before .before .before .before .before .before .before .before .before .before .before .before .before .before .before .before .before .before .before .before .before .before .before .pre
+head-key-at-requires c κs =
+    let schema₁ = c .before .before .before .before .before .before .before .before .before in
+    let add₁ = schema₁ .before .before .before .before .before .before .before .before .before .before .before
+    .before in
+    add₁ .before .before .before .before .before .before .before .before .pre
 
 returns-8 : tie.Need-returns-8
 unfolding bytes keyName
@@ -166,41 +153,9 @@ returns-8 c =
 pub key-at-spec : {M : Type 1} → statement M
 key-at-spec =
     tie.close
-    (tie.spec
-    slice-aggregate-word
-    word-requires
-    enum-known-body
-    returns
-    enum-told
-    slice-aggregate-word-2
-    word-requires-2
-    enum-known-body-2
-    returns-2
-    enum-told-2
-    slice-aggregate-word-3
-    word-requires-3
-    enum-known-body-3
-    returns-3
-    enum-told-3
-    slice-aggregate-word-4
-    word-requires-4
-    enum-known-body-4
-    returns-4
-    enum-told-4
-    slice-aggregate-word-5
-    word-requires-5
-    enum-known-body-5
-    returns-5
-    enum-told-5
-    slice-aggregate-word-6
-    word-requires-6
-    enum-known-body-6
-    returns-6
-    enum-told-6
-    slice-aggregate-word-7
-    word-requires-7
-    enum-known-body-7
-    returns-7
-    enum-told-7
-    head-key-at-requires
-    returns-8)
+    (tie.spec slice-aggregate-word word-requires enum-known-body returns enum-told slice-aggregate-word-2
+    word-requires-2 enum-known-body-2 returns-2 enum-told-2 slice-aggregate-word-3 word-requires-3 enum-known-body-3
+    returns-3 enum-told-3 slice-aggregate-word-4 word-requires-4 enum-known-body-4 returns-4 enum-told-4
+    slice-aggregate-word-5 word-requires-5 enum-known-body-5 returns-5 enum-told-5 slice-aggregate-word-6
+    word-requires-6 enum-known-body-6 returns-6 enum-told-6 slice-aggregate-word-7 word-requires-7 enum-known-body-7
+    returns-7 enum-told-7 head-key-at-requires returns-8)

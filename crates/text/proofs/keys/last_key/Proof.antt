@@ -1,13 +1,9 @@
-use Prim.Native.Nat.{ℕ, suc, _+_, _-_, _*_, _≤_, _<_}
-use mathlib.Core.Path.{_≡_, refl, sym, _∙_, ap}
-use native.Mathlib.Omega.{arith}
-use mathlib.Core.Bool.{Bool, cond}
+use Rattle.text.proofs.keys.last_key.Tie as tie
+use Prim.Native.Nat.{_-_}
+use mathlib.Core.Path.{refl, sym}
 use borrow.Author.Tests.{lt-ltb, le-ltb}
 use Rattle.text.specs.ReadCode.{lastKey}
 use Rattle.text.proofs.keys.last_key.Statement.{statement}
-use Rattle.text.proofs.keys.last_key.Tie as tie
-use Rattle.text.proofs.keys.last_key.Reads as reads
-use Rattle.text.proofs.keys.last_key.Lts as lts
 
 returns : tie.Need-returns
 unfolding lastKey

@@ -1,17 +1,13 @@
-use Prim.Native.Nat.{ℕ, suc, _+_, _-_, _*_, _≤_, _<_}
-use mathlib.Core.Path.{_≡_, refl, sym, _∙_, ap, subst}
+-- `lists::entry`: a number, a colon and a list follow one another; where one of them is missing there is no atom.
+use Rattle.text.proofs.lists.entry.Tie as tie
+use Prim.Native.Nat.{_-_}
+use mathlib.Core.Path.{subst}
 use native.Mathlib.Omega.{arith}
 use borrow.Author.Needs.{needs}
-use native.Mathlib.Nat.{le-of-lt}
 use Rattle.text.specs.ReadCode.{NumberAt, WordAt, ListAt}
-use Rattle.text.proofs.WholeLines.{no-head, no-colon, no-list, entry-made, moved-placed, word-placed, onward-both}
+use Rattle.text.proofs.WholeLines.{no-head, no-colon, no-list, entry-made, moved-placed, word-placed}
+use Rattle.text.proofs.WholeLines.{onward-both}
 use Rattle.text.proofs.lists.entry.Statement.{statement}
-use Rattle.text.proofs.lists.entry.Tie as tie
-use Rattle.text.proofs.lists.entry.Reads as reads
-use Rattle.text.proofs.lists.entry.Lts as lts
-use Rattle.text.proofs.cursor.Cursor.number.Reads as number-reads
-use Rattle.text.proofs.cursor.Cursor.word.Reads as word-reads
-use Rattle.text.proofs.lists.listing.Reads as listing-reads
 
 number-requires : tie.Need-number-requires
 number-requires c κs = search needs
@@ -95,20 +91,5 @@ returns-4 c =
 pub entry-spec : {M : Type 1} → statement M
 entry-spec =
     tie.close
-    (tie.spec
-    number-requires
-    enum-known-head
-    enum-told
-    returns
-    slice-aggregate-word
-    word-requires
-    enum-known-next
-    enum-told-2
-    returns-2
-    listing-requires
-    enum-known-count
-    enum-told-3
-    same-length
-    returns-3
-    same-length-2
-    returns-4)
+    (tie.spec number-requires enum-known-head enum-told returns slice-aggregate-word word-requires enum-known-next
+    enum-told-2 returns-2 listing-requires enum-known-count enum-told-3 same-length returns-3 same-length-2 returns-4)

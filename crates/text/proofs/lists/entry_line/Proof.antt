@@ -1,15 +1,11 @@
-use Prim.Native.Nat.{ℕ, suc, _+_, _-_, _*_, _≤_, _<_}
-use mathlib.Core.Path.{_≡_, refl, sym, _∙_, ap, subst}
-use native.Mathlib.Omega.{arith}
+-- `lists::entry_line`: there is no atom, or its line doesn't end behind it, or the next line comes there.
+use Rattle.text.proofs.lists.entry_line.Tie as tie
+use Prim.Native.Nat.{_-_}
+use mathlib.Core.Path.{subst}
 use borrow.Author.Needs.{needs}
 use Rattle.text.specs.ReadCode.{EntryAt, EndAt}
 use Rattle.text.proofs.WholeLines.{no-body, no-end, line-whole, onward-placed, to-next}
 use Rattle.text.proofs.lists.entry_line.Statement.{statement}
-use Rattle.text.proofs.lists.entry_line.Tie as tie
-use Rattle.text.proofs.lists.entry_line.Reads as reads
-use Rattle.text.proofs.lists.entry_line.Lts as lts
-use Rattle.text.proofs.cursor.Cursor.line_end.Reads as line-end-reads
-use Rattle.text.proofs.lists.entry.Reads as entry-reads
 
 entry-requires : tie.Need-entry-requires
 entry-requires c κs = search needs
@@ -65,16 +61,5 @@ returns-3 c =
 pub entry-line-spec : {M : Type 1} → statement M
 entry-line-spec =
     tie.close
-    (tie.spec
-    entry-requires
-    enum-known-head
-    enum-told
-    same-length
-    returns
-    line-end-requires
-    enum-known-next
-    enum-told-2
-    same-length-2
-    returns-2
-    same-length-3
-    returns-3)
+    (tie.spec entry-requires enum-known-head enum-told same-length returns line-end-requires enum-known-next enum-told-2
+    same-length-2 returns-2 same-length-3 returns-3)

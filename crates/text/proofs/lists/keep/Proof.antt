@@ -1,12 +1,9 @@
-use Prim.Native.Nat.{ℕ, suc, _+_, _-_, _*_, _≤_, _<_}
-use mathlib.Core.Path.{_≡_, refl, sym, _∙_, ap}
-use native.Mathlib.Omega.{arith}
+use Rattle.text.proofs.lists.keep.Tie as tie
+use Prim.Native.Nat.{_-_}
+use mathlib.Core.Path.{sym}
 use borrow.Author.Needs.{needs}
 use lib.Seq.{set-out}
 use Rattle.text.proofs.lists.keep.Statement.{statement}
-use Rattle.text.proofs.lists.keep.Tie as tie
-use Rattle.text.proofs.lists.keep.Reads as reads
-use Rattle.text.proofs.lists.keep.Lts as lts
 
 mul-list : tie.Need-mul-list
 mul-list c = search needs

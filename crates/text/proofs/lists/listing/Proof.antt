@@ -1,16 +1,13 @@
-use Prim.Native.Nat.{ℕ, suc, _+_, _-_, _*_, _≤_, _<_}
-use mathlib.Core.Path.{_≡_, refl, sym, _∙_, ap, subst}
+-- `lists::listing`: the line ends here and the list is empty, or the list is one of numbers.
+use Rattle.text.proofs.lists.listing.Tie as tie
+use Prim.Native.Nat.{_-_}
+use mathlib.Core.Path.{refl, subst}
 use native.Mathlib.Omega.{arith}
 use borrow.Author.Needs.{needs}
-use Rattle.text.specs.ReadCode.{WordAt, ListAt}
+use Rattle.text.specs.ReadCode.{WordAt}
 use Rattle.text.proofs.WholeLines.{listing-ends, listing-begins}
 use Rattle.text.proofs.ListLoop.{listed-none}
 use Rattle.text.proofs.lists.listing.Statement.{statement}
-use Rattle.text.proofs.lists.listing.Tie as tie
-use Rattle.text.proofs.lists.listing.Reads as reads
-use Rattle.text.proofs.lists.listing.Lts as lts
-use Rattle.text.proofs.cursor.Cursor.word.Reads as word-reads
-use Rattle.text.proofs.lists.numbers.Reads as numbers-reads
 
 slice-aggregate-word : tie.Need-slice-aggregate-word
 slice-aggregate-word c = search needs
@@ -50,12 +47,4 @@ returns-2 c =
 pub listing-spec : {M : Type 1} → statement M
 listing-spec =
     tie.close
-    (tie.spec
-    slice-aggregate-word
-    word-requires
-    enum-told
-    enum-told-2
-    numbers-requires
-    same-length
-    returns
-    returns-2)
+    (tie.spec slice-aggregate-word word-requires enum-told enum-told-2 numbers-requires same-length returns returns-2)

@@ -1,16 +1,12 @@
-use Prim.Native.Nat.{ℕ, suc, _+_, _-_, _*_, _≤_, _<_}
-use mathlib.Core.Path.{_≡_, refl, sym, _∙_, ap, subst}
-use native.Mathlib.Omega.{arith}
+-- `lists::number_line`: there is no number, or its line doesn't end behind it, or the next line comes there.
+use Rattle.text.proofs.lists.number_line.Tie as tie
+use Prim.Native.Nat.{_-_}
+use mathlib.Core.Path.{subst}
 use borrow.Author.Needs.{needs}
 use Rattle.text.specs.ReadCode.{NumberAt, EndAt}
 use native.Mathlib.Nat.{le-of-lt}
 use Rattle.text.proofs.WholeLines.{no-body, no-end, line-whole, moved-placed, to-next}
 use Rattle.text.proofs.lists.number_line.Statement.{statement}
-use Rattle.text.proofs.lists.number_line.Tie as tie
-use Rattle.text.proofs.lists.number_line.Reads as reads
-use Rattle.text.proofs.lists.number_line.Lts as lts
-use Rattle.text.proofs.cursor.Cursor.line_end.Reads as line-end-reads
-use Rattle.text.proofs.cursor.Cursor.number.Reads as number-reads
 
 number-requires : tie.Need-number-requires
 number-requires c κs = search needs
@@ -56,13 +52,5 @@ returns-3 c =
 pub number-line-spec : {M : Type 1} → statement M
 number-line-spec =
     tie.close
-    (tie.spec
-    number-requires
-    enum-known-n
-    enum-told
-    returns
-    line-end-requires
-    enum-known-next
-    enum-told-2
-    returns-2
+    (tie.spec number-requires enum-known-n enum-told returns line-end-requires enum-known-next enum-told-2 returns-2
     returns-3)

@@ -1,18 +1,15 @@
-use Prim.Native.Nat.{ℕ, suc, _+_, _-_, _*_, _≤_, _<_}
-use mathlib.Core.Path.{_≡_, refl, sym, _∙_, ap, subst}
+-- `lists::numbers`: what was kept and counted so far is a beginning of the list, and the rest of the list is read at
+-- the cursor. A turn reads one number and goes on behind a comma; the measure is the bytes left.
+use Rattle.text.proofs.lists.numbers.Tie as tie
+use Prim.Native.Nat.{_-_}
+use mathlib.Core.Path.{_≡_, refl, _∙_, subst}
 use native.Mathlib.Omega.{arith}
 use borrow.Author.Needs.{needs}
-use lib.ListN.{length, length-set}
-use Rattle.text.specs.ReadCode.{NumberAt, WordAt, NumberHere, WordHere}
+use lib.ListN.{length}
+use Rattle.text.specs.ReadCode.{NumberAt, WordAt}
 use Rattle.text.proofs.ListLoop.{ListSoFar, list-begins, no-number, list-ends, list-goes-on}
 use Rattle.text.proofs.WholeLines.{moved-placed}
 use Rattle.text.proofs.lists.numbers.Statement.{statement}
-use Rattle.text.proofs.lists.numbers.Tie as tie
-use Rattle.text.proofs.lists.numbers.Reads as reads
-use Rattle.text.proofs.lists.numbers.Lts as lts
-use Rattle.text.proofs.cursor.Cursor.number.Reads as number-reads
-use Rattle.text.proofs.cursor.Cursor.word.Reads as word-reads
-use Rattle.text.proofs.lists.keep.Reads as keep-reads
 
 abbrev Inv-loop : tie.InvT-loop
 Inv-loop text list₀ here₀ count₀ t9 list here count = (length list ≡ length list₀) × ListSoFar text here₀ here count list
@@ -99,22 +96,6 @@ loop-again c =
 pub numbers-spec : {M : Type 1} → statement M
 numbers-spec =
     tie.close
-    (tie.spec
-    Inv-loop
-    μ-loop
-    loop-holds
-    number-requires
-    enum-known-n
-    enum-told
-    same-length
-    returns
-    keep-requires
-    add-count
-    slice-aggregate-word
-    word-requires
-    enum-known-next
-    enum-told-2
-    same-length-2
-    returns-2
-    loop-less
+    (tie.spec Inv-loop μ-loop loop-holds number-requires enum-known-n enum-told same-length returns keep-requires
+    add-count slice-aggregate-word word-requires enum-known-next enum-told-2 same-length-2 returns-2 loop-less
     loop-again)

@@ -80,13 +80,5 @@ returns-3 c =
 pub is-step-spec : {M : Type 1} → statement M
 is-step-spec =
     tie.close
-    (tie.spec
-    shared-slice-read-wide
-    wide-requires
-    returns
-    param-count-requires
-    returns-2
-    shared-slice-read-all-below
-    cast-all-below
-    all-below-requires
-    returns-3)
+    (tie.spec shared-slice-read-wide wide-requires returns param-count-requires returns-2 shared-slice-read-all-below
+    cast-all-below all-below-requires returns-3)

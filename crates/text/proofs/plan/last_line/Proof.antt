@@ -47,5 +47,4 @@ returns-3 c =
     )
 
 pub last-line-spec : {M : Type 1} → statement M
-last-line-spec =
-    tie.close (tie.spec number-line-requires enum-known-n enum-told returns returns-2 returns-3)
+last-line-spec = tie.close (tie.spec number-line-requires enum-known-n enum-told returns returns-2 returns-3)

@@ -59,12 +59,5 @@ returns c =
 pub param-count-spec : {M : Type 1} → statement M
 param-count-spec =
     tie.close
-    (tie.spec
-    shared-slice-read-wide
-    wide-requires
-    add-wide
-    add-wide-2
-    mul-wide
-    shared-slice-read-wide-2
-    wide-requires-2
+    (tie.spec shared-slice-read-wide wide-requires add-wide add-wide-2 mul-wide shared-slice-read-wide-2 wide-requires-2
     returns)

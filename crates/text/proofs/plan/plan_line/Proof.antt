@@ -92,18 +92,5 @@ returns-3 c =
 pub plan-line-spec : {M : Type 1} → statement M
 plan-line-spec =
     tie.close
-    (tie.spec
-    slice-aggregate-word
-    word-requires
-    enum-known-body
-    step-line-requires
-    same-length
-    returns
-    enum-told
-    slice-aggregate-word-2
-    word-requires-2
-    enum-known-body-2
-    last-line-requires
-    returns-2
-    enum-told-2
-    returns-3)
+    (tie.spec slice-aggregate-word word-requires enum-known-body step-line-requires same-length returns enum-told
+    slice-aggregate-word-2 word-requires-2 enum-known-body-2 last-line-requires returns-2 enum-told-2 returns-3)

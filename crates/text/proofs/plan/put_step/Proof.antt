@@ -65,15 +65,5 @@ returns c =
 pub put-step-spec : {M : Type 1} → statement M
 put-step-spec =
     tie.close
-    (tie.spec
-    cast-steps
-    mul-steps
-    slice-write-steps
-    add-put-words
-    put-words-requires
-    add-clear
-    add-clear-2
-    sub-clear
-    clear-requires
-    same-length
-    returns)
+    (tie.spec cast-steps mul-steps slice-write-steps add-put-words put-words-requires add-clear add-clear-2 sub-clear
+    clear-requires same-length returns)

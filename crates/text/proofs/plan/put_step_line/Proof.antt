@@ -7,7 +7,7 @@ use lib.ListN.{getD}
 use Rattle.text.specs.Lines.{colon, newline, digits, commaed}
 use Rattle.text.specs.Code.{spaced}
 use Rattle.text.specs.PlanCode.{stepText}
-use Rattle.text.proofs.Puts.{Going, going-start, going-left, going-room, going-on, going-last, byte-room}
+use Rattle.words.proofs.Puts.{Going, going-start, going-left, going-room, going-on, going-last, byte-room}
 use Rattle.text.proofs.PlanWritten.{stepKey, stepText-is}
 use borrow.Author.Needs.{needs}
 use Rattle.text.proofs.plan.put_step_line.Statement.{statement}
@@ -109,15 +109,5 @@ returns c =
 pub put-step-line-spec : {M : Type 1} → statement M
 put-step-line-spec =
     tie.close
-    (tie.spec
-    slice-aggregate-put-bytes
-    put-bytes-requires
-    mul-put-number
-    shared-slice-read-put-number
-    put-number-requires
-    put-byte-requires
-    add-put-list
-    put-list-requires
-    put-byte-requires-2
-    same-length
-    returns)
+    (tie.spec slice-aggregate-put-bytes put-bytes-requires mul-put-number shared-slice-read-put-number
+    put-number-requires put-byte-requires add-put-list put-list-requires put-byte-requires-2 same-length returns)

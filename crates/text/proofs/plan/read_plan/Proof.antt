@@ -2,18 +2,19 @@
 -- from the cursor with the steps read so far, whose words lie over the front of the lent ones. A line that is refused,
 -- which has those words cleared, and one that ends reading give the answer; another adds a step. The measure is what is
 -- left of the text.
+use Rattle.task.specs.declared.Place.the-variants as place
+use Rattle.text.specs.declared.plan.PlanAnswer.the-variants as answer
+use Rattle.text.proofs.plan.read_plan.Tie as tie
 use Prim.Native.Nat.{ℕ, _-_, _≤_}
 use mathlib.Core.Path.{_≡_, sym, _∙_, ap, subst}
 use mathlib.Core.List.{List, [], _∷_}
 use native.Mathlib.Omega.{arith}
 use lib.ListN.{length}
-use Rattle.task.specs.declared.Place.the-variants as place
-use Rattle.task.specs.Answers.{result, Outcome}
+use Rattle.task.specs.Answers.{result}
 use Rattle.task.specs.Table.{taskOf}
 use Rattle.task.proofs.Tables.{of-table}
 use Rattle.text.specs.declared.plan.PlanTurn.{PlanTurn}
 use Rattle.text.specs.declared.plan.PlanAnswer.{PlanAnswer}
-use Rattle.text.specs.declared.plan.PlanAnswer.the-variants as answer
 use Rattle.text.specs.Reading.{refusedAt}
 use Rattle.text.specs.Plan.{planWords, nextPlanLine, readPlan}
 use Rattle.text.specs.Outcomes.{planOutcome, planAnswerTold}
@@ -24,7 +25,7 @@ use Rattle.text.proofs.PlanLoop.{plan-stored, plan-cleared}
 use Rattle.text.proofs.PlanAnswers.{read-outcome, refused-outcome}
 use borrow.Author.Needs.{needs}
 use Rattle.text.proofs.plan.read_plan.Statement.{statement}
-use Rattle.text.proofs.plan.read_plan.Tie as tie
+use Rattle.task.proofs.Answers.{both}
 
 abbrev Inv-loop : tie.InvT-loop
 Inv-loop table text steps₀ cursor₀ n₀ steps cursor n = PlanSoFar (taskOf table) text steps₀ cursor n steps
@@ -91,8 +92,8 @@ module _ (c : tie.After-plan-line Inv-loop μ-loop) where
   turned-back is same told cleared =
       let a = entry head .args in
       let outcome = refused-outcome (a .table .now) (a .text .now) (a .steps .now) _ _ is in (
-        ap planAnswerTold told ∙ sym (ap (λ (o : Outcome). o .told) outcome),
-        plan-cleared _ _ _ sofar (entry head .pre .1) same cleared ∙ sym (ap (λ (o : Outcome). o .buffer) outcome),
+        ap planAnswerTold told ∙ both outcome .0,
+        plan-cleared _ _ _ sofar (entry head .pre .1) same cleared ∙ both outcome .1,
       )
 
 enum-known-number : tie.Need-enum-known-number Inv-loop μ-loop
@@ -147,8 +148,8 @@ returns-3 c =
     let is = plan-whole _ _ _ s (done .0) (c .if1 .left) in
     let well = of-table (args .table .now) (start .pre .0) .0 in
     let outcome = read-outcome (args .table .now) (args .text .now) (args .steps .now) _ is in (
-      ap (λ (n : ℕ). result (n ∷ [])) (sym (s .count)) ∙ sym (ap (λ (o : Outcome). o .told) outcome),
-      done .1 ∙ (plan-stored _ _ _ s well (start .pre .1) ∙ sym (ap (λ (o : Outcome). o .buffer) outcome)),
+      ap (λ (n : ℕ). result (n ∷ [])) (sym (s .count)) ∙ both outcome .0,
+      done .1 ∙ (plan-stored _ _ _ s well (start .pre .1) ∙ both outcome .1),
     )
 
 enum-known-next-2 : tie.Need-enum-known-next-2 Inv-loop μ-loop
@@ -174,23 +175,6 @@ loop-again c =
 pub read-plan-spec : {M : Type 1} → statement M
 read-plan-spec =
     tie.close
-    (tie.spec
-    Inv-loop
-    μ-loop
-    start-requires
-    loop-holds
-    plan-line-requires
-    enum-known-number
-    refused-requires
-    same-length
-    returns
-    enum-known-next
-    refused-requires-2
-    same-length-2
-    returns-2
-    same-length-3
-    returns-3
-    enum-known-next-2
-    add-n
-    loop-less
-    loop-again)
+    (tie.spec Inv-loop μ-loop start-requires loop-holds plan-line-requires enum-known-number refused-requires
+    same-length returns enum-known-next refused-requires-2 same-length-2 returns-2 same-length-3 returns-3
+    enum-known-next-2 add-n loop-less loop-again)

@@ -127,18 +127,6 @@ returns-4 c =
 pub step-line-spec : {M : Type 1} → statement M
 step-line-spec =
     tie.close
-    (tie.spec
-    slice-aggregate-entry-line
-    entry-line-requires
-    enum-known-schema
-    enum-told
-    returns
-    returns-2
-    slice-aggregate-is-step
-    is-step-requires
-    returns-3
-    mul-put-step
-    slice-aggregate-put-step
-    put-step-requires
-    same-length
-    returns-4)
+    (tie.spec slice-aggregate-entry-line entry-line-requires enum-known-schema enum-told returns returns-2
+    slice-aggregate-is-step is-step-requires returns-3 mul-put-step slice-aggregate-put-step put-step-requires
+    same-length returns-4)

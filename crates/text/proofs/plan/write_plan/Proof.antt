@@ -8,11 +8,10 @@ use lib.ListN.{length, getD}
 use Rattle.task.specs.Table.{taskOf}
 use Rattle.task.specs.Run.{paramCount, stepsIn}
 use Rattle.task.proofs.Tables.{of-table}
-use Rattle.task.proofs.Put.{put-over}
+use Rattle.words.proofs.Puts.{put-over, puts-same, Going, going-start, going-long, going-left, going-room, going-on}
+use Rattle.words.proofs.Puts.{last-room, going-last}
 use Rattle.text.specs.Plan.{writePlan}
 use Rattle.text.specs.PlanCode.{stepText}
-use Rattle.text.proofs.Puts.{puts-same, Going, going-start, going-long, going-left, going-room, going-on}
-use Rattle.text.proofs.Puts.{last-room, going-last}
 use Rattle.text.proofs.Onwards.{onwards, onwards-next, onwards-none}
 use Rattle.text.proofs.WholeText.{endBytes}
 use Rattle.text.proofs.PlanWritten.{lineAtStep, plan-onwards, StepThere, step-there}
@@ -151,25 +150,10 @@ returns c =
     let at-end = ending (c .before .before .before .before .before) in
     let puts = going-last at-end (c .before .before .put-bytes .ensures) in
     let place = puts .place in
-    (omega arith, puts .stored ∙ put-over plan (start .args .text .now) (start .pre .1 .1))
+    (omega arith, puts .words ∙ put-over plan (start .args .text .now) (start .pre .1 .1))
 
 pub write-plan-spec : {M : Type 1} → statement M
 write-plan-spec =
     tie.close
-    (tie.spec
-    Inv-loop
-    μ-loop
-    loop-holds
-    mul-base
-    mul-wide
-    shared-slice-read-wide
-    wide-requires
-    param-count-requires
-    put-step-line-requires
-    add-i
-    loop-less
-    loop-again
-    slice-aggregate-put-bytes
-    put-bytes-requires
-    same-length
-    returns)
+    (tie.spec Inv-loop μ-loop loop-holds mul-base mul-wide shared-slice-read-wide wide-requires param-count-requires
+    put-step-line-requires add-i loop-less loop-again slice-aggregate-put-bytes put-bytes-requires same-length returns)

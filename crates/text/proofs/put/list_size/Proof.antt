@@ -107,22 +107,6 @@ returns-2 c =
 pub list-size-spec : {M : Type 1} → statement M
 list-size-spec =
     tie.close
-    (tie.spec
-    Inv-loop
-    μ-loop
-    returns
-    mul-number-size
-    shared-slice-read-number-size
-    number-size-requires
-    loop-holds
-    add-size
-    mul-number-size-2
-    add-number-size
-    mul-number-size-3
-    shared-slice-read-number-size-2
-    number-size-requires-2
-    add-size-2
-    add-k
-    loop-less
-    loop-again
-    returns-2)
+    (tie.spec Inv-loop μ-loop returns mul-number-size shared-slice-read-number-size number-size-requires loop-holds
+    add-size mul-number-size-2 add-number-size mul-number-size-3 shared-slice-read-number-size-2 number-size-requires-2
+    add-size-2 add-k loop-less loop-again returns-2)

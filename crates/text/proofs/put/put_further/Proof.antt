@@ -1,5 +1,5 @@
 -- `text::put::put_further` meets its contract: a comma, then the number's digits.
-use Rattle.text.proofs.Puts.{puts-append}
+use Rattle.words.proofs.Puts.{puts-append}
 use borrow.Author.Needs.{needs}
 use Rattle.text.proofs.put.put_further.Statement.{statement}
 use Rattle.text.proofs.put.put_further.Tie as tie

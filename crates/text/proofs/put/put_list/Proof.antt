@@ -7,8 +7,8 @@ use mathlib.Core.List.{[], _++_}
 use lib.ListN.{length, getD}
 use Rattle.text.specs.Lines.{digits, commaed}
 use Rattle.text.specs.Code.{spaced}
-use Rattle.text.proofs.Puts.{puts-long, puts-append, puts-same, Going, going-start, going-long, going-left}
-use Rattle.text.proofs.Puts.{going-room, going-on, going-end}
+use Rattle.words.proofs.Puts.{puts-length, puts-append, puts-same, Going, going-start, going-long, going-left}
+use Rattle.words.proofs.Puts.{going-room, going-on, going-end}
 use Rattle.text.proofs.Onwards.{onwards, onwards-next, onwards-none, listed, commaed-none, commaed-first}
 use Rattle.text.proofs.Onwards.{commaed-long}
 use Rattle.text.proofs.put.put_list.Statement.{statement}
@@ -28,7 +28,7 @@ returns c =
     let e : commaed (spaced (args .table .now) (args .from) (args .step) (args .n)) ≡ [] =
     ap (λ (n : ℕ). commaed (spaced (args .table .now) (args .from) (args .step) n)) (c .if1 .taken) ∙
     commaed-none (args .table .now) (args .from) (args .step) in
-    puts-same (sym e) (record { stored = refl; place = omega arith })
+    puts-same (sym e) (record { words = refl; place = omega arith })
 
 first-inside : (c : tie.Start Inv-loop μ-loop) → (c .args .n ≡ 0 → ⊥) → c .args .from < length (c .args .table .now)
 first-inside c h = let l = c .pre .0 0 (omega arith) in omega arith
@@ -55,7 +55,7 @@ loop-holds c =
     let start = c .before .before .before .before .before .before .before .before in
     let l = first-long start (c .before .before .before .before .before .if1 .left) in
     let p = c .before .before .put-number .ensures in
-    let same = puts-long p in
+    let same = puts-length p in
     (omega arith, (omega arith, going-start (omega arith)))
 
 -- the function's entry, from the loop's head
@@ -116,7 +116,7 @@ loop-again c =
 same-length : tie.Need-same-length Inv-loop μ-loop
 same-length c =
     let p = c .before .before .before .before .put-number .ensures in
-    going-long (c .before .loop .inv .1 .1) ∙ puts-long p
+    going-long (c .before .loop .inv .1 .1) ∙ puts-length p
 
 returns-2 : tie.Need-returns-2 Inv-loop μ-loop
 returns-2 c =
@@ -130,21 +130,6 @@ returns-2 c =
 pub put-list-spec : {M : Type 1} → statement M
 put-list-spec =
     tie.close
-    (tie.spec
-    Inv-loop
-    μ-loop
-    returns
-    mul-put-number
-    shared-slice-read-put-number
-    put-number-requires
-    loop-holds
-    mul-put-further
-    add-put-further
-    mul-put-further-2
-    shared-slice-read-put-further
-    put-further-requires
-    add-k
-    loop-less
-    loop-again
-    same-length
-    returns-2)
+    (tie.spec Inv-loop μ-loop returns mul-put-number shared-slice-read-put-number put-number-requires loop-holds
+    mul-put-further add-put-further mul-put-further-2 shared-slice-read-put-further put-further-requires add-k loop-less
+    loop-again same-length returns-2)

@@ -4,7 +4,7 @@ use Prim.Native.Nat.{ℕ}
 use mathlib.Core.List.{List, [], _∷_, _++_}
 use Rattle.text.specs.Lines.{newline, commaed}
 use Rattle.text.specs.Code.{spaced}
-use Rattle.text.proofs.Puts.{Going, first-room, going-start, going-room, going-on, going-last, byte-room}
+use Rattle.words.proofs.Puts.{Going, first-room, going-start, going-room, going-on, going-last, byte-room}
 use borrow.Author.Needs.{needs}
 use Rattle.text.proofs.put.put_list_line.Statement.{statement}
 use Rattle.text.proofs.put.put_list_line.Tie as tie
@@ -50,6 +50,4 @@ returns : tie.Need-returns
 returns c = going-last (behind-body (c .before .before .before .before)) (c .before .before .put-byte .ensures)
 
 pub put-list-line-spec : {M : Type 1} → statement M
-put-list-line-spec =
-    tie.close
-    (tie.spec put-bytes-requires put-list-requires put-byte-requires same-length returns)
+put-list-line-spec = tie.close (tie.spec put-bytes-requires put-list-requires put-byte-requires same-length returns)

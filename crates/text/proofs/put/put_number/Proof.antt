@@ -76,19 +76,5 @@ returns c =
 pub put-number-spec : {M : Type 1} → statement M
 put-number-spec =
     tie.close
-    (tie.spec
-    Inv-loop
-    μ-loop
-    number-size-requires
-    add-end
-    sub-place
-    loop-holds
-    digit-requires
-    slice-write-text
-    sub-place-2
-    loop-less
-    loop-again
-    digit-requires-2
-    slice-write-text-2
-    same-length
-    returns)
+    (tie.spec Inv-loop μ-loop number-size-requires add-end sub-place loop-holds digit-requires slice-write-text
+    sub-place-2 loop-less loop-again digit-requires-2 slice-write-text-2 same-length returns)

@@ -3,7 +3,7 @@
 use Prim.Native.Nat.{ℕ}
 use mathlib.Core.List.{List, [], _∷_, _++_}
 use Rattle.text.specs.Lines.{newline, digits}
-use Rattle.text.proofs.Puts.{Going, first-room, going-start, going-room, going-on, going-last, byte-room}
+use Rattle.words.proofs.Puts.{Going, first-room, going-start, going-room, going-on, going-last, byte-room}
 use borrow.Author.Needs.{needs}
 use Rattle.text.proofs.put.put_number_line.Statement.{statement}
 use Rattle.text.proofs.put.put_number_line.Tie as tie
@@ -49,6 +49,4 @@ returns : tie.Need-returns
 returns c = going-last (behind-body (c .before .before .before .before)) (c .before .before .put-byte .ensures)
 
 pub put-number-line-spec : {M : Type 1} → statement M
-put-number-line-spec =
-    tie.close
-    (tie.spec put-bytes-requires put-number-requires put-byte-requires same-length returns)
+put-number-line-spec = tie.close (tie.spec put-bytes-requires put-number-requires put-byte-requires same-length returns)

@@ -1,22 +1,20 @@
-use Prim.Native.Nat.{ℕ, suc, _+_, _-_, _*_, _≤_, _<_}
-use mathlib.Core.Path.{_≡_, refl, sym, _∙_, ap}
+-- `reader::head_turn`: in each arm the key is known by its number, so the turn of the line that is called is the turn
+-- at the body of that key.
+use Rattle.text.proofs.reader.head_turn.Tie as tie
+use Prim.Native.Nat.{_-_}
 use native.Mathlib.Omega.{arith}
 use borrow.Author.Needs.{needs}
-use Rattle.text.specs.Lines.{number, numbers, listing, entry, ended}
-use Rattle.text.specs.Text.{readBody, taskLine, objectsLine, arityLine, schemaLine, atomLine, partLine, initLine, goalLine, endLine}
-use Rattle.text.specs.ReadCode.{rest, keyNumber, phaseNumber}
+use Rattle.text.specs.Lines.{number, numbers, ended}
+use Rattle.text.specs.Text.{readBody, taskLine, objectsLine, arityLine}
+use Rattle.text.specs.ReadCode.{rest}
 use Rattle.text.proofs.HeldAtoms.{untouched}
-use Rattle.text.proofs.Dispatch.{turned-of, task-body, objects-body, arity-body}
+use Rattle.text.proofs.Dispatch.{turned-of, task-body, objects-body, arity-body, stands-as}
 use Rattle.text.proofs.reader.head_turn.Statement.{statement}
-use Rattle.text.proofs.reader.head_turn.Tie as tie
-use Rattle.text.proofs.reader.head_turn.Reads as reads
-use Rattle.text.proofs.reader.head_turn.Lts as lts
-use Rattle.text.proofs.heads.arity_line.Reads as arity-line-reads
-use Rattle.text.proofs.heads.objects_line.Reads as objects-line-reads
-use Rattle.text.proofs.heads.task_line.Reads as task-line-reads
 
 task-line-requires : tie.Need-task-line-requires
-task-line-requires c κs = search needs
+task-line-requires c κs =
+    let start = c .before .before .before in
+    (start .pre .0, stands-as (start .args .counts .phase) (c .if1 .taken) (start .pre .1 .1 .0))
 
 returns : tie.Need-returns
 returns c =
@@ -25,13 +23,16 @@ returns c =
       λ d k e h.
           turned-of (start .args .text .now) (start .args .body) d
           (readBody k (rest (start .args .text .now) (start .args .body)))
-          (ended taskLine (number (rest (start .args .text .now) (start .args .body)))) (start .args .table .now) (c .task-line .result) (start .args .table .now)
+          (ended taskLine (number (rest (start .args .text .now) (start .args .body)))) (start .args .table .now)
+          (c .task-line .result) (start .args .table .now)
           (task-body k (rest (start .args .text .now) (start .args .body)) (omega arith))
           (c .task-line .ensures d (start .args .table .now) h),
     )
 
 objects-line-requires : tie.Need-objects-line-requires
-objects-line-requires c κs = search needs
+objects-line-requires c κs =
+    let start = c .before .before .before .before in
+    (start .pre .0, stands-as (start .args .counts .phase) (c .if2 .taken) (start .pre .1 .1 .0))
 
 returns-2 : tie.Need-returns-2
 returns-2 c =
@@ -40,13 +41,17 @@ returns-2 c =
       λ d k e h.
           turned-of (start .args .text .now) (start .args .body) d
           (readBody k (rest (start .args .text .now) (start .args .body)))
-          (ended objectsLine (number (rest (start .args .text .now) (start .args .body)))) (start .args .table .now) (c .objects-line .result) (start .args .table .now)
+          (ended objectsLine (number (rest (start .args .text .now) (start .args .body)))) (start .args .table .now)
+          (c .objects-line .result) (start .args .table .now)
           (objects-body k (rest (start .args .text .now) (start .args .body)) (omega arith))
           (c .objects-line .ensures d (start .args .table .now) h),
     )
 
 arity-line-requires : tie.Need-arity-line-requires
-arity-line-requires c κs = search needs
+arity-line-requires c κs =
+    let start = c .before .before .before .before .before in
+    let few = start .pre .1 .1 .1 in
+    (start .pre .0, (start .pre .1 .0, stands-as (start .args .counts .phase) (omega arith) (start .pre .1 .1 .0)))
 
 same-length : tie.Need-same-length
 same-length c = search needs
@@ -60,7 +65,8 @@ returns-3 c =
       λ d k e h.
           turned-of (start .args .text .now) (start .args .body) d
           (readBody k (rest (start .args .text .now) (start .args .body)))
-          (ended arityLine (numbers (rest (start .args .text .now) (start .args .body)))) (start .args .table .now) (line .result) (line .last .1 .0)
+          (ended arityLine (numbers (rest (start .args .text .now) (start .args .body)))) (start .args .table .now)
+          (line .result) (line .last .1 .0)
           (arity-body k (rest (start .args .text .now) (start .args .body)) (omega arith))
           (line .ensures .1 d h),
     )
@@ -68,11 +74,4 @@ returns-3 c =
 pub head-turn-spec : {M : Type 1} → statement M
 head-turn-spec =
     tie.close
-    (tie.spec
-    task-line-requires
-    returns
-    objects-line-requires
-    returns-2
-    arity-line-requires
-    same-length
-    returns-3)
+    (tie.spec task-line-requires returns objects-line-requires returns-2 arity-line-requires same-length returns-3)

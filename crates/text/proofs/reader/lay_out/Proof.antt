@@ -1,17 +1,14 @@
-use Prim.Native.Nat.{ℕ, suc, _+_, _-_, _*_, _≤_, _<_}
-use mathlib.Core.Path.{_≡_, refl, sym, _∙_, ap}
+-- `reader::lay_out`: the rows, the zeros behind them and the counts are written one after the other. Each write leaves
+-- what stands outside its place, so in the end the words are those of the task.
+use Rattle.text.proofs.reader.lay_out.Tie as tie
+use Prim.Native.Nat.{_-_}
+use mathlib.Core.Path.{_∙_}
 use native.Mathlib.Omega.{arith}
 use borrow.Author.Needs.{needs}
 use Rattle.task.proofs.Tables.{tableWords-is}
 use Rattle.text.proofs.RowTests.{six-words}
 use Rattle.text.proofs.LaidOut.{laid-out}
 use Rattle.text.proofs.reader.lay_out.Statement.{statement}
-use Rattle.text.proofs.reader.lay_out.Tie as tie
-use Rattle.text.proofs.reader.lay_out.Reads as reads
-use Rattle.text.proofs.reader.lay_out.Lts as lts
-use Rattle.text.proofs.words.clear.Reads as clear-reads
-use Rattle.text.proofs.words.move_down.Reads as move-down-reads
-use Rattle.text.proofs.words.put_words.Reads as put-words-reads
 
 add-to : tie.Need-add-to
 add-to c = search needs
@@ -175,26 +172,6 @@ returns c =
 pub lay-out-spec : {M : Type 1} → statement M
 lay-out-spec =
     tie.close
-    (tie.spec
-    add-to
-    add-to-2
-    add-n
-    add-n-2
-    add-n-3
-    mul-n
-    add-move-down
-    move-down-requires
-    add-clear
-    add-clear-2
-    sub-clear
-    clear-requires
-    cast-t14
-    cast-t15
-    cast-t16
-    cast-t17
-    cast-t18
-    cast-t19
-    slice-aggregate-put-words
-    put-words-requires
-    same-length
-    returns)
+    (tie.spec add-to add-to-2 add-n add-n-2 add-n-3 mul-n add-move-down move-down-requires add-clear add-clear-2
+    sub-clear clear-requires cast-t14 cast-t15 cast-t16 cast-t17 cast-t18 cast-t19 slice-aggregate-put-words
+    put-words-requires same-length returns)

@@ -1,14 +1,12 @@
-use Prim.Native.Nat.{ℕ, suc, _+_, _-_, _*_, _≤_, _<_}
-use mathlib.Core.Path.{_≡_, refl, sym, _∙_, ap}
+-- `reader::refused`: all words of the table are cleared.
+use Rattle.text.proofs.reader.refused.Tie as tie
+use Prim.Native.Nat.{_-_}
+use mathlib.Core.Path.{refl, sym}
 use native.Mathlib.Omega.{arith}
 use borrow.Author.Needs.{needs}
 use Rattle.task.proofs.Tables.{tableWords-is}
 use Rattle.text.proofs.WroteWords.{wrote-all}
 use Rattle.text.proofs.reader.refused.Statement.{statement}
-use Rattle.text.proofs.reader.refused.Tie as tie
-use Rattle.text.proofs.reader.refused.Reads as reads
-use Rattle.text.proofs.reader.refused.Lts as lts
-use Rattle.text.proofs.words.clear.Reads as clear-reads
 
 clear-requires : tie.Need-clear-requires
 clear-requires c κs = let z = tableWords-is in let l = c .before .before .pre in omega arith

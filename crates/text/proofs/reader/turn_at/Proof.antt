@@ -1,24 +1,18 @@
-use Prim.Native.Nat.{ℕ, suc, _+_, _-_, _*_, _≤_, _<_}
-use mathlib.Core.Path.{_≡_, refl, sym, _∙_, ap}
-use native.Mathlib.Omega.{arith}
+-- `reader::turn_at`: where no key stands, or one that the order doesn't allow here, there is no line, which is 3; else
+-- the turn at the body of the key is the turn at the line.
+use Rattle.text.proofs.reader.turn_at.Tie as tie
+use Prim.Native.Nat.{_-_}
+use mathlib.Core.Path.{sym, _∙_, subst, ap₂}
 use borrow.Author.Needs.{needs}
-use mathlib.Core.Path.{subst, ap₂}
-use mathlib.Core.Bool.{true, false}
 use borrow.Author.Tests.{not-true, not-false}
 use Rattle.text.specs.Text.{nextLine, readBody}
-use Rattle.text.specs.ReadCode.{rest, KeyAt, keyNumber, phaseNumber}
+use Rattle.text.specs.ReadCode.{rest, KeyAt, mayStand}
 use Rattle.text.proofs.HeldAtoms.{untouched}
 use Rattle.text.proofs.LineTurns.{none-refused}
 use Rattle.text.proofs.WholeLines.{moved-placed}
-use Rattle.text.proofs.KeyLines.{mayStand, next-missing, next-refused, next-allowed}
+use Rattle.text.proofs.KeyLines.{next-missing, next-refused, next-allowed}
 use Rattle.text.proofs.Dispatch.{turned-at}
 use Rattle.text.proofs.reader.turn_at.Statement.{statement}
-use Rattle.text.proofs.reader.turn_at.Tie as tie
-use Rattle.text.proofs.reader.turn_at.Reads as reads
-use Rattle.text.proofs.reader.turn_at.Lts as lts
-use Rattle.text.proofs.keys.allowed.Reads as allowed-reads
-use Rattle.text.proofs.keys.key_at.Reads as key-at-reads
-use Rattle.text.proofs.reader.body_turn.Reads as body-turn-reads
 
 key-at-requires : tie.Need-key-at-requires
 key-at-requires c κs = search needs
@@ -45,7 +39,8 @@ returns-2 c =
     let key = subst (KeyAt _ _) (at .key .given .1) (at .before .before .key-at .ensures) in (
       untouched _,
       λ d h. none-refused d _ (next-refused d _ (key .key) _ (key .is)
-          (ap₂ mayStand (sym (h .phase)) (key .numbered) ∙ (sym (c .before .allowed .ensures) ∙ not-true _ (c .if1 .taken)))),
+          (ap₂ mayStand (sym (h .phase)) (key .numbered) ∙ (sym (c .before .allowed .ensures) ∙ not-true _
+          (c .if1 .taken)))),
     )
 
 body-turn-requires : tie.Need-body-turn-requires
@@ -73,23 +68,18 @@ returns-3 c =
     let body = at .key .given .0 .1 .0 in (
       done .ensures .0,
       λ d h.
-          turned-at bs (start .args .from) body d (nextLine d (rest bs (start .args .from))) (readBody (key .key) (rest bs body))
+          turned-at bs (start .args .from) body d (nextLine d (rest bs (start .args .from)))
+          (readBody (key .key) (rest bs body))
           (start .args .table .now) (done .result) (done .last .1 .0) (key .moved)
           (next-allowed d _ (key .key) _ (key .is)
-          (ap₂ mayStand (sym (h .phase)) (key .numbered) ∙ (sym (c .before .before .before .before .before .allowed .ensures) ∙ not-false _ (c .before .before .before .before .if1 .left))))
+          (ap₂ mayStand (sym (h .phase)) (key .numbered) ∙
+          (sym (c .before .before .before .before .before .allowed .ensures) ∙ not-false _
+          (c .before .before .before .before .if1 .left))))
           (done .ensures .1 d (key .key) (key .numbered) h),
     )
 
 pub turn-at-spec : {M : Type 1} → statement M
 turn-at-spec =
     tie.close
-    (tie.spec
-    key-at-requires
-    enum-known-key
-    enum-told
-    returns
-    allowed-requires
-    returns-2
-    body-turn-requires
-    same-length
+    (tie.spec key-at-requires enum-known-key enum-told returns allowed-requires returns-2 body-turn-requires same-length
     returns-3)

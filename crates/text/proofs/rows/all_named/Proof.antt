@@ -1,18 +1,14 @@
-use Prim.Native.Nat.{ℕ, suc, _+_, _-_, _*_, _≤_, _<_}
-use mathlib.Core.Path.{_≡_, refl, sym, _∙_, ap}
+use Prim.Native.Nat.{ℕ, _+_, _-_, _*_, _≤_, _<_}
+use mathlib.Core.Path.{_≡_, sym, _∙_}
 use native.Mathlib.Omega.{arith}
 use mathlib.Core.Bool.{true}
-use borrow.Author.Needs.{needs}
 use borrow.Author.Tests.{not-true, not-false}
 use borrow.Author.Count.{below-more}
-use Rattle.task.specs.Lists.{any, upTo}
+use Rattle.words.specs.Lists.{any, upTo}
 use Rattle.text.specs.ReadCode.{rowNames}
-use Rattle.text.proofs.WordTests.{all-up-to, not-all-up-to}
+use Rattle.words.proofs.Searches.{all-up-to, not-all-up-to}
 use Rattle.text.proofs.rows.all_named.Statement.{statement}
 use Rattle.text.proofs.rows.all_named.Tie as tie
-use Rattle.text.proofs.rows.all_named.Reads as reads
-use Rattle.text.proofs.rows.all_named.Lts as lts
-use Rattle.text.proofs.rows.named.Reads as named-reads
 
 abbrev Inv-loop : tie.InvT-loop
 Inv-loop table first n params x₀ x = (x ≤ params) × ((y : ℕ) → y < x → any (λ i. rowNames table (first + 8 * i) y) (upTo n) ≡ true)
@@ -54,13 +50,4 @@ returns-2 c =
 pub all-named-spec : {M : Type 1} → statement M
 all-named-spec =
     tie.close
-    (tie.spec
-    Inv-loop
-    μ-loop
-    loop-holds
-    named-requires
-    returns
-    add-x
-    loop-less
-    loop-again
-    returns-2)
+    (tie.spec Inv-loop μ-loop loop-holds named-requires returns add-x loop-less loop-again returns-2)

@@ -1,13 +1,9 @@
-use Prim.Native.Nat.{ℕ, suc, _+_, _-_, _*_, _≤_, _<_}
-use mathlib.Core.Path.{_≡_, refl, sym, _∙_, ap}
+use Prim.Native.Nat.{_+_, _-_}
 use native.Mathlib.Omega.{arith}
 use borrow.Author.Needs.{needs}
 use Rattle.text.proofs.RowTests.{unknown-predicate, too-many, other-arity, right-count}
 use Rattle.text.proofs.rows.fits.Statement.{statement}
 use Rattle.text.proofs.rows.fits.Tie as tie
-use Rattle.text.proofs.rows.fits.Reads as reads
-use Rattle.text.proofs.rows.fits.Lts as lts
-use Rattle.text.proofs.checks.all_below.Reads as all-below-reads
 
 returns : tie.Need-returns
 returns c = unknown-predicate _ _ _ _ _ _ (c .if1 .taken)
@@ -39,13 +35,4 @@ returns-4 c = right-count _ _ _ _ _ _ (omega arith) (omega arith) (c .before .if
 pub fits-spec : {M : Type 1} → statement M
 fits-spec =
     tie.close
-    (tie.spec
-    returns
-    returns-2
-    add-if3
-    mul-if3
-    shared-slice-read-if3
-    cast-if3
-    returns-3
-    all-below-requires
-    returns-4)
+    (tie.spec returns returns-2 add-if3 mul-if3 shared-slice-read-if3 cast-if3 returns-3 all-below-requires returns-4)

@@ -1,16 +1,12 @@
-use Prim.Native.Nat.{ℕ, suc, _+_, _-_, _*_, _≤_, _<_}
-use mathlib.Core.Path.{_≡_, refl, sym, _∙_, ap}
+use Prim.Native.Nat.{ℕ, _+_, _-_, _*_, _≤_, _<_}
+use mathlib.Core.Path.{_≡_, sym, _∙_}
 use native.Mathlib.Omega.{arith}
 use mathlib.Core.Bool.{false}
-use borrow.Author.Needs.{needs}
 use borrow.Author.Count.{below-more}
-use Rattle.text.specs.ReadCode.{RowIn, rowNames, rowSame}
-use Rattle.text.proofs.WordTests.{some-up-to, none-up-to}
+use Rattle.text.specs.ReadCode.{rowNames}
+use Rattle.words.proofs.Searches.{some-up-to, none-up-to}
 use Rattle.text.proofs.rows.named.Statement.{statement}
 use Rattle.text.proofs.rows.named.Tie as tie
-use Rattle.text.proofs.rows.named.Reads as reads
-use Rattle.text.proofs.rows.named.Lts as lts
-use Rattle.text.proofs.rows.names.Reads as names-reads
 
 abbrev Inv-loop : tie.InvT-loop
 Inv-loop table first n parameter i₀ i = (i ≤ n) × ((j : ℕ) → j < i → rowNames table (first + 8 * j) parameter ≡ false)
@@ -57,15 +53,5 @@ returns-2 c =
 pub named-spec : {M : Type 1} → statement M
 named-spec =
     tie.close
-    (tie.spec
-    Inv-loop
-    μ-loop
-    loop-holds
-    mul-names
-    add-names
-    names-requires
-    returns
-    add-i
-    loop-less
-    loop-again
+    (tie.spec Inv-loop μ-loop loop-holds mul-names add-names names-requires returns add-i loop-less loop-again
     returns-2)

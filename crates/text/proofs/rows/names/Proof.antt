@@ -1,13 +1,8 @@
-use Prim.Native.Nat.{ℕ, suc, _+_, _-_, _*_, _≤_, _<_}
-use mathlib.Core.Path.{_≡_, refl, sym, _∙_, ap}
-use native.Mathlib.Omega.{arith}
+use Prim.Native.Nat.{_-_}
 use borrow.Author.Needs.{needs}
 use Rattle.text.specs.ReadCode.{rowNames}
 use Rattle.text.proofs.rows.names.Statement.{statement}
 use Rattle.text.proofs.rows.names.Tie as tie
-use Rattle.text.proofs.rows.names.Reads as reads
-use Rattle.text.proofs.rows.names.Lts as lts
-use Rattle.text.proofs.words.has_word.Reads as has-word-reads
 
 add-predicate : tie.Need-add-predicate
 add-predicate c = search needs
@@ -46,15 +41,5 @@ returns c = c .has-word .ensures
 pub names-spec : {M : Type 1} → statement M
 names-spec =
     tie.close
-    (tie.spec
-    add-predicate
-    mul-predicate
-    shared-slice-read-predicate
-    cast-predicate
-    add-arity
-    mul-arity
-    shared-slice-read-arity
-    cast-arity
-    add-has-word
-    has-word-requires
-    returns)
+    (tie.spec add-predicate mul-predicate shared-slice-read-predicate cast-predicate add-arity mul-arity
+    shared-slice-read-arity cast-arity add-has-word has-word-requires returns)

@@ -1,13 +1,9 @@
-use Prim.Native.Nat.{ℕ, suc, _+_, _-_, _*_, _≤_, _<_}
-use mathlib.Core.Path.{_≡_, refl, sym, _∙_, ap}
+use Prim.Native.Nat.{_-_, _≤_}
 use native.Mathlib.Omega.{arith}
-use lib.ListN.{length, getD, length-set}
 use Rattle.text.specs.ReadCode.{PartsPut}
 use Rattle.text.proofs.RowTests.{no-part-put, part-put, parts-all}
 use Rattle.text.proofs.rows.put_parts.Statement.{statement}
 use Rattle.text.proofs.rows.put_parts.Tie as tie
-use Rattle.text.proofs.rows.put_parts.Reads as reads
-use Rattle.text.proofs.rows.put_parts.Lts as lts
 
 abbrev Inv-loop : tie.InvT-loop
 Inv-loop table₀ first parts n k₀ table k = (k ≤ n) × PartsPut table₀ first k parts table
@@ -60,20 +56,5 @@ returns c = parts-all (omega arith) (c .before .loop .inv .1)
 pub put-parts-spec : {M : Type 1} → statement M
 put-parts-spec =
     tie.close
-    (tie.spec
-    Inv-loop
-    μ-loop
-    loop-holds
-    mul-table
-    shared-slice-read-table
-    cast-table
-    mul-table-2
-    add-table
-    add-table-2
-    mul-table-3
-    slice-write-table
-    add-k
-    loop-less
-    loop-again
-    same-length
-    returns)
+    (tie.spec Inv-loop μ-loop loop-holds mul-table shared-slice-read-table cast-table mul-table-2 add-table add-table-2
+    mul-table-3 slice-write-table add-k loop-less loop-again same-length returns)

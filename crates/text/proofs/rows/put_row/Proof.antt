@@ -1,19 +1,14 @@
-use Prim.Native.Nat.{ℕ, suc, _+_, _-_, _*_, _≤_, _<_}
-use mathlib.Core.Path.{_≡_, refl, sym, _∙_, ap}
+use Prim.Native.Nat.{ℕ, _-_}
 use native.Mathlib.Omega.{arith}
 use borrow.Author.Needs.{needs}
 use mathlib.Core.Path.{subst}
 use mathlib.Core.List.{List}
-use lib.ListN.{getD, take, length}
+use lib.ListN.{getD, take}
 use lib.Seq.{length-take-le}
 use Rattle.text.specs.ReadCode.{Wrote}
 use Rattle.text.proofs.RowTests.{small-taken, eight-words, row-words}
 use Rattle.text.proofs.rows.put_row.Statement.{statement}
 use Rattle.text.proofs.rows.put_row.Tie as tie
-use Rattle.text.proofs.rows.put_row.Reads as reads
-use Rattle.text.proofs.rows.put_row.Lts as lts
-use Rattle.text.proofs.checks.number_or_zero.Reads as number-or-zero-reads
-use Rattle.text.proofs.words.put_words.Reads as put-words-reads
 
 number-or-zero-requires : tie.Need-number-or-zero-requires
 number-or-zero-requires c κs = search needs
@@ -63,12 +58,5 @@ returns c =
 pub put-row-spec : {M : Type 1} → statement M
 put-row-spec =
     tie.close
-    (tie.spec
-    number-or-zero-requires
-    number-or-zero-requires-2
-    number-or-zero-requires-3
-    number-or-zero-requires-4
-    slice-aggregate-put-words
-    put-words-requires
-    same-length
-    returns)
+    (tie.spec number-or-zero-requires number-or-zero-requires-2 number-or-zero-requires-3 number-or-zero-requires-4
+    slice-aggregate-put-words put-words-requires same-length returns)

@@ -1,16 +1,12 @@
-use Prim.Native.Nat.{ℕ, suc, _+_, _-_, _*_, _≤_, _<_}
-use mathlib.Core.Path.{_≡_, refl, sym, _∙_, ap}
+use Prim.Native.Nat.{ℕ, _+_, _-_, _*_, _≤_, _<_}
+use mathlib.Core.Path.{_≡_, sym, _∙_}
 use native.Mathlib.Omega.{arith}
 use mathlib.Core.Bool.{false}
-use borrow.Author.Needs.{needs}
 use borrow.Author.Count.{below-more}
-use Rattle.text.specs.ReadCode.{RowIn, rowNames, rowSame}
-use Rattle.text.proofs.WordTests.{some-up-to, none-up-to}
+use Rattle.text.specs.ReadCode.{rowSame}
+use Rattle.words.proofs.Searches.{some-up-to, none-up-to}
 use Rattle.text.proofs.rows.repeated.Statement.{statement}
 use Rattle.text.proofs.rows.repeated.Tie as tie
-use Rattle.text.proofs.rows.repeated.Reads as reads
-use Rattle.text.proofs.rows.repeated.Lts as lts
-use Rattle.text.proofs.rows.same_atom.Reads as same-atom-reads
 
 abbrev Inv-loop : tie.InvT-loop
 Inv-loop table row first n i₀ i = (i ≤ n) × ((j : ℕ) → j < i → rowSame table row (first + 8 * j) ≡ false)
@@ -57,15 +53,5 @@ returns-2 c =
 pub repeated-spec : {M : Type 1} → statement M
 repeated-spec =
     tie.close
-    (tie.spec
-    Inv-loop
-    μ-loop
-    loop-holds
-    mul-same-atom
-    add-same-atom
-    same-atom-requires
-    returns
-    add-i
-    loop-less
-    loop-again
-    returns-2)
+    (tie.spec Inv-loop μ-loop loop-holds mul-same-atom add-same-atom same-atom-requires returns add-i loop-less
+    loop-again returns-2)

@@ -1,15 +1,10 @@
-use Prim.Native.Nat.{ℕ, suc, _+_, _-_, _*_, _≤_, _<_}
-use mathlib.Core.Path.{_≡_, refl, sym, _∙_, ap}
-use native.Mathlib.Omega.{arith}
+use Prim.Native.Nat.{_-_}
+use mathlib.Core.Path.{refl, sym, _∙_}
 use borrow.Author.Needs.{needs}
-use mathlib.Core.Bool.{Bool, _&&_}
 use borrow.Author.Tests.{not-true, not-false}
 use Rattle.text.specs.ReadCode.{rowSame}
 use Rattle.text.proofs.rows.same_atom.Statement.{statement}
 use Rattle.text.proofs.rows.same_atom.Tie as tie
-use Rattle.text.proofs.rows.same_atom.Reads as reads
-use Rattle.text.proofs.rows.same_atom.Lts as lts
-use Rattle.text.proofs.words.same_words.Reads as same-words-reads
 
 add-same-words : tie.Need-add-same-words
 add-same-words c = search needs
@@ -40,12 +35,5 @@ returns-2 c = c .same-words2 .ensures ∙ sym (rw (sym (c .before .before .same-
 pub same-atom-spec : {M : Type 1} → statement M
 same-atom-spec =
     tie.close
-    (tie.spec
-    add-same-words
-    add-same-words-2
-    same-words-requires
-    returns
-    add-same-words-3
-    add-same-words-4
-    same-words-requires-2
-    returns-2)
+    (tie.spec add-same-words add-same-words-2 same-words-requires returns add-same-words-3 add-same-words-4
+    same-words-requires-2 returns-2)

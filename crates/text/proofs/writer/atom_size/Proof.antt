@@ -129,24 +129,6 @@ returns c =
 pub atom-size-spec : {M : Type 1} → statement M
 atom-size-spec =
     tie.close
-    (tie.spec
-    add-predicate
-    mul-predicate
-    shared-slice-read-predicate
-    wide-requires
-    add-wide
-    mul-wide
-    shared-slice-read-wide
-    wide-requires-2
-    add-key-size
-    mul-key-size
-    shared-slice-read-key-size
-    key-size-requires
-    number-size-requires
-    add-result
-    add-result-2
-    add-list-size
-    list-size-requires
-    add-result-3
-    add-result-4
-    returns)
+    (tie.spec add-predicate mul-predicate shared-slice-read-predicate wide-requires add-wide mul-wide
+    shared-slice-read-wide wide-requires-2 add-key-size mul-key-size shared-slice-read-key-size key-size-requires
+    number-size-requires add-result add-result-2 add-list-size list-size-requires add-result-3 add-result-4 returns)

@@ -69,17 +69,5 @@ returns-2 c =
 pub atoms-of-spec : {M : Type 1} → statement M
 atoms-of-spec =
     tie.close
-    (tie.spec
-    Inv-loop
-    μ-loop
-    loop-holds
-    mul-wide
-    add-wide
-    mul-wide-2
-    shared-slice-read-wide
-    wide-requires
-    returns
-    add-n
-    loop-less
-    loop-again
-    returns-2)
+    (tie.spec Inv-loop μ-loop loop-holds mul-wide add-wide mul-wide-2 shared-slice-read-wide wide-requires returns add-n
+    loop-less loop-again returns-2)

@@ -73,15 +73,5 @@ returns c =
 pub atoms-size-spec : {M : Type 1} → statement M
 atoms-size-spec =
     tie.close
-    (tie.spec
-    Inv-loop
-    μ-loop
-    loop-holds
-    mul-atom-size
-    add-atom-size
-    atom-size-requires
-    add-size
-    add-k
-    loop-less
-    loop-again
-    returns)
+    (tie.spec Inv-loop μ-loop loop-holds mul-atom-size add-atom-size atom-size-requires add-size add-k loop-less
+    loop-again returns)

@@ -55,12 +55,4 @@ returns c =
 pub facts-base-spec : {M : Type 1} → statement M
 facts-base-spec =
     tie.close
-    (tie.spec
-    count-requires
-    add-result
-    count-requires-2
-    add-result-2
-    count-requires-3
-    mul-result
-    add-result-3
-    returns)
+    (tie.spec count-requires add-result count-requires-2 add-result-2 count-requires-3 mul-result add-result-3 returns)

@@ -76,15 +76,5 @@ returns c = let l = sizes (c .before) in omega arith
 pub head-size-spec : {M : Type 1} → statement M
 head-size-spec =
     tie.close
-    (tie.spec
-    count-requires
-    list-size-requires
-    add-result
-    shared-slice-read-number-size
-    number-size-requires
-    add-result-2
-    add-result-3
-    add-result-4
-    add-result-5
-    add-result-6
-    returns)
+    (tie.spec count-requires list-size-requires add-result shared-slice-read-number-size number-size-requires
+    add-result-2 add-result-3 add-result-4 add-result-5 add-result-6 returns)

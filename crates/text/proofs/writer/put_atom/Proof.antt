@@ -8,8 +8,7 @@ use lib.ListN.{length, getD}
 use Rattle.task.specs.Table.{arityIn}
 use Rattle.text.specs.Lines.{colon, newline, digits, commaed}
 use Rattle.text.specs.Code.{spaced, keyBytes}
-use Rattle.text.proofs.Puts.{puts-same, Going, first-room, going-start, going-room, going-on, going-last}
-use Rattle.text.proofs.Puts.{byte-room}
+use Rattle.words.proofs.Puts.{puts-same, Going, first-room, going-start, going-room, going-on, going-last, byte-room}
 use Rattle.text.proofs.AtomLines.{argsAt, atomText-is, args-inside}
 use borrow.Author.Needs.{needs}
 use Rattle.text.proofs.writer.put_atom.Statement.{statement}
@@ -162,23 +161,6 @@ returns c =
 pub put-atom-spec : {M : Type 1} → statement M
 put-atom-spec =
     tie.close
-    (tie.spec
-    add-predicate
-    mul-predicate
-    shared-slice-read-predicate
-    wide-requires
-    add-wide
-    mul-wide
-    shared-slice-read-wide
-    wide-requires-2
-    add-put-key
-    mul-put-key
-    shared-slice-read-put-key
-    put-key-requires
-    put-number-requires
-    put-byte-requires
-    add-put-list
-    put-list-requires
-    put-byte-requires-2
-    same-length
-    returns)
+    (tie.spec add-predicate mul-predicate shared-slice-read-predicate wide-requires add-wide mul-wide
+    shared-slice-read-wide wide-requires-2 add-put-key mul-put-key shared-slice-read-put-key put-key-requires
+    put-number-requires put-byte-requires add-put-list put-list-requires put-byte-requires-2 same-length returns)

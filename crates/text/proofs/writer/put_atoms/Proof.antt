@@ -5,7 +5,7 @@ use Prim.Native.Nat.{_+_, _-_, _*_, _≤_}
 use mathlib.Core.Path.{sym}
 use mathlib.Core.List.{_++_}
 use Rattle.text.specs.Code.{AtomInside, atomsText}
-use Rattle.text.proofs.Puts.{Going, going-start, going-long, going-left, going-room, going-on, going-end}
+use Rattle.words.proofs.Puts.{Going, going-start, going-long, going-left, going-room, going-on, going-end}
 use Rattle.text.proofs.Onwards.{onwards, onwards-next, onwards-none}
 use Rattle.text.proofs.AtomLines.{atomLine, atoms-onwards}
 use Rattle.text.proofs.writer.put_atoms.Statement.{statement}
@@ -85,15 +85,5 @@ returns c =
 pub put-atoms-spec : {M : Type 1} → statement M
 put-atoms-spec =
     tie.close
-    (tie.spec
-    Inv-loop
-    μ-loop
-    loop-holds
-    mul-put-atom
-    add-put-atom
-    put-atom-requires
-    add-k
-    loop-less
-    loop-again
-    same-length
-    returns)
+    (tie.spec Inv-loop μ-loop loop-holds mul-put-atom add-put-atom put-atom-requires add-k loop-less loop-again
+    same-length returns)

@@ -7,8 +7,7 @@ use mathlib.Core.List.{List, [], _∷_, _++_}
 use lib.ListN.{length, getD}
 use Rattle.text.specs.Lines.{bytes, newline, digits, commaed, line}
 use Rattle.text.specs.Code.{spaced, headText}
-use Rattle.text.proofs.Puts.{Going, puts-same, going-start, going-left, going-room, going-on, last-room}
-use Rattle.text.proofs.Puts.{going-last}
+use Rattle.words.proofs.Puts.{Going, puts-same, going-start, going-left, going-room, going-on, last-room, going-last}
 use Rattle.text.proofs.SchemaTurns.{head-inside}
 use Rattle.text.proofs.WholeText.{arityBytes, taskBytes, head-parts, arities-inside}
 use borrow.Author.Needs.{needs}
@@ -110,14 +109,6 @@ returns c =
 pub put-head-spec : {M : Type 1} → statement M
 put-head-spec =
     tie.close
-    (tie.spec
-    count-requires
-    slice-aggregate-put-bytes
-    put-bytes-requires
-    slice-aggregate-put-number-line
-    shared-slice-read-put-number-line
-    put-number-line-requires
-    slice-aggregate-put-list-line
-    put-list-line-requires
-    same-length
-    returns)
+    (tie.spec count-requires slice-aggregate-put-bytes put-bytes-requires slice-aggregate-put-number-line
+    shared-slice-read-put-number-line put-number-line-requires slice-aggregate-put-list-line put-list-line-requires
+    same-length returns)

@@ -5,7 +5,7 @@ use mathlib.Core.Path.{_≡_, sym, ap}
 use lib.ListN.{length}
 use Rattle.text.specs.Code.{keyBytes}
 use Rattle.text.proofs.AtomLines.{key-other}
-use Rattle.text.proofs.Puts.{puts-same}
+use Rattle.words.proofs.Puts.{puts-same}
 use borrow.Author.Needs.{needs}
 use Rattle.text.proofs.writer.put_key.Statement.{statement}
 use Rattle.text.proofs.writer.put_key.Tie as tie
@@ -117,24 +117,7 @@ returns-5 c =
 pub put-key-spec : {M : Type 1} → statement M
 put-key-spec =
     tie.close
-    (tie.spec
-    slice-aggregate-put-bytes
-    put-bytes-requires
-    slice-aggregate-put-bytes-2
-    put-bytes-requires-2
-    slice-aggregate-put-bytes-3
-    put-bytes-requires-3
-    slice-aggregate-put-bytes-4
-    put-bytes-requires-4
-    slice-aggregate-put-bytes-5
-    put-bytes-requires-5
-    same-length
-    returns
-    same-length-2
-    returns-2
-    same-length-3
-    returns-3
-    same-length-4
-    returns-4
-    same-length-5
-    returns-5)
+    (tie.spec slice-aggregate-put-bytes put-bytes-requires slice-aggregate-put-bytes-2 put-bytes-requires-2
+    slice-aggregate-put-bytes-3 put-bytes-requires-3 slice-aggregate-put-bytes-4 put-bytes-requires-4
+    slice-aggregate-put-bytes-5 put-bytes-requires-5 same-length returns same-length-2 returns-2 same-length-3 returns-3
+    same-length-4 returns-4 same-length-5 returns-5)

@@ -5,7 +5,7 @@ use Prim.Native.Nat.{ℕ, _+_}
 use mathlib.Core.List.{List, _++_}
 use Rattle.text.specs.Lines.{bytes, digits, line}
 use Rattle.text.specs.Code.{atomsText, schemaText}
-use Rattle.text.proofs.Puts.{Going, going-start, going-left, going-room, going-on, last-room, going-last}
+use Rattle.words.proofs.Puts.{Going, going-start, going-left, going-room, going-on, last-room, going-last}
 use Rattle.text.proofs.SchemaLines.{partsAt, schemaText-is, parts-inside}
 use borrow.Author.Needs.{needs}
 use Rattle.text.proofs.writer.put_schema.Statement.{statement}
@@ -87,12 +87,5 @@ returns c =
 pub put-schema-spec : {M : Type 1} → statement M
 put-schema-spec =
     tie.close
-    (tie.spec
-    slice-aggregate-put-number-line
-    put-number-line-requires
-    put-atoms-requires
-    slice-aggregate-put-list-line
-    add-put-list-line
-    put-list-line-requires
-    same-length
-    returns)
+    (tie.spec slice-aggregate-put-number-line put-number-line-requires put-atoms-requires slice-aggregate-put-list-line
+    add-put-list-line put-list-line-requires same-length returns)

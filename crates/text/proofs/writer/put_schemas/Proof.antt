@@ -7,9 +7,9 @@ use mathlib.Core.List.{List, _++_}
 use lib.ListN.{getD}
 use Rattle.text.specs.Code.{schemaText, schemasText}
 use Rattle.text.proofs.TableText.{schemaLinesIn, schemas-onwards}
-use Rattle.text.proofs.SchemaTurns.{content-inside, Turn, turn-first, read-inside, count-inside}
-use Rattle.text.proofs.SchemaTurns.{run-inside, atoms-inside, turn-lines, turn-next}
-use Rattle.text.proofs.Puts.{Going, going-start, going-long, going-left, going-room, going-on, going-end}
+use Rattle.text.proofs.SchemaTurns.{content-inside, Turn, turn-first, read-inside, count-inside, run-inside}
+use Rattle.text.proofs.SchemaTurns.{atoms-inside, turn-lines, turn-next}
+use Rattle.words.proofs.Puts.{Going, going-start, going-long, going-left, going-room, going-on, going-end}
 use Rattle.text.proofs.Onwards.{onwards, onwards-next, onwards-none}
 use Rattle.text.proofs.writer.put_schemas.Statement.{statement}
 use Rattle.text.proofs.writer.put_schemas.Tie as tie
@@ -176,25 +176,6 @@ returns c =
 pub put-schemas-spec : {M : Type 1} → statement M
 put-schemas-spec =
     tie.close
-    (tie.spec
-    Inv-loop
-    μ-loop
-    count-requires
-    count-requires-2
-    add-counts
-    add-base
-    count-requires-3
-    loop-holds
-    atoms-of-requires
-    add-put-schema
-    mul-put-schema
-    shared-slice-read-put-schema
-    put-schema-requires
-    mul-base
-    add-base-2
-    sub-left
-    add-s
-    loop-less
-    loop-again
-    same-length
-    returns)
+    (tie.spec Inv-loop μ-loop count-requires count-requires-2 add-counts add-base count-requires-3 loop-holds
+    atoms-of-requires add-put-schema mul-put-schema shared-slice-read-put-schema put-schema-requires mul-base add-base-2
+    sub-left add-s loop-less loop-again same-length returns)

@@ -8,8 +8,7 @@ use lib.ListN.{length}
 use Rattle.task.specs.Table.{taskOf}
 use Rattle.text.specs.Text.{write}
 use Rattle.text.specs.Code.{atomsText, headText, schemasText}
-use Rattle.text.proofs.Puts.{puts-same, Going, going-start, going-left, going-room, going-on, last-room}
-use Rattle.text.proofs.Puts.{going-last}
+use Rattle.words.proofs.Puts.{puts-same, Going, going-start, going-left, going-room, going-on, last-room, going-last}
 use Rattle.text.proofs.WholeText.{endBytes, factsText, write-by-words, facts-inside}
 use borrow.Author.Needs.{needs}
 use Rattle.text.proofs.writer.put_text.Statement.{statement}
@@ -108,13 +107,5 @@ returns c =
 pub put-text-spec : {M : Type 1} → statement M
 put-text-spec =
     tie.close
-    (tie.spec
-    facts-base-requires
-    fact-count-requires
-    put-head-requires
-    put-schemas-requires
-    put-atoms-requires
-    slice-aggregate-put-bytes
-    put-bytes-requires
-    same-length
-    returns)
+    (tie.spec facts-base-requires fact-count-requires put-head-requires put-schemas-requires put-atoms-requires
+    slice-aggregate-put-bytes put-bytes-requires same-length returns)

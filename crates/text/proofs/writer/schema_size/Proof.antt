@@ -58,15 +58,5 @@ returns c = let l = whole (c .before .before .before .before .before .before) in
 pub schema-size-spec : {M : Type 1} → statement M
 schema-size-spec =
     tie.close
-    (tie.spec
-    atoms-size-requires
-    add-list-size
-    list-size-requires
-    number-size-requires
-    add-result
-    add-result-2
-    add-result-3
-    add-result-4
-    add-result-5
-    add-result-6
-    returns)
+    (tie.spec atoms-size-requires add-list-size list-size-requires number-size-requires add-result add-result-2
+    add-result-3 add-result-4 add-result-5 add-result-6 returns)

@@ -163,25 +163,6 @@ returns c =
 pub schemas-size-spec : {M : Type 1} → statement M
 schemas-size-spec =
     tie.close
-    (tie.spec
-    Inv-loop
-    μ-loop
-    count-requires
-    count-requires-2
-    add-counts
-    add-base
-    count-requires-3
-    loop-holds
-    atoms-of-requires
-    add-schema-size
-    mul-schema-size
-    shared-slice-read-schema-size
-    schema-size-requires
-    add-size
-    mul-base
-    add-base-2
-    sub-left
-    add-s
-    loop-less
-    loop-again
-    returns)
+    (tie.spec Inv-loop μ-loop count-requires count-requires-2 add-counts add-base count-requires-3 loop-holds
+    atoms-of-requires add-schema-size mul-schema-size shared-slice-read-schema-size schema-size-requires add-size
+    mul-base add-base-2 sub-left add-s loop-less loop-again returns)

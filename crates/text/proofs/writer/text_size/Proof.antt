@@ -68,13 +68,5 @@ returns c = let l = sizes (c .before) in omega arith
 pub text-size-spec : {M : Type 1} → statement M
 text-size-spec =
     tie.close
-    (tie.spec
-    facts-base-requires
-    fact-count-requires
-    atoms-size-requires
-    head-size-requires
-    schemas-size-requires
-    add-result
-    add-result-2
-    add-result-3
-    returns)
+    (tie.spec facts-base-requires fact-count-requires atoms-size-requires head-size-requires schemas-size-requires
+    add-result add-result-2 add-result-3 returns)

@@ -1,5 +1,6 @@
 -- `text::writer::write_task` meets its contract: without room it refuses and stores nothing; with room it puts the text
 -- at the front, which lies over what was lent.
+use Rattle.text.proofs.writer.write_task.Tie as tie
 use native.Mathlib.Omega.{arith}
 use Prim.Native.Nat.{ℕ}
 use mathlib.Core.Path.{_≡_, sym, _∙_, ap}
@@ -8,15 +9,15 @@ use mathlib.Core.List.{[], _∷_}
 use lib.ListN.{length}
 use lib.Dec.{leb}
 use borrow.Author.Tests.{leb-true, not-true, not-false}
-use Rattle.task.specs.Answers.{Outcome, result}
+use Rattle.task.specs.Answers.{result}
 use Rattle.task.specs.Table.{taskOf}
-use Rattle.task.proofs.Put.{put-over}
+use Rattle.words.proofs.Puts.{put-over}
 use Rattle.text.specs.Text.{write}
 use Rattle.text.specs.Outcomes.{writeAnswerTold}
 use Rattle.text.proofs.WholeText.{outcome-room, outcome-none}
 use borrow.Author.Needs.{needs}
 use Rattle.text.proofs.writer.write_task.Statement.{statement}
-use Rattle.text.proofs.writer.write_task.Tie as tie
+use Rattle.task.proofs.Answers.{both}
 
 has-room-requires : tie.Need-has-room-requires
 has-room-requires c κs = search needs
@@ -27,7 +28,7 @@ returns c =
     let start = c .before .before .before .before in
     let none = outcome-none (start .args .table .now) (start .args .text .now) (start .pre)
     (sym (c .before .has-room .ensures) ∙ not-true _ (c .if1 .taken)) in
-    (sym (ap (λ (o : Outcome). o .told) none), sym (ap (λ (o : Outcome). o .buffer) none))
+    both none
 
 room : (c : tie.Else1) →
     leb (length (write (taskOf (c .before .before .before .before .args .table .now))))
@@ -53,10 +54,9 @@ returns-2 c =
     let put = c .before .before .put-text .ensures in
     let long = put .place in
     let e : c .before .before .put-text .result ≡ length (write (taskOf w)) = omega arith in (
-      ap (λ (n : ℕ). result (n ∷ [])) e ∙ sym (ap (λ (o : Outcome). o .told) o),
-      put .stored ∙ (put-over (write (taskOf w)) text (leb-true _ _ fits) ∙ sym (ap (λ (o : Outcome). o .buffer) o)),
+      ap (λ (n : ℕ). result (n ∷ [])) e ∙ both o .0,
+      put .words ∙ (put-over (write (taskOf w)) text (leb-true _ _ fits) ∙ both o .1),
     )
 
 pub write-task-spec : {M : Type 1} → statement M
-write-task-spec =
-    tie.close (tie.spec has-room-requires returns put-text-requires same-length returns-2)
+write-task-spec = tie.close (tie.spec has-room-requires returns put-text-requires same-length returns-2)

@@ -1,5 +1,7 @@
--- `tokens::acceptance::keep_accepted` meets its contract: each check that fails is the first of those of acceptance; what
--- is kept of the parts says whether one is circular, the sizes whether a limit is passed, and where neither is, all pass.
+-- `tokens::acceptance::keep_accepted` meets its contract: each check that fails is the first of those of acceptance;
+-- what is kept of the parts says whether one is circular, the sizes whether a limit is passed, and where neither is,
+-- all pass.
+use Rattle.tokens.proofs.acceptance.keep_accepted.Tie as tie
 use Prim.Native.Nat.{ℕ}
 use mathlib.Core.Path.{_≡_, sym, _∙_, ap}
 use mathlib.Core.Bool.{true}
@@ -8,16 +10,16 @@ use mathlib.Core.Option.{none}
 use lib.ListN.{length}
 use borrow.Author.Needs.{needs}
 use borrow.Author.Tests.{not-true, not-false}
-use Rattle.task.specs.Lists.{first, upTo}
+use Rattle.words.specs.Lists.{first, upTo}
 use Rattle.task.specs.Task.{Task}
 use Rattle.task.specs.Table.{taskOf, longEnough, isTable}
 use Rattle.task.proofs.LongEnough.{too-short, long-enough, has-table-words}
 use Rattle.tokens.specs.Split.{isNone, orderAt}
-use Rattle.tokens.specs.Code.{AcceptanceTold, PartsKept, circularTold}
-use Rattle.tokens.proofs.SplitOutcome.{found-circular, found-large, found-split}
-use Rattle.tokens.proofs.SplitOutcome.{refused-short, refused-no-table, refused-nine, refused-ten}
+use Rattle.tokens.specs.Code.{AcceptanceTold, circularTold}
+use Rattle.tokens.proofs.SplitOutcome.{found-circular, found-large, found-split, refused-short, refused-no-table}
+use Rattle.tokens.proofs.SplitOutcome.{refused-nine, refused-ten}
 use Rattle.tokens.proofs.acceptance.keep_accepted.Statement.{statement}
-use Rattle.tokens.proofs.acceptance.keep_accepted.Tie as tie
+use Rattle.tokens.specs.Kept.{PartsKept}
 
 -- ---- what is known behind each check
 abbrev begun : tie.Else1 → tie.Start
@@ -34,7 +36,7 @@ table c = sym (c .before .is-table .ensures) ∙ not-false (c .before .is-table 
 
 -- where the parts were kept
 abbrev tested : tie.After-keep-parts → tie.Else2
-tested k = k .before .before .before .before .before
+tested k = k .before .before
 
 abbrev words : tie.After-keep-parts → List ℕ
 words k = start (tested k) .args .table .now
@@ -48,23 +50,21 @@ task d = taskOf (words (keeper d))
 none-circular : (d : tie.After-enum-told) →
     first (λ s. isNone (orderAt (task d) s)) (upTo (length (task d .schemas))) ≡ none
 unfolding circularTold
-none-circular d = sym (keeper d .keep-parts .ensures .1 .0) ∙ ap circularTold (d .enum-told .given .1)
+none-circular d = sym (keeper d .keep-parts .ensures .0) ∙ ap circularTold (d .enum-told .given .1)
 
-kept : (d : tie.After-enum-told) → let l = keeper d .keep-parts .last in
-    PartsKept (task d) (length (task d .schemas)) (l .1 .0) (l .1 .1 .0) (l .1 .1 .1 .0) (l .1 .1 .1 .1 .0)
+kept : (d : tie.After-enum-told) → PartsKept (task d) (length (task d .schemas)) (keeper d .keep-parts .last .1 .0)
 unfolding circularTold
-kept d = keeper d .keep-parts .ensures .1 .1 (ap circularTold (d .enum-told .given .1))
+kept d = keeper d .keep-parts .ensures .1 (ap circularTold (d .enum-told .given .1))
 
 -- where the sizes were counted
 abbrev counted : tie.After-sizes-of → tie.After-enum-told
-counted z = z .before .before .before .before .before
+counted z = z .before .before
 
--- ---- the checks
 returns : tie.Need-returns
 unfolding AcceptanceTold
 returns c =
     let s = c .before .before in
-    (s .pre, refused-short (s .args .table .now) (too-short (s .args .table .now) (c .if1 .taken)))
+    refused-short (s .args .table .now) (too-short (s .args .table .now) (c .if1 .taken))
 
 is-table-requires : tie.Need-is-table-requires
 is-table-requires c κs = has-table-words (begun c .args .table .now) (c .if1 .left)
@@ -74,10 +74,10 @@ unfolding AcceptanceTold
 returns-2 c =
     let e = c .before .before in
     let t = sym (c .before .is-table .ensures) ∙ not-true (c .before .is-table .result) (c .if2 .taken) in
-    (begun e .pre, refused-no-table (begun e .args .table .now) (long e) t)
+    refused-no-table (begun e .args .table .now) (long e) t
 
 keep-parts-requires : tie.Need-keep-parts-requires
-keep-parts-requires c κs = let e = c .before .before .before .before in (table e, start e .pre)
+keep-parts-requires c κs = let e = c .before in (table e, start e .pre)
 
 enum-known-circular : tie.Need-enum-known-circular
 enum-known-circular c = search needs
@@ -87,15 +87,14 @@ unfolding AcceptanceTold circularTold
 returns-3 c =
     let k = c .before .before .before in
     let e = tested k in
-    let s = sym (k .keep-parts .ensures .1 .0) ∙ ap circularTold (c .before .circular .given .1) in
-    let circular = found-circular (taskOf (words k)) s in
-    (k .keep-parts .ensures .0, refused-nine (words k) (long (e .before .before)) (table e) circular)
+    let s = sym (k .keep-parts .ensures .0) ∙ ap circularTold (c .before .circular .given .1) in
+    refused-nine (words k) (long (e .before .before)) (table e) (found-circular (taskOf (words k)) s)
 
 enum-told : tie.Need-enum-told
 enum-told c = search needs
 
 sizes-of-requires : tie.Need-sizes-of-requires
-sizes-of-requires c κs = let d = c .before .before .before .before in (table (tested (keeper d)), kept d)
+sizes-of-requires c κs = let d = c .before in (table (tested (keeper d)), kept d)
 
 returns-4 : tie.Need-returns-4
 unfolding AcceptanceTold
@@ -105,7 +104,7 @@ returns-4 c =
     let e = tested k in
     let over = sym (z .sizes-of .ensures .within) ∙ not-true (z .sizes-of .result .within) (c .if3 .taken) in
     let large = found-large (taskOf (words k)) (none-circular (counted z)) over in
-    (k .keep-parts .ensures .0, refused-ten (words k) (long (e .before .before)) (table e) large)
+    refused-ten (words k) (long (e .before .before)) (table e) large
 
 returns-5 : tie.Need-returns-5
 unfolding AcceptanceTold
@@ -113,28 +112,17 @@ returns-5 c =
     let z = c .before .before in
     let k = keeper (counted z) in
     let e = tested k in
-    let within = sym (z .sizes-of .ensures .within) ∙ not-false (z .sizes-of .result .within) (c .if3 .left) in (
-      k .keep-parts .ensures .0,
-      record {
-        long = long (e .before .before);
-        table = table e;
-        accepted = found-split (taskOf (words k)) (none-circular (counted z)) within;
-        kept = kept (counted z);
-        sized = z .sizes-of .ensures;
-      },
-    )
+    let within = sym (z .sizes-of .ensures .within) ∙ not-false (z .sizes-of .result .within) (c .if3 .left) in
+    record {
+      long = long (e .before .before);
+      table = table e;
+      accepted = found-split (taskOf (words k)) (none-circular (counted z)) within;
+      parts = kept (counted z);
+      sized = z .sizes-of .ensures;
+    }
 
 pub keep-accepted-spec : {M : Type 1} → statement M
 keep-accepted-spec =
     tie.close
-    (tie.spec
-    returns
-    is-table-requires
-    returns-2
-    keep-parts-requires
-    enum-known-circular
-    returns-3
-    enum-told
-    sizes-of-requires
-    returns-4
-    returns-5)
+    (tie.spec returns is-table-requires returns-2 keep-parts-requires enum-known-circular returns-3 enum-told
+    sizes-of-requires returns-4 returns-5)

@@ -5,7 +5,7 @@ use mathlib.Core.Path.{_≡_, sym, _∙_, ap}
 use native.Mathlib.Omega.{arith}
 use lib.ListN.{length, getD}
 use Rattle.task.specs.Table.{atomBase, atomIn}
-use Rattle.task.proofs.Laws.{in-getD}
+use Rattle.words.proofs.Lists.{in-getD}
 use Rattle.tokens.proofs.AtomWords.{few-arguments, argument-small, argument-at}
 use Rattle.tokens.proofs.atoms.argument.Statement.{statement}
 use Rattle.tokens.proofs.atoms.argument.Tie as tie

@@ -1,6 +1,6 @@
 -- `tokens::atoms::argument_count` meets its contract: word 2 of an atom is its predicate, and a table's arities
 -- follow its first six words.
-use Prim.Native.Nat.{_+_}
+use Rattle.tokens.proofs.atoms.argument_count.Tie as tie
 use mathlib.Core.Path.{_≡_, sym, _∙_, ap}
 use native.Mathlib.Omega.{arith}
 use borrow.Author.Needs.{needs}
@@ -8,7 +8,6 @@ use Rattle.task.specs.Table.{atomBase, arityIn, atomIn}
 use Rattle.arcs.proofs.Stretches.{atom-words}
 use Rattle.tokens.proofs.AtomWords.{predicate-known, few-arguments, argument-count}
 use Rattle.tokens.proofs.atoms.argument_count.Statement.{statement}
-use Rattle.tokens.proofs.atoms.argument_count.Tie as tie
 
 -- the predicate, which is known, as the code has it
 predicate-is : (c : tie.After-word-of) →
@@ -22,38 +21,25 @@ word-of-requires c κs = search needs
 cast-predicate : tie.Need-cast-predicate
 cast-predicate c = search needs
 
-add-result : tie.Need-add-result
-add-result c = search needs
+add-word : tie.Need-add-word
+add-word c = search needs
 
-mul-result : tie.Need-mul-result
-mul-result c = search needs
-
-shared-slice-read-result : tie.Need-shared-slice-read-result
+word-requires : tie.Need-word-requires
 unfolding atomBase
-shared-slice-read-result c =
-    let s = c .before .before .before in
+word-requires c κs =
+    let s = c .before .before in
     let w = s .args .table .now in
-    omega (arith, predicate-is (c .before), predicate-known w (s .args .i) (s .pre), atom-words w (s .args .i) (s .pre))
-
-cast-result : tie.Need-cast-result
-cast-result c = omega (arith, c .shared-slice-known2 .given (6 + c .before .word-of .result))
+    omega (arith, predicate-is c, predicate-known w (s .args .i) (s .pre), atom-words w (s .args .i) (s .pre))
 
 returns : tie.Need-returns
 unfolding arityIn
 returns c =
     let s = c .before .before .before in
     let w = s .args .table .now in
-    let e = ap (arityIn w) (predicate-is (c .before)) ∙ sym (argument-count w (s .args .i) (s .pre)) in
+    let e =
+    c .word .ensures .0 ∙ ap (arityIn w) (predicate-is (c .before)) ∙
+    sym (argument-count w (s .args .i) (s .pre)) in
     (e, omega (arith, few-arguments w (s .args .i) (s .pre)))
 
 pub argument-count-spec : {M : Type 1} → statement M
-argument-count-spec =
-    tie.close
-    (tie.spec
-    word-of-requires
-    cast-predicate
-    add-result
-    mul-result
-    shared-slice-read-result
-    cast-result
-    returns)
+argument-count-spec = tie.close (tie.spec word-of-requires cast-predicate add-word word-requires returns)

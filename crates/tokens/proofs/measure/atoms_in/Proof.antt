@@ -9,7 +9,7 @@ use borrow.Author.Tests.{eq-eqb, ne-eqb}
 use Rattle.task.specs.Table.{atomIn}
 use Rattle.arcs.specs.Code.{atomsIn}
 use Rattle.arcs.proofs.Stretches.{stretch-atom}
-use Rattle.tokens.proofs.Sums.{one, one-most}
+use Rattle.words.proofs.Sums.{one, one-most}
 use Rattle.tokens.proofs.SplitSizes.{inPartCount, part-count-none, part-count-more}
 use Rattle.tokens.proofs.measure.atoms_in.Statement.{statement}
 use Rattle.tokens.proofs.measure.atoms_in.Tie as tie

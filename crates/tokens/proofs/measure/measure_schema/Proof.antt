@@ -1,38 +1,45 @@
--- `tokens::measure::measure_schema` meets its contract. The invariant: the first j parts are counted, each of at most
--- 115 atoms. The measure is the parts left.
-use Prim.Native.Nat.{ℕ, _-_, _*_, _≤_, _<_}
+-- `tokens::measure::measure_schema` meets its contract. The invariant: the first j parts are counted, each of few
+-- enough atoms that their sum fits. The measure is the parts left.
+use Rattle.tokens.proofs.measure.measure_schema.Tie as tie
+use Prim.Native.Nat.{ℕ, _-_, _*_, _≤_}
 use mathlib.Core.Path.{_≡_, refl, sym, _∙_, ap}
 use mathlib.Core.Bool.{Bool, true, false, _&&_}
 use mathlib.Core.Logic.{⊎-elim}
 use native.Mathlib.Omega.{arith}
 use lib.ListN.{length}
 use lib.Dec.{leb}
-use borrow.Author.Needs.{needs}
 use borrow.Author.Tests.{le-leb, lt-leb}
 use Rattle.task.specs.Task.{schemaAtoms}
 use Rattle.task.specs.Table.{taskOf}
 use Rattle.tokens.specs.Split.{orders, splitSchema}
-use Rattle.tokens.specs.Code.{areFew}
-use Rattle.tokens.proofs.KeptSchema.{schema-small, count-small, kept-fits, kept-params, kept-order}
+use Rattle.tokens.specs.Code.{areFew, mostPartAtoms}
+use Rattle.tokens.proofs.KeptSchema.{schema-small, count-small, kept-fits, kept-params, kept-order, counted}
+use Rattle.tokens.proofs.KeptSchema.{params-kept}
 use Rattle.tokens.proofs.SharedParameters.{shared-bounded}
 use Rattle.tokens.proofs.SplitSizes.{partsUpTo, part-atoms-none, part-few-none, part-atoms-more, part-few-more}
 use Rattle.tokens.proofs.measure.measure_schema.Statement.{statement}
-use Rattle.tokens.proofs.measure.measure_schema.Tie as tie
+use Rattle.task.specs.Limits.{mostParts, mostAtoms}
 
 abbrev Inv-loop : tie.InvT-loop
-Inv-loop table s from to count order own shared atoms₀ few₀ j₀ atoms few j =
-    (j ≤ count) × (atoms ≤ 115 * j) × (atoms ≡ schemaAtoms (partsUpTo (taskOf table) s j)) ×
+Inv-loop table kept s shared count atoms₀ few₀ j₀ atoms few j =
+    (j ≤ count) × (atoms ≤ mostPartAtoms * j) × (atoms ≡ schemaAtoms (partsUpTo (taskOf table) s j)) ×
     (few ≡ areFew (partsUpTo (taskOf table) s j))
 
 abbrev μ-loop : tie.MeasureT-loop
-μ-loop table s from to count order own shared atoms₀ few₀ j₀ atoms few j = count - j
+μ-loop table kept s shared count atoms₀ few₀ j₀ atoms few j = count - j
 
-small : (s : tie.Start Inv-loop μ-loop) → (s .args .s < 200) × (s .args .count ≤ 16)
-small s =
-    let a = s .args in (
-      schema-small (a .table .now) (a .s) (a .from) (a .to) (a .count) (a .order .now) (a .own .now) (s .pre),
-      count-small (a .table .now) (a .s) (a .from) (a .to) (a .count) (a .order .now) (a .own .now) (s .pre),
-    )
+-- the places of a turn, one from the next
+abbrev start : tie.At-loop Inv-loop μ-loop → tie.Start Inv-loop μ-loop
+start c = c .before .before .before .before .before
+
+abbrev turn : tie.After-part-size Inv-loop μ-loop → tie.At-loop Inv-loop μ-loop
+turn c = c .before .before
+
+-- the parts are few
+few-parts : (l : tie.At-loop Inv-loop μ-loop) → l .before .count-of .result ≤ mostParts
+few-parts l =
+    let n = l .before .count-of .ensures in
+    omega (arith, count-small (start l .pre))
 
 and-no : (a b : Bool) → b ≡ false → a && b ≡ false
 and-no true b e = e
@@ -43,85 +50,83 @@ and-yes true b e = e
 and-yes false b e = refl
 
 shared-in-requires : tie.Need-shared-in-requires Inv-loop μ-loop
-shared-in-requires c κs = small (c .before)
+shared-in-requires c κs = let K = c .before .pre in (schema-small K, count-small K)
 
 bound-requires : tie.Need-bound-requires Inv-loop μ-loop
-bound-requires c κs = search needs
+bound-requires c κs = tt
+
+count-of-requires : tie.Need-count-of-requires Inv-loop μ-loop
+count-of-requires c κs = schema-small (c .before .before .before .pre)
 
 loop-holds : tie.Need-loop-holds Inv-loop μ-loop
 loop-holds c =
-    let a = c .before .before .before .args in
+    let a = c .before .before .before .before .args in
     let t = taskOf (a .table .now) in
     (omega arith, omega arith, sym (part-atoms-none t (a .s)), sym (part-few-none t (a .s)))
 
 part-size-requires : tie.Need-part-size-requires Inv-loop μ-loop
-part-size-requires c κs = (c .before .before .before .before .before .pre, c .loop-test .taken)
+part-size-requires c κs =
+    let n = c .before .before .count-of .ensures in
+    (start (c .before) .pre, omega (arith, c .loop-test .taken))
 
 add-atoms : tie.Need-add-atoms Inv-loop μ-loop
 add-atoms c =
     let n = c .before .part-size .ensures .1 in
-    let k = small (c .before .before .before .before .before .before .before) in
+    let k = few-parts (turn (c .before)) in
     omega (arith, c .before .before .loop-test .taken)
 
 add-j : tie.Need-add-j Inv-loop μ-loop
-add-j c = omega arith
+add-j c =
+    let k = few-parts (turn (c .before)) in
+    omega (arith, c .before .before .loop-test .taken)
 
 loop-less : tie.Need-loop-less Inv-loop μ-loop
-loop-less c = omega arith
+loop-less c = omega (arith, c .before .before .loop-test .taken)
 
 loop-again : tie.Need-loop-again Inv-loop μ-loop
 loop-again c =
-    let a = c .before .before .before .before .before .before .before .args in
-    let h = c .before .before .before .loop in
+    let a = start (turn (c .before)) .args in
+    let h = turn (c .before) .loop in
     let t = taskOf (a .table .now) in
     let n = c .before .part-size in
     let size = length (splitSchema t (a .s) (orders t (a .s)) (h .j) .atoms) in
     let e = part-atoms-more t (a .s) (h .j) in
     let m = n .ensures .0 in
-    let few : c .if1 .few ≡ areFew (partsUpTo t (a .s) (h .j)) && leb size 64 = ⊎-elim
-    (λ x. x .1 ∙ sym (and-no (areFew (partsUpTo t (a .s) (h .j))) (leb size 64)
-    (lt-leb size 64 (let y = x .0 .taken in omega arith))))
+    let few : c .if1 .few ≡ areFew (partsUpTo t (a .s) (h .j)) && leb size mostAtoms = ⊎-elim
+    (λ x. x .1 ∙ sym (and-no (areFew (partsUpTo t (a .s) (h .j))) (leb size mostAtoms)
+    (lt-leb size mostAtoms (let y = x .0 .taken in omega arith))))
     (λ x. x .1 ∙ h .inv .3 ∙
-    sym (and-yes (areFew (partsUpTo t (a .s) (h .j))) (leb size 64)
-    (le-leb size 64 (let y = x .0 .left in omega arith))))
-    (c .if1 .came) in
-    (omega arith, omega (arith, n .ensures .1), omega arith, few ∙ sym (part-few-more t (a .s) (h .j)))
+    sym (and-yes (areFew (partsUpTo t (a .s) (h .j))) (leb size mostAtoms)
+    (le-leb size mostAtoms (let y = x .0 .left in omega arith))))
+    (c .if1 .came) in (
+      omega (arith, c .before .before .loop-test .taken),
+      omega (arith, n .ensures .1),
+      omega arith,
+      few ∙ sym (part-few-more t (a .s) (h .j)),
+    )
 
 returns : tie.Need-returns Inv-loop μ-loop
 returns c =
-    let s = c .before .before .before .before .before in
+    let s = start (c .before) in
     let a = s .args in
-    let w = a .table .now in
-    let t = taskOf w in
+    let t = taskOf (a .table .now) in
     let h = c .before .loop in
-    let k = s .pre in
-    let e : h .j ≡ length (orders t (a .s)) = let y = k .counted in omega arith in
-    let b = c .before .before .bound .ensures in
-    let set = c .before .before .before .shared-in in
+    let K = s .pre in
+    let n = c .before .before .count-of .ensures in
+    let e : h .j ≡ length (orders t (a .s)) = let y = counted K in omega (arith, c .loop-test .left) in
+    let b = c .before .before .before .bound .ensures in
+    let set = c .before .before .before .before .shared-in in
     record {
       atoms = h .inv .2 ∙ ap (λ (n : ℕ). schemaAtoms (partsUpTo t (a .s) n)) e;
       few = h .inv .3 ∙ ap (λ (n : ℕ). areFew (partsUpTo t (a .s) n)) e;
-      shared = b .0 ∙ shared-bounded t (a .s) (orders t (a .s)) (set .result)
-          (kept-fits w (a .s) (a .from) (a .to) (a .count) (a .order .now) (a .own .now) k)
-          (kept-params w (a .s) (a .from) (a .to) (a .count) (a .order .now) (a .own .now) k)
-          (kept-order w (a .s) (a .from) (a .to) (a .count) (a .order .now) (a .own .now) k)
-          (set .ensures t (orders t (a .s)) (sym (k .counted)) (k .params));
-      atoms-most = let z = small s in omega arith;
+      shared = b .0 ∙ shared-bounded t (a .s) (orders t (a .s)) (set .result) (kept-fits K) (kept-params K)
+          (kept-order K) (set .ensures t (orders t (a .s)) (params-kept K));
+      atoms-most = let z = few-parts (c .before) in omega arith;
       shared-most = b .1;
     }
 
 pub measure-schema-spec : {M : Type 1} → statement M
 measure-schema-spec =
     tie.close
-    (tie.spec
-    Inv-loop
-    μ-loop
-    shared-in-requires
-    bound-requires
-    loop-holds
-    part-size-requires
-    add-atoms
-    add-j
-    loop-less
-    loop-again
-    returns)
+    (tie.spec Inv-loop μ-loop shared-in-requires bound-requires count-of-requires loop-holds part-size-requires
+    add-atoms add-j loop-less loop-again returns)

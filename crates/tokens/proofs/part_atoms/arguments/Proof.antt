@@ -1,16 +1,17 @@
 -- `tokens::part_atoms::arguments` meets its contract. The invariant: the first k arguments were put, renumbered.
 -- The measure is the arguments left.
+use Rattle.tokens.proofs.part_atoms.arguments.Tie as tie
 use Prim.Native.Nat.{ℕ, _+_, _-_, _≤_}
 use mathlib.Core.Path.{_≡_, refl, sym, _∙_, ap}
 use mathlib.Core.List.{[], _∷_, _++_, map}
 use native.Mathlib.Omega.{arith}
 use lib.ListN.{length, take, length-set}
 use Rattle.task.specs.Table.{atomIn}
-use Rattle.tokens.specs.Writing.{Puts, newNumber}
-use Rattle.tokens.proofs.Runs.{puts-word}
+use Rattle.words.specs.Putting.{Puts}
+use Rattle.tokens.specs.Writing.{newNumber}
+use Rattle.words.proofs.Puts.{puts-word}
 use Rattle.tokens.proofs.PartWords.{arguments-more, arguments-end}
 use Rattle.tokens.proofs.part_atoms.arguments.Statement.{statement}
-use Rattle.tokens.proofs.part_atoms.arguments.Tie as tie
 
 abbrev Inv-loop : tie.InvT-loop
 Inv-loop table i own out₀ at count k₀ out k =
@@ -61,7 +62,8 @@ loop-again c =
       length-set (h .out) (s .args .at + h .k) (c .renumbered-in .result .0) ∙ h .inv .1,
       puts-word (h .inv .2) (c .renumbered-in .result .0) (map (newNumber (s .args .own)) (take (h .k + 1) args))
           (arguments-more (s .args .own) args (h .k) (omega arith) ∙
-          ap (λ (x : ℕ). map (newNumber (s .args .own)) (take (h .k) args) ++ (x ∷ [])) (sym e)) (s .args .at + (h .k + 1)) (omega arith),
+          ap (λ (x : ℕ). map (newNumber (s .args .own)) (take (h .k) args) ++ (x ∷ [])) (sym e))
+          (s .args .at + (h .k + 1)) (omega arith),
     )
 
 add-fill : tie.Need-add-fill Inv-loop μ-loop
@@ -84,10 +86,11 @@ returns c =
     let h = c .before .before .before .before .before .loop in
     let n = c .before .before .before .before .before .before .argument-count .ensures in
     let l = n .1 in
-    arguments-end (s .args .out .now) (s .args .at) (s .args .own) (atomIn (s .args .table .now) (s .args .i) .args) (h .k)
-    (h .out) _ (h .inv .2) (omega arith) (n .0) (omega arith) (c .before .before .fill .ensures)
+    arguments-end (s .args .out .now) (s .args .at) (s .args .own) (atomIn (s .args .table .now) (s .args .i) .args)
+    (h .k) (h .out) _ (h .inv .2) (omega arith) (n .0) (omega arith) (c .before .before .fill .ensures)
 
 pub arguments-spec : {M : Type 1} → statement M
-arguments-spec = tie.close (tie.spec Inv-loop μ-loop argument-count-requires loop-holds argument-requires
-    renumbered-in-requires add-out mul-out slice-write-out add-k loop-less loop-again add-fill sub-fill fill-requires
-    same-length returns)
+arguments-spec =
+    tie.close
+    (tie.spec Inv-loop μ-loop argument-count-requires loop-holds argument-requires renumbered-in-requires add-out
+    mul-out slice-write-out add-k loop-less loop-again add-fill sub-fill fill-requires same-length returns)

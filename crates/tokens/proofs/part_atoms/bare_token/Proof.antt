@@ -1,13 +1,13 @@
 -- `tokens::part_atoms::bare_token` meets its contract: an atom without arguments is four words and four zeros.
-use mathlib.Core.Path.{refl, _∙_}
+use Rattle.tokens.proofs.part_atoms.bare_token.Tie as tie
+use mathlib.Core.Path.{refl}
 use native.Mathlib.Omega.{arith}
 use borrow.Author.Needs.{needs}
-use Rattle.task.specs.Lists.{padded}
+use Rattle.words.specs.Lists.{padded}
 use Rattle.task.specs.Table.{atomWords}
 use Rattle.tokens.specs.Split.{token}
-use Rattle.tokens.proofs.Runs.{puts-then, puts-length}
+use Rattle.words.proofs.Puts.{puts-then, puts-length}
 use Rattle.tokens.proofs.part_atoms.bare_token.Statement.{statement}
-use Rattle.tokens.proofs.part_atoms.bare_token.Tie as tie
 
 four-requires : tie.Need-four-requires
 four-requires c κs = search needs

@@ -1,4 +1,5 @@
 -- `tokens::part_atoms::is_here` meets its contract: word 1 of an atom is its role.
+use Rattle.tokens.proofs.part_atoms.is_here.Tie as tie
 use Prim.Native.Nat.{ℕ}
 use mathlib.Core.Path.{_≡_, refl, sym, _∙_}
 use mathlib.Core.Bool.{false, _&&_}
@@ -7,7 +8,6 @@ use borrow.Author.Needs.{needs}
 use borrow.Author.Tests.{eq-eqb, ne-eqb}
 use Rattle.task.specs.Table.{atomIn}
 use Rattle.tokens.proofs.part_atoms.is_here.Statement.{statement}
-use Rattle.tokens.proofs.part_atoms.is_here.Tie as tie
 
 same-role : (r a p : ℕ) {q : ℕ} (b : ℕ) → r ≡ a → q ≡ b → eqb p q ≡ eqb r a && eqb p b
 same-role r a p b e f = rw (eq-eqb r a e, f) refl
@@ -25,7 +25,9 @@ returns : tie.Need-returns
 unfolding atomIn
 returns c =
     let s = c .before .before .before .before .before .before in
-    same-role (s .args .role) _ (s .args .part .0) _ (c .before .before .before .if1 .taken ∙ c .before .before .before .before .word-of .ensures) (c .before .before .part-of .ensures .0)
+    let test = c .before .before .before in
+    same-role (s .args .role) _ (s .args .part .0) _ (test .if1 .taken ∙ test .before .word-of .ensures)
+    (c .before .before .part-of .ensures .0)
 
 returns-2 : tie.Need-returns-2
 unfolding atomIn

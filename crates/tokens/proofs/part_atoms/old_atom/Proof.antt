@@ -1,15 +1,15 @@
 -- `tokens::part_atoms::old_atom` meets its contract: word 2 of the old atom is its predicate.
+use Rattle.tokens.proofs.part_atoms.old_atom.Tie as tie
 use Prim.Native.Nat.{ℕ}
 use mathlib.Core.Path.{sym, ap}
 use mathlib.Core.List.{_∷_, map}
 use native.Mathlib.Omega.{arith}
 use borrow.Author.Needs.{needs}
-use Rattle.task.specs.Lists.{padded}
+use Rattle.words.specs.Lists.{padded}
 use Rattle.task.specs.Table.{atomIn, atomWords}
 use Rattle.tokens.specs.Writing.{newNumber}
-use Rattle.tokens.proofs.Runs.{puts-then, puts-length}
+use Rattle.words.proofs.Puts.{puts-then}
 use Rattle.tokens.proofs.part_atoms.old_atom.Statement.{statement}
-use Rattle.tokens.proofs.part_atoms.old_atom.Tie as tie
 
 word-of-requires : tie.Need-word-of-requires
 word-of-requires c κs = search needs

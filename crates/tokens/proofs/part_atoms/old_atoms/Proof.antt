@@ -1,16 +1,16 @@
--- `tokens::part_atoms::old_atoms` meets its contract. The invariant: the part's atoms of the role that come before atom i
--- were put. The measure is the atoms left.
+-- `tokens::part_atoms::old_atoms` meets its contract. The invariant: the part's atoms of the role that come before atom
+-- i were put. The measure is the atoms left.
+use Rattle.tokens.proofs.part_atoms.old_atoms.Tie as tie
 use Prim.Native.Nat.{ℕ, _+_, _*_, _-_, _≤_}
 use mathlib.Core.Path.{_≡_, refl, sym, _∙_, subst}
 use mathlib.Core.Logic.{⊎-elim}
 use native.Mathlib.Omega.{arith}
 use lib.ListN.{length}
 use Rattle.arcs.proofs.Stretches.{stretch-atom}
-use Rattle.tokens.specs.Writing.{Puts}
-use Rattle.tokens.proofs.Runs.{puts-none, puts-is, puts-then, puts-length}
+use Rattle.words.specs.Putting.{Puts}
+use Rattle.words.proofs.Puts.{puts-none, puts-is, puts-then, puts-length}
 use Rattle.tokens.proofs.PartWords.{oldUpTo, old-none, old-taken, old-left}
 use Rattle.tokens.proofs.part_atoms.old_atoms.Statement.{statement}
-use Rattle.tokens.proofs.part_atoms.old_atoms.Tie as tie
 
 abbrev Inv-loop : tie.InvT-loop
 Inv-loop table here role out₀ at to next₀ i₀ out next i =
@@ -65,8 +65,8 @@ turn c =
     (λ y. (
       omega (arith, y .2 .ensures .1),
       puts-is (puts-then (h .inv .4) (y .2 .ensures .0) _
-          (old-taken (a .here .own) (a .role) (a .here .part .0) (a .table .now) (a .here .number) (a .here .from) (h .i)
-          (h .inv .0) (sym test ∙ y .0 .taken))) (y .5) (y .6) _ refl,
+          (old-taken (a .here .own) (a .role) (a .here .part .0) (a .table .now) (a .here .number) (a .here .from)
+          (h .i) (h .inv .0) (sym test ∙ y .0 .taken))) (y .5) (y .6) _ refl,
     ))
     (λ y. (
       omega arith,
@@ -95,5 +95,7 @@ returns c =
     )
 
 pub old-atoms-spec : {M : Type 1} → statement M
-old-atoms-spec = tie.close (tie.spec Inv-loop μ-loop loop-holds is-here-requires old-atom-requires add-i loop-less
-    loop-again same-length returns)
+old-atoms-spec =
+    tie.close
+    (tie.spec Inv-loop μ-loop loop-holds is-here-requires old-atom-requires add-i loop-less loop-again same-length
+    returns)

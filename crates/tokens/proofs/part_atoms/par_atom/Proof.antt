@@ -1,15 +1,15 @@
 -- `tokens::part_atoms::par_atom` meets its contract: an atom with one argument is four words, it, and three zeros.
+use Rattle.tokens.proofs.part_atoms.par_atom.Tie as tie
 use Prim.Native.Nat.{ℕ, _+_}
 use mathlib.Core.Path.{sym, ap}
 use mathlib.Core.List.{[], _∷_}
 use native.Mathlib.Omega.{arith}
 use borrow.Author.Needs.{needs}
-use Rattle.task.specs.Lists.{padded}
+use Rattle.words.specs.Lists.{padded}
 use Rattle.task.specs.Table.{atomWords}
 use Rattle.tokens.specs.Split.{token}
-use Rattle.tokens.proofs.Runs.{puts-then, puts-length}
+use Rattle.words.proofs.Puts.{puts-then, puts-length}
 use Rattle.tokens.proofs.part_atoms.par_atom.Statement.{statement}
-use Rattle.tokens.proofs.part_atoms.par_atom.Tie as tie
 
 add-four : tie.Need-add-four
 add-four c = omega arith
@@ -34,11 +34,12 @@ returns c =
     let s = c .before .before .before .before .before .before .before .before .before .before .before .before in
     let f = c .before .before .before .before .before .before .before .four .ensures in
     let n = c .before .before .before .before .renumbered-in .ensures in
-    let g = c .before .before .four2 .ensures in (
-      puts-then f g _ (ap (λ (x : ℕ). s .args .here .number ∷ s .args .role ∷ (s .args .here .par + s .args .x .0) ∷ 0 ∷ x ∷ 0 ∷ 0 ∷ 0 ∷ []) (sym n)),
+    let g = c .before .before .four2 .ensures in
+    let a = s .args in (
+      puts-then f g _
+          (ap (λ (x : ℕ). a .here .number ∷ a .role ∷ (a .here .par + a .x .0) ∷ 0 ∷ x ∷ 0 ∷ 0 ∷ 0 ∷ []) (sym n)),
       omega (arith, f .place, g .place),
     )
 
 pub par-atom-spec : {M : Type 1} → statement M
-par-atom-spec =
-    tie.close (tie.spec add-four four-requires renumbered-in-requires four-requires-2 same-length returns)
+par-atom-spec = tie.close (tie.spec add-four four-requires renumbered-in-requires four-requires-2 same-length returns)

@@ -1,15 +1,15 @@
 -- `tokens::part_atoms::par_atoms` meets its contract. An empty set has no pars. The invariant: the pars of the set's
 -- parameters below x were put. The measure is the parameters left.
+use Rattle.tokens.proofs.part_atoms.par_atoms.Tie as tie
 use Prim.Native.Nat.{ℕ, _+_, _*_, _-_, _≤_}
 use mathlib.Core.Path.{_≡_, refl, sym, _∙_, subst}
 use mathlib.Core.Logic.{⊎-elim}
 use native.Mathlib.Omega.{arith}
 use lib.ListN.{length}
-use Rattle.tokens.specs.Writing.{Puts}
-use Rattle.tokens.proofs.Runs.{puts-none, puts-is, puts-then, puts-length}
+use Rattle.words.specs.Putting.{Puts}
+use Rattle.words.proofs.Puts.{puts-none, puts-is, puts-then, puts-length}
 use Rattle.tokens.proofs.PartWords.{parsUpTo, pars-none, pars-empty, pars-taken, pars-left}
 use Rattle.tokens.proofs.part_atoms.par_atoms.Statement.{statement}
-use Rattle.tokens.proofs.part_atoms.par_atoms.Tie as tie
 
 abbrev Inv-loop : tie.InvT-loop
 Inv-loop here role which out₀ at params next₀ x₀ out next x =
@@ -70,13 +70,15 @@ turn c =
     (λ y. (
       omega (arith, y .2 .ensures .1),
       puts-is (puts-then (h .inv .3) (y .2 .ensures .0) _
-          (pars-taken (a .here .own) (a .here .par) (a .role) (a .here .number) (a .which) (h .x) (sym test ∙ y .0 .taken)))
+          (pars-taken (a .here .own) (a .here .par) (a .role) (a .here .number) (a .which) (h .x)
+          (sym test ∙ y .0 .taken)))
           (y .5) (y .6) _ refl,
     ))
     (λ y. (
       omega arith,
       puts-is (h .inv .3) (y .1) (y .2) _
-          (pars-left (a .here .own) (a .here .par) (a .role) (a .here .number) (a .which) (h .x) (sym test ∙ y .0 .left)),
+          (pars-left (a .here .own) (a .here .par) (a .role) (a .here .number) (a .which) (h .x)
+          (sym test ∙ y .0 .left)),
     ))
     (c .if2 .came)
 
@@ -99,5 +101,7 @@ returns-2 c =
     )
 
 pub par-atoms-spec : {M : Type 1} → statement M
-par-atoms-spec = tie.close (tie.spec Inv-loop μ-loop returns loop-holds has-requires cast-t12 par-atom-requires add-x
-    loop-less loop-again same-length returns-2)
+par-atoms-spec =
+    tie.close
+    (tie.spec Inv-loop μ-loop returns loop-holds has-requires cast-t12 par-atom-requires add-x loop-less loop-again
+    same-length returns-2)

@@ -1,13 +1,13 @@
 -- `tokens::part_atoms::renumbered_in` meets its contract: the numbers of the set that are below x, counted.
-use mathlib.Core.Path.{_≡_, _∙_, ap}
+use Rattle.tokens.proofs.part_atoms.renumbered_in.Tie as tie
+use mathlib.Core.Path.{_∙_, ap}
 use mathlib.Core.Bool.{Bool, _&&_}
 use native.Mathlib.Omega.{arith}
 use lib.ListN.{length}
 use borrow.Author.Needs.{needs}
-use Rattle.arcs.specs.Code.{member}
+use Rattle.words.specs.Sets.{member}
 use Rattle.tokens.proofs.PartWords.{members-below}
 use Rattle.tokens.proofs.part_atoms.renumbered_in.Statement.{statement}
-use Rattle.tokens.proofs.part_atoms.renumbered_in.Tie as tie
 
 cast-below : tie.Need-cast-below
 cast-below c = omega arith
@@ -27,9 +27,10 @@ cast-t6 c = omega arith
 returns : tie.Need-returns
 returns c =
     let s = c .before .before .before .before in
-    c .size .ensures .0 ∙ ap length (members-below (s .args .own) (s .args .x .0) (c .before .common .result) (omega arith)
-    (λ k. c .before .common .ensures k ∙ ap (λ (b : Bool). member (s .args .own) k && b) (c .before .before .below .ensures k)))
+    let below = c .before .before .below .ensures in
+    c .size .ensures .0 ∙
+    ap length (members-below (s .args .own) (s .args .x .0) (c .before .common .result) (omega arith)
+    (λ k. c .before .common .ensures k ∙ ap (λ (b : Bool). member (s .args .own) k && b) (below k)))
 
 pub renumbered-in-spec : {M : Type 1} → statement M
-renumbered-in-spec =
-    tie.close (tie.spec cast-below below-requires common-requires size-requires cast-t6 returns)
+renumbered-in-spec = tie.close (tie.spec cast-below below-requires common-requires size-requires cast-t6 returns)

@@ -1,233 +1,242 @@
--- `tokens::parts::keep_parts` meets its contract. The invariant: the parts of the schemas before s are kept, and s
--- begins at `from`. The measure is the schemas left.
-use Prim.Native.Nat.{ℕ, suc, _+_, _-_, _≤_, _<_}
+-- `tokens::parts::keep_parts` meets its contract. The invariant: the parts of the schemas before s are kept; s begins
+-- at atom `from`, and its parts at `first` of the split. The measure is the schemas left.
+use Rattle.tokens.proofs.parts.keep_parts.Tie as tie
+use Prim.Native.Nat.{ℕ, suc, _+_, _-_, _≤_, _<_, _*_}
 use mathlib.Core.Path.{_≡_, refl, sym, _∙_, ap, ap₂, subst}
 use mathlib.Core.Bool.{true}
 use mathlib.Core.List.{List}
 use native.Mathlib.Omega.{arith}
 use native.Mathlib.Numerals.{add-one}
 use borrow.Author.Tests.{not-true, not-false}
-use lib.ListN.{length, getD, length-set}
-use Rattle.task.specs.Lists.{sum}
+use lib.ListN.{length, getD}
+use Rattle.words.specs.Lists.{sum, upFrom, upTo}
 use Rattle.task.specs.Run.{schemaAt}
 use Rattle.task.specs.Table.{taskOf, isTable}
 use Rattle.task.proofs.Tables.{tableWords-is}
 use Rattle.task.proofs.TablesByIndex.{table-frame, table-long, schemas-word}
-use Rattle.arcs.specs.Code.{IsStretch, atomsIn}
-use Rattle.arcs.proofs.PartLists.{no-none}
+use Rattle.arcs.specs.Code.{IsStretch, atomsIn, orderTold}
+use Rattle.words.proofs.Ascending.{no-none}
 use Rattle.arcs.proofs.Stretches.{schema-atoms, schema-stretch}
-use Rattle.tokens.specs.Code.{startOf, AreKept, PartsKept, circularTold}
+use Rattle.tokens.specs.Code.{circularTold, OrderKept}
 use Rattle.tokens.proofs.KeptSchemas.{schemas-few, atoms-few, parts-none, parts-more, told-none, circular-here}
-use Rattle.tokens.proofs.KeptSchemas.{circular-nowhere, found-small, parts-few}
+use Rattle.tokens.proofs.KeptSchemas.{circular-nowhere, found-small, parts-few, first-more}
 use Rattle.tokens.proofs.parts.keep_parts.Statement.{statement}
-use Rattle.tokens.proofs.parts.keep_parts.Tie as tie
+use Rattle.task.specs.Limits.{mostParts, mostSchemas}
+use Rattle.task.specs.Task.{Task}
+use Rattle.task.specs.Turns.{firstAtom}
+use Rattle.arcs.specs.Order.{orderOf}
+use Rattle.tokens.specs.Kept.{keptWords, countPlace, partsBefore, PartsKept}
+use Rattle.tokens.proofs.KeptRows.{field-long}
 
 abbrev Inv-loop : tie.InvT-loop
-Inv-loop table starts₀ counts₀ order₀ own₀ schemas from₀ s₀ starts counts order own from s =
-    (s ≤ schemas) × (schemas ≤ 200) × (from ≡ startOf (taskOf table) s) ×
-    AreKept starts counts order own × PartsKept (taskOf table) s starts counts order own
+Inv-loop table kept₀ schemas from₀ first₀ s₀ kept from first s =
+    (s ≤ schemas) × (from ≡ firstAtom (taskOf table) s) × (first ≡ partsBefore (taskOf table) s) ×
+    (first ≤ mostParts * s) × PartsKept (taskOf table) s kept
 
 abbrev μ-loop : tie.MeasureT-loop
-μ-loop table starts₀ counts₀ order₀ own₀ schemas from₀ s₀ starts counts order own from s = schemas - s
+μ-loop table kept₀ schemas from₀ first₀ s₀ kept from first s = schemas - s
 
 -- ---- at the loop's head
 abbrev Loop : Type 0
 Loop = tie.At-loop Inv-loop μ-loop
 
+abbrev start : tie.At-loop Inv-loop μ-loop → tie.Start Inv-loop μ-loop
+start c = c .before .before .before .before .before
+
+abbrev turn : tie.After-order-of Inv-loop μ-loop → tie.In-loop Inv-loop μ-loop
+turn c = c .before .before
+
+abbrev ordered : tie.After-keep-count Inv-loop μ-loop → tie.After-order-of Inv-loop μ-loop
+ordered c = c .before .before .before .before
+
+abbrev counting : tie.After-keep-begin2 Inv-loop μ-loop → tie.After-keep-count Inv-loop μ-loop
+counting c = c .before .before .before .before .before
+
 abbrev words : Loop → List ℕ
-words l = l .before .before .before .args .table .now
+words l = start l .args .table .now
+
+abbrev task : Loop → Task
+task l = taskOf (words l)
 
 is-table : (l : Loop) → isTable (words l) ≡ true
-is-table l = l .before .before .before .pre .0
+is-table l = start l .pre .0
 
-known : (l : Loop) → l .loop .s < getD (words l) 2 0 → l .loop .s < length (taskOf (words l) .schemas)
-known l k = omega (arith, schemas-word (words l) (table-frame (words l) (is-table l)))
+-- as many schemas as the table says
+counted : (l : Loop) → l .before .before .before .word .result ≡ length (task l .schemas)
+counted l =
+    l .before .before .before .word .ensures .0 ∙ sym (schemas-word (words l) (table-frame (words l) (is-table l)))
+
+-- ---- in a turn
+abbrev Turn : Type 0
+Turn = tie.In-loop Inv-loop μ-loop
+
+known : (i : Turn) → i .before .loop .s < length (task (i .before) .schemas)
+known i = let n = counted (i .before) in omega (arith, i .loop-test .taken)
+
+few : (i : Turn) → i .before .loop .s < mostSchemas
+few i = let k = known i in omega (arith, schemas-few (words (i .before)) (is-table (i .before)))
 
 -- the atoms of schema s
-stretch : (l : Loop) → l .loop .s < getD (words l) 2 0 → (to : ℕ) → to ≡ startOf (taskOf (words l)) (suc (l .loop .s)) →
-    IsStretch (words l) (l .loop .from) to
-stretch l k to e =
-    let t = taskOf (words l) in
-    subst (λ (n : ℕ). IsStretch (words l) n to) (sym (l .loop .inv .2))
-    (subst (λ (n : ℕ). IsStretch (words l) (startOf t (l .loop .s)) n) (sym e)
-    (schema-stretch (words l) (is-table l) (l .loop .s) k))
+module _ (i : Turn) (to : ℕ) (e : to ≡ firstAtom (task (i .before)) (suc (i .before .loop .s))) where
+  abbrev l : Loop
+  l = i .before
 
-atoms-are : (l : Loop) → l .loop .s < getD (words l) 2 0 → (to : ℕ) →
-    to ≡ startOf (taskOf (words l)) (suc (l .loop .s)) →
-    schemaAt (taskOf (words l)) (l .loop .s) .atoms ≡ atomsIn (words l) (l .loop .from) to
-atoms-are l k to e =
-    schema-atoms (words l) (is-table l) (l .loop .s) k ∙ ap₂ (atomsIn (words l)) (sym (l .loop .inv .2)) (sym e)
+  said : l .loop .s < getD (words l) 2 0
+  said = let k = known i in omega (arith, schemas-word (words l) (table-frame (words l) (is-table l)))
 
--- ---- the needs
-shared-slice-read-schemas : tie.Need-shared-slice-read-schemas Inv-loop μ-loop
-shared-slice-read-schemas c =
-    omega (arith, table-long (c .before .before .args .table .now) (c .before .before .pre .0), tableWords-is)
+  stretch : IsStretch (words l) (l .loop .from) to
+  stretch =
+      subst (λ (n : ℕ). IsStretch (words l) n to) (sym (l .loop .inv .1))
+      (subst (λ (n : ℕ). IsStretch (words l) (firstAtom (task l) (l .loop .s)) n) (sym e)
+      (schema-stretch (words l) (is-table l) (l .loop .s) said))
 
-cast-schemas : tie.Need-cast-schemas Inv-loop μ-loop
-cast-schemas c = omega (arith, c .shared-slice-known2 .given 2)
+  atoms-are : schemaAt (task l) (l .loop .s) .atoms ≡ atomsIn (words l) (l .loop .from) to
+  atoms-are =
+      schema-atoms (words l) (is-table l) (l .loop .s) said ∙ ap₂ (atomsIn (words l)) (sym (l .loop .inv .1)) (sym e)
 
-element-write-starts : tie.Need-element-write-starts Inv-loop μ-loop
-element-write-starts c = omega arith
+-- what is found of its order
+told : (c : tie.After-order-of Inv-loop μ-loop) →
+    orderTold (c .order-of .result) ≡ orderOf (schemaAt (task (turn c .before)) (turn c .before .loop .s))
+told c =
+    let to = c .before .schema-end in
+    c .order-of .ensures .0 (schemaAt (task (turn c .before)) (turn c .before .loop .s))
+    (atoms-are (turn c) (to .result) (to .ensures))
+
+-- the array with the count, before its order is kept
+count-kept : (c : tie.After-keep-count Inv-loop μ-loop) →
+    length (c .keep-count .last .0) ≡ keptWords
+count-kept c =
+    let h = turn (ordered c) .before .loop in
+    let n = ordered c .order-of .result .count in
+    subst (λ (k : List ℕ). length k ≡ keptWords) (sym (c .keep-count .ensures))
+    (field-long (h .kept) (h .s) countPlace n (h .inv .4 .long))
+
+word-requires : tie.Need-word-requires Inv-loop μ-loop
+word-requires c κs =
+    let s = c .before in
+    omega (arith, table-long (s .args .table .now) (s .pre .0), tableWords-is)
+
+keep-begin-requires : tie.Need-keep-begin-requires Inv-loop μ-loop
+keep-begin-requires c κs = (omega arith, (omega arith, omega arith))
 
 loop-holds : tie.Need-loop-holds Inv-loop μ-loop
-unfolding sum
+unfolding sum partsBefore upTo upFrom
 loop-holds c =
-    let s = c .before .before in
+    let s = c .before .before .before .before in
     let a = s .args in
-    let w = a .table .now in
-    let k = s .pre .1 in
-    let e = schemas-word w (table-frame w (s .pre .0)) in
-    let l = schemas-few w (s .pre .0) in (
-      omega arith,
+    let w = a .table .now in (
       omega arith,
       refl,
-      record {
-        starts-long = length-set (a .starts .now) 0 0 ∙ k .starts-long;
-        counts-long = k .counts-long;
-        order-long = k .order-long;
-        own-long = k .own-long;
-      },
-      parts-none w (s .pre .0) (a .starts .now) (a .counts .now) (a .order .now) (a .own .now)
-          (let z = k .starts-long in omega arith),
+      refl,
+      omega arith,
+      subst (PartsKept (taskOf w) 0) (sym (c .keep-begin .ensures))
+          (parts-none w (s .pre .0) (a .kept .now) (s .pre .1)),
     )
 
 schema-end-requires : tie.Need-schema-end-requires Inv-loop μ-loop
-schema-end-requires c κs =
-    let l = c .before in
-    (is-table l, (known l (c .loop-test .taken), l .loop .inv .2))
+schema-end-requires c κs = (is-table (c .before), (known c, c .before .loop .inv .1))
 
 order-of-requires : tie.Need-order-of-requires Inv-loop μ-loop
-order-of-requires c κs =
-    stretch (c .before .before) (c .before .loop-test .taken) (c .schema-end .result) (c .schema-end .ensures)
+order-of-requires c κs = stretch (c .before) (c .schema-end .result) (c .schema-end .ensures)
 
 returns : tie.Need-returns Inv-loop μ-loop
 unfolding circularTold
 returns c =
-    let l = c .before .before .before .before .before in
-    let t = taskOf (words l) in
+    let d = c .before .before in
+    let l = turn d .before in
     let s = l .loop .s in
-    let k = c .before .before .before .before .loop-test .taken in
-    let to = c .before .before .before .schema-end in
-    let found = c .before .before .order-of in
-    let told = found .ensures .0 (schemaAt t s) (atoms-are l k (to .result) (to .ensures)) in
-    let e = told-none t s (found .result) told (not-true (found .result .found) (c .if1 .taken)) in
-    (l .loop .inv .3, (sym (circular-here t s (l .loop .inv .4 .taken) (known l k) e), λ z. absurd (no-none (sym z))))
+    let f = d .order-of .result in
+    let e = told-none (task l) s f (told d) (not-true (f .found) (c .if1 .taken)) in
+    (sym (circular-here (task l) s (l .loop .inv .4 .taken) (known (turn d)) e), λ z. absurd (no-none (sym z)))
 
-cast-counts : tie.Need-cast-counts Inv-loop μ-loop
-cast-counts c = omega arith
-
-mul-counts : tie.Need-mul-counts Inv-loop μ-loop
-mul-counts c = omega (arith, c .before .before .before .before .before .loop-test .taken)
-
-element-write-counts : tie.Need-element-write-counts Inv-loop μ-loop
-element-write-counts c = omega arith
+keep-count-requires : tie.Need-keep-count-requires Inv-loop μ-loop
+keep-count-requires c κs =
+    let d = c .before .before .before in
+    let n = d .order-of .ensures .1 .0 in
+    (few (turn d), omega arith)
 
 keep-order-requires : tie.Need-keep-order-requires Inv-loop μ-loop
 keep-order-requires c κs =
-    let l = c .before .before .before .before .before .before .before .before in
-    let t = c .before .before .before .before .before .before .before .loop-test .taken in
-    let e = c .before .before .before .before .before .before .schema-end in
-    let found = c .before .before .before .before .before .order-of in
-    let told = found .ensures .0 (schemaAt (taskOf (words l)) (l .loop .s)) (atoms-are l t (e .result) (e .ensures)) in
-    let yes = not-false (found .result .found) (c .before .before .before .if1 .left) in
-    let n = found .ensures .1 in
-    let kept = l .loop .inv .3 in (
-      stretch l t (e .result) (e .ensures),
+    let d = ordered (c .before) in
+    let l = turn d .before in
+    let to = ordered (c .before) .before .schema-end in
+    let n = d .order-of .ensures .1 in
+    let yes = not-false (d .order-of .result .found) (c .before .before .before .if1 .left) in (
+      stretch (turn d) (to .result) (to .ensures),
       (
-        omega arith,
+        few (turn d),
         (
           n,
           (
-            (kept .order-long, kept .own-long),
-            found-small (taskOf (words l)) (l .loop .s) (found .result) told yes (omega (arith, n .0, n .1))
-                (parts-few (words l) (is-table l) (l .loop .s) (known l t)),
+            count-kept (c .before),
+            found-small (task l) (l .loop .s) (d .order-of .result) (told d) yes (omega (arith, n .0, n .1))
+                (parts-few (words l) (is-table l) (l .loop .s) (known (turn d))),
           ),
         ),
       ),
     )
 
+add-first : tie.Need-add-first Inv-loop μ-loop
+add-first c =
+    let d = ordered (c .before .before .before) in
+    let h = turn d .before .loop .inv .3 in
+    omega (arith, d .order-of .ensures .1 .0, few (turn d))
+
 add-s : tie.Need-add-s Inv-loop μ-loop
-add-s c = omega arith
+add-s c = omega (arith, few (turn (ordered (c .before .before .before))))
 
-cast-starts : tie.Need-cast-starts Inv-loop μ-loop
-cast-starts c =
-    let l = c .before .before .before .before .before .before .before .before .before in
-    let t = c .before .before .before .before .before .before .before .before .loop-test .taken in
-    let e = c .before .before .before .before .before .before .before .schema-end in
-    omega (arith, stretch l t (e .result) (e .ensures) .known, atoms-few (words l) (is-table l))
-
-mul-starts : tie.Need-mul-starts Inv-loop μ-loop
-mul-starts c = omega arith
-
-element-write-starts-2 : tie.Need-element-write-starts-2 Inv-loop μ-loop
-element-write-starts-2 c = omega arith
+keep-begin-requires-2 : tie.Need-keep-begin-requires-2 Inv-loop μ-loop
+keep-begin-requires-2 c κs =
+    let d = ordered (c .before .before .before .before) in
+    let l = turn d .before in
+    let to = ordered (c .before .before .before .before) .before .schema-end in
+    let h = l .loop .inv .3 in
+    let k = few (turn d) in
+    let e = stretch (turn d) (to .result) (to .ensures) .known in
+    (omega arith, (omega (arith, atoms-few (words l) (is-table l)), omega (arith, d .order-of .ensures .1 .0)))
 
 loop-less : tie.Need-loop-less Inv-loop μ-loop
-loop-less c = omega arith
+loop-less c = omega (arith, turn (ordered (counting c)) .loop-test .taken)
 
 loop-again : tie.Need-loop-again Inv-loop μ-loop
 loop-again c =
-    let l = c .before .before .before .before .before .before .before .before .before in
+    let d = ordered (counting c) in
+    let l = turn d .before in
+    let w = words l in
     let h = l .loop in
-    let k = c .before .before .before .before .before .before .before .before .loop-test .taken in
-    let to = c .before .before .before .before .before .before .before .schema-end in
-    let found = c .before .before .before .before .before .before .order-of in
-    let atoms = atoms-are l k (to .result) (to .ensures) in
-    let told = found .ensures .0 (schemaAt (taskOf (words l)) (h .s)) atoms in
-    let yes = not-false (found .result .found) (c .before .before .before .before .if1 .left) in
-    let n = found .ensures .1 in
-    let kept = h .inv .3 in (
-      omega arith,
-      h .inv .1,
-      to .ensures ∙ ap (startOf (taskOf (words l))) (sym (add-one (h .s))),
-      record {
-        starts-long = length-set (h .starts) (h .s + 1) (to .result) ∙ kept .starts-long;
-        counts-long = length-set (h .counts) (h .s) (found .result .count) ∙ kept .counts-long;
-        order-long = c .keep-order .ensures .0 .0;
-        own-long = c .keep-order .ensures .0 .1;
-      },
-      parts-more (words l) (is-table l) (h .s) (h .from) (to .result) (known l k) (to .ensures) atoms (found .result)
-          (omega (arith, n .0, n .1)) yes told (h .starts) (h .counts) (h .order) (h .own) _ _
-          (c .keep-order .ensures .1) (h .inv .4)
-          (omega (arith, kept .starts-long)) (omega (arith, kept .counts-long)),
+    let to = ordered (counting c) .before .schema-end in
+    let f = d .order-of .result in
+    let n = d .order-of .ensures .1 in
+    let atoms = atoms-are (turn d) (to .result) (to .ensures) in
+    let yes = not-false (f .found) (counting c .before .before .if1 .left) in
+    let order = c .before .before .before .keep-order in
+    let kept = order .last .1 .1 .1 .1 .1 .0 in
+    let new = subst (λ (k : List ℕ). OrderKept w (h .from) (to .result) (h .s) (f .count) (f .parts) k kept)
+    (counting c .keep-count .ensures) (order .ensures) in
+    let fits : f .count ≤ length (f .parts) = omega (arith, n .0, n .1) in
+    let next = first-more (task l) (h .s) f (told d) yes fits (h .first) (h .inv .2) in
+    let more = parts-more w (is-table l) (h .s) (h .from) (to .result) (h .first + f .count) (known (turn d))
+    (to .ensures) atoms f fits yes (told d) next (h .kept) kept new
+    (h .inv .4) in (
+      omega (arith, turn d .loop-test .taken),
+      to .ensures ∙ ap (firstAtom (task l)) (sym (add-one (h .s))),
+      next,
+      omega (arith, h .inv .3, n .0),
+      subst (PartsKept (task l) (h .s + 1)) (sym (c .keep-begin2 .ensures)) more,
     )
 
 returns-2 : tie.Need-returns-2 Inv-loop μ-loop
 unfolding circularTold
 returns-2 c =
     let l = c .before in
-    let t = taskOf (words l) in
-    let e : l .loop .s ≡ length (t .schemas) =
-    omega (arith, schemas-word (words l) (table-frame (words l) (is-table l))) in (
-      l .loop .inv .3,
-      (
-        sym (circular-nowhere t (l .loop .s) (l .loop .inv .4 .taken) e),
-        λ z. subst (λ (n : ℕ). PartsKept t n (l .loop .starts) (l .loop .counts) (l .loop .order) (l .loop .own)) e
-            (l .loop .inv .4),
-      ),
+    let n = counted l in
+    let e : l .loop .s ≡ length (task l .schemas) = omega (arith, c .loop-test .left) in (
+      sym (circular-nowhere (task l) (l .loop .s) (l .loop .inv .4 .taken) e),
+      λ z. subst (λ (n : ℕ). PartsKept (task l) n (l .loop .kept)) e (l .loop .inv .4),
     )
 
 pub keep-parts-spec : {M : Type 1} → statement M
 keep-parts-spec =
     tie.close
-    (tie.spec
-    Inv-loop
-    μ-loop
-    shared-slice-read-schemas
-    cast-schemas
-    element-write-starts
-    loop-holds
-    schema-end-requires
-    order-of-requires
-    returns
-    cast-counts
-    mul-counts
-    element-write-counts
-    keep-order-requires
-    add-s
-    cast-starts
-    mul-starts
-    element-write-starts-2
-    loop-less
-    loop-again
-    returns-2)
+    (tie.spec Inv-loop μ-loop word-requires keep-begin-requires loop-holds schema-end-requires order-of-requires returns
+    keep-count-requires keep-order-requires add-first add-s keep-begin-requires-2 loop-less loop-again returns-2)

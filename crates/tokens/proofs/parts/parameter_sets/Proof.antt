@@ -1,18 +1,19 @@
 -- `tokens::parts::parameter_sets` meets its contract. The invariant: each set has the parameters of its part's atoms
 -- before i. The measure is the atoms left. Parameters are below 12, so a set is below 2 ^ 12.
-use Prim.Native.Nat.{ℕ, _+_, _-_, _^_, _≤_, _<_}
+use Rattle.tokens.proofs.parts.parameter_sets.Tie as tie
+use Prim.Native.Nat.{ℕ, _-_, _^_, _≤_, _<_}
 use mathlib.Core.Path.{_≡_, refl, sym, _∙_, subst}
 use native.Mathlib.Omega.{arith}
-use lib.ListN.{length, getD, replicate, length-set}
+use lib.ListN.{length, getD, length-set}
 use Rattle.arcs.proofs.Stretches.{zeros-at, stretch-atom}
-use Rattle.tokens.proofs.SetMembers.{set-small}
+use Rattle.words.proofs.SetMembers.{set-small}
 use Rattle.tokens.proofs.PartParameters.{Named, named-nowhere, named-further, sets-stored, part-small}
 use Rattle.tokens.proofs.parts.parameter_sets.Statement.{statement}
-use Rattle.tokens.proofs.parts.parameter_sets.Tie as tie
+use Rattle.task.specs.Limits.{mostParts, mostParameters}
 
 abbrev Inv-loop : tie.InvT-loop
 Inv-loop table from to sets₀ i₀ sets i =
-    (from ≤ i) × (i ≤ to) × (length sets ≡ 16) × ((p : ℕ) → getD sets p 0 < 2 ^ 64) × Named table from i sets
+    (from ≤ i) × (i ≤ to) × (length sets ≡ mostParts) × ((p : ℕ) → getD sets p 0 < 2 ^ 64) × Named table from i sets
 
 abbrev μ-loop : tie.MeasureT-loop
 μ-loop table from to sets₀ i₀ sets i = to - i
@@ -23,7 +24,7 @@ loop-holds c =
       omega arith,
       s .pre .forward,
       refl,
-      λ p. subst (λ (n : ℕ). n < 2 ^ 64) (sym (zeros-at 16 p)) (omega arith),
+      λ p. subst (λ (n : ℕ). n < 2 ^ 64) (sym (zeros-at mostParts p)) (omega arith),
       named-nowhere (s .args .table .now) (s .args .from),
     )
 
@@ -83,7 +84,7 @@ returns c =
     let named = subst (λ (n : ℕ). Named w from n (h .sets)) e (h .inv .4) in (
       h .inv .2,
       (
-        λ p. set-small 12 (getD (h .sets) p 0) (h .inv .3 p)
+        λ p. set-small mostParameters (getD (h .sets) p 0) (h .inv .3 p)
             (λ x m. part-small w from p (s .args .to) x (s .pre) (sym (named p x) ∙ m)),
         named,
       ),
@@ -92,18 +93,5 @@ returns c =
 pub parameter-sets-spec : {M : Type 1} → statement M
 parameter-sets-spec =
     tie.close
-    (tie.spec
-    Inv-loop
-    μ-loop
-    loop-holds
-    part-of-requires
-    cast-part
-    mul-named
-    array-read-named
-    with-arguments-requires
-    mul-sets
-    array-write-sets
-    add-i
-    loop-less
-    loop-again
-    returns)
+    (tie.spec Inv-loop μ-loop loop-holds part-of-requires cast-part mul-named array-read-named with-arguments-requires
+    mul-sets array-write-sets add-i loop-less loop-again returns)

@@ -5,7 +5,7 @@ use mathlib.Core.Path.{_≡_, _∙_}
 use native.Mathlib.Omega.{arith}
 use lib.ListN.{length}
 use Rattle.task.specs.Table.{atomIn}
-use Rattle.arcs.specs.Code.{member}
+use Rattle.words.specs.Sets.{member}
 use Rattle.tokens.proofs.PartParameters.{namedIn, named-none, named-more, named-all}
 use Rattle.tokens.proofs.parts.with_arguments.Statement.{statement}
 use Rattle.tokens.proofs.parts.with_arguments.Tie as tie
@@ -70,15 +70,5 @@ returns c = λ x.
 pub with-arguments-spec : {M : Type 1} → statement M
 with-arguments-spec =
     tie.close
-    (tie.spec
-    Inv-loop
-    μ-loop
-    argument-count-requires
-    loop-holds
-    argument-requires
-    cast-with
-    with-requires
-    add-k
-    loop-less
-    loop-again
-    returns)
+    (tie.spec Inv-loop μ-loop argument-count-requires loop-holds argument-requires cast-with with-requires add-k
+    loop-less loop-again returns)

@@ -34,5 +34,6 @@ returns-3 c =
     rw (ne-eqb (a .j) 0 (c .before .if1 .left), ne-eqb (a .j) (a .count) (c .if2 .left)) refl
 
 pub token-at-spec : {M : Type 1} → statement M
-token-at-spec = tie.close (tie.spec cast-result returns cast-result-2 returns-2 add-result add-result-2 cast-result-3
-    returns-3)
+token-at-spec =
+    tie.close
+    (tie.spec cast-result returns cast-result-2 returns-2 add-result add-result-2 cast-result-3 returns-3)

@@ -1,96 +1,103 @@
--- `tokens::writing::all_facts` meets its contract: the old atoms of each role lie in the table one after another.
-use Prim.Native.Nat.{_+_, _*_}
+-- `tokens::writing::all_facts` meets its contract: the old atoms of each role lie in the table one after another. The
+-- goal atoms are put where the initial ones end.
+use Rattle.tokens.proofs.writing.all_facts.Tie as tie
+use Prim.Native.Nat.{_+_, _*_, _≤_}
 use mathlib.Core.Path.{refl}
-use mathlib.Core.List.{_++_}
 use native.Mathlib.Omega.{arith}
-use lib.ListN.{getD}
 use borrow.Author.Needs.{needs}
-use Rattle.task.specs.Lists.{concatMap}
+use Rattle.words.specs.Lists.{concatMap}
 use Rattle.task.specs.Table.{taskOf, factWords}
 use Rattle.tokens.specs.Split.{splitTask}
-use Rattle.tokens.proofs.Runs.{puts-is, puts-then, puts-length}
+use Rattle.words.proofs.Puts.{puts-is, puts-then, puts-length}
 use Rattle.tokens.proofs.Written.{facts-inside, init-written, goal-written}
 use Rattle.tokens.proofs.writing.all_facts.Statement.{statement}
-use Rattle.tokens.proofs.writing.all_facts.Tie as tie
+use lib.ListN.{length, getD}
+use Rattle.task.specs.Limits.{atomSize}
+use Rattle.tokens.specs.Writing.{factsBase}
 
-shared-slice-read-wide : tie.Need-shared-slice-read-wide
-shared-slice-read-wide c = omega (arith, facts-inside (c .before .before .before .args .table .now) (c .before .before .before .pre .0))
+-- the places, one from the next
+abbrev begun : tie.After-word → tie.Start
+begun c = c .before .before .before
 
-wide-requires : tie.Need-wide-requires
-wide-requires c κs = search needs
+abbrev counted : tie.After-facts-begin → tie.After-word
+counted c = c .before .before
 
-shared-slice-read-wide-2 : tie.Need-shared-slice-read-wide-2
-shared-slice-read-wide-2 c = omega (arith, facts-inside (c .before .before .before .before .before .args .table .now) (c .before .before .before .before .before .pre .0))
+abbrev based : tie.After-facts → tie.After-facts-begin
+based c = c .before .before
 
-wide-requires-2 : tie.Need-wide-requires-2
-wide-requires-2 c κs = search needs
+abbrev started : tie.After-facts2 → tie.After-facts
+started c = c .before .before .before .before
 
-shared-slice-read-wide-3 : tie.Need-shared-slice-read-wide-3
-shared-slice-read-wide-3 c = omega (arith, facts-inside (c .before .before .before .before .before .before .before .args .table .now) (c .before .before .before .before .before .before .before .pre .0))
+-- all atoms lie in the table
+inside : (s : tie.Start) →
+    let w = s .args .table .now in factsBase w + atomSize * (getD w 4 0 + getD w 5 0) ≤ length w
+inside s = omega (arith, facts-inside (s .args .table .now) (s .pre .0))
 
-wide-requires-3 : tie.Need-wide-requires-3
-wide-requires-3 c κs = search needs
+word-requires : tie.Need-word-requires
+word-requires c κs = omega (arith, inside (c .before .before))
 
-add-from : tie.Need-add-from
-add-from c = omega (arith, facts-inside (c .before .before .before .before .before .before .before .before .args .table .now) (c .before .before .before .before .before .before .before .before .pre .0))
+word-requires-2 : tie.Need-word-requires-2
+word-requires-2 c κs = omega (arith, inside (begun c))
 
-shared-slice-read-wide-4 : tie.Need-shared-slice-read-wide-4
-shared-slice-read-wide-4 c = omega (arith, facts-inside (c .before .before .before .before .before .before .before .before .before .args .table .now) (c .before .before .before .before .before .before .before .before .before .pre .0))
+facts-begin-requires : tie.Need-facts-begin-requires
+facts-begin-requires c κs = omega (arith, inside (begun (c .before)))
 
-wide-requires-4 : tie.Need-wide-requires-4
-wide-requires-4 c κs = search needs
-
-add-from-2 : tie.Need-add-from-2
-add-from-2 c = omega (arith, facts-inside (c .before .before .before .before .before .before .before .before .before .before .args .table .now) (c .before .before .before .before .before .before .before .before .before .before .pre .0))
-
-shared-slice-read-wide-5 : tie.Need-shared-slice-read-wide-5
-shared-slice-read-wide-5 c = omega (arith, facts-inside (c .before .before .before .before .before .before .before .before .before .before .before .args .table .now) (c .before .before .before .before .before .before .before .before .before .before .before .pre .0))
-
-wide-requires-5 : tie.Need-wide-requires-5
-wide-requires-5 c κs = search needs
-
-mul-from : tie.Need-mul-from
-mul-from c = omega (arith, facts-inside (c .before .before .before .before .before .before .before .before .before .before .before .before .args .table .now) (c .before .before .before .before .before .before .before .before .before .before .before .before .pre .0))
-
-add-from-3 : tie.Need-add-from-3
-add-from-3 c = omega (arith, facts-inside (c .before .before .before .before .before .before .before .before .before .before .before .before .args .table .now) (c .before .before .before .before .before .before .before .before .before .before .before .before .pre .0))
+cast-facts : tie.Need-cast-facts
+cast-facts c = search needs
 
 facts-requires : tie.Need-facts-requires
 facts-requires c κs =
-    let i = facts-inside (c .before .before .before .before .before .before .before .before .before .before .before .before .before .args .table .now) (c .before .before .before .before .before .before .before .before .before .before .before .before .before .pre .0) in
-    (omega arith, (omega arith, omega arith))
+    let s = begun (counted (c .before)) in
+    let i = inside s in
+    let n = counted (c .before) .word .ensures .0 in
+    let b = c .before .facts-begin .ensures in
+    (omega arith, (omega arith, omega (arith, s .pre .1)))
 
 mul-facts : tie.Need-mul-facts
-mul-facts c = omega (arith, facts-inside (c .before .before .before .before .before .before .before .before .before .before .before .before .before .before .before .before .args .table .now) (c .before .before .before .before .before .before .before .before .before .before .before .before .before .before .before .before .pre .0))
+mul-facts c = omega (arith, counted (based (c .before .before)) .word .ensures .1)
 
 add-facts : tie.Need-add-facts
-add-facts c = omega (arith, facts-inside (c .before .before .before .before .before .before .before .before .before .before .before .before .before .before .before .before .args .table .now) (c .before .before .before .before .before .before .before .before .before .before .before .before .before .before .before .before .pre .0))
+add-facts c =
+    let i = inside (begun (counted (based (c .before .before)))) in
+    let n = counted (based (c .before .before)) .word .ensures in
+    let b = based (c .before .before) .facts-begin .ensures in
+    omega (arith, n .0)
+
+cast-facts-2 : tie.Need-cast-facts-2
+cast-facts-2 c = search needs
 
 facts-requires-2 : tie.Need-facts-requires-2
 facts-requires-2 c κs =
-    let i = facts-inside (c .before .before .before .before .before .before .before .before .before .before .before .before .before .before .before .before .before .args .table .now) (c .before .before .before .before .before .before .before .before .before .before .before .before .before .before .before .before .before .pre .0) in
+    let s = begun (counted (based (c .before .before .before))) in
+    let i = inside s in
+    let n = counted (based (c .before .before .before)) .word .ensures .0 in
+    let g = based (c .before .before .before) .before .word2 .ensures .0 in
+    let b = based (c .before .before .before) .facts-begin .ensures in
     let f = c .before .before .before .facts .ensures in
     let l = puts-length (f .0) in
-    let n = f .1 in
-    (omega arith, (omega arith, omega arith))
+    (omega arith, (omega arith, omega (arith, s .pre .1, f .1)))
 
 same-length : tie.Need-same-length
 same-length c = search needs
 
 returns : tie.Need-returns
 returns c =
-    let st = c .before .before .before .before .before .before .before .before .before .before .before .before .before .before .before .before .before .before .before .before in
+    let st = begun (counted (based (started (c .before .before)))) in
     let w = st .args .table .now in
     let t = splitTask (taskOf w) in
-    let from = 6 + c .before .before .before .before .before .before .before .before .before .before .before .before .wide3 .result + c .before .before .before .before .before .before .before .before .before .before .wide4 .result + 8 * c .before .before .before .before .before .before .before .before .wide5 .result in
+    let n = counted (based (started (c .before .before))) .word in
+    let g = based (started (c .before .before)) .before .word2 in
+    let b = based (started (c .before .before)) .facts-begin in
+    let e = n .ensures .0 in
+    let from = b .ensures in
     puts-then
-    (puts-is (c .before .before .before .before .before .before .facts .ensures .0) refl refl (concatMap (factWords 3) (t .init))
-    (init-written w (st .pre .0) from (c .before .before .before .before .before .before .before .before .before .before .before .before .before .before .before .before .wide .result) (omega arith) (c .before .before .before .before .before .before .before .before .before .before .before .before .before .before .before .before .wide .ensures)))
+    (puts-is (started (c .before .before) .facts .ensures .0) refl refl (concatMap (factWords 3) (t .init))
+    (init-written w (st .pre .0) (b .result) (n .result) from e))
     (puts-is (c .before .before .facts2 .ensures .0) refl refl (concatMap (factWords 4) (t .goal))
-    (goal-written w (st .pre .0) (from + 8 * c .before .before .before .before .before .before .before .before .before .before .before .before .before .before .before .before .wide .result) (c .before .before .before .before .before .before .before .before .before .before .before .before .before .before .wide2 .result) (omega arith) (c .before .before .before .before .before .before .before .before .before .before .before .before .before .before .wide2 .ensures))) _ refl
+    (goal-written w (st .pre .0) (b .result + atomSize * n .result) (g .result) (omega arith) (g .ensures .0))) _ refl
 
 pub all-facts-spec : {M : Type 1} → statement M
-all-facts-spec = tie.close (tie.spec shared-slice-read-wide wide-requires shared-slice-read-wide-2 wide-requires-2
-    shared-slice-read-wide-3 wide-requires-3 add-from shared-slice-read-wide-4 wide-requires-4 add-from-2
-    shared-slice-read-wide-5 wide-requires-5 mul-from add-from-3 facts-requires mul-facts add-facts facts-requires-2
-    same-length returns)
+all-facts-spec =
+    tie.close
+    (tie.spec word-requires word-requires-2 facts-begin-requires cast-facts facts-requires mul-facts add-facts
+    cast-facts-2 facts-requires-2 same-length returns)

@@ -1,54 +1,81 @@
--- `tokens::writing::arities` meets its contract: the runs of the three calls make one.
+-- `tokens::writing::arities` meets its contract: the runs of the three calls make one. Each begins where the one before
+-- ended, and there is room for all three.
+use Rattle.tokens.proofs.writing.arities.Tie as tie
 use Prim.Native.Nat.{ℕ, _+_}
 use mathlib.Core.Path.{refl, sym, ap}
 use native.Mathlib.Omega.{arith}
 use lib.ListN.{length-replicate}
 use borrow.Author.Needs.{needs}
-use Rattle.task.specs.Table.{wordsAt}
-use Rattle.task.proofs.TablesByWords.{length-wordsAt}
-use Rattle.tokens.proofs.Runs.{puts-is, puts-then, puts-length}
+use Rattle.words.specs.Words.{wordsAt}
+use Rattle.words.proofs.Words.{length-wordsAt}
+use Rattle.words.proofs.Puts.{puts-is, puts-then, puts-length}
 use Rattle.tokens.proofs.writing.arities.Statement.{statement}
-use Rattle.tokens.proofs.writing.arities.Tie as tie
+use Rattle.task.specs.Limits.{headWords}
 
-shared-slice-read-wide : tie.Need-shared-slice-read-wide
-shared-slice-read-wide c = omega arith
+-- the places, one from the next
+abbrev begun : tie.After-word → tie.Start
+begun c = c .before .before .before
 
-wide-requires : tie.Need-wide-requires
-wide-requires c κs = search needs
+abbrev counted : tie.After-copy → tie.After-word
+counted c = c .before .before
+
+abbrev copied : tie.After-fill → tie.After-copy
+copied c = c .before .before .before .before .before
+
+abbrev filled : tie.After-fill2 → tie.After-fill
+filled c = c .before .before .before .before
+
+word-requires : tie.Need-word-requires
+word-requires c κs = omega (arith, c .before .before .pre .0)
 
 copy-requires : tie.Need-copy-requires
-copy-requires c κs = let p = c .before .wide .ensures in (omega arith, omega arith)
+copy-requires c κs =
+    let p = c .before .word .ensures .0 in
+    let s = begun (c .before) in
+    (omega (arith, s .pre .0), omega (arith, s .pre .1))
 
 add-fill : tie.Need-add-fill
 add-fill c =
-    let p = c .before .before .before .before .before .wide .ensures in
-    let f = c .before .before .before .copy .ensures in
-    omega (arith, length-wordsAt (c .before .before .before .before .before .before .before .before .before .args .table .now) 6 (c .before .before .before .before .before .wide .result), f .place)
+    let a = begun (counted (c .before .before .before .before)) .args in
+    let n = counted (c .before .before .before .before) .word in
+    let p = n .ensures .0 in
+    let f = c .before .before .before .before .copy .ensures in
+    omega (arith, begun (counted (c .before .before .before .before)) .pre .1, puts-length f)
 
 fill-requires : tie.Need-fill-requires
 fill-requires c κs =
-    let p = c .before .before .before .before .before .wide .ensures in
-    let f = c .before .before .before .copy .ensures in
-    omega (arith, length-wordsAt (c .before .before .before .before .before .before .before .before .before .args .table .now) 6 (c .before .before .before .before .before .wide .result), f .place, puts-length f)
+    let a = begun (counted (c .before .before .before .before)) .args in
+    let n = counted (c .before .before .before .before) .word in
+    let p = n .ensures .0 in
+    let f = c .before .before .before .before .copy .ensures in
+    let m = begun (counted (c .before .before .before .before)) .pre .1 in
+    omega (arith, length-wordsAt (a .table .now) headWords (n .result), f .place, puts-length f)
 
 fill-requires-2 : tie.Need-fill-requires-2
 fill-requires-2 c κs =
-    let a = c .before .before .before .before .before .before .before .before .before .before .before .before .before .args in
-    let p = c .before .before .before .before .before .before .before .before .before .wide .ensures in
-    let f = c .before .before .before .before .before .before .before .copy .ensures in
+    let a = begun (counted (copied (c .before .before .before))) .args in
+    let n = counted (copied (c .before .before .before)) .word in
+    let p = n .ensures .0 in
+    let f = copied (c .before .before .before) .copy .ensures in
     let g = c .before .before .before .fill .ensures in
-    let m = length-replicate {A = ℕ} (a .later + 1) 0 in
-    omega (arith, length-wordsAt (a .table .now) 6 (c .before .before .before .before .before .before .before .before .before .wide .result), f .place, puts-length f, g .place, puts-length g)
+    let r = length-replicate {A = ℕ} (a .sizes .later + 1) 0 in
+    let m = begun (counted (copied (c .before .before .before))) .pre .1 in
+    let k = length-wordsAt (a .table .now) headWords (n .result) in
+    omega (arith, f .place, puts-length f, g .place, puts-length g)
 
 same-length : tie.Need-same-length
 same-length c = search needs
 
 returns : tie.Need-returns
 returns c =
-    let w = c .before .before .before .before .before .before .before .before .before .before .before .before .before .before .before .before .args .table .now in
-    puts-then (puts-is (c .before .before .before .before .before .before .before .before .before .before .copy .ensures) refl refl (wordsAt w 6 _) (ap (wordsAt w 6) (sym (c .before .before .before .before .before .before .before .before .before .before .before .before .wide .ensures))))
-    (puts-then (c .before .before .before .before .before .before .fill .ensures) (c .before .before .fill2 .ensures) _ refl) _ refl
+    let w = begun (counted (copied (filled (c .before .before)))) .args .table .now in
+    puts-then
+    (puts-is (copied (filled (c .before .before)) .copy .ensures) refl refl (wordsAt w headWords _)
+    (ap (wordsAt w headWords) (sym (counted (copied (filled (c .before .before))) .word .ensures .0))))
+    (puts-then (filled (c .before .before) .fill .ensures) (c .before .before .fill2 .ensures) _
+    refl) _ refl
 
 pub arities-spec : {M : Type 1} → statement M
-arities-spec = tie.close (tie.spec shared-slice-read-wide wide-requires copy-requires add-fill fill-requires
-    fill-requires-2 same-length returns)
+arities-spec =
+    tie.close
+    (tie.spec word-requires copy-requires add-fill fill-requires fill-requires-2 same-length returns)

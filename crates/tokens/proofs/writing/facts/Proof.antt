@@ -1,38 +1,57 @@
--- `tokens::writing::facts` meets its contract: the runs of the two calls make one.
-use Prim.Native.Nat.{_*_}
-use mathlib.Core.Path.{refl}
+-- `tokens::writing::facts` meets its contract: the runs of the two calls make one. The old atoms are put as they stand
+-- in the table, and procnone behind them; an atom takes eight words.
+use Rattle.tokens.proofs.writing.facts.Tie as tie
+use Prim.Native.Nat.{_*_, ℕ}
+use mathlib.Core.Path.{refl, sym, ap}
 use native.Mathlib.Omega.{arith}
 use borrow.Author.Needs.{needs}
-use Rattle.task.proofs.TablesByWords.{length-wordsAt}
-use Rattle.tokens.proofs.Runs.{puts-then, puts-length}
+use Rattle.words.proofs.Words.{length-wordsAt}
+use Rattle.words.proofs.Puts.{puts-then, puts-length, puts-is}
 use Rattle.tokens.proofs.writing.facts.Statement.{statement}
-use Rattle.tokens.proofs.writing.facts.Tie as tie
+use mathlib.Core.List.{[]}
+use Rattle.task.specs.Limits.{atomSize}
+use Rattle.task.specs.Table.{atomWords}
+use Rattle.tokens.specs.Split.{token}
+
+-- the places, one from the next
+abbrev begun : tie.After-copy → tie.Start
+begun c = c .before .before .before .before
+
+abbrev copied : tie.After-word-at → tie.After-copy
+copied c = c .before .before .before
+
+abbrev named : tie.After-bare-token → tie.After-word-at
+named c = c .before .before
 
 mul-copy : tie.Need-mul-copy
-mul-copy c = omega arith
+mul-copy c = omega (arith, c .before .before .pre .1 .0)
 
 copy-requires : tie.Need-copy-requires
-copy-requires c κs = (omega arith, omega arith)
+copy-requires c κs = let s = c .before .before .before in (omega (arith, s .pre .1 .0), omega (arith, s .pre .1 .1))
 
-shared-slice-read-bare-token : tie.Need-shared-slice-read-bare-token
-shared-slice-read-bare-token c = omega arith
+word-at-requires : tie.Need-word-at-requires
+word-at-requires c κs = omega (arith, begun (c .before .before) .pre .0)
 
 bare-token-requires : tie.Need-bare-token-requires
 bare-token-requires c κs =
-    let a = c .before .before .before .before .before .before .before .before .args in
-    let f = c .before .before .before .before .copy .ensures in
-    omega (arith, length-wordsAt (a .table .now) (a .from) (8 * a .count), f .place, puts-length f)
+    let s = begun (copied (c .before)) in
+    let f = copied (c .before) .copy .ensures in
+    let n = length-wordsAt (s .args .table .now) (s .args .from) (atomSize * s .args .count) in
+    omega (arith, s .pre .1 .1, f .place, puts-length f)
 
 same-length : tie.Need-same-length
 same-length c = search needs
 
 returns : tie.Need-returns
 returns c =
-    let a = c .before .before .before .before .before .before .before .before .before .before .before .args in
-    let f = c .before .before .before .before .before .before .before .copy .ensures in
+    let a = begun (copied (named (c .before .before))) .args in
+    let f = copied (named (c .before .before)) .copy .ensures in
     let g = c .before .before .bare-token .ensures in
-    (puts-then f (g .0) _ refl, omega (arith, length-wordsAt (a .table .now) (a .from) (8 * a .count), f .place, g .1))
+    let e = sym (named (c .before .before) .word-at .ensures) in
+    let n = length-wordsAt (a .table .now) (a .from) (atomSize * a .count) in (
+      puts-then f (puts-is (g .0) refl refl _ (ap (λ (p : ℕ). atomWords 0 (token (a .role) p [])) e)) _ refl,
+      omega (arith, f .place, g .1),
+    )
 
 pub facts-spec : {M : Type 1} → statement M
-facts-spec = tie.close (tie.spec mul-copy copy-requires shared-slice-read-bare-token bare-token-requires same-length
-    returns)
+facts-spec = tie.close (tie.spec mul-copy copy-requires word-at-requires bare-token-requires same-length returns)

@@ -1,26 +1,48 @@
--- `tokens::writing::write_split` meets its contract: the runs that the calls put make the words of the split, and what is
--- put at the front of a buffer lies over it.
+-- `tokens::writing::write_split` meets its contract: the runs that the calls put make the words of the split, and what
+-- is put at the front of a buffer lies over it.
+use Rattle.tokens.proofs.writing.write_split.Tie as tie
 use Prim.Native.Nat.{ℕ, _+_, _-_, _*_, _≤_, _<_}
 use mathlib.Core.Path.{_≡_, refl, sym, _∙_, ap}
-use mathlib.Core.List.{_++_, map}
+use mathlib.Core.List.{_++_, map, List}
 use native.Mathlib.Omega.{arith}
 use lib.ListN.{length, getD, replicate}
 use borrow.Author.Needs.{needs}
-use Rattle.task.specs.Limits.{tableWords}
+use Rattle.task.specs.Limits.{tableWords, atomSize, mostSchemas}
 use Rattle.task.specs.Task.{Schema, Task}
 use Rattle.task.specs.Table.{taskOf, wordsOf}
-use Rattle.task.proofs.Put.{put-over}
+use Rattle.words.proofs.Puts.{put-over, puts-is, puts-then, puts-length}
 use Rattle.task.proofs.Tables.{sixWords, content, wordsOf-is, tableWords-is, words-length}
 use Rattle.task.proofs.TablesByIndex.{table-frame, schemas-word, init-word, goal-word}
 use Rattle.tokens.specs.Split.{splitTask}
-use Rattle.tokens.specs.Writing.{Puts}
+use Rattle.words.specs.Putting.{Puts}
 use Rattle.tokens.proofs.Predicates.{predicate-count}
 use Rattle.tokens.proofs.Sizes.{init-count, goal-count}
-use Rattle.tokens.proofs.Runs.{puts-is, puts-then, puts-length}
 use Rattle.tokens.proofs.Splitting.{split-well, few-schemas, few-parts, predicates-word}
 use Rattle.tokens.proofs.Written.{Room, room, facts-inside, counts-written, arities-written, params-written}
 use Rattle.tokens.proofs.writing.write_split.Statement.{statement}
-use Rattle.tokens.proofs.writing.write_split.Tie as tie
+use Rattle.tokens.specs.Writing.{factsBase}
+
+-- the places, one from the next
+abbrev begun : tie.After-head → tie.Start
+begun c = c .before .before .before .before
+
+abbrev head : tie.After-arities → tie.After-head
+head c = c .before .before .before .before
+
+abbrev counted : tie.After-all-params → tie.After-word
+counted c = c .before .before
+
+abbrev names : tie.After-all-params → tie.After-arities
+names c = counted c .before .before .before
+
+abbrev sizes : tie.After-all-parts → tie.After-all-params
+sizes c = c .before .before .before .before
+
+abbrev atoms : tie.After-all-facts → tie.After-all-parts
+atoms c = c .before .before .before .before
+
+abbrev facts : tie.After-fill → tie.After-all-facts
+facts c = c .before .before .before .before
 
 abbrev split : (c : tie.Start) → Task
 split c = splitTask (taskOf (c .args .table .now))
@@ -29,13 +51,13 @@ split c = splitTask (taskOf (c .args .table .now))
 record Known (c : tie.Start) : Type 0 where
   room : Room (split c)
   old : length (taskOf (c .args .table .now) .schemas) ≡ getD (c .args .table .now) 2 0
-  few : getD (c .args .table .now) 2 0 ≤ 200
-  predicates : length (split c .arities) ≡ getD (c .args .table .now) 1 0 + 1 + c .args .later + c .args .pars
+  few : getD (c .args .table .now) 2 0 ≤ mostSchemas
+  predicates : length (split c .arities) ≡
+      getD (c .args .table .now) 1 0 + 1 + c .args .sizes .later + c .args .sizes .pars
   inits : length (split c .init) ≡ getD (c .args .table .now) 4 0 + 1
   goals : length (split c .goal) ≡ getD (c .args .table .now) 5 0 + 1
-  inside : 6 + getD (c .args .table .now) 1 0 + getD (c .args .table .now) 2 0 +
-      8 * (getD (c .args .table .now) 3 0 + getD (c .args .table .now) 4 0 + getD (c .args .table .now) 5 0) ≤
-      length (c .args .table .now)
+  inside : factsBase (c .args .table .now) +
+      atomSize * (getD (c .args .table .now) 4 0 + getD (c .args .table .now) 5 0) ≤ length (c .args .table .now)
   long : 13406 ≤ length (c .args .out .now)
 
 known : (c : tie.Start) → Known c
@@ -44,8 +66,8 @@ known c =
     let w = c .args .table .now in
     let t = taskOf w in
     let fr = table-frame w (S .table) in
-    let l = c .pre .1 .0 in
-    let p = c .pre .1 .1 .0 in
+    let l = S .sized .later in
+    let p = S .sized .pars in
     let n = schemas-word w fr in
     record {
       room = room (split c) (split-well S);
@@ -54,147 +76,193 @@ known c =
       predicates = omega (arith, predicate-count t, predicates-word S);
       inits = omega (arith, init-count t, init-word w fr);
       goals = omega (arith, goal-count t, goal-word w fr);
-      inside = facts-inside w (S .table);
-      long = omega (arith, c .pre .1 .1 .1 .1 .1, tableWords-is);
+      inside = omega (arith, facts-inside w (S .table));
+      long = omega (arith, c .pre .1, tableWords-is);
     }
 
 -- ---- what each call has put, as words of the split
+-- the words after a call: of the head, the arities, the parameter counts, the schemas' atoms, the facts
+abbrev headed : tie.After-head → List ℕ
+headed c = c .head .last .1 .1 .0
+
+abbrev named : tie.After-arities → List ℕ
+named c = c .arities .last .1 .1 .0
+
+abbrev sized : tie.After-all-params → List ℕ
+sized c = c .all-params .last .1 .1 .0
+
 six-put : (c : tie.After-head) →
-    Puts (c .before .before .before .before .args .out .now) 0 (sixWords (split (c .before .before .before .before))) (c .head .last .1 .1 .1 .1 .1 .0) (c .head .result)
+    let s = begun c in Puts (s .args .out .now) 0 (sixWords (split s)) (headed c) (c .head .result)
 six-put c =
-    let st = c .before .before .before .before in
-    let a = st .args in
-    puts-is (c .head .ensures) refl refl (sixWords (split st))
-    (counts-written (st .pre .0) (a .later) (a .pars) (a .schemas) (a .atoms) (st .pre .1 .0) (st .pre .1 .1 .0)
-    (st .pre .1 .1 .1 .0) (st .pre .1 .1 .1 .1 .0))
+    let s = begun c in
+    puts-is (c .head .ensures) refl refl (sixWords (split s)) (counts-written (s .pre .0))
 
 names-put : (c : tie.After-arities) →
-    Puts (c .before .before .before .before .head .last .1 .1 .1 .1 .1 .0) (c .before .before .before .before .head .result) (split (c .before .before .before .before .before .before .before .before) .arities) (c .arities .last .1 .1 .1 .0) (c .arities .result)
+    let h = head c in
+    Puts (headed h) (h .head .result) (split (begun (head c)) .arities) (named c) (c .arities .result)
 names-put c =
-    let st = c .before .before .before .before .before .before .before .before in
-    puts-is (c .arities .ensures) refl refl (split st .arities)
-    (arities-written (st .pre .0) (st .args .later) (st .args .pars) (st .pre .1 .0) (st .pre .1 .1 .0))
+    let s = begun (head c) in
+    puts-is (c .arities .ensures) refl refl (split s .arities) (arities-written (s .pre .0))
 
 sizes-put : (c : tie.After-all-params) →
-    Puts (c .before .before .before .before .before .before .arities .last .1 .1 .1 .0) (c .before .before .before .before .before .before .arities .result) (map (λ (u : Schema). u .params) (split (c .before .before .before .before .before .before .before .before .before .before .before .before .before .before) .schemas))
-    (c .all-params .last .1 .1 .1 .0) (c .all-params .result)
+    let n = names c in
+    Puts (named n) (n .arities .result) (map (λ (u : Schema). u .params) (split (begun (head (names c))) .schemas))
+    (sized c) (c .all-params .result)
 sizes-put c =
-    let st = c .before .before .before .before .before .before .before .before .before .before .before .before .before .before in
-    puts-is (c .all-params .ensures) refl refl (map (λ (u : Schema). u .params) (split st .schemas))
-    (params-written (st .pre .0) (c .before .before .wide .result) (c .before .before .wide .ensures ∙ sym (known st .old)))
+    let s = begun (head (names c)) in
+    let n = counted c .word in
+    puts-is (c .all-params .ensures) refl refl (map (λ (u : Schema). u .params) (split s .schemas))
+    (params-written (s .pre .0) (n .result) (n .ensures .0 ∙ sym (known s .old)))
 
 content-put : (c : tie.After-all-facts) →
-    Puts (c .before .before .before .before .before .before .before .before .before .before .before .before .before .before .before .before .before .before .before .before .before .before .args .out .now) 0 (content (split (c .before .before .before .before .before .before .before .before .before .before .before .before .before .before .before .before .before .before .before .before .before .before))) (c .all-facts .last .1 .0) (c .all-facts .result)
+    let s = begun (head (names (sizes (atoms c)))) in
+    Puts (s .args .out .now) 0 (content (split s)) (c .all-facts .last .1 .0) (c .all-facts .result)
 unfolding content
 content-put c =
-    puts-then (six-put (c .before .before .before .before .before .before .before .before .before .before .before .before .before .before .before .before .before .before)) (puts-then (names-put (c .before .before .before .before .before .before .before .before .before .before .before .before .before .before)) (puts-then (sizes-put (c .before .before .before .before .before .before .before .before))
-    (puts-then (c .before .before .before .before .all-parts .ensures) (c .all-facts .ensures) _ refl) _ refl) _ refl) (content (split (c .before .before .before .before .before .before .before .before .before .before .before .before .before .before .before .before .before .before .before .before .before .before))) refl
+    puts-then (six-put (head (names (sizes (atoms c))))) (puts-then (names-put (names (sizes (atoms c))))
+    (puts-then (sizes-put (sizes (atoms c)))
+    (puts-then (atoms c .all-parts .ensures) (c .all-facts .ensures) _ refl) _ refl) _ refl)
+    (content (split (begun (head (names (sizes (atoms c))))))) refl
+
+-- ---- where each of them ends
+record Headed (c : tie.After-head) : Type 0 where
+  ends : c .head .result ≡ 6
+  long : length (headed c) ≡ length (begun c .args .out .now)
+
+head-ends : (c : tie.After-head) → Headed c
+head-ends c = record { ends = c .head .ensures .place; long = puts-length (six-put c) }
+
+record Named (c : tie.After-arities) : Type 0 where
+  ends : c .arities .result ≡ 6 + length (split (begun (head c)) .arities)
+  long : length (named c) ≡ length (begun (head c) .args .out .now)
+
+names-end : (c : tie.After-arities) → Named c
+names-end c =
+    let h = head-ends (head c) in
+    let p = names-put c in
+    record { ends = omega (arith, p .place, h .ends); long = puts-length p ∙ h .long }
+
+record Sized (c : tie.After-all-params) : Type 0 where
+  ends : c .all-params .result ≡ 6 + length (split (begun (head (names c))) .arities) +
+      length (map (λ (u : Schema). u .params) (split (begun (head (names c))) .schemas))
+  long : length (sized c) ≡ length (begun (head (names c)) .args .out .now)
+
+sizes-end : (c : tie.After-all-params) → Sized c
+sizes-end c =
+    let n = names-end (names c) in
+    let p = sizes-put c in
+    record { ends = omega (arith, p .place, n .ends); long = puts-length p ∙ n .long }
 
 head-requires : tie.Need-head-requires
 head-requires c κs =
-    let st = c .before .before .before in
-    let k = known st in
+    let s = c .before .before .before in
+    let k = known s in
     let r = k .room in
-    let s = st .pre .1 .1 .1 .0 in
-    let n = st .pre .1 .1 .1 .1 .0 in
-    (omega arith, (omega arith, (omega arith, (omega arith, (omega arith, (omega arith, omega arith))))))
+    let z = s .pre .0 .sized in
+    let n = z .schemas in
+    let m = z .atoms in
+    let p = k .predicates in
+    let i = k .inits in
+    let g = k .goals in
+    let l = k .long in
+    let d = k .inside in (
+      omega arith,
+      (
+        omega (arith, r .arities),
+        (
+          (omega (arith, r .schemas), omega (arith, r .atoms)),
+          ((omega (arith, r .init), omega (arith, r .goal)), omega arith),
+        ),
+      ),
+    )
 
 arities-requires : tie.Need-arities-requires
 arities-requires c κs =
-    let k = known (c .before .before .before .before .before .before .before) in
-    let r = k .room in
-    let p = six-put (c .before .before .before) in
-    let l = puts-length p in
-    let n = c .before .before .before .head .ensures .place in
-    (omega arith, omega arith)
+    let k = known (begun (c .before .before .before)) in
+    let h = head-ends (c .before .before .before) in
+    let p = k .predicates in
+    let r = k .room .arities in
+    let l = k .long in
+    (omega (arith, k .inside), omega (arith, h .ends, h .long))
 
-shared-slice-read-wide : tie.Need-shared-slice-read-wide
-shared-slice-read-wide c = let k = known (c .before .before .before .before .before .before .before .before .before .before .before) in omega arith
-
-wide-requires : tie.Need-wide-requires
-wide-requires c κs = search needs
+word-requires : tie.Need-word-requires
+word-requires c κs = let k = known (begun (head (c .before .before))) .inside in omega arith
 
 all-params-requires : tie.Need-all-params-requires
 all-params-requires c κs =
-    let st = c .before .before .before .before .before .before .before .before .before .before .before .before .before in
+    let st = begun (head (c .before .before .before .before)) in
+    let S = st .pre .0 in
     let k = known st in
-    let r = k .room in
-    let e = c .before .wide .ensures in
-    let p = names-put (c .before .before .before .before .before) in
-    let l = puts-length (six-put (c .before .before .before .before .before .before .before .before .before)) in
-    let m = puts-length p in
-    let i = c .before .before .before .before .before .before .before .before .before .head .ensures .place in
-    let j = p .place in (
+    let f = k .few in
+    let o = k .old in
+    let e = c .before .word .ensures .0 in
+    let n = names-end (c .before .before .before .before) in
+    let r = k .room .arities in
+    let l = k .long in (
       omega arith,
       (
-        (λ s h. let S = st .pre .0 in
+        (λ s h.
             let x : s < length (taskOf (st .args .table .now) .schemas) = omega arith in
-            omega (arith, S .kept .count s x, few-parts S s x)),
-        omega arith,
+            omega (arith, S .parts .count s x, few-parts S s x)),
+        omega (arith, n .ends, n .long),
       ),
     )
 
 all-parts-requires : tie.Need-all-parts-requires
 all-parts-requires c κs =
-    let st = c .before .before .before .before .before .before .before .before .before .before .before .before .before .before .before .before .before in
+    let st = begun (head (names (c .before .before .before))) in
     let k = known st in
+    let z = sizes-end (c .before .before .before) in
     let r = k .room in
-    let p = names-put (c .before .before .before .before .before .before .before .before .before) in
-    let q = sizes-put (c .before .before .before) in
-    let l = puts-length (six-put (c .before .before .before .before .before .before .before .before .before .before .before .before .before)) in
-    let m = puts-length p in
-    let n = puts-length q in
-    let i = c .before .before .before .before .before .before .before .before .before .before .before .before .before .head .ensures .place in
-    let j = p .place in
-    let h = q .place in
-    (st .pre .0, (st .pre .1 .0, omega arith))
+    let l = k .long in
+    (st .pre .0, omega (arith, z .ends, z .long, r .arities, r .params, r .words))
 
 all-facts-requires : tie.Need-all-facts-requires
 all-facts-requires c κs =
-    let st = c .before .before .before .before .before .before .before .before .before .before .before .before .before .before .before .before .before .before .before .before .before in
+    let st = begun (head (names (sizes (c .before .before .before)))) in
     let k = known st in
-    let r = k .room in
-    let p = names-put (c .before .before .before .before .before .before .before .before .before .before .before .before .before) in
-    let q = sizes-put (c .before .before .before .before .before .before .before) in
+    let z = sizes-end (sizes (c .before .before .before)) in
     let u = c .before .before .before .all-parts .ensures in
-    let l = puts-length (six-put (c .before .before .before .before .before .before .before .before .before .before .before .before .before .before .before .before .before)) in
-    let m = puts-length p in
-    let n = puts-length q in
-    let o = puts-length u in
-    let i = c .before .before .before .before .before .before .before .before .before .before .before .before .before .before .before .before .before .head .ensures .place in
-    let j = p .place in
-    let h = q .place in
-    let g = u .place in
-    (st .pre .0 .table, omega arith)
+    let r = k .room in
+    let l = k .long in
+    let i = k .inits in
+    let g = k .goals in
+    let m = puts-length u in (
+      st .pre .0 .table,
+      omega (arith, u .place, z .ends, z .long, r .arities, r .params, r .words, r .init, r .goal),
+    )
 
 sub-fill : tie.Need-sub-fill
 sub-fill c =
-    let k = known (c .before .before .before .before .before .before .before .before .before .before .before .before .before .before .before .before .before .before .before .before .before .before .before .before .before) in
+    let k = known (begun (head (names (sizes (atoms (c .before .before .before)))))) in
     let p = content-put (c .before .before .before) .place in
     omega (arith, k .room .whole, tableWords-is)
 
 fill-requires : tie.Need-fill-requires
 fill-requires c κs =
-    let k = known (c .before .before .before .before .before .before .before .before .before .before .before .before .before .before .before .before .before .before .before .before .before .before .before .before .before) in
+    let k = known (begun (head (names (sizes (atoms (c .before .before .before)))))) in
     let p = content-put (c .before .before .before) in
     let l = puts-length p in
-    omega (arith, p .place, k .room .whole, tableWords-is)
+    omega (arith, p .place, k .room .whole, k .long, tableWords-is)
 
 same-length : tie.Need-same-length
 same-length c = search needs
 
 returns : tie.Need-returns
 returns c =
-    let st = c .before .before .before .before .before .before .before .before .before .before .before .before .before .before .before .before .before .before .before .before .before .before .before .before .before .before .before .before in
+    let st = begun (head (names (sizes (atoms (facts (c .before .before)))))) in
     let t = split st in
-    let p = content-put (c .before .before .before .before .before .before) in
-    let n : tableWords - length (content t) ≡ 13406 - c .before .before .before .before .before .before .all-facts .result = omega (arith, p .place, tableWords-is) in
+    let d = facts (c .before .before) in
+    let p = content-put d in
+    let n : tableWords - length (content t) ≡ 13406 - d .all-facts .result = omega (arith, p .place, tableWords-is) in
     let whole = puts-then p (c .before .before .fill .ensures) (wordsOf t)
     (wordsOf-is t ∙ ap (λ (m : ℕ). content t ++ replicate m 0) n) in
     let l = words-length t (split-well (st .pre .0)) in
-    let long = st .pre .1 .1 .1 .1 .1 in
+    let long = st .pre .1 in
     whole .words ∙ put-over (wordsOf t) (st .args .out .now) (omega arith)
 
 pub write-split-spec : {M : Type 1} → statement M
-write-split-spec = tie.close (tie.spec head-requires arities-requires shared-slice-read-wide wide-requires
-    all-params-requires all-parts-requires all-facts-requires sub-fill fill-requires same-length returns)
+write-split-spec =
+    tie.close
+    (tie.spec head-requires arities-requires word-requires all-params-requires all-parts-requires all-facts-requires
+    sub-fill fill-requires same-length returns)

@@ -31,11 +31,4 @@ returns c = omega arith
 pub atom-base-spec : {M : Type 1} → statement M
 atom-base-spec =
     tie.close
-    (tie.spec
-    word-requires
-    add-result
-    word-requires-2
-    add-result-2
-    mul-result
-    add-result-3
-    returns)
+    (tie.spec word-requires add-result word-requires-2 add-result-2 mul-result add-result-3 returns)

@@ -6,10 +6,11 @@ use mathlib.Core.Bool.{_&&_}
 use native.Mathlib.Omega.{arith}
 use borrow.Author.Tests.{not-true, not-false}
 use lib.Dec.{ltb}
-use Rattle.task.specs.Lists.{all}
-use Rattle.task.specs.Table.{wordsAt, arityIn}
-use Rattle.task.specs.WordTests.{zerosAt, argWordsFit}
-use Rattle.task.proofs.Ranges.{and-more, and-fails}
+use Rattle.words.specs.Lists.{all}
+use Rattle.words.specs.Words.{wordsAt, zerosAt}
+use Rattle.task.specs.Table.{arityIn}
+use Rattle.task.specs.WordTests.{argWordsFit}
+use Rattle.words.proofs.Ranges.{and-more, and-fails}
 use Rattle.task.proofs.AtomWords.{args-unknown, args-words}
 use borrow.Author.Needs.{needs}
 use Rattle.task.proofs.table.atoms.atom_fits.Statement.{statement}
@@ -77,15 +78,5 @@ returns-3 c =
 pub atom-fits-spec : {M : Type 1} → statement M
 atom-fits-spec =
     tie.close
-    (tie.spec
-    predicate-requires
-    word-requires
-    returns
-    arguments-requires
-    arity-requires
-    add-to
-    all-below-requires
-    returns-2
-    add-zeros
-    zeros-requires
-    returns-3)
+    (tie.spec predicate-requires word-requires returns arguments-requires arity-requires add-to all-below-requires
+    returns-2 add-zeros zeros-requires returns-3)

@@ -49,12 +49,5 @@ returns-2 c =
 pub fact-less-spec : {M : Type 1} → statement M
 fact-less-spec =
     tie.close
-    (tie.spec
-    predicate-requires
-    predicate-requires-2
-    returns
-    arguments-requires
-    arguments-requires-2
-    arity-requires
-    less-words-requires
-    returns-2)
+    (tie.spec predicate-requires predicate-requires-2 returns arguments-requires arguments-requires-2 arity-requires
+    less-words-requires returns-2)

@@ -61,15 +61,5 @@ returns-3 c =
 pub same-atom-spec : {M : Type 1} → statement M
 same-atom-spec =
     tie.close
-    (tie.spec
-    role-requires
-    role-requires-2
-    returns
-    predicate-requires
-    predicate-requires-2
-    returns-2
-    arguments-requires
-    arguments-requires-2
-    arity-requires
-    same-words-requires
-    returns-3)
+    (tie.spec role-requires role-requires-2 returns predicate-requires predicate-requires-2 returns-2 arguments-requires
+    arguments-requires-2 arity-requires same-words-requires returns-3)

@@ -52,13 +52,5 @@ returns-4 c =
 pub fact-fits-spec : {M : Type 1} → statement M
 fact-fits-spec =
     tie.close
-    (tie.spec
-    schema-number-requires
-    returns
-    role-requires
-    returns-2
-    part-requires
-    returns-3
-    word-requires
-    atom-fits-requires
-    returns-4)
+    (tie.spec schema-number-requires returns role-requires returns-2 part-requires returns-3 word-requires
+    atom-fits-requires returns-4)

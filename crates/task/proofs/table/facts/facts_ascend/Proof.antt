@@ -4,7 +4,7 @@ use Prim.Native.Nat.{_-_, _≤_}
 use mathlib.Core.Path.{_≡_, refl, sym, _∙_}
 use native.Mathlib.Omega.{arith}
 use borrow.Author.Tests.{not-true, not-false}
-use Rattle.task.proofs.Ranges.{and-more, and-fails}
+use Rattle.words.proofs.Ranges.{and-more, and-fails}
 use Rattle.task.proofs.AtomRuns.{ascendLeft, ascend-step, ascend-ends}
 use Rattle.task.proofs.table.facts.facts_ascend.Statement.{statement}
 use Rattle.task.proofs.table.facts.facts_ascend.Tie as tie
@@ -61,15 +61,5 @@ returns-2 c =
 pub facts-ascend-spec : {M : Type 1} → statement M
 facts-ascend-spec =
     tie.close
-    (tie.spec
-    Inv-loop
-    μ-loop
-    loop-holds
-    add-loop
-    add-fact-less
-    fact-less-requires
-    returns
-    add-i
-    loop-less
-    loop-again
+    (tie.spec Inv-loop μ-loop loop-holds add-loop add-fact-less fact-less-requires returns add-i loop-less loop-again
     returns-2)

@@ -5,7 +5,7 @@ use mathlib.Core.Path.{sym, _∙_}
 use native.Mathlib.Omega.{arith}
 use borrow.Author.Tests.{not-true, not-false}
 use Rattle.task.specs.WordTests.{factWordsFit}
-use Rattle.task.proofs.Ranges.{and-more, and-fails, all-from}
+use Rattle.words.proofs.Ranges.{and-more, and-fails, all-from}
 use Rattle.task.proofs.AtomWords.{fact-known, facts-words}
 use borrow.Author.Needs.{needs}
 use Rattle.task.proofs.table.facts.facts_fit.Statement.{statement}
@@ -42,5 +42,4 @@ returns-2 c =
     (sym (c .before .before .each-fact-fits .ensures) ∙ not-false _ (c .before .if1 .left)))
 
 pub facts-fit-spec : {M : Type 1} → statement M
-facts-fit-spec =
-    tie.close (tie.spec each-fact-fits-requires returns facts-ascend-requires returns-2)
+facts-fit-spec = tie.close (tie.spec each-fact-fits-requires returns facts-ascend-requires returns-2)

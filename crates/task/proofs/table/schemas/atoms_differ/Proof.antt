@@ -4,7 +4,7 @@ use Prim.Native.Nat.{_-_, _≤_}
 use mathlib.Core.Path.{_≡_, refl, sym, _∙_, ap}
 use mathlib.Core.Bool.{not}
 use native.Mathlib.Omega.{arith}
-use Rattle.task.proofs.Ranges.{and-more, and-fails}
+use Rattle.words.proofs.Ranges.{and-more, and-fails}
 use Rattle.task.proofs.AtomRuns.{distinctLeft, distinct-step, distinct-none}
 use Rattle.task.proofs.table.schemas.atoms_differ.Statement.{statement}
 use Rattle.task.proofs.table.schemas.atoms_differ.Tie as tie
@@ -63,13 +63,4 @@ returns-2 c =
 pub atoms-differ-spec : {M : Type 1} → statement M
 atoms-differ-spec =
     tie.close
-    (tie.spec
-    Inv-loop
-    μ-loop
-    loop-holds
-    stands-again-requires
-    returns
-    add-i
-    loop-less
-    loop-again
-    returns-2)
+    (tie.spec Inv-loop μ-loop loop-holds stands-again-requires returns add-i loop-less loop-again returns-2)

@@ -4,9 +4,9 @@ use Prim.Native.Nat.{_-_}
 use mathlib.Core.Path.{_≡_, refl, sym, _∙_}
 use native.Mathlib.Omega.{arith}
 use borrow.Author.Tests.{not-true, not-false}
-use Rattle.task.specs.Lists.{all, upFrom}
+use Rattle.words.specs.Lists.{all, upFrom}
 use Rattle.task.specs.WordTests.{argWordsFit}
-use Rattle.task.proofs.Ranges.{all-more, all-fails, all-ends}
+use Rattle.words.proofs.Ranges.{all-more, all-fails, all-ends}
 use Rattle.task.proofs.table.schemas.atoms_fit.Statement.{statement}
 use Rattle.task.proofs.table.schemas.atoms_fit.Tie as tie
 
@@ -53,13 +53,4 @@ returns-2 c =
 pub atoms-fit-spec : {M : Type 1} → statement M
 atoms-fit-spec =
     tie.close
-    (tie.spec
-    Inv-loop
-    μ-loop
-    loop-holds
-    atom-fits-requires
-    returns
-    add-i
-    loop-less
-    loop-again
-    returns-2)
+    (tie.spec Inv-loop μ-loop loop-holds atom-fits-requires returns add-i loop-less loop-again returns-2)

@@ -7,12 +7,14 @@ use mathlib.Core.Bool.{Bool, true, _||_}
 use mathlib.Core.List.{List}
 use native.Mathlib.Omega.{arith}
 use lib.Dec.{eqb}
-use Rattle.task.specs.Lists.{any, upFrom}
+use Rattle.words.specs.Lists.{any, upFrom}
 use Rattle.task.specs.Task.{names}
-use Rattle.task.specs.Table.{wordsAt, arityIn, atomIn}
-use Rattle.task.specs.WordTests.{bit, argWordsFit, atomsIn}
-use Rattle.task.proofs.Bits.{bit-none}
-use Rattle.task.proofs.Ranges.{any-map, any-joins, any-joined, all-from}
+use Rattle.words.specs.Words.{wordsAt}
+use Rattle.task.specs.Table.{arityIn, atomIn}
+use Rattle.words.specs.Sets.{member}
+use Rattle.task.specs.WordTests.{argWordsFit, atomsIn}
+use Rattle.words.proofs.BitSets.{member-zero}
+use Rattle.words.proofs.Ranges.{any-map, any-joins, any-joined, all-from}
 use Rattle.task.proofs.AtomWords.{args-fit-known, args-below}
 use Rattle.task.proofs.table.schemas.parameters.Statement.{statement}
 use Rattle.task.proofs.table.schemas.parameters.Tie as tie
@@ -22,7 +24,7 @@ named w x i = names x (atomIn w i)
 
 abbrev Inv-loop : tie.InvT-loop
 Inv-loop table bound first end set₀ i₀ set i =
-    (first ≤ i) × ((x : ℕ) → any (names x) (atomsIn table first (end - first)) ≡ bit set x ||
+    (first ≤ i) × ((x : ℕ) → any (names x) (atomsIn table first (end - first)) ≡ member set x ||
     any (named table x) (upFrom i (end - i)))
 
 abbrev μ-loop : tie.MeasureT-loop
@@ -57,7 +59,7 @@ loop-holds c =
       omega arith,
       λ x. any-map (names x) (atomIn (given .table .now)) (upFrom (given .first) (given .end - given .first)) ∙
           ap (λ (b : Bool). b || any (named (given .table .now) x)
-          (upFrom (given .first) (given .end - given .first))) (sym (bit-none x)),
+          (upFrom (given .first) (given .end - given .first))) (sym (member-zero x)),
     )
 
 arguments-requires : tie.Need-arguments-requires Inv-loop μ-loop
@@ -99,9 +101,9 @@ loop-again c =
     let from = k .before .before .arguments .result in
     let n : from + k .arity .result - from ≡ k .arity .result = omega arith in (
       omega arith,
-      λ x. any-joins (named w x) (at .loop .i) (given .end) (bit (at .loop .set) x) (at .loop .inv .1 x)
+      λ x. any-joins (named w x) (at .loop .i) (given .end) (member (at .loop .set) x) (at .loop .inv .1 x)
           (k .before .before .before .loop-test .taken) (c .joined-words .ensures x ∙
-          ap (λ (ys : List ℕ). bit (at .loop .set) x || any (λ y. eqb x y) ys)
+          ap (λ (ys : List ℕ). member (at .loop .set) x || any (λ y. eqb x y) ys)
           (ap₂ (wordsAt w) (k .before .before .arguments .ensures .0) (n ∙ many k))),
     )
 
@@ -109,22 +111,11 @@ returns : tie.Need-returns Inv-loop μ-loop
 returns c =
     let at = c .before in
     let given = at .before .before .args in
-    λ x. any-joined (named (given .table .now) x) (at .loop .i) (given .end) (bit (at .loop .set) x)
+    λ x. any-joined (named (given .table .now) x) (at .loop .i) (given .end) (member (at .loop .set) x)
     (at .loop .inv .1 x) (c .loop-test .left)
 
 pub parameters-spec : {M : Type 1} → statement M
 parameters-spec =
     tie.close
-    (tie.spec
-    Inv-loop
-    μ-loop
-    loop-holds
-    arguments-requires
-    predicate-requires
-    arity-requires
-    add-joined-words
-    joined-words-requires
-    add-i
-    loop-less
-    loop-again
-    returns)
+    (tie.spec Inv-loop μ-loop loop-holds arguments-requires predicate-requires arity-requires add-joined-words
+    joined-words-requires add-i loop-less loop-again returns)

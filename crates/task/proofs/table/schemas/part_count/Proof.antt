@@ -61,15 +61,5 @@ returns c =
 pub part-count-spec : {M : Type 1} → statement M
 part-count-spec =
     tie.close
-    (tie.spec
-    Inv-loop
-    μ-loop
-    loop-holds
-    sub-i
-    part-requires
-    add-next
-    loop-less
-    loop-again
-    loop-less-2
-    loop-again-2
+    (tie.spec Inv-loop μ-loop loop-holds sub-i part-requires add-next loop-less loop-again loop-less-2 loop-again-2
     returns)

@@ -7,11 +7,13 @@ use mathlib.Core.Bool.{Bool, _||_}
 use mathlib.Core.List.{List}
 use native.Mathlib.Omega.{arith}
 use lib.Dec.{eqb}
-use Rattle.task.specs.Lists.{any, upFrom}
+use Rattle.words.specs.Lists.{any, upFrom}
 use Rattle.task.specs.Table.{atomIn}
-use Rattle.task.specs.WordTests.{bit, atomsIn}
-use Rattle.task.proofs.Bits.{bit-none}
-use Rattle.task.proofs.Ranges.{any-map, any-joins, any-joined}
+use Rattle.words.specs.Sets.{member}
+use Rattle.task.specs.WordTests.{atomsIn}
+use Rattle.words.proofs.BitSets.{member-zero}
+use Rattle.words.proofs.Sums.{eqb-turn}
+use Rattle.words.proofs.Ranges.{any-map, any-joins, any-joined}
 use Rattle.task.proofs.SchemaWords.{part-below}
 use Rattle.task.proofs.table.schemas.parts.Statement.{statement}
 use Rattle.task.proofs.table.schemas.parts.Tie as tie
@@ -21,7 +23,7 @@ inPart w p i = eqb p (atomIn w i .part)
 
 abbrev Inv-loop : tie.InvT-loop
 Inv-loop table first end set₀ i₀ set i =
-    (first ≤ i) × ((p : ℕ) → any (λ a. eqb p (a .part)) (atomsIn table first (end - first)) ≡ bit set p ||
+    (first ≤ i) × ((p : ℕ) → any (λ a. eqb p (a .part)) (atomsIn table first (end - first)) ≡ member set p ||
     any (inPart table p) (upFrom i (end - i)))
 
 abbrev μ-loop : tie.MeasureT-loop
@@ -34,14 +36,14 @@ loop-holds c =
       λ p. any-map (λ a. eqb p (a .part)) (atomIn (given .table .now))
           (upFrom (given .first) (given .end - given .first)) ∙
           ap (λ (b : Bool). b || any (inPart (given .table .now) p)
-          (upFrom (given .first) (given .end - given .first))) (sym (bit-none p)),
+          (upFrom (given .first) (given .end - given .first))) (sym (member-zero p)),
     )
 
 part-requires : tie.Need-part-requires Inv-loop μ-loop
 part-requires c κs = let start = c .before .before .before in (start .pre .0, omega arith)
 
-joined-requires : tie.Need-joined-requires Inv-loop μ-loop
-joined-requires c κs =
+with-requires : tie.Need-with-requires Inv-loop μ-loop
+with-requires c κs =
     let at = c .before .before in
     let start = at .before .before in
     let l = part-below (start .args .table .now) (at .loop .i) (start .args .first) (start .args .end)
@@ -59,28 +61,20 @@ loop-again c =
     let at = c .before .before .before in
     let given = at .before .before .args in (
       omega arith,
-      λ p. any-joins (inPart (given .table .now) p) (at .loop .i) (given .end) (bit (at .loop .set) p)
+      λ p. any-joins (inPart (given .table .now) p) (at .loop .i) (given .end) (member (at .loop .set) p)
           (at .loop .inv .1 p) (c .before .before .loop-test .taken)
-          (c .joined .ensures p ∙ ap (λ (n : ℕ). bit (at .loop .set) p || eqb p n) (c .before .part .ensures .0)),
+          (c .with .ensures p ∙ ap (λ (b : Bool). member (at .loop .set) p || b)
+          (ap (λ (n : ℕ). eqb n p) (c .before .part .ensures .0) ∙ eqb-turn (atomIn (given .table .now) (at .loop .i) .part) p)),
     )
 
 returns : tie.Need-returns Inv-loop μ-loop
 returns c =
     let at = c .before in
     let given = at .before .before .args in
-    λ p. any-joined (inPart (given .table .now) p) (at .loop .i) (given .end) (bit (at .loop .set) p)
+    λ p. any-joined (inPart (given .table .now) p) (at .loop .i) (given .end) (member (at .loop .set) p)
     (at .loop .inv .1 p) (c .loop-test .left)
 
 pub parts-spec : {M : Type 1} → statement M
 parts-spec =
     tie.close
-    (tie.spec
-    Inv-loop
-    μ-loop
-    loop-holds
-    part-requires
-    joined-requires
-    add-i
-    loop-less
-    loop-again
-    returns)
+    (tie.spec Inv-loop μ-loop loop-holds part-requires with-requires add-i loop-less loop-again returns)

@@ -3,10 +3,11 @@
 use Prim.Native.Nat.{_-_}
 use mathlib.Core.Path.{sym, _∙_}
 use native.Mathlib.Omega.{arith}
-use Rattle.task.specs.Lists.{upTo}
-use Rattle.task.specs.WordTests.{bit, atomsIn}
+use Rattle.words.specs.Lists.{upTo}
+use Rattle.words.specs.Sets.{member}
+use Rattle.task.specs.WordTests.{atomsIn}
 use Rattle.task.proofs.Tests.{hasPart}
-use Rattle.task.proofs.Ranges.{all-same}
+use Rattle.words.proofs.Ranges.{all-same}
 use Rattle.task.proofs.SchemaWords.{parts-many, parts-few}
 use Rattle.task.proofs.table.schemas.parts_fit.Statement.{statement}
 use Rattle.task.proofs.table.schemas.parts_fit.Tie as tie
@@ -33,10 +34,9 @@ returns-2 c =
     let given = c .before .before .before .before .before .args in
     let k = c .before .before .before in
     let atoms = atomsIn (given .table .now) (given .first) (given .end - given .first) in
-    c .has-all .ensures ∙ (all-same (bit (c .before .parts .result)) (hasPart atoms) (upTo (k .part-count .result))
+    c .has-all .ensures ∙ (all-same (member (c .before .parts .result)) (hasPart atoms) (upTo (k .part-count .result))
     (c .before .parts .ensures) ∙
     sym (parts-few atoms (k .part-count .result) (k .part-count .ensures) (c .before .before .if1 .left)))
 
 pub parts-fit-spec : {M : Type 1} → statement M
-parts-fit-spec =
-    tie.close (tie.spec part-count-requires returns parts-requires has-all-requires returns-2)
+parts-fit-spec = tie.close (tie.spec part-count-requires returns parts-requires has-all-requires returns-2)

@@ -7,7 +7,7 @@ use native.Mathlib.Omega.{arith}
 use lib.Dec.{leb}
 use borrow.Author.Tests.{le-leb, lt-leb}
 use Rattle.task.specs.Table.{atomIn}
-use Rattle.task.proofs.Ranges.{and-more, and-fails}
+use Rattle.words.proofs.Ranges.{and-more, and-fails}
 use Rattle.task.proofs.AtomRuns.{rolesLeft, roles-step, roles-last}
 use Rattle.task.proofs.table.schemas.roles_ascend.Statement.{statement}
 use Rattle.task.proofs.table.schemas.roles_ascend.Tie as tie
@@ -78,17 +78,5 @@ returns-2 c =
 pub roles-ascend-spec : {M : Type 1} → statement M
 roles-ascend-spec =
     tie.close
-    (tie.spec
-    Inv-loop
-    μ-loop
-    loop-holds
-    add-loop
-    add-role
-    role-requires
-    role-requires-2
-    returns
-    add-i
-    loop-less
-    loop-again
-    role-requires-3
-    returns-2)
+    (tie.spec Inv-loop μ-loop loop-holds add-loop add-role role-requires role-requires-2 returns add-i loop-less
+    loop-again role-requires-3 returns-2)

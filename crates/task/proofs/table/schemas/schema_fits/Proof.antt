@@ -7,11 +7,11 @@ use mathlib.Core.List.{List}
 use native.Mathlib.Omega.{arith}
 use lib.ListN.{getD}
 use borrow.Author.Tests.{le-leb, lt-leb, not-true, not-false}
-use Rattle.task.specs.Lists.{all, any, every, upTo, upFrom}
+use Rattle.words.specs.Lists.{all, any, every, upTo, upFrom}
 use Rattle.task.specs.Task.{names}
 use Rattle.task.specs.WordTests.{argWordsFit, paramsIn, atomsIn, schemaWordsFit, KnownIn}
-use Rattle.task.proofs.Laws.{met-none, met-more}
-use Rattle.task.proofs.Ranges.{some-fails, last-decides, all-from}
+use Rattle.words.proofs.Lists.{met-none, met-more}
+use Rattle.words.proofs.Ranges.{some-fails, last-decides, all-from}
 use Rattle.task.proofs.AtomWords.{args-fit-known}
 use Rattle.task.proofs.AtomRuns.{roles-rise}
 use Rattle.task.proofs.SchemaWords.{orderTests, schema-words}
@@ -169,23 +169,6 @@ returns-8 c =
 pub schema-fits-spec : {M : Type 1} → statement M
 schema-fits-spec =
     tie.close
-    (tie.spec
-    word-requires
-    add-word
-    add-word-2
-    word-requires-2
-    returns
-    sub-if2
-    returns-2
-    sub-if3
-    returns-3
-    roles-ascend-requires
-    returns-4
-    atoms-fit-requires
-    returns-5
-    atoms-differ-requires
-    returns-6
-    all-named-requires
-    returns-7
-    parts-fit-requires
-    returns-8)
+    (tie.spec word-requires add-word add-word-2 word-requires-2 returns sub-if2 returns-2 sub-if3 returns-3
+    roles-ascend-requires returns-4 atoms-fit-requires returns-5 atoms-differ-requires returns-6 all-named-requires
+    returns-7 parts-fit-requires returns-8)

@@ -8,9 +8,9 @@ use mathlib.Core.List.{List}
 use native.Mathlib.Omega.{arith}
 use lib.ListN.{getD}
 use borrow.Author.Tests.{not-true, not-false}
-use Rattle.task.specs.Lists.{all, upTo, upFrom}
+use Rattle.words.specs.Lists.{all, upTo, upFrom}
 use Rattle.task.specs.WordTests.{schemaWordsFit, indicesOf, schemasFit}
-use Rattle.task.proofs.Ranges.{all-more, all-fails, all-ends}
+use Rattle.words.proofs.Ranges.{all-more, all-fails, all-ends}
 use Rattle.task.proofs.SchemaWords.{Cut, cut-start, cut-next, cut-indices}
 use Rattle.task.proofs.table.schemas.schemas_fit.Statement.{statement}
 use Rattle.task.proofs.table.schemas.schemas_fit.Tie as tie
@@ -95,15 +95,5 @@ returns-2 c =
 pub schemas-fit-spec : {M : Type 1} → statement M
 schemas-fit-spec =
     tie.close
-    (tie.spec
-    Inv-loop
-    μ-loop
-    word-requires
-    loop-holds
-    run-end-requires
-    schema-fits-requires
-    returns
-    add-s
-    loop-less
-    loop-again
-    returns-2)
+    (tie.spec Inv-loop μ-loop word-requires loop-holds run-end-requires schema-fits-requires returns add-s loop-less
+    loop-again returns-2)

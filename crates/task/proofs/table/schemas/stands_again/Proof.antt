@@ -6,11 +6,11 @@ use mathlib.Core.Path.{_≡_, refl, sym, _∙_}
 use mathlib.Core.Bool.{Bool}
 use mathlib.Core.List.{List}
 use native.Mathlib.Omega.{arith}
-use Rattle.task.specs.Lists.{any, upFrom}
+use Rattle.words.specs.Lists.{any, upFrom}
 use Rattle.task.specs.Task.{sameAtom}
 use Rattle.task.specs.Table.{atomIn}
 use Rattle.task.specs.WordTests.{standsAgain}
-use Rattle.task.proofs.Ranges.{any-more, any-found, any-ends, none-left}
+use Rattle.words.proofs.Ranges.{any-more, any-found, any-ends, none-left}
 use Rattle.task.proofs.AtomWords.{other-role}
 use Rattle.task.proofs.table.schemas.stands_again.Statement.{statement}
 use Rattle.task.proofs.table.schemas.stands_again.Tie as tie
@@ -92,17 +92,5 @@ returns-3 c =
 pub stands-again-spec : {M : Type 1} → statement M
 stands-again-spec =
     tie.close
-    (tie.spec
-    Inv-loop
-    μ-loop
-    add-j
-    loop-holds
-    role-requires
-    role-requires-2
-    returns
-    same-atom-requires
-    returns-2
-    add-j-2
-    loop-less
-    loop-again
-    returns-3)
+    (tie.spec Inv-loop μ-loop add-j loop-holds role-requires role-requires-2 returns same-atom-requires returns-2
+    add-j-2 loop-less loop-again returns-3)

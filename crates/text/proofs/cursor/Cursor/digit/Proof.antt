@@ -1,5 +1,7 @@
-use Prim.Native.Nat.{ℕ, suc, _+_, _-_, _*_, _≤_, _<_}
-use mathlib.Core.Path.{_≡_, refl, sym, _∙_, ap}
+-- `Cursor::digit`: the text has ended, or the byte here is no digit, or it is one of the ten.
+use Rattle.text.proofs.cursor.Cursor.digit.Tie as tie
+use Prim.Native.Nat.{suc, _+_, _-_, _<_}
+use mathlib.Core.Path.{_≡_, refl, _∙_}
 use native.Mathlib.Omega.{arith}
 use borrow.Author.Needs.{needs}
 use lib.ListN.{length, getD}
@@ -7,9 +9,6 @@ use Rattle.text.proofs.ReadersAt.{digit-here, no-digit-here, no-digit-l
 use Rattle.text.proofs.Digits.{is-digit}
 use Rattle.text.proofs.DigitLoop.{low-no-digit, high-no-digit}
 use Rattle.text.proofs.cursor.Cursor.digit.Statement.{statement}
-use Rattle.text.proofs.cursor.Cursor.digit.Tie as tie
-use Rattle.text.proofs.cursor.Cursor.digit.Reads as reads
-use Rattle.text.proofs.cursor.Cursor.digit.Lts as lts
 
 returns : tie.Need-returns
 returns c = no-digit-left (c .before .args .text .now) (c .before .args .self .at) (omega arith)
@@ -52,6 +51,4 @@ returns-4 c =
     }
 
 pub digit-spec : {M : Type 1} → statement M
-digit-spec =
-    tie.close
-    (tie.spec returns shared-slice-read-byte returns-2 returns-3 cast-t10 add-t6 returns-4)
+digit-spec = tie.close (tie.spec returns shared-slice-read-byte returns-2 returns-3 cast-t10 add-t6 returns-4)

@@ -1,14 +1,11 @@
-use Prim.Native.Nat.{ℕ, suc, _+_, _-_, _*_, _≤_, _<_}
-use mathlib.Core.Path.{_≡_, refl, sym, _∙_, ap, subst}
+-- `Cursor::line_end`: byte 10 stands here, and the cursor goes on to the next line, or it doesn't.
+use Rattle.text.proofs.cursor.Cursor.line_end.Tie as tie
+use Prim.Native.Nat.{_-_}
+use mathlib.Core.Path.{subst}
 use native.Mathlib.Omega.{arith}
 use borrow.Author.Needs.{needs}
-use mathlib.Core.List.{[], _∷_}
-use Rattle.text.specs.ReadCode.{WordAt, WordHere}
+use Rattle.text.specs.ReadCode.{WordAt}
 use Rattle.text.proofs.cursor.Cursor.line_end.Statement.{statement}
-use Rattle.text.proofs.cursor.Cursor.line_end.Tie as tie
-use Rattle.text.proofs.cursor.Cursor.line_end.Reads as reads
-use Rattle.text.proofs.cursor.Cursor.line_end.Lts as lts
-use Rattle.text.proofs.cursor.Cursor.word.Reads as word-reads
 
 slice-aggregate-word : tie.Need-slice-aggregate-word
 slice-aggregate-word c = search needs
@@ -46,11 +43,4 @@ returns-2 c =
 pub line-end-spec : {M : Type 1} → statement M
 line-end-spec =
     tie.close
-    (tie.spec
-    slice-aggregate-word
-    word-requires
-    enum-known-next
-    enum-told
-    returns
-    add-t10
-    returns-2)
+    (tie.spec slice-aggregate-word word-requires enum-known-next enum-told returns add-t10 returns-2)

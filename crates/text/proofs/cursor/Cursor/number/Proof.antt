@@ -1,15 +1,15 @@
-use Prim.Native.Nat.{ℕ, suc, _+_, _-_, _*_, _≤_, _<_}
-use mathlib.Core.Path.{_≡_, refl, sym, _∙_, ap, subst}
+-- `Cursor::number`: the digits so far are a number that the definition reads on with (`SoFar`). The next byte ends it,
+-- or is one digit too many, or comes behind a leading 0, or joins; the measure is the digits that may still come.
+use Rattle.text.proofs.cursor.Cursor.number.Tie as tie
+use Prim.Native.Nat.{_-_}
+use mathlib.Core.Path.{subst}
 use mathlib.Core.Logic.{⊎-elim}
 use native.Mathlib.Omega.{arith}
 use borrow.Author.Needs.{needs}
 use Rattle.text.specs.ReadCode.{DigitAt}
-use Rattle.text.proofs.DigitLoop.{SoFar, no-digit-yet, sofar-small, one-more, none-read, number-done, too-long, leading-zero}
+use Rattle.text.proofs.DigitLoop.{SoFar, no-digit-yet, sofar-small, one-more, none-read, number-done, too-long}
+use Rattle.text.proofs.DigitLoop.{leading-zero}
 use Rattle.text.proofs.cursor.Cursor.number.Statement.{statement}
-use Rattle.text.proofs.cursor.Cursor.number.Tie as tie
-use Rattle.text.proofs.cursor.Cursor.number.Reads as reads
-use Rattle.text.proofs.cursor.Cursor.number.Lts as lts
-use Rattle.text.proofs.cursor.Cursor.digit.Reads as digit-reads
 
 abbrev Inv-loop : tie.InvT-loop
 Inv-loop text behind₀ value₀ digits₀ behind value digits = SoFar text behind₀ behind value digits
@@ -80,19 +80,5 @@ loop-again c =
 pub number-spec : {M : Type 1} → statement M
 number-spec =
     tie.close
-    (tie.spec
-    Inv-loop
-    μ-loop
-    loop-holds
-    digit-requires
-    enum-known-digit
-    enum-told
-    returns
-    returns-2
-    returns-3
-    returns-4
-    mul-value
-    add-value
-    add-digits
-    loop-less
-    loop-again)
+    (tie.spec Inv-loop μ-loop loop-holds digit-requires enum-known-digit enum-told returns returns-2 returns-3 returns-4
+    mul-value add-value add-digits loop-less loop-again)

@@ -1,15 +1,13 @@
-use Prim.Native.Nat.{ℕ, suc, _+_, _-_, _*_, _≤_, _<_}
-use mathlib.Core.Path.{_≡_, refl, sym, _∙_, ap}
+-- `Cursor::word`: the first k bytes of the word stand here, so the rest of the word is looked for behind them; the
+-- measure is the bytes of the word left.
+use Rattle.text.proofs.cursor.Cursor.word.Tie as tie
+use Prim.Native.Nat.{_+_, _-_, _≤_}
+use mathlib.Core.Path.{_≡_, refl, _∙_}
 use native.Mathlib.Omega.{arith}
-use mathlib.Core.List.{List}
 use lib.ListN.{length, drop, length-drop}
-use borrow.Author.Needs.{needs}
 use Rattle.text.specs.Lines.{after}
 use Rattle.text.proofs.WordLoop.{after-short, found-here, differs-here, all-found}
 use Rattle.text.proofs.cursor.Cursor.word.Statement.{statement}
-use Rattle.text.proofs.cursor.Cursor.word.Tie as tie
-use Rattle.text.proofs.cursor.Cursor.word.Reads as reads
-use Rattle.text.proofs.cursor.Cursor.word.Lts as lts
 
 abbrev Inv-loop : tie.InvT-loop
 Inv-loop text word at line k₀ k-end k = (k ≤ length word) × (k-end ≡ length word) × (at + length word ≤ length text) × (after word (drop at text) ≡ after (drop k word) (drop (at + k) text))
@@ -90,18 +88,5 @@ returns-3 c =
 pub word-spec : {M : Type 1} → statement M
 word-spec =
     tie.close
-    (tie.spec
-    Inv-loop
-    μ-loop
-    sub-if1
-    returns
-    loop-holds
-    add-if2
-    shared-slice-read-if2
-    shared-slice-read-if2-2
-    returns-2
-    add-k
-    loop-less
-    loop-again
-    add-t8
-    returns-3)
+    (tie.spec Inv-loop μ-loop sub-if1 returns loop-holds add-if2 shared-slice-read-if2 shared-slice-read-if2-2 returns-2
+    add-k loop-less loop-again add-t8 returns-3)

@@ -1,0 +1,31 @@
+-- `blocks::folding::begun_at` meets its contract: what is noted for the step's schema.
+use Rattle.blocks.proofs.folding.begun_at.Tie as tie
+use Prim.Native.Nat.{ℕ}
+use mathlib.Core.Path.{_≡_, ap}
+use native.Mathlib.Omega.{arith}
+use lib.ListN.{getD}
+use borrow.Author.Needs.{needs}
+use Rattle.blocks.proofs.folding.begun_at.Statement.{statement}
+
+schema-at-requires : tie.Need-schema-at-requires
+schema-at-requires c κs = search needs
+
+mul-result : tie.Need-mul-result
+mul-result c = search needs
+
+element-copy-out-result : tie.Need-element-copy-out-result
+element-copy-out-result c = search needs
+
+-- what is noted for the step's schema
+noted : (c : tie.After-schema-at) → let a = c .before .before .args in
+    getD (a .begins .now) (c .schema-at .result) 0 ≡ getD (a .begins .now) (getD (a .steps .now) (a .at) 0) 0
+noted c = ap (λ (s : ℕ). getD (c .before .before .args .begins .now) s 0) (c .schema-at .ensures)
+
+cast-result : tie.Need-cast-result
+cast-result c = let e = noted (c .before) in omega arith
+
+returns : tie.Need-returns
+returns c = noted (c .before)
+
+pub begun-at-spec : {M : Type 1} → statement M
+begun-at-spec = tie.close (tie.spec schema-at-requires mul-result element-copy-out-result cast-result returns)

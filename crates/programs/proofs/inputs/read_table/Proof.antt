@@ -1,0 +1,35 @@
+-- `programs::inputs::read_table` meets its contract: the bytes that are read are those that are taken.
+use Rattle.programs.proofs.inputs.read_table.Tie as tie
+use Prim.Native.Nat.{ℕ}
+use mathlib.Core.Path.{sym, _∙_, ap}
+use mathlib.Core.List.{List}
+use lib.Seq.{length-take-le}
+use borrow.Author.Needs.{needs}
+use Rattle.text.specs.Outcomes.{readOutcome}
+use Rattle.programs.proofs.inputs.read_table.Statement.{statement}
+
+bytes-taken-requires : tie.Need-bytes-taken-requires
+bytes-taken-requires c κs = search needs
+
+slice-aggregate-read : tie.Need-slice-aggregate-read
+slice-aggregate-read c =
+    let b = c .before .bytes-taken in
+    sym (length-take-le (b .result) (c .before .before .before .before .args .input .now) (b .ensures .0))
+
+read-requires : tie.Need-read-requires
+read-requires c κs = search needs
+
+same-length : tie.Need-same-length
+same-length c = search needs
+
+returns : tie.Need-returns
+returns c =
+    let k = c .before .before in
+    let a = k .before .before .before .before .before .before .args in
+    let taken = k .before .before .before .bytes-taken .ensures .1 in (
+      k .read .ensures .0 ∙ ap (λ (bs : List ℕ). readOutcome bs (a .table .now) .told) taken,
+      k .read .ensures .1 ∙ ap (λ (bs : List ℕ). readOutcome bs (a .table .now) .buffer) taken,
+    )
+
+pub read-table-spec : {M : Type 1} → statement M
+read-table-spec = tie.close (tie.spec bytes-taken-requires slice-aggregate-read read-requires same-length returns)

@@ -1,0 +1,58 @@
+// `run` for a C host.
+use task::RunAnswer;
+ghost use mathlib.Core.Path.{_≡_};
+ghost use Rattle.task.specs.Answers.{toldNumber, toldPlace, toldValue};
+ghost use Rattle.task.specs.Run.{runOutcome};
+
+// Runs a list of steps in a state. The answer is 0 for a result, else the refusal's number.
+#[no_mangle]
+pub extern "C" fn splitter_run(
+    table: &[u16],
+    steps: &[u16],
+    state: &mut [u16],
+    records: u64,
+    place: &mut u64,
+    left: &mut u64,
+    goal: &mut u64,
+) -> u32
+    ensures { λ r. ⌜ r ≡
+        toldNumber (runOutcome (now (table .entry)) (now (steps .entry)) (now (state .entry)) records .told) ⌝ }
+    ensures { λ r. ⌜ now (state .exit) ≡
+        runOutcome (now (table .entry)) (now (steps .entry)) (now (state .entry)) records .buffer ⌝ }
+    ensures { λ r. ⌜ now (place .exit) ≡
+        toldPlace (runOutcome (now (table .entry)) (now (steps .entry)) (now (state .entry)) records .told) ⌝ }
+    ensures { λ r. ⌜ now (left .exit) ≡
+        toldValue 0 (runOutcome (now (table .entry)) (now (steps .entry)) (now (state .entry)) records .told) ⌝ }
+    ensures { λ r. ⌜ now (goal .exit) ≡
+        toldValue 1 (runOutcome (now (table .entry)) (now (steps .entry)) (now (state .entry)) records .told) ⌝ }
+{
+    *place = 0;
+    *left = 0;
+    *goal = 0;
+    let answer = task::run(table, steps, state, records);
+    match answer {
+        RunAnswer::Ran {
+            left: kept,
+            goal: met,
+        } => {
+            *left = kept;
+            if met {
+                *goal = 1;
+            }
+            0
+        }
+        RunAnswer::Refused(number, at) => {
+            *place = at.number();
+            number
+        }
+        RunAnswer::Stopped {
+            number,
+            place: at,
+            left: kept,
+        } => {
+            *place = at.number();
+            *left = kept;
+            number
+        }
+    }
+}

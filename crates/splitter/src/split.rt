@@ -1,0 +1,23 @@
+// `split` for a C host.
+use tokens::SplitAnswer;
+ghost use mathlib.Core.Path.{_≡_};
+ghost use Rattle.task.specs.Answers.{toldNumber, toldPlace};
+ghost use Rattle.tokens.specs.Split.{splitOutcome};
+
+// Splits a table's task into a second table. The answer is 0 for a result, else the refusal's number.
+#[no_mangle]
+pub extern "C" fn splitter_split(table: &[u16], split: &mut [u16], place: &mut u64) -> u32
+    ensures { λ r. ⌜ r ≡ toldNumber (splitOutcome (now (table .entry)) (now (split .entry)) .told) ⌝ }
+    ensures { λ r. ⌜ now (split .exit) ≡ splitOutcome (now (table .entry)) (now (split .entry)) .buffer ⌝ }
+    ensures { λ r. ⌜ now (place .exit) ≡ toldPlace (splitOutcome (now (table .entry)) (now (split .entry)) .told) ⌝ }
+{
+    *place = 0;
+    let answer = tokens::split(table, split);
+    match answer {
+        SplitAnswer::Split => 0,
+        SplitAnswer::Refused(number, at) => {
+            *place = at.number();
+            number
+        }
+    }
+}

@@ -1,0 +1,38 @@
+// `unfold` for a C host.
+use blocks::UnfoldAnswer;
+ghost use mathlib.Core.Path.{_≡_};
+ghost use Rattle.task.specs.Answers.{toldNumber, toldPlace, toldValue};
+ghost use Rattle.blocks.specs.Blocks.{unfoldOutcome};
+
+// Unfolds the steps of a table's task. The answer is 0 for a result, else the refusal's number.
+#[no_mangle]
+pub extern "C" fn splitter_unfold(
+    table: &[u16],
+    steps: &[u16],
+    out: &mut [u16],
+    place: &mut u64,
+    split_steps: &mut u64,
+) -> u32
+    ensures { λ r. ⌜ r ≡
+        toldNumber (unfoldOutcome (now (table .entry)) (now (steps .entry)) (now (out .entry)) .told) ⌝ }
+    ensures { λ r. ⌜ now (out .exit) ≡
+        unfoldOutcome (now (table .entry)) (now (steps .entry)) (now (out .entry)) .buffer ⌝ }
+    ensures { λ r. ⌜ now (place .exit) ≡
+        toldPlace (unfoldOutcome (now (table .entry)) (now (steps .entry)) (now (out .entry)) .told) ⌝ }
+    ensures { λ r. ⌜ now («split_steps» .exit) ≡
+        toldValue 0 (unfoldOutcome (now (table .entry)) (now (steps .entry)) (now (out .entry)) .told) ⌝ }
+{
+    *place = 0;
+    *split_steps = 0;
+    let answer = blocks::unfold(table, steps, out);
+    match answer {
+        UnfoldAnswer::Unfolded(count) => {
+            *split_steps = count;
+            0
+        }
+        UnfoldAnswer::Refused(number, at) => {
+            *place = at.number();
+            number
+        }
+    }
+}

@@ -1,0 +1,33 @@
+// `write` for a C host.
+use text::WriteAnswer;
+ghost use mathlib.Core.Path.{_≡_};
+ghost use Rattle.task.specs.Answers.{toldNumber, toldPlace, toldValue};
+ghost use Rattle.text.specs.Outcomes.{writeOutcome};
+
+// Writes a table's task as text. The answer is 0 for a result, else the refusal's number.
+#[no_mangle]
+pub extern "C" fn splitter_write(
+    table: &[u16],
+    text: &mut [u8],
+    place: &mut u64,
+    bytes: &mut u64,
+) -> u32
+    ensures { λ r. ⌜ r ≡ toldNumber (writeOutcome (now (table .entry)) (now (text .entry)) .told) ⌝ }
+    ensures { λ r. ⌜ now (text .exit) ≡ writeOutcome (now (table .entry)) (now (text .entry)) .buffer ⌝ }
+    ensures { λ r. ⌜ now (place .exit) ≡ toldPlace (writeOutcome (now (table .entry)) (now (text .entry)) .told) ⌝ }
+    ensures { λ r. ⌜ now (bytes .exit) ≡ toldValue 0 (writeOutcome (now (table .entry)) (now (text .entry)) .told) ⌝ }
+{
+    *place = 0;
+    *bytes = 0;
+    let answer = text::write(table, text);
+    match answer {
+        WriteAnswer::Written(count) => {
+            *bytes = count;
+            0
+        }
+        WriteAnswer::Refused(number, at) => {
+            *place = at.number();
+            number
+        }
+    }
+}

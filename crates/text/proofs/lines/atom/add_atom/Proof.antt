@@ -1,0 +1,161 @@
+-- `lines::atom::add_atom` refuses as the line's turn does: 4 where the schema or the table is full, 5 where `fits` says
+-- so, and 6 where the search among the schema's rows finds the new one. The row is written before 6 is tested, and
+-- touches nothing of the table but its own eight words.
+use Rattle.text.proofs.lines.atom.add_atom.Tie as tie
+use Prim.Native.Nat.{ℕ, _+_, _<_}
+use mathlib.Core.Path.{_≡_, refl, sym, _∙_}
+use mathlib.Core.List.{List}
+use native.Mathlib.Omega.{arith}
+use borrow.Author.Needs.{needs}
+use borrow.Author.Tests.{not-true, not-false}
+use Rattle.task.proofs.Tables.{tableWords-is}
+use Rattle.text.specs.Text.{Draft}
+use Rattle.text.specs.ReadCode.{Listed}
+use Rattle.text.specs.Holding.{Holds, Touched}
+use Rattle.text.proofs.HeldAtoms.{few-words, inside-touched, untouched, atom-fits, row-named, AtomPut, atom-put}
+use Rattle.text.proofs.HeldAtoms.{schema-full, table-full, atom-misfits, again}
+use Rattle.text.proofs.lines.atom.add_atom.Statement.{statement}
+
+-- ---- what is known once the row is written
+abbrev start : tie.After-put-row → tie.Start
+start p = p .before .before .before .before .before .before .before .before .before .before .before .before .before
+
+abbrev before : tie.After-put-row → List ℕ
+before p = start p .args .table .now
+
+abbrev after : tie.After-put-row → List ℕ
+after p = p .put-row .last .0
+
+total : (p : tie.After-put-row) → start p .args .counts .closed + start p .args .counts .atoms < 1000
+total p = p .before .before .before .before .before .before .before .if2 .left
+
+touched : (p : tie.After-put-row) → Touched (before p) (after p)
+touched p =
+    inside-touched (few-words (start p .pre .0 .holds .few) (total p))
+    (row-named (start p .args .role) (start p .args .predicate) (p .before .before .before .next-row .ensures) refl refl
+    (p .put-row .ensures))
+
+put : (p : tie.After-put-row) (d : Draft) (ns : List ℕ) → Holds d (before p) (start p .args .counts) →
+    Listed ns (start p .args .count) (start p .args .args .now) →
+    AtomPut d (start p .args .counts) (start p .args .role) (start p .args .predicate) ns (after p)
+put p d ns h s =
+    atom-put h (start p .pre .1 .0) (p .before .before .before .before .before .before .before .before
+    .before .if1 .left) (total p)
+    (p .before .before .before .before .before .fits2 .ensures) (not-false _
+    (p .before .before .before .before .if3 .left))
+    (start p .pre .1 .1) s (p .before .before .before .next-row .ensures) (p .put-row .ensures)
+
+-- ---- and once it is looked for among the rows before
+abbrev written : tie.After-repeated → tie.After-put-row
+written l = l .before .before .before .before .before
+
+found : (l : tie.After-repeated) →
+    again (start (written l) .args .counts) (after (written l)) ≡ l .repeated .result
+found l =
+    let row = written l .before .before .before .next-row .ensures in
+    let first = l .before .first-row .ensures in
+    rw (← row, ← first) (sym (l .repeated .ensures))
+
+-- ---- the answers
+returns : tie.Need-returns
+returns c = (untouched _, λ d ns h s. schema-full d _ _ ns (let e = h .atoms in omega arith))
+
+add-if2 : tie.Need-add-if2
+add-if2 c = search needs
+
+returns-2 : tie.Need-returns-2
+returns-2 c = (
+  untouched _,
+  λ d ns h s. table-full d _ _ ns (let e = h .atoms in omega arith)
+      (let e = h .atoms in let q = h .closed in omega arith),
+)
+
+fits-requires : tie.Need-fits-requires
+fits-requires c κs =
+    let h = c .before .before .before .before .before .before .before .pre .0 .holds in
+    let p = h .few .predicates in
+    let l = h .long in
+    let z = tableWords-is in
+    omega arith
+
+same-length : tie.Need-same-length
+same-length c = search needs
+
+returns-3 : tie.Need-returns-3
+returns-3 c =
+    let fits = c .before .fits2 in
+    let start = c .before .before .before .before .before .before .before .before .before in (
+      untouched _,
+      λ d ns h s. atom-misfits d _ _ ns (let e = h .atoms in omega arith)
+          (let e = h .atoms in let q = h .closed in omega arith)
+          (sym (atom-fits h (fits .ensures) (start .pre .1 .1) s) ∙ not-true _ (c .if3 .taken)),
+    )
+
+next-row-requires : tie.Need-next-row-requires
+next-row-requires c κs = search needs
+
+cast-put-row : tie.Need-cast-put-row
+cast-put-row c = search needs
+
+put-row-requires : tie.Need-put-row-requires
+put-row-requires c κs =
+    let start = c .before .before .before .before .before .before .before .before .before .before .before .before in
+    let h = start .pre .0 .holds in
+    let fits = c .before .before .before .before .fits2 in
+    let told = not-false _ (c .before .before .before .if3 .left) in
+    let row = c .before .before .next-row .ensures in
+    let four = start .pre .1 .1 in
+    let enough = fits .ensures .enough told in
+    let known = fits .ensures .known told in
+    let few = h .few in
+    let schemas = few .schemas in
+    let predicates = few .predicates in
+    let params = few .params in
+    let role = start .pre .1 .0 .known in
+    let long = h .long in
+    let z = tableWords-is in
+    let room = few-words few (omega arith) in (
+      omega arith,
+      (
+        (omega arith, omega arith, omega arith, omega arith, omega arith),
+        λ k l. let low = fits .ensures .low told k l in omega arith,
+      ),
+    )
+
+first-row-requires : tie.Need-first-row-requires
+first-row-requires c κs = search needs
+
+repeated-requires : tie.Need-repeated-requires
+repeated-requires c κs =
+    let p = c .before .before .before .before in
+    let h = start p .pre .0 .holds in
+    let few = h .few in
+    let long = h .long in
+    let z = tableWords-is in
+    let row = p .before .before .before .next-row .ensures in
+    let first = c .first-row .ensures in
+    let size = p .put-row .kept .0 in
+    let room = few-words few (total p) in
+    (omega arith, omega arith)
+
+same-length-2 : tie.Need-same-length-2
+same-length-2 c = search needs
+
+returns-4 : tie.Need-returns-4
+returns-4 c =
+    let p = written (c .before) in
+    (touched p, λ d ns h s. put p d ns h s .repeats (found (c .before) ∙ c .if4 .taken))
+
+same-length-3 : tie.Need-same-length-3
+same-length-3 c = search needs
+
+returns-5 : tie.Need-returns-5
+returns-5 c =
+    let p = written (c .before) in
+    (touched p, λ d ns h s. put p d ns h s .taken (found (c .before) ∙ c .if4 .left))
+
+pub add-atom-spec : {M : Type 1} → statement M
+add-atom-spec =
+    tie.close
+    (tie.spec returns add-if2 returns-2 fits-requires same-length returns-3 next-row-requires cast-put-row
+    put-row-requires first-row-requires repeated-requires same-length-2 returns-4 same-length-3 returns-5)

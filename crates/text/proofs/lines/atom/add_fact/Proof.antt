@@ -1,0 +1,187 @@
+-- `lines::atom::add_fact` refuses as the line's turn does: 4 where the kind is full, 5 where `fits` says so, and 6
+-- where the words of the new row don't come behind those of the row before. The row is written before 6 is tested, and
+-- touches nothing of the table but its own eight words.
+use Rattle.text.proofs.lines.atom.add_fact.Tie as tie
+use Prim.Native.Nat.{ℕ, _-_, _<_}
+use mathlib.Core.Path.{_≡_, refl, sym, _∙_}
+use mathlib.Core.List.{List}
+use native.Mathlib.Omega.{arith}
+use borrow.Author.Needs.{needs}
+use borrow.Author.Tests.{not-true, not-false}
+use Rattle.task.proofs.Tables.{tableWords-is}
+use Rattle.text.specs.Text.{Draft, follows}
+use Rattle.text.specs.ReadCode.{Listed}
+use Rattle.text.specs.Holding.{Holds, Touched, factsOf}
+use Rattle.text.proofs.HeldAtoms.{inside-touched, untouched}
+use Rattle.text.proofs.HeldFacts.{factOf, fact-room, fact-fits, fact-row, fact-place, FactPut, fact-put}
+use Rattle.text.proofs.HeldFacts.{full-refused, misfit-refused}
+use Rattle.text.proofs.lines.atom.add_fact.Statement.{statement}
+
+-- ---- what is known once the row is written
+abbrev start : tie.After-put-row → tie.Start
+start p = p .before .before .before .before .before .before .before .before .before .before .before
+
+abbrev known : tie.After-put-row → tie.After-facts
+known p = p .before .before .before .before .before .before .before .before
+
+abbrev before : tie.After-put-row → List ℕ
+before p = start p .args .table .now
+
+abbrev after : tie.After-put-row → List ℕ
+after p = p .put-row .last .0
+
+-- a draft that the code holds, and the arguments that were read
+abbrev Given : tie.After-put-row → Draft → List ℕ → Type 0
+Given p d ns =
+    Holds d (before p) (start p .args .counts) × Listed ns (start p .args .count) (start p .args .args .now)
+
+below : (p : tie.After-put-row) → known p .facts .result .read < known p .facts .result .most
+below p = p .before .before .before .before .before .before .if1 .left
+
+touched : (p : tie.After-put-row) → Touched (before p) (after p)
+touched p =
+    let few = start p .pre .0 .holds .few in
+    inside-touched (fact-room few (fact-place (start p .args .kind) few (known p .facts .ensures) .few (below p)))
+    (fact-row (known p .facts .result .role) (start p .args .predicate) (p .before .before .next-row .ensures) refl
+    (p .put-row .ensures))
+
+put : (p : tie.After-put-row) (d : Draft) (ns : List ℕ) → Given p d ns →
+    FactPut (start p .args .kind) (known p .facts .result) d (start p .args .counts) (start p .args .predicate) ns
+    (after p)
+put p d ns (h, s) =
+    fact-put (start p .args .kind) h (start p .pre .1 .0) (known p .facts .ensures) (below p)
+    (p .before .before .before .before .fits2 .ensures) (not-false _ (p .before .before .before .if2 .left))
+    (start p .pre .1 .1) s (p .before .before .next-row .ensures) (p .put-row .ensures)
+
+-- ---- and once it is compared with the row before
+abbrev written : tie.After-less-words → tie.After-put-row
+written l = l .before .before .before .before .before .before
+
+order : (l : tie.After-less-words) (d : Draft) (ns : List ℕ) → Given (written l) d ns → l .less-words .result ≡
+    follows (factsOf (start (written l) .args .kind) (d .task)) (factOf (start (written l) .args .predicate) ns)
+order l d ns given =
+    let p = written l in
+    let row = p .before .before .next-row .ensures in
+    let found = l .less-words .ensures in
+    (rw row at found) ∙ put p d ns given .later (l .before .before .if3 .taken)
+
+-- ---- the answers
+facts-requires : tie.Need-facts-requires
+facts-requires c κs = search needs
+
+returns : tie.Need-returns
+returns c =
+    let start = c .before .before .before .before .before in (
+      untouched _,
+      λ d ns h s. full-refused (start .args .kind) h (c .before .before .facts .ensures) _ ns
+          (c .if1 .taken),
+    )
+
+fits-requires : tie.Need-fits-requires
+fits-requires c κs =
+    let h = c .before .before .before .before .before .before .pre .0 .holds in
+    let p = h .few .predicates in
+    let l = h .long in
+    let z = tableWords-is in
+    omega arith
+
+same-length : tie.Need-same-length
+same-length c = search needs
+
+returns-2 : tie.Need-returns-2
+returns-2 c =
+    let fits = c .before .fits2 in
+    let below = c .before .before .before .if1 .left in
+    let facts = c .before .before .before .before .before .facts in
+    let start = c .before .before .before .before .before .before .before .before in (
+      untouched _,
+      λ d ns h s. misfit-refused (start .args .kind) h (facts .ensures) _ ns below
+          (sym (fact-fits h (fits .ensures) (start .pre .1 .1) s) ∙ not-true _ (c .if2 .taken)),
+    )
+
+next-row-requires : tie.Need-next-row-requires
+next-row-requires c κs = search needs
+
+put-row-requires : tie.Need-put-row-requires
+put-row-requires c κs =
+    let start = c .before .before .before .before .before .before .before .before .before .before in
+    let h = start .pre .0 .holds in
+    let fits = c .before .before .before .fits2 in
+    let told = not-false _ (c .before .before .if2 .left) in
+    let below = c .before .before .before .before .before .if1 .left in
+    let row = c .before .next-row .ensures in
+    let four = start .pre .1 .1 in
+    let enough = fits .ensures .enough told in
+    let known = fits .ensures .known told in
+    let few = h .few in
+    let predicates = few .predicates in
+    let objects = few .objects in
+    let place = fact-place (start .args .kind) few
+    (c .before .before .before .before .before .before .before .facts .ensures) in
+    let role = place .known in
+    let long = h .long in
+    let z = tableWords-is in
+    let room = fact-room few (place .few below) in (
+      omega arith,
+      (
+        (omega arith, omega arith, omega arith, omega arith, omega arith),
+        λ k l. let low = fits .ensures .low told k l in omega arith,
+      ),
+    )
+
+sub-less-words : tie.Need-sub-less-words
+sub-less-words c = search needs
+
+add-less-words : tie.Need-add-less-words
+add-less-words c = search needs
+
+less-words-requires : tie.Need-less-words-requires
+less-words-requires c κs =
+    let p = c .before .before .before .before .before in
+    let h = start p .pre .0 .holds in
+    let long = h .long in
+    let z = tableWords-is in
+    let row = p .before .before .next-row .ensures in
+    let size = p .put-row .kept .0 in
+    let place = fact-place (start p .args .kind) (h .few) (known p .facts .ensures) in
+    let room = fact-room (h .few) (place .few (below p)) in
+    (omega arith, omega arith)
+
+same-length-2 : tie.Need-same-length-2
+same-length-2 c = search needs
+
+returns-3 : tie.Need-returns-3
+returns-3 c =
+    let p = written (c .before) in (
+      touched p,
+      λ d ns h s. put p d ns (h, s) .unordered (sym (order (c .before) d ns (h, s)) ∙ not-true _ (c .if4 .taken)),
+    )
+
+same-length-3 : tie.Need-same-length-3
+same-length-3 c = search needs
+
+returns-4 : tie.Need-returns-4
+returns-4 c =
+    let p = written (c .before) in (
+      touched p,
+      λ d ns h s. put p d ns (h, s) .taken (sym (order (c .before) d ns (h, s)) ∙ not-false _ (c .if4 .left)),
+    )
+
+same-length-4 : tie.Need-same-length-4
+same-length-4 c = search needs
+
+returns-5 : tie.Need-returns-5
+returns-5 c =
+    let p = c .before .before .before .before in (
+      touched p,
+      λ d ns h s.
+          let has = put p d ns (h, s) in
+          has .taken (has .first (let none = c .if3 .left in omega arith)),
+    )
+
+pub add-fact-spec : {M : Type 1} → statement M
+add-fact-spec =
+    tie.close
+    (tie.spec facts-requires returns fits-requires same-length returns-2 next-row-requires put-row-requires
+    sub-less-words add-less-words less-words-requires same-length-2 returns-3 same-length-3 returns-4 same-length-4
+    returns-5)

@@ -1,0 +1,87 @@
+-- `lines::atom::atom_line`: the line has no atom, or its atom is refused, or the code holds the draft behind it.
+use Rattle.text.proofs.lines.atom.atom_line.Tie as tie
+use mathlib.Core.Path.{refl, subst}
+use native.Mathlib.Omega.{arith}
+use borrow.Author.Needs.{needs}
+use Rattle.text.specs.Text.{atomLine}
+use Rattle.text.specs.ReadCode.{EntryLineAt}
+use Rattle.text.proofs.HeldAtoms.{untouched}
+use Rattle.text.proofs.LineTurns.{no-line, atom-refused, atom-goes-on}
+use Rattle.text.proofs.lines.atom.atom_line.Statement.{statement}
+
+slice-aggregate-entry-line : tie.Need-slice-aggregate-entry-line
+slice-aggregate-entry-line c = search needs
+
+entry-line-requires : tie.Need-entry-line-requires
+entry-line-requires c κs = search needs
+
+enum-known-predicate : tie.Need-enum-known-predicate
+enum-known-predicate c = search needs
+
+enum-told : tie.Need-enum-told
+enum-told c = search needs
+
+returns : tie.Need-returns
+returns c =
+    let start = c .before .before .before .before .before .before .before in (
+      untouched _,
+      λ d h. no-line (atomLine (start .args .role)) d _
+          (subst (EntryLineAt _ _ _) (c .enum-told .given .1) (c .before .before .before .entry-line .ensures)),
+    )
+
+slice-aggregate-add-atom : tie.Need-slice-aggregate-add-atom
+slice-aggregate-add-atom c = search needs
+
+add-atom-requires : tie.Need-add-atom-requires
+add-atom-requires c κs = search needs
+
+enum-known-check : tie.Need-enum-known-check
+enum-known-check c = search needs
+
+same-length : tie.Need-same-length
+same-length c = search needs
+
+returns-2 : tie.Need-returns-2
+returns-2 c =
+    let added = c .before .before .before .before .before .add-atom in
+    let atom = c .before .before .before .before .before .before .before .before .before in
+    let read = subst (EntryLineAt _ _ _) (atom .predicate .given .1)
+    (atom .before .before .before .entry-line .ensures) in (
+      added .ensures .0,
+      λ d h. atom-refused (atomLine _) d read _ _ _ (c .before .check .given .1)
+          (added .ensures .1 d (read .ns) h (read .listed)),
+    )
+
+enum-told-2 : tie.Need-enum-told-2
+enum-told-2 c = search needs
+
+add-read : tie.Need-add-read
+add-read c = search needs
+
+add-read-2 : tie.Need-add-read-2
+add-read-2 c =
+    let start = c .before .before .before .before .before .before .before .before .before .before .before .before
+    .before .before .before .before in
+    let few = start .pre .1 .0 .holds .few .atoms in
+    omega arith
+
+same-length-2 : tie.Need-same-length-2
+same-length-2 c = search needs
+
+returns-3 : tie.Need-returns-3
+returns-3 c =
+    let added = c .before .before .before .before .before .add-atom in
+    let atom = c .before .before .before .before .before .before .before .before .before in
+    let read = subst (EntryLineAt _ _ _) (atom .predicate .given .1)
+    (atom .before .before .before .entry-line .ensures) in (
+      added .ensures .0,
+      λ d h. atom-goes-on (atomLine _) d read _ _ refl (c .before .enum-told2 .given .1)
+          (added .ensures .1 d (read .ns) h (read .listed)),
+    )
+
+pub atom-line-spec : {M : Type 1} → statement M
+atom-line-spec =
+    tie.close
+    (tie.spec slice-aggregate-entry-line entry-line-requires enum-known-predicate enum-told returns
+    slice-aggregate-add-atom add-atom-requires enum-known-check same-length returns-2 enum-told-2 add-read add-read-2
+    same-length-2 returns-3)

@@ -1,0 +1,49 @@
+-- `lists::list_line`: there was no list, or its line doesn't end behind it, or the next line comes there.
+use Rattle.text.proofs.lists.list_line.Tie as tie
+use mathlib.Core.Path.{subst}
+use borrow.Author.Needs.{needs}
+use Rattle.text.specs.ReadCode.{ListAt, EndAt}
+use Rattle.text.proofs.WholeLines.{no-body, no-end, line-whole, to-next}
+use Rattle.text.proofs.lists.list_line.Statement.{statement}
+
+enum-known-found : tie.Need-enum-known-found
+enum-known-found c = search needs
+
+enum-told : tie.Need-enum-told
+enum-told c = search needs
+
+returns : tie.Need-returns
+returns c = λ from body kept h. no-body body (subst (ListAt _ from body kept) (c .enum-told .given .1) h)
+
+line-end-requires : tie.Need-line-end-requires
+line-end-requires c κs = c .before .before .before .before .pre _ _ (c .before .found .given .1)
+
+enum-known-next : tie.Need-enum-known-next
+enum-known-next c = search needs
+
+enum-told-2 : tie.Need-enum-told-2
+enum-told-2 c = search needs
+
+returns-2 : tie.Need-returns-2
+returns-2 c =
+    let found = c .before .before .before .before in
+    λ from body kept h. no-end body _ _ (subst (ListAt _ from body kept) (found .found .given .1) h .is)
+    (subst (EndAt _ _) (c .enum-told2 .given .1) (c .before .before .line-end .ensures))
+
+returns-3 : tie.Need-returns-3
+returns-3 c =
+    let found = c .before .before .before .before .before in
+    λ from body kept h.
+    let b = subst (ListAt _ from body kept) (found .found .given .1) h in
+    let e = subst (EndAt _ _) (c .before .next .given .1) (c .before .before .before .line-end .ensures) in
+    record {
+      ns = b .ns;
+      is = line-whole body _ _ (b .is) _ (e .is);
+      listed = b .listed;
+      line = to-next (b .onward .on) (b .onward .line) e;
+    }
+
+pub list-line-spec : {M : Type 1} → statement M
+list-line-spec =
+    tie.close
+    (tie.spec enum-known-found enum-told returns line-end-requires enum-known-next enum-told-2 returns-2 returns-3)

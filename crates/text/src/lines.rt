@@ -1,0 +1,4 @@
+// What each line of a task's text does to the draft, by what its body is.
+pub mod atom;
+pub mod head;
+pub mod part;

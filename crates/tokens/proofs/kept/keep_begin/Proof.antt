@@ -1,0 +1,29 @@
+-- `tokens::kept::keep_begin` meets its contract: one word is put after the other.
+use Rattle.tokens.proofs.kept.keep_begin.Tie as tie
+use mathlib.Core.Path.{_∙_, ap}
+use mathlib.Core.List.{List}
+use Prim.Native.Nat.{ℕ}
+use borrow.Author.Needs.{needs}
+use Rattle.tokens.specs.Kept.{firstPlace, withField}
+use Rattle.tokens.proofs.kept.keep_begin.Statement.{statement}
+
+cast-put : tie.Need-cast-put
+cast-put c = search needs
+
+put-requires : tie.Need-put-requires
+put-requires c κs = search needs
+
+cast-put-2 : tie.Need-cast-put-2
+cast-put-2 c = search needs
+
+put-requires-2 : tie.Need-put-requires-2
+put-requires-2 c κs = search needs
+
+returns : tie.Need-returns
+returns c =
+    let a = c .before .before .before .before .args in
+    c .put2 .ensures ∙
+    ap (λ (kept : List ℕ). withField kept (a .row) firstPlace (a .first)) (c .before .before .put .ensures)
+
+pub keep-begin-spec : {M : Type 1} → statement M
+keep-begin-spec = tie.close (tie.spec cast-put put-requires cast-put-2 put-requires-2 returns)

@@ -1,0 +1,11 @@
+-- Laws of lists, ranges, runs of words, words that are put somewhere, and sets of bits.
+pub mod Lists
+pub mod Ranges
+pub mod Ascending
+pub mod Sums
+pub mod Words
+pub mod Searches
+pub mod Comparing
+pub mod Puts
+pub mod BitSets
+pub mod SetMembers
