@@ -9,13 +9,15 @@ use lib.ListN.{length, getD, take, replicate, length-map}
 use lib.Seq.{ext-getD}
 use borrow.Author.Tests.{leb-true}
 use Rattle.words.specs.Lists.{sum, upFrom}
-use Rattle.task.specs.Task.{Atom, partCount, schemaFits}
+use Rattle.task.specs.Limits.{atomSize}
+use Rattle.task.specs.Layout.{headIn, atomBase}
+use Rattle.task.specs.Task.{Atom, partCount, schemaFits, noSchema}
 use Rattle.task.specs.Run.{schemaAt}
-use Rattle.task.specs.Table.{atomBase, atomIn, schemaNumberIn, taskOf, isTable}
+use Rattle.task.specs.Table.{atomIn, schemaNumberIn, taskOf, isTable}
 use Rattle.words.proofs.Lists.{In, here, there, all-in, in-getD, getD-map, map-append, upFrom-last, length-upFrom}
 use Rattle.words.proofs.Lists.{getD-upFrom}
 use Rattle.task.proofs.Tests.{schema-tests, task-tests}
-use Rattle.task.proofs.Tables.{noAtom, noSchema, counts, startOf, of-table}
+use Rattle.task.proofs.Tables.{noAtom, counts, startOf, of-table}
 use Rattle.task.proofs.TablesByIndex.{table-frame, table-long, schemas-word, atom-inside, atom-at, atom-lies, start-suc}
 use Rattle.task.proofs.TablesByIndex.{start-end}
 use Rattle.arcs.specs.Code.{IsSchemaAtom, IsStretch, atomsIn}
@@ -28,7 +30,7 @@ zeros-at (suc n) (suc i) = zeros-at n i
 
 -- ---- an atom of a table
 -- its eight words lie in the table
-pub atom-words : (w : List ℕ) (i : ℕ) → IsSchemaAtom w i → atomBase w i + 8 ≤ length w
+pub atom-words : (w : List ℕ) (i : ℕ) → IsSchemaAtom w i → atomBase w i + atomSize ≤ length w
 atom-words w i a =
     let l = table-long w (a .table) in
     let h = atom-inside w (table-frame w (a .table)) i (let k = a .known in omega arith) in
@@ -88,7 +90,7 @@ starts-ascend (c ∷ cs) zero n h = omega arith
 starts-ascend (c ∷ cs) (suc m) zero h = absurd (omega arith)
 starts-ascend (c ∷ cs) (suc m) (suc n) h = let e = starts-ascend cs m n (omega arith) in omega arith
 
-module _ (w : List ℕ) (h : isTable w ≡ true) (s : ℕ) (l : s < getD w 2 0) where
+module _ (w : List ℕ) (h : isTable w ≡ true) (s : ℕ) (l : s < headIn w .schemas) where
   pub schema-atoms : schemaAt (taskOf w) s .atoms ≡ atomsIn w (startOf (taskOf w) s) (startOf (taskOf w) (suc s))
   unfolding atomsIn
   schema-atoms =
@@ -110,5 +112,5 @@ module _ (w : List ℕ) (h : isTable w ≡ true) (s : ℕ) (l : s < getD w 2 0) 
       let fr = table-frame w h in
       let g = start-suc w fr s l in
       let e = start-end w fr in
-      let m = starts-ascend (counts (t .schemas)) (suc s) (getD w 2 0) l in
+      let m = starts-ascend (counts (t .schemas)) (suc s) (headIn w .schemas) l in
       record { table = h; forward = omega arith; known = omega arith }

@@ -8,6 +8,7 @@ use mathlib.Core.Option.{Option, none, some}
 use lib.ListN.{getD, take}
 use lib.Dec.{eqb}
 use Rattle.words.specs.Lists.{any, upFrom}
+use Rattle.task.specs.Layout.{headIn}
 use Rattle.task.specs.Task.{Atom, precondition}
 use Rattle.task.specs.Table.{atomIn, isTable}
 use Rattle.task.specs.declared.Part.{Part}
@@ -23,13 +24,13 @@ use Rattle.words.specs.Sets.{member}
 -- words of a table, and a schema atom of it: word 3 says how many there are
 pub record IsSchemaAtom (w : List ℕ) (i : ℕ) : Type 0 where
   pub table : isTable w ≡ true
-  pub known : i < getD w 3 0
+  pub known : i < headIn w .schemaAtoms
 
 -- words of a table, and a stretch of its schema atoms, atoms `from` to `to - 1`, as the atoms of a schema are
 pub record IsStretch (w : List ℕ) (from to : ℕ) : Type 0 where
   pub table : isTable w ≡ true
   pub forward : from ≤ to
-  pub known : to ≤ getD w 3 0
+  pub known : to ≤ headIn w .schemaAtoms
 
 -- the atoms of a stretch
 unfoldable pub atomsIn : List ℕ → ℕ → ℕ → List Atom

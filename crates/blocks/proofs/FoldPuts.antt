@@ -5,6 +5,7 @@ use mathlib.Core.List.{List, [], _∷_, _++_, append-nil, append-assoc}
 use native.Mathlib.Omega.{arith}
 use lib.ListN.{length, length-append}
 use Rattle.words.specs.Lists.{over, put, concatMap}
+use Rattle.task.specs.Limits.{stepSize}
 use Rattle.task.specs.Task.{Task}
 use Rattle.task.specs.Run.{Step, stepWords, stepsIn, paramCount}
 use Rattle.words.proofs.Puts.{put-over}
@@ -26,7 +27,7 @@ pub record PutSo (t : Task) (steps : List ℕ) (xs : List Step) (lent out : List
   pub whole : xs ≡ done ++ rest
   pub left : leftFrom t steps i ≡ folded rest
   pub put-to : Puts lent 0 (listWords done) out next
-  pub place : next ≡ 13 * length done
+  pub place : next ≡ stepSize * length done
 
 pub put-start : (t : Task) (steps : List ℕ) (xs : List Step) (lent : List ℕ) →
     foldSteps t (stepsIn (splitTask t) steps) ≡ folded xs → PutSo t steps xs lent lent 0 0
@@ -62,7 +63,7 @@ module _ {t : Task} {steps kept begins : List ℕ}
     words = held-words (k .held) s (let n = k .size in let m = K .blocks .few-params s in omega arith)
 
     -- there is room for its step
-    pub room-more : 13 * length xs ≤ length lent → next + 13 ≤ length lent
+    pub room-more : stepSize * length xs ≤ length lent → next + stepSize ≤ length lent
     room-more r =
         let (ys, a, b) = more in
         let n = ap length (h .whole) ∙ length-append (h .done) (h .rest) in
@@ -70,7 +71,7 @@ module _ {t : Task} {steps kept begins : List ℕ}
         let p = h .place in
         omega arith
 
-    pub put-turn : PutSo t steps xs lent (put out next (s ∷ found)) (next + 13) to
+    pub put-turn : PutSo t steps xs lent (put out next (s ∷ found)) (next + stepSize) to
     put-turn =
         let (ys, a, b) = more in
         let size = k .held .size in
@@ -91,7 +92,7 @@ module _ {t : Task} {steps kept begins : List ℕ}
         }
 
   -- ---- the whole list is read
-  module _ (l : length steps / 13 ≤ i) where
+  module _ (l : length steps / stepSize ≤ i) where
     none-left : xs ≡ h .done
     none-left =
         let e : folded (h .rest) ≡ folded [] =
@@ -102,7 +103,7 @@ module _ {t : Task} {steps kept begins : List ℕ}
         same q = cc
 
     -- how many words are put
-    pub words-put : next ≡ 13 * length xs
+    pub words-put : next ≡ stepSize * length xs
     words-put = let e = ap length none-left in let p = h .place in omega arith
 
     pub all-put : next ≤ length lent → out ≡ over (listWords xs) lent

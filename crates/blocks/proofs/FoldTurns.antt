@@ -12,6 +12,7 @@ use native.Mathlib.Decide.{decLt}
 use native.Mathlib.Numerals.{add-one}
 use lib.ListN.{length, getD, drop, replicate, length-replicate}
 use Rattle.words.specs.Lists.{upTo}
+use Rattle.task.specs.Limits.{stepSize}
 use Rattle.task.specs.Task.{Task}
 use Rattle.task.specs.Run.{Step, schemaAt, stepAt, stepsIn}
 use Rattle.words.proofs.Lists.{bool-cases, upTo-in}
@@ -48,9 +49,9 @@ module _ {t : Task} {steps kept begins : List ℕ}
   ys = stepsIn (splitTask t) steps
 
   -- ---- between blocks
-  module _ (i : ℕ) (l : i < length steps / 13) where
+  module _ (i : ℕ) (l : i < length steps / stepSize) where
     abbrev word : ℕ
-    word = getD begins (getD steps (13 * i) 0) 0
+    word = getD begins (getD steps (stepSize * i) 0) 0
 
     -- the step begins no block
     pub none-begins : word ≡ 0 → F (leftFrom t steps i) → F (misfit i)
@@ -94,7 +95,7 @@ module _ {t : Task} {steps kept begins : List ℕ}
       part-of = keptFirst kept s + j
 
       -- the list doesn't go on with it
-      pub block-broken : keptFits steps (13 * i) part-of set-of (h .objects) ≡ false → F (misfit i)
+      pub block-broken : keptFits steps (stepSize * i) part-of set-of (h .objects) ≡ false → F (misfit i)
       block-broken e =
           subst F
           (on-inside t s j (h .objects) i (drop i ys) m
@@ -102,13 +103,13 @@ module _ {t : Task} {steps kept begins : List ℕ}
 
       -- it does, and the part's objects join those found
       pub block-turns : (bound′ : ℕ) (found′ : List ℕ) →
-          keptFits steps (13 * i) part-of set-of (h .objects) ≡ true →
-          ObjectsJoin steps (13 * i) set-of bound found bound′ found′ →
+          keptFits steps (stepSize * i) part-of set-of (h .objects) ≡ true →
+          ObjectsJoin steps (stepSize * i) set-of bound found bound′ found′ →
           InBlock t steps F s (j + 1) bound′ found′ (i + 1)
       block-turns bound′ found′ e joined = record {
         objects = after;
         held = joined b (h .held) (params-below K s j l m b (h .size));
-        size = bind-size b (members set-of 12) (givenObjects steps (13 * i) set-of) ∙ h .size;
+        size = bind-size b (members set-of 12) (givenObjects steps (stepSize * i) set-of) ∙ h .size;
         left = subst F path (h .left);
       }
         where
@@ -116,7 +117,7 @@ module _ {t : Task} {steps kept begins : List ℕ}
           b = h .objects
 
           after : Bound
-          after = bind b (members set-of 12) (givenObjects steps (13 * i) set-of)
+          after = bind b (members set-of 12) (givenObjects steps (stepSize * i) set-of)
 
           g : GoesOn K s j l m b i
           g = goes-on K s j l m b i e
@@ -137,12 +138,12 @@ module _ {t : Task} {steps kept begins : List ℕ}
 
 -- the word of the schema begun is within the limits
 pub begun-small : {t : Task} {steps kept begins : List ℕ} →
-    (K : SplitStepsKept t steps kept begins) (i : ℕ) → i < length steps / 13 →
-    getD begins (getD steps (13 * i) 0) 0 ≤ 200
+    (K : SplitStepsKept t steps kept begins) (i : ℕ) → i < length steps / stepSize →
+    getD begins (getD steps (stepSize * i) 0) 0 ≤ 200
 begun-small {t} {steps} {kept} {begins} K i l =
-    elim (decLt 0 (getD begins (getD steps (13 * i) 0) 0)) [
+    elim (decLt 0 (getD begins (getD steps (stepSize * i) 0) 0)) [
       | yes q ↦
-          let s = getD begins (getD steps (13 * i) 0) 0 - 1 in
+          let s = getD begins (getD steps (stepSize * i) 0) 0 - 1 in
           let k = begun-known K (λ f. f ≡ f) i l s (omega arith) in
           let n = K .blocks .few-schemas in
           omega arith
@@ -159,7 +160,7 @@ unfolding foldSteps
 taken-start t steps = after-none (foldFrom t outside 0 (stepsIn (splitTask t) steps))
 
 pub taken-whole : {t : Task} {steps kept begins : List ℕ} →
-    SplitStepsKept t steps kept begins → (n i : ℕ) → length steps / 13 ≤ i →
+    SplitStepsKept t steps kept begins → (n i : ℕ) → length steps / stepSize ≤ i →
     TakenSo t steps n (leftFrom t steps i) → taken.Whole n ≡ takenOf (foldSteps t (stepsIn (splitTask t) steps))
 unfolding takenAfter
 taken-whole {t} {steps} K n i l h =
@@ -181,19 +182,19 @@ pub block-must : {t : Task} {steps kept begins : List ℕ} →
     (K : SplitStepsKept t steps kept begins) (xs : List Step) (s : ℕ) (l : s < length (t .schemas))
     (j bound : ℕ) (found : List ℕ) (i : ℕ) (m : j < length (orders t s))
     (h : InBlock t steps (λ f. f ≡ folded xs) s j bound found i) →
-    keptFits steps (13 * i) (keptFirst kept s + j) (keptOwn kept s j) (h .objects) ≡ true
+    keptFits steps (stepSize * i) (keptFirst kept s + j) (keptOwn kept s j) (h .objects) ≡ true
 block-must {t} {steps} {kept} {begins} K xs s l j bound found i m h =
-    elim (bool-cases (keptFits steps (13 * i) (keptFirst kept s + j) (keptOwn kept s j) (h .objects))) [
+    elim (bool-cases (keptFits steps (stepSize * i) (keptFirst kept s + j) (keptOwn kept s j) (h .objects))) [
       | inl e ↦ e
       | inr e ↦ absurd (no-misfit (block-broken K (λ f. f ≡ folded xs) s l j bound found i m h e) refl)
     ]
 
 -- and one between blocks begins one
 pub block-must-begin : {t : Task} {steps kept begins : List ℕ} →
-    (K : SplitStepsKept t steps kept begins) (xs : List Step) (i : ℕ) (l : i < length steps / 13) →
-    leftFrom t steps i ≡ folded xs → 0 < getD begins (getD steps (13 * i) 0) 0
+    (K : SplitStepsKept t steps kept begins) (xs : List Step) (i : ℕ) (l : i < length steps / stepSize) →
+    leftFrom t steps i ≡ folded xs → 0 < getD begins (getD steps (stepSize * i) 0) 0
 block-must-begin {t} {steps} {kept} {begins} K xs i l f =
-    elim (decLt 0 (getD begins (getD steps (13 * i) 0) 0)) [
+    elim (decLt 0 (getD begins (getD steps (stepSize * i) 0) 0)) [
       | yes q ↦ q
       | no q ↦ absurd (no-misfit (none-begins K (λ f. f ≡ folded xs) i l (omega arith) f) refl)
     ]

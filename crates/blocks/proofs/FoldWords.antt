@@ -12,6 +12,7 @@ use lib.Seq.{drop-cons}
 use lib.Dec.{eqb, leb}
 use borrow.Author.Tests.{eqb-true, leb-true, le-leb, lt-leb}
 use Rattle.words.specs.Lists.{upTo}
+use Rattle.task.specs.Limits.{stepSize}
 use Rattle.task.specs.Task.{Schema, Task}
 use Rattle.words.specs.Words.{wordsAt}
 use Rattle.task.specs.Run.{Step, schemaAt, stepIn, stepAt, stepsIn, paramCount}
@@ -55,21 +56,21 @@ module _ {t : Task} {steps kept begins : List ℕ}
   ys = stepsIn u steps
 
   -- ---- the step at a place
-  pub step-next : (i : ℕ) → i < length steps / 13 → drop i ys ≡ stepAt u steps i ∷ drop (suc i) ys
+  pub step-next : (i : ℕ) → i < length steps / stepSize → drop i ys ≡ stepAt u steps i ∷ drop (suc i) ys
   unfolding stepsIn upTo
   step-next i l =
       let n = length-stepsIn u steps in
       let z : 0 + i ≡ i = omega arith in
       drop-cons ys i noStep (omega arith)
       ∙ ap (λ (x : Step). x ∷ drop (suc i) ys)
-      (getD-mapped (stepAt u steps) 0 (length steps / 13) i noStep l ∙ ap (stepAt u steps) z)
+      (getD-mapped (stepAt u steps) 0 (length steps / stepSize) i noStep l ∙ ap (stepAt u steps) z)
 
-  pub step-none : (i : ℕ) → length steps / 13 ≤ i → drop i ys ≡ []
+  pub step-none : (i : ℕ) → length steps / stepSize ≤ i → drop i ys ≡ []
   step-none i l = let n = length-stepsIn u steps in drop-of-length-le ys {i = i} (omega arith)
 
   -- it is whole, and of a schema of the split
-  pub step-known : (i : ℕ) → i < length steps / 13 →
-      (13 * i + 13 ≤ length steps) × (getD steps (13 * i) 0 < firstOf t (length (t .schemas)))
+  pub step-known : (i : ℕ) → i < length steps / stepSize →
+      (stepSize * i + stepSize ≤ length steps) × (getD steps (stepSize * i) 0 < firstOf t (length (t .schemas)))
   step-known i l =
       let (w, k) = schema-known u steps (K .good) i l in
       let e = split-count t in
@@ -89,48 +90,50 @@ module _ {t : Task} {steps kept begins : List ℕ}
         members-are set (schemaAt t s .params) 12 mine (K .blocks .few-params s) (λ x. K .blocks .params s j x l m)
 
     -- the objects that the step at i gives, where it is this part
-    part-objects : (i : ℕ) → getD steps (13 * i) 0 ≡ firstOf t s + j →
-        givenObjects steps (13 * i) set ≡ stepAt u steps i .objects
+    part-objects : (i : ℕ) → getD steps (stepSize * i) 0 ≡ firstOf t s + j →
+        givenObjects steps (stepSize * i) set ≡ stepAt u steps i .objects
     unfolding givenObjects stepAt stepIn
     part-objects i e =
-        ap (wordsAt steps (13 * i + 1)) (ap length part-params ∙ sym (part-arity t s j (getD steps (13 * i) 0) l m e))
+        ap (wordsAt steps (stepSize * i + 1))
+        (ap length part-params ∙ sym (part-arity t s j (getD steps (stepSize * i) 0) l m e))
 
     -- whether it is this part, and its objects agree
     abbrev number : ℕ
     number = keptFirst kept s + j
 
     fits-here : (b : Bound) (i : ℕ) →
-        eqb (getD steps (13 * i) 0) number && fits b (members set 12) (givenObjects steps (13 * i) set) ≡
+        eqb (getD steps (stepSize * i) 0) number && fits b (members set 12) (givenObjects steps (stepSize * i) set) ≡
         fitsAt t (inside s j b) (stepAt u steps i)
     unfolding fitsAt stepAt stepIn
     fits-here b i =
-        ap (λ (n : ℕ). eqb k (n + j) && fits b (members set 12) (givenObjects steps (13 * i) set))
+        ap (λ (n : ℕ). eqb k (n + j) && fits b (members set 12) (givenObjects steps (stepSize * i) set))
         (K .blocks .first s (omega arith))
         ∙ go (eqb k (firstOf t s + j)) refl
       where
         k : ℕ
-        k = getD steps (13 * i) 0
+        k = getD steps (stepSize * i) 0
 
         go : (c : Bool) → eqb k (firstOf t s + j) ≡ c →
-            c && fits b (members set 12) (givenObjects steps (13 * i) set) ≡
+            c && fits b (members set 12) (givenObjects steps (stepSize * i) set) ≡
             c && fits b (paramsAt t s j) (stepAt u steps i .objects)
         go false e = refl
         go true e = ap₂ (fits b) part-params (part-objects i (eqb-true k (firstOf t s + j) e))
 
     pub fits-kept : (b : Bound) (i : ℕ) →
-        keptFits steps (13 * i) number set b ≡ fitsNext t (inside s j b) (drop i ys)
+        keptFits steps (stepSize * i) number set b ≡ fitsNext t (inside s j b) (drop i ys)
     unfolding keptFits fitsNext
-    fits-kept b i = elim (decLt i (length steps / 13)) [
+    fits-kept b i = elim (decLt i (length steps / stepSize)) [
       | yes q ↦
-          ap (λ (c : Bool). c && here) (le-leb (13 * i + 13) (length steps) (step-known i q .0))
+          ap (λ (c : Bool). c && here) (le-leb (stepSize * i + stepSize) (length steps) (step-known i q .0))
           ∙ (fits-here b i ∙ sym (ap (fitsNext t (inside s j b)) (step-next i q)))
       | no q ↦
-          ap (λ (c : Bool). c && here) (lt-leb (13 * i + 13) (length steps) (omega arith))
+          ap (λ (c : Bool). c && here) (lt-leb (stepSize * i + stepSize) (length steps) (omega arith))
           ∙ sym (ap (fitsNext t (inside s j b)) (step-none i (omega arith)))
     ]
       where
         here : Bool
-        here = eqb (getD steps (13 * i) 0) number && fits b (members set 12) (givenObjects steps (13 * i) set)
+        here = eqb (getD steps (stepSize * i) 0) number &&
+            fits b (members set 12) (givenObjects steps (stepSize * i) set)
 
     -- its parameters are of the schema
     pub params-below : (b : Bound) → length b ≡ schemaAt t s .params → SetBelow (length b) set
@@ -142,19 +145,20 @@ module _ {t : Task} {steps kept begins : List ℕ}
 
     -- ---- where it goes on with this part
     pub record GoesOn (b : Bound) (i : ℕ) : Type 0 where
-      pub place : i < length steps / 13
+      pub place : i < length steps / stepSize
       pub fit : fitsAt t (inside s j b) (stepAt u steps i) ≡ true
       pub bound : bind b (paramsAt t s j) (stepAt u steps i .objects) ≡
-          bind b (members set 12) (givenObjects steps (13 * i) set)
+          bind b (members set 12) (givenObjects steps (stepSize * i) set)
 
-    pub goes-on : (b : Bound) (i : ℕ) → keptFits steps (13 * i) number set b ≡ true → GoesOn b i
+    pub goes-on : (b : Bound) (i : ℕ) → keptFits steps (stepSize * i) number set b ≡ true → GoesOn b i
     unfolding keptFits
     goes-on b i h =
-        let same = eqb (getD steps (13 * i) 0) number in
-        let agree = fits b (members set 12) (givenObjects steps (13 * i) set) in
-        let w = leb-true (13 * i + 13) (length steps) (and-left (leb (13 * i + 13) (length steps)) (same && agree) h) in
-        let r = and-right (leb (13 * i + 13) (length steps)) (same && agree) h in
-        let e = eqb-true (getD steps (13 * i) 0) number (and-left same agree r) in
+        let same = eqb (getD steps (stepSize * i) 0) number in
+        let agree = fits b (members set 12) (givenObjects steps (stepSize * i) set) in
+        let w = leb-true (stepSize * i + stepSize) (length steps)
+        (and-left (leb (stepSize * i + stepSize) (length steps)) (same && agree) h) in
+        let r = and-right (leb (stepSize * i + stepSize) (length steps)) (same && agree) h in
+        let e = eqb-true (getD steps (stepSize * i) 0) number (and-left same agree r) in
         let f = K .blocks .first s (omega arith) in
         record {
           place = omega arith;
@@ -163,8 +167,8 @@ module _ {t : Task} {steps kept begins : List ℕ}
         }
 
   -- ---- the block that the step at i begins
-  pub begun-is : (i : ℕ) → i < length steps / 13 →
-      getD begins (getD steps (13 * i) 0) 0 ≡
+  pub begun-is : (i : ℕ) → i < length steps / stepSize →
+      getD begins (getD steps (stepSize * i) 0) 0 ≡
       begunWord (beginner t (stepAt u steps i .schema) (upTo (length (t .schemas))))
   unfolding stepAt stepIn
-  begun-is i l = K .begun .word (getD steps (13 * i) 0) (step-known i l .1)
+  begun-is i l = K .begun .word (getD steps (stepSize * i) 0) (step-known i l .1)

@@ -9,15 +9,16 @@ use native.Mathlib.Omega.{arith}
 use lib.ListN.{length, replicate, length-map, length-replicate}
 use lib.Dec.{leb}
 use Rattle.words.specs.Lists.{upTo}
+use Rattle.task.specs.Limits.{stepSize}
 use Rattle.task.specs.Task.{Task}
 use Rattle.task.specs.Run.{Step, schemaAt, stepWords, paramCount}
 use Rattle.words.proofs.Lists.{In, here, there, in-empty}
-use Rattle.task.proofs.StepWords.{Thirteen, length-stepWords, length-steps}
+use Rattle.task.proofs.StepWords.{StepSized, length-stepWords, length-steps}
 use Rattle.blocks.specs.Blocks.{folded, beginner, Stage, outside, inside, begun, stageFor, fitsAt, lastAt}
 use Rattle.blocks.specs.Blocks.{advanced, completed, foldEnd, foldFrom, foldSteps, paramsAt, listWords, fitsIn}
 use Rattle.blocks.proofs.FoldBlock.{fold-off, fold-move, fold-finish}
 use Rattle.blocks.proofs.FoldMoves.{prepended, no-misfit}
-use Rattle.blocks.proofs.KeptBlocks.{by-thirteen}
+use Rattle.blocks.proofs.KeptBlocks.{by-steps}
 use Rattle.task.specs.Bindings.{orZero}
 use Rattle.task.proofs.Binding.{bind-size}
 
@@ -46,22 +47,22 @@ module _ (t : Task) (few : (s : ℕ) → paramCount t s ≤ 12) where
   advanced-few outside y h = refl
   advanced-few (inside s j b) y h = let n = bind-size b (paramsAt t s j) (y .objects) in omega arith
 
-  completed-few : (g : Stage) → Small g → length (stepWords (completed g)) ≡ 13
+  completed-few : (g : Stage) → Small g → length (stepWords (completed g)) ≡ stepSize
   unfolding completed
   completed-few outside h = length-stepWords (completed outside) (omega arith)
   completed-few (inside s j b) h =
       let n = length-map b orZero in length-stepWords (completed (inside s j b)) (omega arith)
 
-  fold-thirteen : (ys : List Step) (g : Stage) (i : ℕ) (xs : List Step) → Small g → foldFrom t g i ys ≡ folded xs →
-      Thirteen xs
+  fold-sized : (ys : List Step) (g : Stage) (i : ℕ) (xs : List Step) → Small g → foldFrom t g i ys ≡ folded xs →
+      StepSized xs
   unfolding foldFrom foldEnd
-  fold-thirteen [] outside i xs h e = λ x k. absurd (in-empty (subst (In x) (empty e) k))
+  fold-sized [] outside i xs h e = λ x k. absurd (in-empty (subst (In x) (empty e) k))
     where
       empty : folded [] ≡ folded xs → xs ≡ []
       empty q = cc
-  fold-thirteen [] (inside s j b) i xs h e = absurd (no-misfit e refl)
-  fold-thirteen (y ∷ ys) g i xs h e =
-      go (fitsAt t st y) refl (lastAt t st) refl (λ g i xs h e. fold-thirteen ys g i xs h e)
+  fold-sized [] (inside s j b) i xs h e = absurd (no-misfit e refl)
+  fold-sized (y ∷ ys) g i xs h e =
+      go (fitsAt t st y) refl (lastAt t st) refl (λ g i xs h e. fold-sized ys g i xs h e)
     where
       st : Stage
       st = stageFor t g y
@@ -72,12 +73,12 @@ module _ (t : Task) (few : (s : ℕ) → paramCount t s ≤ 12) where
       few-after : Small after
       few-after = advanced-few st y (stage-few g y h)
 
-      each : (zs : List Step) → Thirteen zs → Thirteen (completed after ∷ zs)
+      each : (zs : List Step) → StepSized zs → StepSized (completed after ∷ zs)
       each zs r x (here q) = ap (λ (z : Step). length (stepWords z)) q ∙ completed-few after few-after
       each zs r x (there k) = r x k
 
       go : (a : Bool) → fitsAt t st y ≡ a → (c : Bool) → lastAt t st ≡ c →
-          ((g : Stage) (i : ℕ) (xs : List Step) → Small g → foldFrom t g i ys ≡ folded xs → Thirteen xs) → Thirteen xs
+          ((g : Stage) (i : ℕ) (xs : List Step) → Small g → foldFrom t g i ys ≡ folded xs → StepSized xs) → StepSized xs
       go false f c l rest = absurd (no-misfit e (fold-off t g i y ys st refl f))
       go true f false l rest = rest after (suc i) xs few-after (sym (fold-move t g i y ys st refl f l) ∙ e)
       go true f true l rest =
@@ -87,8 +88,8 @@ module _ (t : Task) (few : (s : ℕ) → paramCount t s ≤ 12) where
 
   -- refusal 13 by the number of steps
   pub room-folded : (ys xs : List Step) → foldSteps t ys ≡ folded xs → (lent : List ℕ) →
-      fitsIn (listWords xs) lent ≡ leb (length xs) (length lent / 13)
+      fitsIn (listWords xs) lent ≡ leb (length xs) (length lent / stepSize)
   unfolding fitsIn foldSteps listWords
   room-folded ys xs e lent =
-      by-thirteen (length xs) (length (listWords xs)) (length lent)
-      (length-steps xs (fold-thirteen ys outside 0 xs refl e))
+      by-steps (length xs) (length (listWords xs)) (length lent)
+      (length-steps xs (fold-sized ys outside 0 xs refl e))

@@ -10,6 +10,7 @@ use lib.ListN.{length, getD}
 use lib.Dec.{eqb, leb}
 use borrow.Author.Tests.{eqb-true, eq-eqb, leb-true, le-leb}
 use Rattle.words.specs.Lists.{any, filter, keepIf, concatMap, sum, upTo, upFrom}
+use Rattle.task.specs.Limits.{stepSize}
 use Rattle.task.specs.Task.{Task}
 use Rattle.words.specs.Words.{wordsAt}
 use Rattle.task.specs.Run.{Step, schemaAt, stepIn, stepAt, stepsIn, paramCount, badStep}
@@ -67,25 +68,25 @@ members-are set m n p l h =
 
 -- ---- a step read
 -- its schema is known
-pub schema-known : (t : Task) (steps : List ℕ) → badStep t steps ≡ none → (i : ℕ) → i < length steps / 13 →
-    (13 * i + 13 ≤ length steps) × (getD steps (13 * i) 0 < length (t .schemas))
+pub schema-known : (t : Task) (steps : List ℕ) → badStep t steps ≡ none → (i : ℕ) → i < length steps / stepSize →
+    (stepSize * i + stepSize ≤ length steps) × (getD steps (stepSize * i) 0 < length (t .schemas))
 unfolding stepAt stepIn
 schema-known t steps good i l =
     let h = step-here t steps i (good-steps t steps good i (omega arith)) in
     (h .whole, isStep-is t (stepAt t steps i) (h .step) .known)
 
 -- 13 words a step: refusal 13 by the number of steps, as 13 times that number may pass what a machine counts
-pub by-thirteen : (k n m : ℕ) → n ≡ 13 * k → leb n m ≡ leb k (m / 13)
-by-thirteen k n m e = bool-ext (leb n m) (leb k (m / 13))
-    (λ h. le-leb k (m / 13) (let q = leb-true n m h in omega arith))
-    (λ h. le-leb n m (let q = leb-true k (m / 13) h in omega arith))
+pub by-steps : (k n m : ℕ) → n ≡ stepSize * k → leb n m ≡ leb k (m / stepSize)
+by-steps k n m e = bool-ext (leb n m) (leb k (m / stepSize))
+    (λ h. le-leb k (m / stepSize) (let q = leb-true n m h in omega arith))
+    (λ h. le-leb n m (let q = leb-true k (m / stepSize) h in omega arith))
 
 module _ {t : Task} {steps kept : List ℕ} (K : StepsKept t steps kept) where
   -- a step's numbers are within the limits
-  pub step-kept : (i : ℕ) → i < length steps / 13 → StepKept steps kept (13 * i)
+  pub step-kept : (i : ℕ) → i < length steps / stepSize → StepKept steps kept (stepSize * i)
   step-kept i l =
       let (w, k) = schema-known t steps (K .good) i l in
-      let s = getD steps (13 * i) 0 in
+      let s = getD steps (stepSize * i) 0 in
       let n = K .blocks .few-schemas in
       let c = K .blocks .count s k in
       let p = K .blocks .few-parts s k in
@@ -95,16 +96,17 @@ module _ {t : Task} {steps kept : List ℕ} (K : StepsKept t steps kept) where
       record { whole = w; known = omega arith; few = omega arith; small = omega arith }
 
   -- its part count is the one kept
-  count-is : (i : ℕ) → i < length steps / 13 → countFrom steps kept (13 * i) ≡ partsOf t (stepAt t steps i)
+  count-is : (i : ℕ) → i < length steps / stepSize → countFrom steps kept (stepSize * i) ≡ partsOf t (stepAt t steps i)
   unfolding stepAt stepIn
-  count-is i l = K .blocks .count (getD steps (13 * i) 0) (schema-known t steps (K .good) i l .1)
+  count-is i l = K .blocks .count (getD steps (stepSize * i) 0) (schema-known t steps (K .good) i l .1)
 
   -- all part counts together
-  pub sum-is : sumFrom steps kept (length steps / 13) ≡ length (unfoldSteps t (stepsIn t steps))
+  pub sum-is : sumFrom steps kept (length steps / stepSize) ≡ length (unfoldSteps t (stepsIn t steps))
   unfolding sumFrom stepsIn
   sum-is =
-      let n = length steps / 13 in
-      ap sum (map-same (λ (i : ℕ). countFrom steps kept (13 * i)) (λ (i : ℕ). partsOf t (stepAt t steps i)) (upTo n)
+      let n = length steps / stepSize in
+      ap sum (map-same (λ (i : ℕ). countFrom steps kept (stepSize * i)) (λ (i : ℕ). partsOf t (stepAt t steps i))
+      (upTo n)
       (λ i k. count-is i (upTo-in n i k))
       ∙ sym (map-twice (partsOf t) (stepAt t steps) (upTo n)))
       ∙ sym (length-unfold t (map (stepAt t steps) (upTo n)))
@@ -113,44 +115,44 @@ module _ {t : Task} {steps kept : List ℕ} (K : StepsKept t steps kept) where
       map-twice f g [] = refl
       map-twice f g (x ∷ xs) = ap {B = List ℕ} (λ ys. f (g x) ∷ ys) (map-twice f g xs)
 
-  part-is : (i j : ℕ) → i < length steps / 13 → j < partsOf t (stepAt t steps i) →
-      partFrom steps kept (13 * i) j ≡ partStep t (stepAt t steps i) j
+  part-is : (i j : ℕ) → i < length steps / stepSize → j < partsOf t (stepAt t steps i) →
+      partFrom steps kept (stepSize * i) j ≡ partStep t (stepAt t steps i) j
   unfolding partFrom objectsFor partStep stepAt stepIn paramCount paramsAt paramsOf
   part-is i j l m =
       let k = schema-known t steps (K .good) i l .1 in
-      let s = getD steps (13 * i) 0 in
+      let s = getD steps (stepSize * i) 0 in
       let n = schemaAt t s .params in
       let set = keptOwn kept s j in
       let mine : ℕ → Bool = λ x. has (schemaAt t s) x (getD (orders t s) j 0) in
-      let read : ℕ → ℕ = λ p. getD steps (13 * i + 1 + p) 0 in
-      let given : ℕ → ℕ = λ p. getD (wordsAt steps (13 * i + 1) n) p 0 in
+      let read : ℕ → ℕ = λ p. getD steps (stepSize * i + 1 + p) 0 in
+      let given : ℕ → ℕ = λ p. getD (wordsAt steps (stepSize * i + 1) n) p 0 in
       let a : keptFirst kept s + j ≡ firstOf t s + j = ap (λ z. z + j) (K .blocks .first s (omega arith)) in
       let b : map read (members set 12) ≡ map given (filter mine (upTo n)) =
       ap (map read) (members-are set n 12 mine (K .blocks .few-params s) (λ x. K .blocks .params s j x k m))
       ∙ map-same read given (filter mine (upTo n)) (λ p q.
-      sym (getD-wordsAt steps (13 * i + 1) n p (upTo-in n p (filter-in mine (upTo n) p q .0)))) in
+      sym (getD-wordsAt steps (stepSize * i + 1) n p (upTo-in n p (filter-in mine (upTo n) p q .0)))) in
       λ r. record { schema = a r; objects = b r }
 
-  block-is : (i : ℕ) → i < length steps / 13 →
-      partsFrom steps kept (13 * i) (countFrom steps kept (13 * i)) ≡ block t (stepAt t steps i)
+  block-is : (i : ℕ) → i < length steps / stepSize →
+      partsFrom steps kept (stepSize * i) (countFrom steps kept (stepSize * i)) ≡ block t (stepAt t steps i)
   unfolding partsFrom block
   block-is i l =
       let n = partsOf t (stepAt t steps i) in
-      ap (λ (k : ℕ). map (partFrom steps kept (13 * i)) (upTo k)) (count-is i l)
-      ∙ map-same (partFrom steps kept (13 * i)) (partStep t (stepAt t steps i)) (upTo n)
+      ap (λ (k : ℕ). map (partFrom steps kept (stepSize * i)) (upTo k)) (count-is i l)
+      ∙ map-same (partFrom steps kept (stepSize * i)) (partStep t (stepAt t steps i)) (upTo n)
       (λ j k. part-is i j l (upTo-in n j k))
 
   -- the blocks of all steps are their unfolding
-  pub blocks-are : blocksFrom steps kept (length steps / 13) ≡ unfoldSteps t (stepsIn t steps)
+  pub blocks-are : blocksFrom steps kept (length steps / stepSize) ≡ unfoldSteps t (stepsIn t steps)
   unfolding blocksFrom unfoldSteps stepsIn concatMap
   blocks-are =
-      let n = length steps / 13 in
+      let n = length steps / stepSize in
       same (upTo n) (λ i k. block-is i (upTo-in n i k))
     where
       same : (ks : List ℕ) →
           ((i : ℕ) → In i ks →
-          partsFrom steps kept (13 * i) (countFrom steps kept (13 * i)) ≡ block t (stepAt t steps i)) →
-          concatMap (λ (i : ℕ). partsFrom steps kept (13 * i) (countFrom steps kept (13 * i))) ks ≡
+          partsFrom steps kept (stepSize * i) (countFrom steps kept (stepSize * i)) ≡ block t (stepAt t steps i)) →
+          concatMap (λ (i : ℕ). partsFrom steps kept (stepSize * i) (countFrom steps kept (stepSize * i))) ks ≡
           concatMap (block t) (map (stepAt t steps) ks)
       same [] h = refl
       same (i ∷ ks) h = ap₂ (λ (a b : List Step). a ++ b) (h i (here refl)) (same ks (λ j k. h j (there k)))
@@ -158,11 +160,11 @@ module _ {t : Task} {steps kept : List ℕ} (K : StepsKept t steps kept) where
   -- refusal 13 by the number of steps
   pub room-for : (lent : List ℕ) →
       fitsIn (listWords (unfoldSteps t (stepsIn t steps))) lent ≡
-      leb (length (unfoldSteps t (stepsIn t steps))) (length lent / 13)
+      leb (length (unfoldSteps t (stepsIn t steps))) (length lent / stepSize)
   unfolding fitsIn
   room-for lent =
-      let n = length steps / 13 in
+      let n = length steps / stepSize in
       let a = ap (λ (ys : List Step). length (listWords ys)) (sym blocks-are) ∙ length-words steps kept n in
       let b = sum-is in
-      by-thirteen (length (unfoldSteps t (stepsIn t steps))) (length (listWords (unfoldSteps t (stepsIn t steps))))
+      by-steps (length (unfoldSteps t (stepsIn t steps))) (length (listWords (unfoldSteps t (stepsIn t steps))))
       (length lent) (omega arith)

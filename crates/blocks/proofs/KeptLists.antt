@@ -7,9 +7,10 @@ use native.Mathlib.Decide.{decLe}
 use native.Mathlib.Numerals.{add-one}
 use lib.ListN.{length, getD, length-map, length-append}
 use Rattle.words.specs.Lists.{filter, concatMap, sum, upTo, upFrom}
+use Rattle.task.specs.Limits.{stepSize}
 use Rattle.task.specs.Run.{Step, stepWords}
 use Rattle.words.proofs.Lists.{map-in, append-concatMap, sum-append, map-append, length-upTo, upTo-suc, concatMap-in}
-use Rattle.task.proofs.StepWords.{Thirteen, length-stepWords, length-steps}
+use Rattle.task.proofs.StepWords.{StepSized, length-stepWords, length-steps}
 use Rattle.words.specs.Sets.{member, members}
 use Rattle.words.proofs.Ascending.{filter-le}
 use Rattle.blocks.specs.Blocks.{listWords}
@@ -38,7 +39,7 @@ words-append xs ys = append-concatMap stepWords xs ys
 
 -- ---- the parts of a step
 module _ (steps kept : List ℕ) (at : ℕ) where
-  pub part-long : (j : ℕ) → length (stepWords (partFrom steps kept at j)) ≡ 13
+  pub part-long : (j : ℕ) → length (stepWords (partFrom steps kept at j)) ≡ stepSize
   unfolding partFrom objectsFor members
   part-long j =
       let set = keptOwn kept (getD steps at 0) j in
@@ -64,13 +65,13 @@ module _ (steps kept : List ℕ) (at : ℕ) where
   unfolding partsFrom
   length-parts n = length-map (upTo n) (partFrom steps kept at) ∙ length-upTo n
 
-  pub length-part-words : (n : ℕ) → length (listWords (partsFrom steps kept at n)) ≡ 13 * n
+  pub length-part-words : (n : ℕ) → length (listWords (partsFrom steps kept at n)) ≡ stepSize * n
   unfolding listWords partsFrom
   length-part-words n =
       length-steps (partsFrom steps kept at n) (λ x i.
       let (j, k, e) = map-in (partFrom steps kept at) (upTo n) x i in
       ap (λ (y : Step). length (stepWords y)) e ∙ part-long j)
-      ∙ ap (λ k. 13 * k) (length-parts n)
+      ∙ ap (λ k. stepSize * k) (length-parts n)
 
 -- ---- the part counts of steps
 module _ (steps kept : List ℕ) where
@@ -78,10 +79,10 @@ module _ (steps kept : List ℕ) where
   unfolding sumFrom sum upTo upFrom
   sum-none = refl
 
-  pub sum-more : (i : ℕ) → sumFrom steps kept (i + 1) ≡ sumFrom steps kept i + countFrom steps kept (13 * i)
+  pub sum-more : (i : ℕ) → sumFrom steps kept (i + 1) ≡ sumFrom steps kept i + countFrom steps kept (stepSize * i)
   unfolding sumFrom sum
   sum-more i =
-      let f : ℕ → ℕ = λ i. countFrom steps kept (13 * i) in
+      let f : ℕ → ℕ = λ i. countFrom steps kept (stepSize * i) in
       ap sum (map-more f i) ∙ (sum-append (map f (upTo i)) (f i ∷ []) ∙ omega arith)
 
   pub sum-grows : (i n : ℕ) → i ≤ n → sumFrom steps kept i ≤ sumFrom steps kept n
@@ -103,18 +104,19 @@ module _ (steps kept : List ℕ) where
 
   pub blocks-more : (i : ℕ) → blocksFrom steps kept (i + 1) ≡
       blocksFrom steps kept i ++
-      partsFrom steps kept (13 * i) (countFrom steps kept (13 * i))
+      partsFrom steps kept (stepSize * i) (countFrom steps kept (stepSize * i))
   unfolding blocksFrom
   blocks-more i =
-      concatMap-more (λ (i : ℕ). partsFrom steps kept (13 * i) (countFrom steps kept (13 * i))) i
+      concatMap-more (λ (i : ℕ). partsFrom steps kept (stepSize * i) (countFrom steps kept (stepSize * i))) i
 
-  blocks-thirteen : (n : ℕ) → Thirteen (blocksFrom steps kept n)
+  blocks-sized : (n : ℕ) → StepSized (blocksFrom steps kept n)
   unfolding blocksFrom partsFrom
-  blocks-thirteen n x i =
-      let (k, a, b) = concatMap-in (λ (i : ℕ). partsFrom steps kept (13 * i) (countFrom steps kept (13 * i)))
+  blocks-sized n x i =
+      let (k, a, b) = concatMap-in (λ (i : ℕ). partsFrom steps kept (stepSize * i)
+      (countFrom steps kept (stepSize * i)))
       (upTo n) x i in
-      let (j, c, e) = map-in (partFrom steps kept (13 * k)) (upTo (countFrom steps kept (13 * k))) x b in
-      ap (λ (y : Step). length (stepWords y)) e ∙ part-long steps kept (13 * k) j
+      let (j, c, e) = map-in (partFrom steps kept (stepSize * k)) (upTo (countFrom steps kept (stepSize * k))) x b in
+      ap (λ (y : Step). length (stepWords y)) e ∙ part-long steps kept (stepSize * k) j
 
   pub length-blocks : (n : ℕ) → length (blocksFrom steps kept n) ≡ sumFrom steps kept n
   length-blocks zero = ap length blocks-none ∙ sym (sum-none steps kept)
@@ -123,16 +125,16 @@ module _ (steps kept : List ℕ) where
       ap f (sym (add-one n))
       ∙ (ap length (blocks-more n)
       ∙ (length-append (blocksFrom steps kept n)
-      (partsFrom steps kept (13 * n) (countFrom steps kept (13 * n)))
+      (partsFrom steps kept (stepSize * n) (countFrom steps kept (stepSize * n)))
       ∙ (omega (
         arith,
         length-blocks n,
-        length-parts steps kept (13 * n) (countFrom steps kept (13 * n)),
+        length-parts steps kept (stepSize * n) (countFrom steps kept (stepSize * n)),
         sum-more steps kept n,
         ap (sumFrom steps kept) (add-one n),
       ))))
 
-  pub length-words : (n : ℕ) → length (listWords (blocksFrom steps kept n)) ≡ 13 * sumFrom steps kept n
+  pub length-words : (n : ℕ) → length (listWords (blocksFrom steps kept n)) ≡ stepSize * sumFrom steps kept n
   unfolding listWords
-  length-words n = length-steps (blocksFrom steps kept n) (blocks-thirteen n)
-      ∙ ap (λ k. 13 * k) (length-blocks n)
+  length-words n = length-steps (blocksFrom steps kept n) (blocks-sized n)
+      ∙ ap (λ k. stepSize * k) (length-blocks n)

@@ -7,6 +7,7 @@ use native.Mathlib.Omega.{arith}
 use native.Mathlib.Numerals.{add-one}
 use lib.ListN.{length, getD, set, replicate}
 use Rattle.words.specs.Lists.{filter, keepIf, upTo, upFrom, padded, put}
+use Rattle.task.specs.Limits.{stepSize}
 use Rattle.task.specs.Run.{stepWords}
 use Rattle.words.proofs.Lists.{map-append, upTo-suc, filter-append}
 use Rattle.words.specs.Putting.{Puts}
@@ -65,11 +66,11 @@ module _ (steps : List ℕ) (at own : ℕ) where
 
 -- ---- a step's words, put in three pieces
 pub put-step : (out : List ℕ) (to next s : ℕ) (os : List ℕ) → next ≡ to + 1 + length os →
-    put (put (set out to s) (to + 1) os) next (replicate (to + 13 - next) 0) ≡
+    put (put (set out to s) (to + 1) os) next (replicate (to + stepSize - next) 0) ≡
     put out to (stepWords (record { schema = s; objects = os }))
 unfolding stepWords padded
 put-step out to next s os e =
-    let n : to + 13 - next ≡ 12 - length os = omega arith in
-    put-on (set out to s) (to + 1) os next (replicate (to + 13 - next) 0) e
-    ∙ (put-on out to (s ∷ []) (to + 1) (os ++ replicate (to + 13 - next) 0) refl
+    let n : to + stepSize - next ≡ 12 - length os = omega arith in
+    put-on (set out to s) (to + 1) os next (replicate (to + stepSize - next) 0) e
+    ∙ (put-on out to (s ∷ []) (to + 1) (os ++ replicate (to + stepSize - next) 0) refl
     ∙ ap (λ (k : ℕ). put out to (s ∷ (os ++ replicate k 0))) n)

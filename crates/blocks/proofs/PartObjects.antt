@@ -16,6 +16,7 @@ use Rattle.words.proofs.Lists.{upFrom-in, filter-none}
 use Rattle.words.proofs.Words.{wordsAt-next}
 use Rattle.words.specs.Sets.{member, members}
 use Rattle.blocks.specs.FoldCode.{givenObjects, keptFits}
+use Rattle.task.specs.Limits.{stepSize}
 use Rattle.task.specs.Bindings.{Bound, agrees, fits, bind}
 
 -- the parameters of a set from p on
@@ -133,21 +134,22 @@ module _ (steps : List ℕ) (at number own : ℕ) (b : Bound) where
   agreeing = fits b (members own 12) (givenObjects steps at own)
 
   -- it has ended
-  pub fits-short : length steps < at + 13 → keptFits steps at number own b ≡ false
+  pub fits-short : length steps < at + stepSize → keptFits steps at number own b ≡ false
   unfolding keptFits
   fits-short l =
-      ap (λ (c : Bool). c && (eqb (getD steps at 0) number && agreeing)) (lt-leb (at + 13) (length steps) l)
+      ap (λ (c : Bool). c && (eqb (getD steps at 0) number && agreeing)) (lt-leb (at + stepSize) (length steps) l)
 
   -- another schema comes
-  pub fits-other : at + 13 ≤ length steps → (getD steps at 0 ≡ number → ⊥) → keptFits steps at number own b ≡ false
+  pub fits-other : at + stepSize ≤ length steps → (getD steps at 0 ≡ number → ⊥) →
+      keptFits steps at number own b ≡ false
   unfolding keptFits
   fits-other l n =
-      ap₂ (λ (c d : Bool). c && (d && agreeing)) (le-leb (at + 13) (length steps) l)
+      ap₂ (λ (c d : Bool). c && (d && agreeing)) (le-leb (at + stepSize) (length steps) l)
       (ne-eqb (getD steps at 0) number n)
 
   -- this one comes, and the objects decide
-  pub fits-same : at + 13 ≤ length steps → getD steps at 0 ≡ number → keptFits steps at number own b ≡ agreeing
+  pub fits-same : at + stepSize ≤ length steps → getD steps at 0 ≡ number → keptFits steps at number own b ≡ agreeing
   unfolding keptFits
   fits-same l e =
-      ap₂ (λ (c d : Bool). c && (d && agreeing)) (le-leb (at + 13) (length steps) l)
+      ap₂ (λ (c d : Bool). c && (d && agreeing)) (le-leb (at + stepSize) (length steps) l)
       (eq-eqb (getD steps at 0) number e)

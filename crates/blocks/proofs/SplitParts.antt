@@ -6,12 +6,11 @@ use mathlib.Core.Bool.{true}
 use native.Mathlib.Omega.{arith}
 use lib.ListN.{length}
 use borrow.Author.Tests.{leb-true}
-use Rattle.task.specs.Task.{Task, partCount, schemaFits, wellFormed}
+use Rattle.task.specs.Task.{Task, partCount, schemaFits, wellFormed, noSchema}
 use Rattle.task.specs.Run.{Step, schemaAt, isStep}
 use Rattle.words.proofs.Lists.{every-at, all-in, in-getD}
 use Rattle.task.proofs.Tests.{schema-tests, task-tests}
 use Rattle.task.proofs.States.{isStep-is}
-use Rattle.task.proofs.Tables.{noSchema}
 use Rattle.tokens.specs.Split.{parts, orders, splitTask, splitAs, limitTests, withinLimits, split}
 use Rattle.tokens.proofs.Accepted.{split-within}
 use Rattle.blocks.specs.Blocks.{firstOf, block}

@@ -6,6 +6,7 @@ use mathlib.Core.Bool.{true}
 use mathlib.Core.List.{List, []}
 use native.Mathlib.Omega.{arith}
 use lib.ListN.{replicate, length-replicate}
+use Rattle.task.specs.Limits.{tableLength}
 use Rattle.task.specs.Answers.{result, toldNumber}
 use Rattle.task.specs.Table.{longEnough, taskOf, wordsOf}
 use Rattle.task.proofs.LongEnough.{long-enough}
@@ -18,11 +19,11 @@ use Rattle.tokens.specs.declared.measure.Sizes.{Sizes}
 use Rattle.tokens.specs.Code.{AcceptedKept}
 
 -- the words of a table, before it is written
-zeros-enough : (n : ℕ) → 13406 ≤ n → longEnough (replicate {A = ℕ} n 0) ≡ true
+zeros-enough : (n : ℕ) → tableLength ≤ n → longEnough (replicate {A = ℕ} n 0) ≡ true
 zeros-enough n h = long-enough (replicate n 0) (let e = length-replicate {A = ℕ} n 0 in omega arith)
 
-pub table-zeros : longEnough (replicate {A = ℕ} 13406 0) ≡ true
-table-zeros = zeros-enough 13406 (omega arith)
+pub table-zeros : longEnough (replicate {A = ℕ} tableLength 0) ≡ true
+table-zeros = zeros-enough tableLength (omega arith)
 
 pub split-given : (w out : List ℕ) {words : List ℕ} → result [] ≡ splitOutcome w out .told →
     words ≡ splitOutcome w out .buffer → AcceptedSplit w words

@@ -10,6 +10,8 @@ use native.Mathlib.Omega.{arith}
 use lib.ListN.{length, getD, take, drop, replicate, length-append, take-append-drop, List·getD-append}
 use lib.Seq.{length-take-le, getD-append-seam}
 use Rattle.words.specs.Lists.{concatMap, upTo, padded}
+use Rattle.task.specs.Limits.{headWords}
+use Rattle.task.specs.Layout.{headIn}
 use Rattle.task.specs.Task.{Fact, Task, factsFit, wellFormed}
 use Rattle.words.specs.Words.{wordsAt}
 use Rattle.task.specs.Table.{taskOf}
@@ -64,7 +66,7 @@ less-head (same e h) = absurd (nothing-less h)
 -- procnone's record
 pub procnone-words : (table : List ℕ) → recordWords (free (taskOf table)) ≡ procnoneRecord table
 unfolding recordWords free procnone padded taskOf
-procnone-words table = ap (λ p. p ∷ 0 ∷ 0 ∷ 0 ∷ 0 ∷ []) (length-wordsAt table 6 (getD table 1 0))
+procnone-words table = ap (λ p. p ∷ 0 ∷ 0 ∷ 0 ∷ 0 ∷ []) (length-wordsAt table headWords (headIn table .predicates))
 
 pub free-words : (table : List ℕ) (s : List Fact) →
     stateWords (withFree (taskOf table) s) ≡ stateWords s ++ procnoneRecord table
@@ -104,9 +106,9 @@ module _ {table split : List ℕ} (A : AcceptedSplit table split) where
   -- and so is one with its record
   pub record-free : (f : Fact) → Fits t′ f → recordWords f ≡ procnoneRecord table → f ≡ free t
   unfolding recordWords procnone taskOf
-  record-free f h e = only-free f h (pred-is e ∙ sym (length-wordsAt table 6 (getD table 1 0)))
+  record-free f h e = only-free f h (pred-is e ∙ sym (length-wordsAt table headWords (headIn table .predicates)))
     where
-      pred-is : recordWords f ≡ procnoneRecord table → f .pred ≡ getD table 1 0
+      pred-is : recordWords f ≡ procnoneRecord table → f .pred ≡ headIn table .predicates
       pred-is e = cc
 
   -- what lies below procnone is of the task

@@ -10,7 +10,7 @@ use lib.ListN.{length, replicate, length-replicate}
 use borrow.Author.Tests.{le-leb}
 use Rattle.task.specs.declared.Place.{Place}
 use Rattle.words.specs.Lists.{over}
-use Rattle.task.specs.Limits.{tableWords}
+use Rattle.task.specs.Limits.{tableWords, tableLength}
 use Rattle.task.specs.Answers.{placeNumber, result, refused, Outcome}
 use Rattle.task.specs.Task.{Task}
 use Rattle.task.specs.Table.{wordsOf, taskOf, longEnough, isTable}
@@ -35,8 +35,8 @@ use Rattle.task.proofs.Answers.{told-by, left-by}
 pub zeros-long : (n : ℕ) → n ≤ length {A = ℕ} (replicate n 0)
 zeros-long n = let e = length-replicate {A = ℕ} n 0 in omega arith
 
-pub table-zeros : tableWords ≤ length {A = ℕ} (replicate 13406 0)
-table-zeros = has-table-words (replicate 13406 0) (zeros-long 13406)
+pub table-zeros : tableWords ≤ length {A = ℕ} (replicate tableLength 0)
+table-zeros = has-table-words (replicate tableLength 0) (zeros-long tableLength)
 
 -- ---- reading
 -- words that are the table of the task that a text reads as

@@ -1,6 +1,5 @@
 -- A plan read, unfolded and written: its steps are those of the task and few, so their blocks fit the words lent, and
 -- are steps of the split, whose plan fits the bytes lent.
-use Rattle.tokens.proofs.SplitOutcome.{split-refused as outcome-refused}
 use Prim.Native.Nat.{ℕ, _*_, _≤_}
 use mathlib.Core.Path.{_≡_, sym, _∙_, ap}
 use mathlib.Core.Bool.{true}
@@ -11,7 +10,7 @@ use lib.ListN.{length, take, length-take}
 use borrow.Author.Tests.{le-leb}
 use Rattle.task.specs.declared.Place.{Place}
 use Rattle.words.specs.Lists.{all, over}
-use Rattle.task.specs.Limits.{tableWords}
+use Rattle.task.specs.Limits.{tableWords, stepSize}
 use Rattle.task.specs.Answers.{placeNumber, result, refused}
 use Rattle.task.specs.Task.{Task}
 use Rattle.task.specs.Table.{taskOf, longEnough, isTable}
@@ -57,10 +56,10 @@ plan-refused table text lent {k} {at} told uses =
 
 -- the steps that were read, and their words
 pub record StepsRead (table text words : List ℕ) (n : ℕ) : Type 0 where
-  pub reads : readPlan (taskOf table) text ≡ read (stepsIn (taskOf table) (take (13 * n) words))
-  pub plan : PlanSteps table (take (13 * n) words)
+  pub reads : readPlan (taskOf table) text ≡ read (stepsIn (taskOf table) (take (stepSize * n) words))
+  pub plan : PlanSteps table (take (stepSize * n) words)
   pub few : n ≤ 100
-  pub inside : 13 * n ≤ length words
+  pub inside : stepSize * n ≤ length words
 
 pub plan-read : (table text lent : List ℕ) {words : List ℕ} {n : ℕ} → isTable table ≡ true →
     result (n ∷ []) ≡ planOutcome table text lent .told → words ≡ planOutcome table text lent .buffer →
@@ -70,9 +69,9 @@ plan-read table text lent {words} {n} is-table told left =
     let p = r .words in
     let few = p .few in
     let count = r .count in
-    let long = steps-whole (taskOf table) (take (13 * n) words) (p .good) .0 in
+    let long = steps-whole (taskOf table) (take (stepSize * n) words) (p .good) .0 in
     let size = ap length (p .steps) in
-    let front = length-take (13 * n) words in
+    let front = length-take (stepSize * n) words in
     let z = planWords-is in
     record {
       reads = r .is ∙ ap read (sym (p .steps));
@@ -123,7 +122,7 @@ module _ (table words steps : List ℕ) (s : AcceptedSplit table words) (p : Pla
       let z = planWords-is in
       omega arith
 
-  pub blocks-written : (out : List ℕ) {after : List ℕ} {end : ℕ} → end ≡ 13 * length ys →
+  pub blocks-written : (out : List ℕ) {after : List ℕ} {end : ℕ} → end ≡ stepSize * length ys →
       after ≡ over (listWords ys) out → BlocksWritten table words steps after end
   blocks-written out {after} {end} h lies =
       let well = s .split-well-formed in

@@ -8,10 +8,12 @@ use lib.ListN.{length, getD}
 use lib.Dec.{eqb, ltb, leb}
 use borrow.Author.Tests.{ltb-true, eqb-true, lt-ltb, le-ltb, le-leb, lt-leb, eq-eqb, ne-eqb}
 use Rattle.words.specs.Lists.{all, upFrom, eqList, lessList}
+use Rattle.task.specs.Limits.{headWords}
+use Rattle.task.specs.Layout.{headIn, arityIn, atomBase}
 use Rattle.task.specs.Task.{argsFit, sameAtom, factLess, ascending}
 use Rattle.words.specs.Words.{wordsAt, zerosAt}
-use Rattle.task.specs.Table.{arityIn, atomBase, atomIn, schemaNumberIn, factIn}
-use Rattle.task.specs.WordTests.{aritiesIn, unusedZero, argWordsFit, numberFits, factWordsFit, factsWordsFit}
+use Rattle.task.specs.Table.{atomIn, schemaNumberIn, factIn, aritiesIn}
+use Rattle.task.specs.WordTests.{unusedZero, argWordsFit, numberFits, factWordsFit, factsWordsFit}
 use Rattle.task.specs.WordTests.{factsIn}
 use Rattle.words.proofs.Lists.{and-left, and-right, and-both, both-ft, false-if}
 use Rattle.words.proofs.Ranges.{or-false, all-map, all-from}
@@ -20,25 +22,25 @@ use Rattle.task.proofs.WordTables.{args-known}
 
 -- ---- one atom
 module _ (w : List ℕ) (bound i : ℕ) where
-  pub args-fit-known : argWordsFit w bound i ≡ true → atomIn w i .pred < getD w 1 0
+  pub args-fit-known : argWordsFit w bound i ≡ true → atomIn w i .pred < headIn w .predicates
   unfolding argWordsFit
   args-fit-known h =
       let fit : Bool = argsFit (aritiesIn w) bound (atomIn w i .pred) (atomIn w i .args) in
       args-known w bound i (and-left fit (unusedZero w i) h) (and-right fit (unusedZero w i) h) .known
 
-  pub args-unknown : getD w 1 0 ≤ atomIn w i .pred → false ≡ argWordsFit w bound i
+  pub args-unknown : headIn w .predicates ≤ atomIn w i .pred → false ≡ argWordsFit w bound i
   args-unknown l = sym (false-if (argWordsFit w bound i) (λ h. let k = args-fit-known h in omega arith))
 
   -- from where the arguments begin to where they end, and from there to where an atom ends
   pub args-words : (from to : ℕ) → from ≡ atomBase w i + 4 → to ≡ from + arityIn w (atomIn w i .pred) →
-      atomIn w i .pred < getD w 1 0 →
+      atomIn w i .pred < headIn w .predicates →
       argWordsFit w bound i ≡ all (λ a. ltb a bound) (wordsAt w from (to - from)) && zerosAt w to (from + 4 - to)
   unfolding argWordsFit argsFit unusedZero atomIn arityIn
   args-words from to f t l =
       let p = atomIn w i .pred in
-      let n = length-wordsAt w 6 (getD w 1 0) in
+      let n = length-wordsAt w headWords (headIn w .predicates) in
       let m = length-wordsAt w (atomBase w i + 4) (arityIn w p) in
-      let a = at-wordsAt w 6 (getD w 1 0) p (omega arith) in
+      let a = at-wordsAt w headWords (headIn w .predicates) p (omega arith) in
       let args : Bool = all (λ a. ltb a bound) (atomIn w i .args) in
       ap₂ (λ (x y : Bool). (x && (y && args)) && unusedZero w i)
       (lt-ltb p (length (aritiesIn w)) (omega arith))
@@ -134,17 +136,17 @@ module _ (w : List ℕ) (r i : ℕ) where
       (λ h. bad (eqb-true _ _ (and-left parted _ (and-right roled _ (and-right numbered _ h))))))
 
   pub fact-args : schemaNumberIn w i ≡ 0 → atomIn w i .role ≡ r → atomIn w i .part ≡ 0 →
-      argWordsFit w (getD w 0 0) i ≡ factWordsFit w r i
+      argWordsFit w (headIn w .objects) i ≡ factWordsFit w r i
   unfolding factWordsFit
   fact-args n m p =
-      let fit = argWordsFit w (getD w 0 0) i in
+      let fit = argWordsFit w (headIn w .objects) i in
       sym (ap₂ (λ (x y : Bool). x && (y && (parted && fit))) (eq-eqb _ _ n) (eq-eqb _ _ m) ∙
       ap (λ (x : Bool). x && fit) (eq-eqb _ _ p))
 
-  pub fact-known : factWordsFit w r i ≡ true → atomIn w i .pred < getD w 1 0
+  pub fact-known : factWordsFit w r i ≡ true → atomIn w i .pred < headIn w .predicates
   unfolding factWordsFit
   fact-known h =
-      args-fit-known w (getD w 0 0) i (and-right parted _ (and-right roled _ (and-right numbered _ h)))
+      args-fit-known w (headIn w .objects) i (and-right parted _ (and-right roled _ (and-right numbered _ h)))
 
 pub facts-words : (w : List ℕ) (r i n : ℕ) → factsWordsFit w r i n ≡ all (factWordsFit w r) (upFrom i n) &&
     ascending (factsIn w i n)
@@ -157,14 +159,14 @@ module _ (w : List ℕ) (i before : ℕ)
   pub number-low : schemaNumberIn w i < before → numberFits w i ≡ false
   unfolding numberFits
   number-low l =
-      false-if (numberFits w i) (λ k. both-ft (and-right (ltb (schemaNumberIn w i) (getD w 2 0)) _ k)
+      false-if (numberFits w i) (λ k. both-ft (and-right (ltb (schemaNumberIn w i) (headIn w .schemas)) _ k)
       (sym h ∙ lt-leb _ _ l))
 
-  pub number-high : getD w 2 0 ≤ schemaNumberIn w i → numberFits w i ≡ false
+  pub number-high : headIn w .schemas ≤ schemaNumberIn w i → numberFits w i ≡ false
   unfolding numberFits
   number-high l = ap (λ (b : Bool). b && leb (schemaNumberIn w (i - 1)) (schemaNumberIn w i)) (le-ltb _ _ l)
 
-  pub number-right : before ≤ schemaNumberIn w i → schemaNumberIn w i < getD w 2 0 → numberFits w i ≡ true
+  pub number-right : before ≤ schemaNumberIn w i → schemaNumberIn w i < headIn w .schemas → numberFits w i ≡ true
   unfolding numberFits
   number-right l k = and-both _ _ (lt-ltb _ _ k) (sym h ∙ le-leb _ _ l)
 

@@ -5,25 +5,25 @@ use mathlib.Core.Path.{_≡_, sym}
 use mathlib.Core.Bool.{true, false}
 use mathlib.Core.List.{List}
 use native.Mathlib.Omega.{arith}
-use lib.ListN.{length, getD}
+use lib.ListN.{length}
 use lib.Dec.{leb}
 use borrow.Author.Tests.{leb-true, le-leb}
 use Rattle.words.specs.Lists.{every}
+use Rattle.task.specs.Layout.{headIn, arityIn}
 use Rattle.task.specs.Limits.{tableWords}
-use Rattle.task.specs.Table.{arityIn}
 use Rattle.task.specs.WordTests.{countTests, aritiesFit, Roomy}
 use Rattle.words.proofs.Lists.{false-if, every-at, met-none, met-more, met-every}
 use Rattle.words.proofs.Ranges.{all-below}
 
 pub record Counted (w : List ℕ) : Type 0 where
-  pub some-object : 1 ≤ getD w 0 0
-  pub objects : getD w 0 0 ≤ 1000
-  pub some-pred : 1 ≤ getD w 1 0
-  pub preds : getD w 1 0 ≤ 400
-  pub schemas : getD w 2 0 ≤ 200
-  pub atoms : getD w 3 0 ≤ 1000
-  pub inits : getD w 4 0 ≤ 500
-  pub goals : getD w 5 0 ≤ 100
+  pub some-object : 1 ≤ headIn w .objects
+  pub objects : headIn w .objects ≤ 1000
+  pub some-pred : 1 ≤ headIn w .predicates
+  pub preds : headIn w .predicates ≤ 400
+  pub schemas : headIn w .schemas ≤ 200
+  pub atoms : headIn w .schemaAtoms ≤ 1000
+  pub inits : headIn w .initialAtoms ≤ 500
+  pub goals : headIn w .goalAtoms ≤ 100
 
 pub counted : (w : List ℕ) → every (countTests w) ≡ true → Counted w
 unfolding countTests
@@ -58,5 +58,5 @@ roomy w long h a =
     record {
       inside = omega arith;
       few = omega arith;
-      arities = λ p l. leb-true (arityIn w p) 4 (all-below (λ p. leb (arityIn w p) 4) (getD w 1 0) a p l);
+      arities = λ p l. leb-true (arityIn w p) 4 (all-below (λ p. leb (arityIn w p) 4) (headIn w .predicates) a p l);
     }

@@ -6,6 +6,7 @@ use mathlib.Core.List.{List, map}
 use native.Mathlib.Omega.{arith}
 use lib.ListN.{getD}
 use Rattle.words.specs.Lists.{all, upFrom}
+use Rattle.task.specs.Layout.{headIn, goalsFrom, atomTotal}
 use Rattle.task.specs.Task.{Fact}
 use Rattle.task.specs.Table.{factIn, taskOf, isTable}
 use Rattle.task.specs.Run.{holds, isState, goalMet}
@@ -16,7 +17,7 @@ use Rattle.task.proofs.Tables.{noFact, of-table}
 use Rattle.task.proofs.TablesByIndex.{table-frame, goal-word, goal-at}
 
 pub goal-known : (w state : List ℕ) (n k number : ℕ) → isTable w ≡ true → isState (taskOf w) state n ≡ true →
-    getD w 3 0 + getD w 4 0 ≤ k → k < getD w 3 0 + getD w 4 0 + getD w 5 0 → number ≡ recordNumber (factIn w k) →
+    goalsFrom w ≤ k → k < atomTotal w → number ≡ recordNumber (factIn w k) →
     Known (taskOf w) state n (factIn w k) number
 goal-known w state n k number h s l m e =
     let t = taskOf w in
@@ -24,8 +25,8 @@ goal-known w state n k number h s l m e =
     let fr = table-frame w h in
     let len = goal-word w fr in
     let wf = of-table w h .0 in
-    let j : ℕ = k - (getD w 3 0 + getD w 4 0) in
-    let z : getD w 3 0 + getD w 4 0 + j ≡ k = omega arith in
+    let j : ℕ = k - (goalsFrom w) in
+    let z : goalsFrom w + j ≡ k = omega arith in
     let q : f ≡ getD (t .goal) j noFact = ap (factIn w) (sym z) ∙ goal-at w fr j (omega arith) in
     let i : In f (t .goal) = in-eq q (in-getD (t .goal) j noFact (omega arith)) in
     record {
@@ -35,10 +36,10 @@ goal-known w state n k number h s l m e =
       is = sym e;
     }
 
-pub goal-so : (w : List ℕ) (s : List Fact) (from to : ℕ) {r : Bool} → from ≡ getD w 3 0 + getD w 4 0 →
-    to ≡ from + getD w 5 0 →
+pub goal-so : (w : List ℕ) (s : List Fact) (from to : ℕ) {r : Bool} → from ≡ goalsFrom w →
+    to ≡ from + headIn w .goalAtoms →
     r ≡ all (holds s) (map (factIn w) (upFrom from (to - from))) → r ≡ goalMet (taskOf w) s
 unfolding goalMet taskOf
 goal-so w s from to a b e =
-    let z : to - from ≡ getD w 5 0 = omega arith in
+    let z : to - from ≡ headIn w .goalAtoms = omega arith in
     e ∙ ap₂ (λ (x y : ℕ). all (holds s) (map (factIn w) (upFrom x y))) a z

@@ -10,63 +10,65 @@ use lib.ListN.{length, getD, length-map, List·getD-eq-default}
 use lib.Dec.{ltb, leb}
 use borrow.Author.Tests.{leb-true, ltb-true, lt-ltb, le-ltb}
 use Rattle.words.specs.Lists.{padded, eqList}
-use Rattle.task.specs.Task.{Fact, Task, argsFit, schemaFits}
+use Rattle.task.specs.Limits.{headWords, atomSize, tableLength, stepSize}
+use Rattle.task.specs.Layout.{headIn, atomTotal, rowsBase, arityIn, atomBase}
+use Rattle.task.specs.Task.{Fact, Task, argsFit, schemaFits, noSchema}
 use Rattle.words.specs.Words.{wordsAt}
-use Rattle.task.specs.Table.{arityIn, atomBase, atomIn, schemaNumberIn, factIn, taskOf, isTable}
+use Rattle.task.specs.Table.{atomIn, schemaNumberIn, factIn, taskOf, isTable}
 use Rattle.task.specs.Run.{Step, schemaAt, ground, isStep, paramCount, stepIn, stepAt, stepWords, isStepAt}
 use Rattle.task.specs.Records.{inBase, recordNumber}
 use Rattle.task.specs.Spans.{groundAt, argumentIn, AtomOf, SpanOf}
 use Rattle.words.proofs.Lists.{and-left, and-right, In, all-in, in-eq, in-getD, getD-map, getD-mapped}
 use Rattle.task.proofs.Tests.{schema-tests, task-tests}
 use Rattle.task.proofs.States.{Fits, fitting-argsFit, IsStep, isStep-is, WellFormed, wellFormed-is, ground-fits}
-use Rattle.task.proofs.Tables.{noAtom, noSchema, startOf, tableWords-is, of-table}
+use Rattle.task.proofs.Tables.{noAtom, startOf, tableWords-is, of-table}
 use Rattle.task.proofs.TablesByIndex.{table-frame, table-long, atom-inside, start-suc, atom-at, atom-lies}
 use Rattle.task.proofs.TablesByWords.{table-words}
 use Rattle.words.proofs.Words.{length-wordsAt}
 
 -- ---- where words lie
-pub table-is-long : (w : List ℕ) → isTable w ≡ true → 13406 ≤ length w
+pub table-is-long : (w : List ℕ) → isTable w ≡ true → tableLength ≤ length w
 table-is-long w h = let l = table-long w h in let e = tableWords-is in omega arith
 
-pub atom-words-inside : (w : List ℕ) → isTable w ≡ true → (k : ℕ) → k < getD w 3 0 + getD w 4 0 + getD w 5 0 →
-    6 + getD w 1 0 + getD w 2 0 + 8 * k + 8 ≤ 13406
+pub atom-words-inside : (w : List ℕ) → isTable w ≡ true → (k : ℕ) → k < atomTotal w →
+    rowsBase w + atomSize * k + atomSize ≤ tableLength
 unfolding atomBase
 atom-words-inside w h k l = let a = atom-inside w (table-frame w h) k l in let e = tableWords-is in omega arith
 
-pub atomBase-is : (w : List ℕ) (k : ℕ) → atomBase w k ≡ 6 + getD w 1 0 + getD w 2 0 + 8 * k
+pub atomBase-is : (w : List ℕ) (k : ℕ) → atomBase w k ≡ rowsBase w + atomSize * k
 unfolding atomBase
 atomBase-is w k = refl
 
 -- the words of step i
 pub record StepWords (t : Task) (steps : List ℕ) (i : ℕ) : Type 0 where
-  pub inside : 13 * i + 13 ≤ length steps
+  pub inside : stepSize * i + stepSize ≤ length steps
   pub is : IsStep t (stepAt t steps i)
 
 pub step-words : (t : Task) (steps : List ℕ) (i : ℕ) → isStepAt t steps i ≡ true → StepWords t steps i
 unfolding isStepAt
 step-words t steps i h =
-    let a = leb (13 * i + 13) (length steps) in
+    let a = leb (stepSize * i + stepSize) (length steps) in
     let b = isStep t (stepAt t steps i) in
-    let c = eqList (wordsAt steps (13 * i) 13) (stepWords (stepAt t steps i)) in
+    let c = eqList (wordsAt steps (stepSize * i) stepSize) (stepWords (stepAt t steps i)) in
     record {
-      inside = leb-true (13 * i + 13) (length steps) (and-left a _ h);
+      inside = leb-true (stepSize * i + stepSize) (length steps) (and-left a _ h);
       is = isStep-is t (stepAt t steps i) (and-left b c (and-right a (b && c) h));
     }
 
-pub step-schema : (t : Task) (steps : List ℕ) (i : ℕ) → stepAt t steps i .schema ≡ getD steps (13 * i) 0
+pub step-schema : (t : Task) (steps : List ℕ) (i : ℕ) → stepAt t steps i .schema ≡ getD steps (stepSize * i) 0
 unfolding stepAt stepIn
 step-schema t steps i = refl
 
 pub step-object : (t : Task) (steps : List ℕ) (i p : ℕ) → p < length (stepAt t steps i .objects) →
-    getD (stepAt t steps i .objects) p 0 ≡ getD steps (13 * i + 1 + p) 0
+    getD (stepAt t steps i .objects) p 0 ≡ getD steps (stepSize * i + 1 + p) 0
 unfolding stepAt stepIn wordsAt
 step-object t steps i p l =
-    let n = paramCount t (getD steps (13 * i) 0) in
-    let e = length-wordsAt steps (13 * i + 1) n in
-    getD-mapped (λ k. getD steps k 0) (13 * i + 1) n p 0 (omega arith)
+    let n = paramCount t (getD steps (stepSize * i) 0) in
+    let e = length-wordsAt steps (stepSize * i + 1) n in
+    getD-mapped (λ k. getD steps k 0) (stepSize * i + 1) n p 0 (omega arith)
 
 -- ---- atoms of a schema
-pub atom-in-schema : (w : List ℕ) → isTable w ≡ true → (k : ℕ) → k < getD w 3 0 →
+pub atom-in-schema : (w : List ℕ) → isTable w ≡ true → (k : ℕ) → k < headIn w .schemaAtoms →
     In (atomIn w k) (schemaAt (taskOf w) (schemaNumberIn w k) .atoms)
 atom-in-schema w h k l =
     let fr = table-frame w h in
@@ -146,7 +148,7 @@ module _ (w steps : List ℕ) (i k : ℕ) (o : AtomOf w steps i k) where
   ground-args-fit = fitting-argsFit (t .objects) (t .arities) (groundAt w steps i k .pred) (groundAt w steps i k .args)
       ground-at-fits
 
-  pred-inside : 6 + getD w (b + 2) 0 < length w
+  pred-inside : headWords + getD w (b + 2) 0 < length w
   unfolding atomIn
   pred-inside =
       let h = table-words w (o .tabled) .known k (let z = o .known in omega arith) in
@@ -180,7 +182,7 @@ module _ (w steps : List ℕ) (i k : ℕ) (o : AtomOf w steps i k) where
       let e = is-step .count in
       omega arith
 
-  pub argument-inside : (j q : ℕ) → q ≡ b + 4 + j → ltb j arity ≡ true → 13 * i + 1 + getD w q 0 < length steps
+  pub argument-inside : (j q : ℕ) → q ≡ b + 4 + j → ltb j arity ≡ true → stepSize * i + 1 + getD w q 0 < length steps
   argument-inside j q e l =
       let m = parameter-small j (ltb-true j arity l) in
       let n = params-few in
@@ -219,16 +221,16 @@ module _ (w steps : List ℕ) (i k : ℕ) (o : AtomOf w steps i k) where
       let e = number-four f (omega arith) in
       cc
 
-  pub read-pred : (at p : ℕ) → at ≡ b → p ≡ getD w (at + 2) 0 → 6 + p < length w
+  pub read-pred : (at p : ℕ) → at ≡ b → p ≡ getD w (at + 2) 0 → headWords + p < length w
   read-pred at p ea ep = let e : p ≡ getD w (b + 2) 0 = cc in let l = pred-inside in omega arith
 
   -- with names for what the code reads
-  module _ (at p ar : ℕ) (ea : at ≡ b) (ep : p ≡ getD w (at + 2) 0) (er : ar ≡ getD w (6 + p) 0) where
+  module _ (at p ar : ℕ) (ea : at ≡ b) (ep : p ≡ getD w (at + 2) 0) (er : ar ≡ getD w (headWords + p) 0) where
     arity-read : ar ≡ arity
     unfolding arityIn
     arity-read = cc
 
-    pub read-inside : (j q : ℕ) → q ≡ at + 4 + j → ltb j ar ≡ true → 13 * i + 1 + getD w q 0 < length steps
+    pub read-inside : (j q : ℕ) → q ≡ at + 4 + j → ltb j ar ≡ true → stepSize * i + 1 + getD w q 0 < length steps
     read-inside j q e l = argument-inside j q (omega arith) (ap (ltb j) (sym arity-read) ∙ l)
 
     pub read-number : (a₀ a₁ a₂ a₃ r : ℕ) → a₀ ≡ argumentIn (ltb 0 ar) steps i (getD w (at + 4) 0) →
@@ -239,7 +241,7 @@ module _ (w steps : List ℕ) (i k : ℕ) (o : AtomOf w steps i k) where
     read-number a₀ a₁ a₂ a₃ r e₀ e₁ e₂ e₃ e = let z = arity-read in let n = ground-number in cc
 
 -- ---- initial and goal atoms
-fact-argument : (w : List ℕ) → isTable w ≡ true → (k : ℕ) → k < getD w 3 0 + getD w 4 0 + getD w 5 0 → (j : ℕ) → j < 4 →
+fact-argument : (w : List ℕ) → isTable w ≡ true → (k : ℕ) → k < atomTotal w → (j : ℕ) → j < 4 →
     getD (factIn w k .args) j 0 ≡ getD w (atomBase w k + 4 + j) 0
 unfolding factIn atomIn wordsAt
 fact-argument w h k l j m = elim (decLt j arity) [
@@ -256,7 +258,7 @@ fact-argument w h k l j m = elim (decLt j arity) [
     arity : ℕ
     arity = arityIn w (getD w (b + 2) 0)
 
-pub fact-read : (w : List ℕ) → isTable w ≡ true → (k : ℕ) → k < getD w 3 0 + getD w 4 0 + getD w 5 0 → (at : ℕ) →
+pub fact-read : (w : List ℕ) → isTable w ≡ true → (k : ℕ) → k < atomTotal w → (at : ℕ) →
     at ≡ atomBase w k →
     recordNumber (factIn w k) ≡ inBase (getD w (at + 2) 0)
     (getD w (at + 4) 0 ∷ getD w (at + 5) 0 ∷ getD w (at + 6) 0 ∷ getD w (at + 7) 0 ∷ [])

@@ -5,18 +5,18 @@ use mathlib.Core.Bool.{true, false}
 use mathlib.Core.List.{List}
 use lib.ListN.{length}
 use borrow.Author.Tests.{le-leb, lt-leb}
-use Rattle.task.specs.Limits.{tableWords}
+use Rattle.task.specs.Limits.{tableWords, tableLength}
 use Rattle.task.specs.Table.{longEnough}
 
 module _ (w : List ℕ) where
-  pub too-short : length w < 13406 → longEnough w ≡ false
+  pub too-short : length w < tableLength → longEnough w ≡ false
   unfolding longEnough
-  too-short h = lt-leb 13406 (length w) h
+  too-short h = lt-leb tableLength (length w) h
 
-  pub long-enough : 13406 ≤ length w → longEnough w ≡ true
+  pub long-enough : tableLength ≤ length w → longEnough w ≡ true
   unfolding longEnough
-  long-enough h = le-leb 13406 (length w) h
+  long-enough h = le-leb tableLength (length w) h
 
-  pub has-table-words : 13406 ≤ length w → tableWords ≤ length w
+  pub has-table-words : tableLength ≤ length w → tableWords ≤ length w
   unfolding tableWords
   has-table-words h = h

@@ -9,6 +9,7 @@ use native.Mathlib.Omega.{arith}
 use native.Mathlib.Numerals.{add-one}
 use lib.ListN.{length, getD}
 use lib.Dec.{leb}
+use Rattle.task.specs.Limits.{stepSize}
 use Rattle.task.specs.declared.running.Turn.{Turn}
 use Rattle.task.specs.declared.running.Turn.the-variants as turned
 use Rattle.words.specs.Lists.{upTo, upFrom}
@@ -39,7 +40,7 @@ use Rattle.task.proofs.StepSpans.{schema-known}
 use Rattle.task.proofs.StartLaws.{schemas-few}
 
 -- ---- checked steps
-pub good-step : (t : Task) (steps : List ℕ) → badStep t steps ≡ none → (i : ℕ) → i < length steps / 13 →
+pub good-step : (t : Task) (steps : List ℕ) → badStep t steps ≡ none → (i : ℕ) → i < length steps / stepSize →
     isStepAt t steps i ≡ true
 unfolding badStep
 good-step t steps h i l = go (isStepAt t steps i) refl
@@ -47,22 +48,23 @@ good-step t steps h i l = go (isStepAt t steps i) refl
     go : (b : Bool) → isStepAt t steps i ≡ b → b ≡ true
     go true e = refl
     go false e = absurd (first-none (λ i. not (isStepAt t steps i)) h
-        (in-upTo ((length steps + 12) / 13) i (omega arith)) (ap not e))
+        (in-upTo ((length steps + 12) / stepSize) i (omega arith)) (ap not e))
 
 module _ (w starts steps : List ℕ) (i : ℕ) (h : isTable w ≡ true) (b : Starts (taskOf w) starts)
     (st : isStepAt (taskOf w) steps i ≡ true) where
-  pub schema-below : getD steps (13 * i) 0 < 200
+  pub schema-below : getD steps (stepSize * i) 0 < 200
   schema-below = let k = schema-known w steps i h st in let f = schemas-few w h in omega arith
 
-  pub start-found : getD starts (getD steps (13 * i) 0) 0 ≡ firstAtom (taskOf w) (getD steps (13 * i) 0)
+  pub start-found : getD starts (getD steps (stepSize * i) 0) 0 ≡ firstAtom (taskOf w) (getD steps (stepSize * i) 0)
   start-found =
       let n = schemas-word w (table-frame w h) in
       let k = schema-known w steps i h st in
-      b (getD steps (13 * i) 0) (omega arith)
+      b (getD steps (stepSize * i) 0) (omega arith)
 
-  pub end-found : getD starts (getD steps (13 * i) 0 + 1) 0 ≡ firstAtom (taskOf w) (suc (getD steps (13 * i) 0))
+  pub end-found : getD starts (getD steps (stepSize * i) 0 + 1) 0 ≡ firstAtom (taskOf w)
+      (suc (getD steps (stepSize * i) 0))
   end-found =
-      let s : ℕ = getD steps (13 * i) 0 in
+      let s : ℕ = getD steps (stepSize * i) 0 in
       let n = schemas-word w (table-frame w h) in
       let k = schema-known w steps i h st in
       ap (λ (j : ℕ). getD starts j 0) (add-one s) ∙ b (suc s) (omega arith)
@@ -95,13 +97,13 @@ pub record RunSo (t : Task) (steps found : List ℕ) (n count : ℕ) (state : Li
       runWithin (roomIn found) t (stepsIn t steps) (stateIn t found n)
 
 pub run-start : (t : Task) (steps state : List ℕ) (n : ℕ) → isState t state n ≡ true →
-    RunSo t steps state n (length steps / 13) state n 0
+    RunSo t steps state n (length steps / stepSize) state n 0
 unfolding runWithin stepsIn upTo rest fitsIn
 run-start t steps state n h = record {
   size = refl;
   is-state = h;
   same =
-      let e : length steps / 13 - 0 ≡ length steps / 13 = omega arith in
+      let e : length steps / stepSize - 0 ≡ length steps / stepSize = omega arith in
       ap (λ (m : ℕ). runFitting t (λ s. leb (length s) (roomIn state)) 0 (map (stepAt t steps) (upFrom 0 m))
       (stateIn t state n)) e;
 }

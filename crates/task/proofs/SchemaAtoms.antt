@@ -9,12 +9,13 @@ use lib.ListN.{length, getD}
 use lib.Dec.{leb}
 use borrow.Author.Tests.{leb-true}
 use Rattle.words.specs.Lists.{upFrom}
-use Rattle.task.specs.Task.{Atom, Task, schemaFits, rolesAscend}
+use Rattle.task.specs.Layout.{headIn}
+use Rattle.task.specs.Task.{Atom, Task, schemaFits, rolesAscend, noSchema}
 use Rattle.task.specs.Table.{atomIn, schemaNumberIn, taskOf, isTable}
 use Rattle.task.specs.Run.{schemaAt}
 use Rattle.words.proofs.Lists.{and-left, and-right, all-in, in-getD, tabulate}
 use Rattle.task.proofs.Tests.{schema-tests, task-tests}
-use Rattle.task.proofs.Tables.{noAtom, noSchema, startOf, of-table}
+use Rattle.task.proofs.Tables.{noAtom, startOf, of-table}
 use Rattle.task.proofs.TablesByIndex.{table-frame, schemas-word, start-suc, start-end, atom-at, schema-of-atom}
 use Rattle.task.proofs.StartLaws.{start-rises}
 
@@ -55,17 +56,17 @@ last-role (a ∷ b ∷ atoms) h (suc j) l =
     last-role (b ∷ atoms) (and-right (leb (a .role) (b .role)) (rolesAscend (b ∷ atoms)) h) j (omega arith)
 
 -- ---- the atoms of a schema in the table
-module _ (w : List ℕ) (h : isTable w ≡ true) (s : ℕ) (l : s < getD w 2 0) where
+module _ (w : List ℕ) (h : isTable w ≡ true) (s : ℕ) (l : s < headIn w .schemas) where
   abbrev t : Task
   t = taskOf w
 
   abbrev atoms : List Atom
   atoms = schemaAt t s .atoms
 
-  pub schema-inside : startOf t (suc s) ≤ getD w 3 0
+  pub schema-inside : startOf t (suc s) ≤ headIn w .schemaAtoms
   schema-inside =
       let e = start-end w (table-frame w h) in
-      let r = start-rises w h (suc s) (getD w 2 0) (omega arith) in
+      let r = start-rises w h (suc s) (headIn w .schemas) (omega arith) in
       omega arith
 
   place : (k : ℕ) → startOf t s ≤ k → k < startOf t (suc s) →

@@ -7,13 +7,14 @@ use mathlib.Core.List.{List, [], _∷_, _++_, append-nil}
 use native.Mathlib.Nat.{le-max-left, le-max-right}
 use native.Mathlib.Omega.{arith}
 use native.Mathlib.Decide.{decLt}
-use lib.ListN.{length, getD, length-map}
+use lib.ListN.{length, length-map}
 use lib.Dec.{eqb, leb}
 use borrow.Author.Tests.{le-leb, lt-leb, eq-eqb, ne-eqb}
 use Rattle.words.specs.Lists.{all, any, every, filter, upTo, upFrom}
+use Rattle.task.specs.Layout.{headIn, paramsIn}
 use Rattle.task.specs.Task.{Atom, Schema, argsFit, distinct, rolesAscend, names, partCount, noGap, schemaFits}
-use Rattle.task.specs.Table.{atomIn, schemaNumberIn}
-use Rattle.task.specs.WordTests.{unusedZero, aritiesIn, argWordsFit, numbersFit, partsFit, paramsIn, atomsIn}
+use Rattle.task.specs.Table.{atomIn, schemaNumberIn, aritiesIn}
+use Rattle.task.specs.WordTests.{unusedZero, argWordsFit, numbersFit, partsFit, atomsIn}
 use Rattle.task.specs.WordTests.{schemaWordsFit, indicesOf, RunOf}
 use Rattle.words.proofs.Lists.{and-left, and-right, and-both, bool-ext, every-at, met-none, met-more, met-every, In}
 use Rattle.words.proofs.Lists.{here, there, in-map, in-upFrom, upFrom-in, length-upFrom, upFrom-append, filter-append}
@@ -145,15 +146,15 @@ filter-between p a b n l m before inside behind =
 
 -- ---- where the atoms of schema s begin: those before are of lower schemas, those from there on of no lower one
 pub record Cut (w : List ℕ) (first s : ℕ) : Type 0 where
-  pub inside : first ≤ getD w 3 0
+  pub inside : first ≤ headIn w .schemaAtoms
   pub before : (i : ℕ) → i < first → schemaNumberIn w i < s
-  pub behind : (i : ℕ) → first ≤ i → i < getD w 3 0 → s ≤ schemaNumberIn w i
+  pub behind : (i : ℕ) → first ≤ i → i < headIn w .schemaAtoms → s ≤ schemaNumberIn w i
 
 pub cut-start : (w : List ℕ) → Cut w 0 0
 cut-start w = record { inside = omega arith; before = λ i l. absurd (omega arith); behind = λ i l m. omega arith }
 
 module _ (w : List ℕ) (numbers : numbersFit w ≡ true) where
-  rises : (i k : ℕ) → i + k < getD w 3 0 → schemaNumberIn w i ≤ schemaNumberIn w (i + k)
+  rises : (i k : ℕ) → i + k < headIn w .schemaAtoms → schemaNumberIn w i ≤ schemaNumberIn w (i + k)
   rises i zero l = let e : i + 0 ≡ i = omega arith in rw e (omega arith)
   rises i (suc k) l =
       let e : i + suc k ≡ suc (i + k) = omega arith in
@@ -162,7 +163,7 @@ module _ (w : List ℕ) (numbers : numbersFit w ≡ true) where
       rw e (omega arith)
 
   module _ (first s end : ℕ) (cut : Cut w first s) (run : RunOf w s first end) where
-    above : (i : ℕ) → end ≤ i → i < getD w 3 0 → s < schemaNumberIn w i
+    above : (i : ℕ) → end ≤ i → i < headIn w .schemaAtoms → s < schemaNumberIn w i
     above i l m =
         let z : end + (i - end) ≡ i = omega arith in
         let a = run .from in
@@ -184,7 +185,8 @@ module _ (w : List ℕ) (numbers : numbersFit w ≡ true) where
 
     pub cut-indices : indicesOf w s ≡ upFrom first (end - first)
     unfolding indicesOf
-    cut-indices = filter-between (λ i. eqb s (schemaNumberIn w i)) first end (getD w 3 0) (run .from) (run .to)
+    cut-indices = filter-between (λ i. eqb s (schemaNumberIn w i)) first end (headIn w .schemaAtoms) (run .from)
+        (run .to)
         (λ i l. ne-eqb s (schemaNumberIn w i) (λ e. let a = cut .before i l in omega arith))
         (λ i l m. eq-eqb s (schemaNumberIn w i) (sym (run .inside i l m)))
         (λ i l m. ne-eqb s (schemaNumberIn w i) (λ e. let a = above i l m in omega arith))

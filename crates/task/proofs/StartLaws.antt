@@ -10,28 +10,30 @@ use lib.ListN.{length, getD, set, length-set}
 use lib.Seq.{getD-set-same, getD-set-other}
 use borrow.Author.Tests.{leb-true}
 use Rattle.words.specs.Lists.{sum}
-use Rattle.task.specs.Task.{Task, schemaFits}
-use Rattle.task.specs.Table.{atomBase, atomIn, schemaNumberIn, taskOf, isTable}
+use Rattle.task.specs.Limits.{mostSchemas}
+use Rattle.task.specs.Layout.{headIn, atomBase}
+use Rattle.task.specs.Task.{Task, schemaFits, noSchema}
+use Rattle.task.specs.Table.{atomIn, schemaNumberIn, taskOf, isTable}
 use Rattle.task.specs.Run.{schemaAt}
 use Rattle.task.specs.Turns.{Starts, RoleEnds}
 use Rattle.words.proofs.Lists.{all-in, in-getD, sum-take-rises}
 use Rattle.task.proofs.Tests.{schema-tests, task-tests}
-use Rattle.task.proofs.Tables.{noSchema, counts, startOf, of-table}
+use Rattle.task.proofs.Tables.{counts, startOf, of-table}
 use Rattle.task.proofs.TablesByIndex.{table-frame, schemas-word, start-suc, start-end, atom-lies}
 
 -- ---- starts
 -- the schemas that end by atom k have their ends
 pub record StartsSo (w : List ℕ) (k : ℕ) (starts : List ℕ) : Type 0 where
-  pub size : length starts ≡ 201
+  pub size : length starts ≡ mostSchemas + 1
   pub first : getD starts 0 0 ≡ 0
-  pub ends : (s : ℕ) → s < getD w 2 0 → startOf (taskOf w) (suc s) ≤ k →
+  pub ends : (s : ℕ) → s < headIn w .schemas → startOf (taskOf w) (suc s) ≤ k →
       getD starts (suc s) 0 ≡ startOf (taskOf w) (suc s)
 
 module _ (w : List ℕ) (h : isTable w ≡ true) where
   abbrev t : Task
   t = taskOf w
 
-  pub start-more : (s : ℕ) → s < getD w 2 0 → startOf t s < startOf t (suc s)
+  pub start-more : (s : ℕ) → s < headIn w .schemas → startOf t s < startOf t (suc s)
   unfolding schemaAt
   start-more s l =
       let fr = table-frame w h in
@@ -46,13 +48,13 @@ module _ (w : List ℕ) (h : isTable w ≡ true) where
   pub start-rises : (m n : ℕ) → m ≤ n → startOf t m ≤ startOf t n
   start-rises m n l = sum-take-rises (counts (t .schemas)) m n l
 
-  pub schemas-few : getD w 2 0 ≤ 200
+  pub schemas-few : headIn w .schemas ≤ 200
   schemas-few =
       let n = schemas-word w (table-frame w h) in
       let l = leb-true (length (t .schemas)) 200 (task-tests t (of-table w h .0) .schemas) in
       omega arith
 
-  pub starts-none : (starts : List ℕ) → length starts ≡ 201 → getD starts 0 0 ≡ 0 → StartsSo w 0 starts
+  pub starts-none : (starts : List ℕ) → length starts ≡ mostSchemas + 1 → getD starts 0 0 ≡ 0 → StartsSo w 0 starts
   starts-none starts z e = record {
     size = z;
     first = e;
@@ -60,7 +62,8 @@ module _ (w : List ℕ) (h : isTable w ≡ true) where
         λ s l m. absurd (let y = start-more s l in omega arith);
   }
 
-  pub starts-turn : (k : ℕ) (starts : List ℕ) (m : ℕ) → k < getD w 3 0 → m ≡ schemaNumberIn w k → StartsSo w k starts →
+  pub starts-turn : (k : ℕ) (starts : List ℕ) (m : ℕ) → k < headIn w .schemaAtoms → m ≡ schemaNumberIn w k →
+      StartsSo w k starts →
       StartsSo w (k + 1) (set starts (m + 1) (k + 1))
   starts-turn k starts m l e c =
       let fr = table-frame w h in
@@ -72,7 +75,7 @@ module _ (w : List ℕ) (h : isTable w ≡ true) where
         ends = λ s x y. go s x y (decLt s m) (decLt m s);
       }
     where
-      known : m < getD w 2 0
+      known : m < headIn w .schemas
       known = let a = atom-lies w (table-frame w h) k l .known in omega arith
 
       lower : startOf t m ≤ k
@@ -81,7 +84,7 @@ module _ (w : List ℕ) (h : isTable w ≡ true) where
       upper : k < startOf t (suc m)
       upper = subst (λ (j : ℕ). k < startOf t (suc j)) (sym e) (atom-lies w (table-frame w h) k l .before-next)
 
-      go : (s : ℕ) → s < getD w 2 0 → startOf t (suc s) ≤ k + 1 → Dec (s < m) → Dec (m < s) →
+      go : (s : ℕ) → s < headIn w .schemas → startOf t (suc s) ≤ k + 1 → Dec (s < m) → Dec (m < s) →
           getD (set starts (m + 1) (k + 1)) (suc s) 0 ≡ startOf t (suc s)
       go s x y (yes p) q =
           let r = start-rises (suc s) m (omega arith) in
@@ -101,14 +104,14 @@ module _ (w : List ℕ) (h : isTable w ≡ true) where
           ap (λ (j : ℕ). getD (set starts (m + 1) (k + 1)) j 0) (sym v) ∙
           (getD-set-same starts (m + 1) (k + 1) 0 i ∙ (omega arith))
 
-  pub starts-end : (k : ℕ) (starts : List ℕ) → getD w 3 0 ≤ k → StartsSo w k starts → Starts t starts
+  pub starts-end : (k : ℕ) (starts : List ℕ) → headIn w .schemaAtoms ≤ k → StartsSo w k starts → Starts t starts
   unfolding sum
   starts-end k starts l c zero m = c .first
   starts-end k starts l c (suc s) m =
       let fr = table-frame w h in
       let n = schemas-word w fr in
       let e = start-end w fr in
-      let r = start-rises (suc s) (getD w 2 0) (omega arith) in
+      let r = start-rises (suc s) (headIn w .schemas) (omega arith) in
       c .ends s (omega arith) (omega arith)
 
 -- ---- roles

@@ -10,6 +10,8 @@ use lib.ListN.{length, getD}
 use lib.Dec.{eqb}
 use borrow.Author.Tests.{eq-eqb, ne-eqb}
 use Rattle.words.specs.Lists.{all, filter, upFrom}
+use Rattle.task.specs.Limits.{stepSize}
+use Rattle.task.specs.Layout.{headIn}
 use Rattle.task.specs.Task.{Atom, Fact}
 use Rattle.task.specs.Table.{atomIn, taskOf, isTable}
 use Rattle.task.specs.Run.{
@@ -49,9 +51,9 @@ module _ (w steps : List ℕ) (i : ℕ) (h : isTable w ≡ true) (st : isStepAt 
   x = stepAt (taskOf w) steps i
 
   abbrev schema : ℕ
-  schema = getD steps (13 * i) 0
+  schema = getD steps (stepSize * i) 0
 
-  pub schema-known : schema < getD w 2 0
+  pub schema-known : schema < headIn w .schemas
   schema-known =
       let c = step-words (taskOf w) steps i st .is .known in
       let e = step-schema (taskOf w) steps i in
@@ -59,7 +61,7 @@ module _ (w steps : List ℕ) (i : ℕ) (h : isTable w ≡ true) (st : isStepAt 
       omega arith
 
   pub span-bounds : (start end : ℕ) → start ≡ firstAtom (taskOf w) schema → end ≡ firstAtom (taskOf w) (suc schema) →
-      (start ≤ end) × (end ≤ getD w 3 0)
+      (start ≤ end) × (end ≤ headIn w .schemaAtoms)
   span-bounds start end es ee =
       let r = start-rises w h schema (suc schema) (omega arith) in
       let m = schema-inside w h schema schema-known in

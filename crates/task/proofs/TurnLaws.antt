@@ -8,6 +8,7 @@ use lib.ListN.{length, getD}
 use lib.Dec.{leb}
 use borrow.Author.Tests.{leb-true}
 use Rattle.words.specs.Lists.{all}
+use Rattle.task.specs.Limits.{stepSize}
 use Rattle.task.specs.Task.{Fact}
 use Rattle.task.specs.Table.{taskOf, isTable}
 use Rattle.task.specs.Run.{holds, insertAll, removeAll, stepAt, isStepAt, applies, next}
@@ -20,8 +21,8 @@ use Rattle.task.proofs.StepSpans.{pre-span, add-span, del-span, step-ap
 pub record Parted (w steps : List ℕ) (i start end add del : ℕ) : Type 0 where
   pub tabled : isTable w ≡ true
   pub stepped : isStepAt (taskOf w) steps i ≡ true
-  pub starts : start ≡ firstAtom (taskOf w) (getD steps (13 * i) 0)
-  pub ends : end ≡ firstAtom (taskOf w) (suc (getD steps (13 * i) 0))
+  pub starts : start ≡ firstAtom (taskOf w) (getD steps (stepSize * i) 0)
+  pub ends : end ≡ firstAtom (taskOf w) (suc (getD steps (stepSize * i) 0))
   pub adds : RoleEnds w start end 0 add
   pub deletes : RoleEnds w add end 1 del
 

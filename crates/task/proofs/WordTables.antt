@@ -10,12 +10,13 @@ use lib.ListN.{length, getD}
 use lib.Dec.{eqb, ltb, leb}
 use borrow.Author.Tests.{ltb-true, leb-true, eqb-true, lt-ltb, le-leb, eq-eqb}
 use Rattle.words.specs.Lists.{all, every, upTo, upFrom}
-use Rattle.task.specs.Limits.{tableWords}
+use Rattle.task.specs.Layout.{headIn, goalsFrom, atomTotal, paramsBase, wordsUsed, arityIn, atomBase}
+use Rattle.task.specs.Limits.{tableWords, headWords}
 use Rattle.task.specs.Task.{argsFit, schemaFits, factsFit}
-use Rattle.task.specs.Table.{arityIn, atomBase, atomIn, schemaNumberIn, factIn, taskOf, isTable}
-use Rattle.task.specs.WordTests.{countTests, aritiesFit, unusedZero, aritiesIn, argWordsFit, numberFits}
+use Rattle.task.specs.Table.{atomIn, schemaNumberIn, factIn, taskOf, isTable, aritiesIn, schemaIn}
+use Rattle.task.specs.WordTests.{countTests, aritiesFit, unusedZero, argWordsFit, numberFits}
 use Rattle.task.specs.WordTests.{numbersFit, schemaWordsFit, indicesOf, schemasFit, factWordsFit, factsWordsFit}
-use Rattle.task.specs.WordTests.{factsIn, atomTotal, wordsUsed, Roomy}
+use Rattle.task.specs.WordTests.{factsIn, Roomy}
 use Rattle.words.specs.Words.{zerosAt}
 use Rattle.words.proofs.Lists.{and-left, and-right, and-both, bool-ext, false-if, met-none, met-more, met-every, all-in}
 use Rattle.words.proofs.Lists.{in-all, In, filter-in, in-filter, in-upTo, upTo-in, upFrom-in, in-map, map-in}
@@ -24,7 +25,7 @@ use Rattle.task.proofs.Counts.{Counted, counted, roomy}
 use Rattle.task.proofs.Tests.{TaskTests, schema-tests, fact-tests, tests-fact, task-tests, tests-task}
 use Rattle.task.proofs.Tables.{of-table}
 use Rattle.words.proofs.Words.{length-wordsAt}
-use Rattle.task.proofs.TablesByWords.{schemaIn, FactWord, WordsFit, table-words, words-table, arities-count}
+use Rattle.task.proofs.TablesByWords.{FactWord, WordsFit, table-words, words-table, arities-count}
 use Rattle.task.proofs.TablesByWords.{schemas-count, atoms-count, inits-count, goals-count}
 
 -- ---- the tests by name
@@ -33,8 +34,8 @@ pub record Passed (w : List ℕ) : Type 0 where
   pub arities : aritiesFit w ≡ true
   pub numbers : numbersFit w ≡ true
   pub schemas : schemasFit w ≡ true
-  pub init : factsWordsFit w 3 (getD w 3 0) (getD w 4 0) ≡ true
-  pub goal : factsWordsFit w 4 (getD w 3 0 + getD w 4 0) (getD w 5 0) ≡ true
+  pub init : factsWordsFit w 3 (headIn w .schemaAtoms) (headIn w .initialAtoms) ≡ true
+  pub goal : factsWordsFit w 4 (goalsFrom w) (headIn w .goalAtoms) ≡ true
   pub rest : zerosAt w (wordsUsed w) (tableWords - wordsUsed w) ≡ true
 
 -- ---- the unused argument words of an atom, one by one
@@ -81,15 +82,16 @@ module _ (w : List ℕ) (h : isTable w ≡ true) where
 
   arities-met : aritiesFit w ≡ true
   unfolding aritiesFit
-  arities-met = below-all (λ p. leb (arityIn w p) 4) (getD w 1 0) (λ p l. le-leb (arityIn w p) 4 (fit .arity p l))
+  arities-met = below-all (λ p. leb (arityIn w p) 4) (headIn w .predicates)
+      (λ p l. le-leb (arityIn w p) 4 (fit .arity p l))
 
   numbers-met : numbersFit w ≡ true
   unfolding numbersFit numberFits
   numbers-met =
-      below-all (numberFits w) (getD w 3 0)
+      below-all (numberFits w) (headIn w .schemaAtoms)
       (λ i l. and-both _ _ (lt-ltb _ _ (fit .schema i l)) (le-leb _ _ (rises i l)))
     where
-      rises : (i : ℕ) → i < getD w 3 0 → schemaNumberIn w (i - 1) ≤ schemaNumberIn w i
+      rises : (i : ℕ) → i < headIn w .schemaAtoms → schemaNumberIn w (i - 1) ≤ schemaNumberIn w i
       rises zero l = omega arith
       rises (suc i) l = let e : suc i - 1 ≡ i = omega arith in rw e (fit .order i l)
 
@@ -98,24 +100,25 @@ module _ (w : List ℕ) (h : isTable w ≡ true) where
 
   schemas-met : schemasFit w ≡ true
   unfolding schemasFit schemaWordsFit indicesOf taskOf
-  schemas-met = below-all (λ s. schemaWordsFit w s (indicesOf w s)) (getD w 2 0) (λ s l. and-both _ _
-      (all-in (schemaFits (aritiesIn w)) (tests .fit) (in-map (schemaIn w) (in-upTo (getD w 2 0) s l)))
+  schemas-met = below-all (λ s. schemaWordsFit w s (indicesOf w s)) (headIn w .schemas) (λ s l. and-both _ _
+      (all-in (schemaFits (aritiesIn w)) (tests .fit) (in-map (schemaIn w) (in-upTo (headIn w .schemas) s l)))
       (in-all (unusedZero w) (indicesOf w s) (λ i k.
-      let (a, b) = filter-in (λ i. eqb s (schemaNumberIn w i)) (upTo (getD w 3 0)) i k in
-      let m = upTo-in (getD w 3 0) i a in
+      let (a, b) = filter-in (λ i. eqb s (schemaNumberIn w i)) (upTo (headIn w .schemaAtoms)) i k in
+      let m = upTo-in (headIn w .schemaAtoms) i a in
       unused-met i (omega arith))))
 
   facts-met : (r i n : ℕ) → i + n ≤ atomTotal w → ((k : ℕ) → k < n → FactWord w (i + k) r) →
-      factsFit (getD w 0 0) (aritiesIn w) (factsIn w i n) ≡ true → factsWordsFit w r i n ≡ true
+      factsFit (headIn w .objects) (aritiesIn w) (factsIn w i n) ≡ true → factsWordsFit w r i n ≡ true
   unfolding factsWordsFit factWordsFit argWordsFit factIn
   facts-met r i n b words facts =
-      let c = fact-tests (getD w 0 0) (aritiesIn w) (factsIn w i n) facts in
+      let c = fact-tests (headIn w .objects) (aritiesIn w) (factsIn w i n) facts in
       and-both _ _ (from-all (factWordsFit w r) i n (λ k l m.
       let e : i + (k - i) ≡ k = omega arith in
       let f : FactWord w k r = rw e at (words (k - i) (omega arith)) in
       and-both _ _ (eq-eqb _ _ (f .schema)) (and-both _ _ (eq-eqb _ _ (f .role)) (and-both _ _ (eq-eqb _ _ (f .part))
-      (and-both _ _ (all-from (λ j. argsFit (aritiesIn w) (getD w 0 0) (atomIn w j .pred) (atomIn w j .args)) i n
-      (sym (all-map (λ f. argsFit (aritiesIn w) (getD w 0 0) (f .pred) (f .args)) (factIn w) (upFrom i n)) ∙ c .fit) k
+      (and-both _ _ (all-from (λ j. argsFit (aritiesIn w) (headIn w .objects) (atomIn w j .pred) (atomIn w j .args)) i n
+      (sym (all-map (λ f. argsFit (aritiesIn w) (headIn w .objects) (f .pred) (f .args)) (factIn w) (upFrom i n)) ∙
+      c .fit) k
       l m)
       (unused-met k (omega arith))))))) (c .order)
 
@@ -132,15 +135,15 @@ module _ (w : List ℕ) (h : isTable w ≡ true) where
     arities = arities-met;
     numbers = numbers-met;
     schemas = schemas-met;
-    init = facts-met 3 (getD w 3 0) (getD w 4 0) (omega arith) (fit .init) (tests .init);
-    goal = facts-met 4 (getD w 3 0 + getD w 4 0) (getD w 5 0) (omega arith) (fit .goal) (tests .goal);
+    init = facts-met 3 (headIn w .schemaAtoms) (headIn w .initialAtoms) (omega arith) (fit .init) (tests .init);
+    goal = facts-met 4 (goalsFrom w) (headIn w .goalAtoms) (omega arith) (fit .goal) (tests .goal);
     rest = rest-met;
   }
 
 -- ---- what passes is a table
 -- atom i has a known predicate, and its unused words are 0
 pub record Known (w : List ℕ) (i : ℕ) : Type 0 where
-  pub known : atomIn w i .pred < getD w 1 0
+  pub known : atomIn w i .pred < headIn w .predicates
   pub unused : unusedZero w i ≡ true
 
 pub args-known : (w : List ℕ) (bound i : ℕ) → argsFit (aritiesIn w) bound (atomIn w i .pred) (atomIn w i .args) ≡
@@ -149,25 +152,25 @@ unfolding argsFit
 args-known w bound i a u =
     let l = ltb-true (atomIn w i .pred) (length (aritiesIn w))
     (and-left (ltb (atomIn w i .pred) (length (aritiesIn w))) _ a) in
-    let e = length-wordsAt w 6 (getD w 1 0) in
+    let e = length-wordsAt w headWords (headIn w .predicates) in
     record { known = omega arith; unused = u }
 
 -- each schema atom's number, and its neighbour's
 module _ (w : List ℕ) (h : numbersFit w ≡ true) where
-  number-fits : (i : ℕ) → i < getD w 3 0 → numberFits w i ≡ true
+  number-fits : (i : ℕ) → i < headIn w .schemaAtoms → numberFits w i ≡ true
   unfolding numbersFit
-  number-fits = all-below (numberFits w) (getD w 3 0) h
+  number-fits = all-below (numberFits w) (headIn w .schemaAtoms) h
 
-  pub number-known : (i : ℕ) → i < getD w 3 0 → schemaNumberIn w i < getD w 2 0
+  pub number-known : (i : ℕ) → i < headIn w .schemaAtoms → schemaNumberIn w i < headIn w .schemas
   unfolding numberFits
-  number-known i l = ltb-true _ _ (and-left (ltb (schemaNumberIn w i) (getD w 2 0)) _ (number-fits i l))
+  number-known i l = ltb-true _ _ (and-left (ltb (schemaNumberIn w i) (headIn w .schemas)) _ (number-fits i l))
 
-  pub numbers-rise : (i : ℕ) → suc i < getD w 3 0 → schemaNumberIn w i ≤ schemaNumberIn w (suc i)
+  pub numbers-rise : (i : ℕ) → suc i < headIn w .schemaAtoms → schemaNumberIn w i ≤ schemaNumberIn w (suc i)
   unfolding numberFits
   numbers-rise i l =
       let e : suc i - 1 ≡ i = omega arith in
       subst (λ (k : ℕ). schemaNumberIn w k ≤ schemaNumberIn w (suc i)) e
-      (leb-true _ _ (and-right (ltb (schemaNumberIn w (suc i)) (getD w 2 0)) _ (number-fits (suc i) l)))
+      (leb-true _ _ (and-right (ltb (schemaNumberIn w (suc i)) (headIn w .schemas)) _ (number-fits (suc i) l)))
 
 module _ (w : List ℕ) (long : tableWords ≤ length w) (c : Passed w) where
   abbrev limits : Counted w
@@ -179,16 +182,16 @@ module _ (w : List ℕ) (long : tableWords ≤ length w) (c : Passed w) where
   abbrev schemaOk : ℕ → Bool
   schemaOk s = schemaFits (aritiesIn w) (schemaIn w s)
 
-  schema-ok : (s : ℕ) → s < getD w 2 0 → schemaOk s && all (unusedZero w) (indicesOf w s) ≡ true
+  schema-ok : (s : ℕ) → s < headIn w .schemas → schemaOk s && all (unusedZero w) (indicesOf w s) ≡ true
   unfolding schemasFit schemaWordsFit indicesOf
-  schema-ok s l = all-below (λ s. schemaWordsFit w s (indicesOf w s)) (getD w 2 0) (c .schemas) s l
+  schema-ok s l = all-below (λ s. schemaWordsFit w s (indicesOf w s)) (headIn w .schemas) (c .schemas) s l
 
-  atom-known : (i : ℕ) → i < getD w 3 0 → Known w i
+  atom-known : (i : ℕ) → i < headIn w .schemaAtoms → Known w i
   unfolding indicesOf
   atom-known i l =
       let s = schemaNumberIn w i in
       let b = schema-ok s (number-known w (c .numbers) i l) in
-      let k : In i (indicesOf w s) = in-filter (λ i. eqb s (schemaNumberIn w i)) (in-upTo (getD w 3 0) i l)
+      let k : In i (indicesOf w s) = in-filter (λ i. eqb s (schemaNumberIn w i)) (in-upTo (headIn w .schemaAtoms) i l)
       (eq-eqb s s refl) in
       let t = schema-tests (aritiesIn w) (schemaIn w s) (and-left (schemaOk s) _ b) in
       args-known w (schemaIn w s .params) i
@@ -199,7 +202,7 @@ module _ (w : List ℕ) (long : tableWords ≤ length w) (c : Passed w) where
   record FactsOk (r i n : ℕ) : Type 0 where
     words : (k : ℕ) → k < n → FactWord w (i + k) r
     knows : (k : ℕ) → k < n → Known w (i + k)
-    facts : factsFit (getD w 0 0) (aritiesIn w) (factsIn w i n) ≡ true
+    facts : factsFit (headIn w .objects) (aritiesIn w) (factsIn w i n) ≡ true
 
   facts-ok : (r i n : ℕ) → factsWordsFit w r i n ≡ true → FactsOk r i n
   unfolding factsWordsFit factWordsFit argWordsFit factIn
@@ -216,9 +219,9 @@ module _ (w : List ℕ) (long : tableWords ≤ length w) (c : Passed w) where
     knows = λ k l.
         let j = i + k in
         let a = args j (each j (omega arith) (omega arith)) in
-        args-known w (getD w 0 0) j (and-left (ok j) _ a) (and-right (ok j) _ a);
-    facts = tests-fact (getD w 0 0) (aritiesIn w) (factsIn w i n) (record {
-      fit = all-map (λ f. argsFit (aritiesIn w) (getD w 0 0) (f .pred) (f .args)) (factIn w) (upFrom i n) ∙
+        args-known w (headIn w .objects) j (and-left (ok j) _ a) (and-right (ok j) _ a);
+    facts = tests-fact (headIn w .objects) (aritiesIn w) (factsIn w i n) (record {
+      fit = all-map (λ f. argsFit (aritiesIn w) (headIn w .objects) (f .pred) (f .args)) (factIn w) (upFrom i n) ∙
           from-all ok i n (λ j a b. and-left (ok j) _ (args j (each j a b)));
       order = and-right (all (factWordsFit w r) (upFrom i n)) _ h;
     });
@@ -227,30 +230,30 @@ module _ (w : List ℕ) (long : tableWords ≤ length w) (c : Passed w) where
       each : (j : ℕ) → i ≤ j → j < i + n → factWordsFit w r j ≡ true
       each j a b = all-from (factWordsFit w r) i n (and-left (all (factWordsFit w r) (upFrom i n)) _ h) j a b
 
-      args : (j : ℕ) → factWordsFit w r j ≡ true → argWordsFit w (getD w 0 0) j ≡ true
+      args : (j : ℕ) → factWordsFit w r j ≡ true → argWordsFit w (headIn w .objects) j ≡ true
       args j a =
           and-right (eqb (atomIn w j .part) 0) _
           (and-right (eqb (atomIn w j .role) r) _ (and-right (eqb (schemaNumberIn w j) 0) _ a))
 
       ok : ℕ → Bool
-      ok j = argsFit (aritiesIn w) (getD w 0 0) (atomIn w j .pred) (atomIn w j .args)
+      ok j = argsFit (aritiesIn w) (headIn w .objects) (atomIn w j .pred) (atomIn w j .args)
 
-  abbrev init-ok : FactsOk 3 (getD w 3 0) (getD w 4 0)
-  init-ok = facts-ok 3 (getD w 3 0) (getD w 4 0) (c .init)
+  abbrev init-ok : FactsOk 3 (headIn w .schemaAtoms) (headIn w .initialAtoms)
+  init-ok = facts-ok 3 (headIn w .schemaAtoms) (headIn w .initialAtoms) (c .init)
 
-  abbrev goal-ok : FactsOk 4 (getD w 3 0 + getD w 4 0) (getD w 5 0)
-  goal-ok = facts-ok 4 (getD w 3 0 + getD w 4 0) (getD w 5 0) (c .goal)
+  abbrev goal-ok : FactsOk 4 (goalsFrom w) (headIn w .goalAtoms)
+  goal-ok = facts-ok 4 (goalsFrom w) (headIn w .goalAtoms) (c .goal)
 
   each-known : (i : ℕ) → i < atomTotal w → Known w i
-  each-known i l = elim (decLt i (getD w 3 0)) [
+  each-known i l = elim (decLt i (headIn w .schemaAtoms)) [
     | yes a ↦ atom-known i a
-    | no a ↦ elim (decLt i (getD w 3 0 + getD w 4 0)) [
+    | no a ↦ elim (decLt i (goalsFrom w)) [
       | yes b ↦
-          let e : getD w 3 0 + (i - getD w 3 0) ≡ i = omega arith in
-          subst (Known w) e (init-ok .knows (i - getD w 3 0) (omega arith))
+          let e : headIn w .schemaAtoms + (i - headIn w .schemaAtoms) ≡ i = omega arith in
+          subst (Known w) e (init-ok .knows (i - headIn w .schemaAtoms) (omega arith))
       | no b ↦
-          let e : getD w 3 0 + getD w 4 0 + (i - (getD w 3 0 + getD w 4 0)) ≡ i = omega arith in
-          subst (Known w) e (goal-ok .knows (i - (getD w 3 0 + getD w 4 0)) (omega arith))
+          let e : goalsFrom w + (i - (goalsFrom w)) ≡ i = omega arith in
+          subst (Known w) e (goal-ok .knows (i - (goalsFrom w)) (omega arith))
     ]
   ]
 
@@ -282,23 +285,23 @@ module _ (w : List ℕ) (long : tableWords ≤ length w) (c : Passed w) where
         some-pred = subst (λ (m : ℕ). leb 1 m ≡ true) (sym (arities-count w words-fit)) (le-leb _ _ (n .some-pred));
         preds = subst (λ (m : ℕ). leb m 400 ≡ true) (sym (arities-count w words-fit)) (le-leb _ _ (n .preds));
         arities = in-all (λ a. leb a 4) (aritiesIn w) (λ a i.
-            let (p, j, e) = map-in (λ k. getD w k 0) (upFrom 6 (getD w 1 0)) a i in
-            let (x, y) = upFrom-in 6 (getD w 1 0) p j in
+            let (p, j, e) = map-in (λ k. getD w k 0) (upFrom headWords (headIn w .predicates)) a i in
+            let (x, y) = upFrom-in headWords (headIn w .predicates) p j in
             arity-small a p e x y);
         schemas = subst (λ (m : ℕ). leb m 200 ≡ true) (sym (schemas-count w words-fit)) (le-leb _ _ (n .schemas));
         atoms = subst (λ (m : ℕ). leb m 1000 ≡ true) (sym (atoms-count w words-fit)) (le-leb _ _ (n .atoms));
         inits = subst (λ (m : ℕ). leb m 500 ≡ true) (sym (inits-count w words-fit)) (le-leb _ _ (n .inits));
         goals = subst (λ (m : ℕ). leb m 100 ≡ true) (sym (goals-count w words-fit)) (le-leb _ _ (n .goals));
-        fit = all-map (schemaFits (aritiesIn w)) (schemaIn w) (upTo (getD w 2 0)) ∙
-            below-all schemaOk (getD w 2 0) (λ s l. and-left (schemaOk s) _ (schema-ok s l));
+        fit = all-map (schemaFits (aritiesIn w)) (schemaIn w) (upTo (headIn w .schemas)) ∙
+            below-all schemaOk (headIn w .schemas) (λ s l. and-left (schemaOk s) _ (schema-ok s l));
         init = init-ok .facts;
         goal = goal-ok .facts;
       }
     where
-      arity-small : (a p : ℕ) → a ≡ getD w p 0 → 6 ≤ p → p < 6 + getD w 1 0 → leb a 4 ≡ true
+      arity-small : (a p : ℕ) → a ≡ getD w p 0 → headWords ≤ p → p < paramsBase w → leb a 4 ≡ true
       arity-small a p e x y =
-          let q : 6 + (p - 6) ≡ p = omega arith in
-          let r : getD w p 0 ≤ 4 = rw q at (room .arities (p - 6) (omega arith)) in
+          let q : headWords + (p - headWords) ≡ p = omega arith in
+          let r : getD w p 0 ≤ 4 = rw q at (room .arities (p - headWords) (omega arith)) in
           le-leb a 4 (omega arith)
 
 -- ---- both ways

@@ -35,9 +35,13 @@ mostAtoms = 64
 abbrev pub mostParts : ℕ
 mostParts = 16
 
--- "A table takes 13,406 words": shut, since a list function would count a numeral down
+-- "A table takes 13,406 words"
+abbrev pub tableLength : ℕ
+tableLength = 13406
+
+-- the same, shut, for lists of so many words: a list function would count a numeral down
 unfoldable pub tableWords : ℕ
-tableWords = 13406
+tableWords = tableLength
 
 -- "all atoms in file order, 8 words each", after a head of six counts
 abbrev pub headWords : ℕ

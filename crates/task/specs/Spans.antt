@@ -6,6 +6,7 @@ use mathlib.Core.Bool.{Bool, true, cond}
 use mathlib.Core.List.{List, map}
 use lib.ListN.{getD}
 use Rattle.words.specs.Lists.{upFrom}
+use Rattle.task.specs.Layout.{headIn}
 use Rattle.task.specs.Limits.{stepSize}
 use Rattle.task.specs.Task.{Fact}
 use Rattle.task.specs.Table.{atomIn, schemaNumberIn, taskOf, isTable}
@@ -33,7 +34,7 @@ argumentIn used steps i p = cond used (objectIn steps i p) 0
 pub record AtomOf (table steps : List ℕ) (i k : ℕ) : Type 0 where
   pub tabled : isTable table ≡ true
   pub stepped : isStepAt (taskOf table) steps i ≡ true
-  pub known : k < getD table 3 0
+  pub known : k < headIn table .schemaAtoms
   pub own : schemaNumberIn table k ≡ getD steps (stepSize * i) 0
 
 -- step i is one of the task's, and the atoms from a to b - 1 of the table are of its schema
@@ -41,4 +42,5 @@ pub record SpanOf (table steps : List ℕ) (i a b : ℕ) : Type 0 where
   pub tabled : isTable table ≡ true
   pub stepped : isStepAt (taskOf table) steps i ≡ true
   pub ordered : a ≤ b
-  pub atoms : (k : ℕ) → a ≤ k → k < b → (k < getD table 3 0) × (schemaNumberIn table k ≡ getD steps (stepSize * i) 0)
+  pub atoms : (k : ℕ) → a ≤ k → k < b → (k < headIn table .schemaAtoms) ×
+      (schemaNumberIn table k ≡ getD steps (stepSize * i) 0)

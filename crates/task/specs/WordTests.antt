@@ -1,36 +1,37 @@
 -- Being a table, tested word by word: the tests of 'Task table' that inner functions make, one for each of them.
 -- proofs/WordTables.antt shows that together they say `isTable`.
-use Prim.Native.Nat.{ℕ, _+_, _-_, _*_, _≤_, _<_}
+use Prim.Native.Nat.{ℕ, _+_, _-_, _≤_, _<_}
 use mathlib.Core.Path.{_≡_}
 use mathlib.Core.Bool.{Bool, _&&_}
 use mathlib.Core.List.{List, [], _∷_, map}
-use lib.ListN.{length, getD}
+use lib.ListN.{length}
 use lib.Dec.{eqb, ltb, leb}
 use Rattle.words.specs.Lists.{all, any, filter, upTo, upFrom}
+use Rattle.task.specs.Layout.{headIn, wordsUsed, arityIn, paramsIn, atomBase}
 use Rattle.task.specs.Limits.{mostObjects, mostPredicates, mostSchemas, mostSchemaAtoms, mostInitial, mostGoal}
-use Rattle.task.specs.Limits.{mostArity, mostParts, headWords, atomSize}
+use Rattle.task.specs.Limits.{mostArity, mostParts, tableLength}
 use Rattle.task.specs.Task.{Atom, Fact, argsFit, sameAtom, partCount, noGap, schemaFits, ascending}
 use Rattle.words.specs.Words.{wordsAt}
-use Rattle.task.specs.Table.{arityIn, atomBase, atomIn, schemaNumberIn, factIn}
+use Rattle.task.specs.Table.{atomIn, schemaNumberIn, factIn, aritiesIn}
 use Rattle.words.specs.Words.{zerosAt}
 
 -- "objects N (1 to 1000), predicates P (1 to 400), schemas (0 to 200), schema atoms (at most 1000), initial atoms (at
 -- most 500), goal atoms (at most 100)"
 unfoldable pub countTests : List ℕ → List Bool
 countTests w =
-    leb 1 (getD w 0 0) ∷
-    leb (getD w 0 0) mostObjects ∷
-    leb 1 (getD w 1 0) ∷
-    leb (getD w 1 0) mostPredicates ∷
-    leb (getD w 2 0) mostSchemas ∷
-    leb (getD w 3 0) mostSchemaAtoms ∷
-    leb (getD w 4 0) mostInitial ∷
-    leb (getD w 5 0) mostGoal ∷ []
+    leb 1 (headIn w .objects) ∷
+    leb (headIn w .objects) mostObjects ∷
+    leb 1 (headIn w .predicates) ∷
+    leb (headIn w .predicates) mostPredicates ∷
+    leb (headIn w .schemas) mostSchemas ∷
+    leb (headIn w .schemaAtoms) mostSchemaAtoms ∷
+    leb (headIn w .initialAtoms) mostInitial ∷
+    leb (headIn w .goalAtoms) mostGoal ∷ []
 
 -- "P arities (0 to 4)"
 unfoldable pub aritiesFit : List ℕ → Bool
 unfolding all upTo arityIn
-aritiesFit w = all (λ p. leb (arityIn w p) mostArity) (upTo (getD w 1 0))
+aritiesFit w = all (λ p. leb (arityIn w p) mostArity) (upTo (headIn w .predicates))
 
 -- "Unused words .. are 0": the argument words of atom i behind its predicate's arity
 unfoldable pub unusedZero : List ℕ → ℕ → Bool
@@ -38,9 +39,6 @@ unfolding zerosAt atomBase arityIn atomIn
 unusedZero w i =
     let arity = arityIn w (atomIn w i .pred) in
     zerosAt w (atomBase w i + 4 + arity) (mostArity - arity)
-
-abbrev pub aritiesIn : List ℕ → List ℕ
-aritiesIn w = wordsAt w headWords (getD w 1 0)
 
 -- atom i has a known predicate, arguments below the bound, and unused words 0
 unfoldable pub argWordsFit : List ℕ → ℕ → ℕ → Bool
@@ -51,12 +49,12 @@ argWordsFit w bound i = argsFit (aritiesIn w) bound (atomIn w i .pred) (atomIn w
 unfoldable pub numberFits : List ℕ → ℕ → Bool
 unfolding schemaNumberIn
 numberFits w i =
-    ltb (schemaNumberIn w i) (getD w 2 0) && leb (schemaNumberIn w (i - 1)) (schemaNumberIn w i)
+    ltb (schemaNumberIn w i) (headIn w .schemas) && leb (schemaNumberIn w (i - 1)) (schemaNumberIn w i)
 
 -- "all atoms in file order": the atoms of each schema follow those of the schema before it
 unfoldable pub numbersFit : List ℕ → Bool
 unfolding all upTo numberFits
-numbersFit w = all (numberFits w) (upTo (getD w 3 0))
+numbersFit w = all (numberFits w) (upTo (headIn w .schemaAtoms))
 
 -- "no atom twice in one role": atom i stands again behind it, before an end
 unfoldable pub standsAgain : List ℕ → ℕ → ℕ → Bool
@@ -75,9 +73,6 @@ unfoldable pub partsFit : List Atom → Bool
 unfolding partCount noGap
 partsFit atoms = leb (partCount atoms) mostParts && noGap atoms
 
-abbrev pub paramsIn : List ℕ → ℕ → ℕ
-paramsIn w s = getD w (headWords + getD w 1 0 + s) 0
-
 -- the atoms at these indices, with the parameter count of schema s, are a schema in words
 unfoldable pub schemaWordsFit : List ℕ → ℕ → List ℕ → Bool
 unfolding all schemaFits wordsAt atomIn unusedZero
@@ -87,41 +82,34 @@ schemaWordsFit w s is =
 -- the indices of the atoms of schema s
 unfoldable pub indicesOf : List ℕ → ℕ → List ℕ
 unfolding filter upTo schemaNumberIn
-indicesOf w s = filter (λ i. eqb s (schemaNumberIn w i)) (upTo (getD w 3 0))
+indicesOf w s = filter (λ i. eqb s (schemaNumberIn w i)) (upTo (headIn w .schemaAtoms))
 
 -- the atoms that name each schema are one
 unfoldable pub schemasFit : List ℕ → Bool
 unfolding all upTo schemaWordsFit indicesOf
-schemasFit w = all (λ s. schemaWordsFit w s (indicesOf w s)) (upTo (getD w 2 0))
+schemasFit w = all (λ s. schemaWordsFit w s (indicesOf w s)) (upTo (headIn w .schemas))
 
 -- "schema and part of roles 3 and 4, are 0"
 unfoldable pub factWordsFit : List ℕ → ℕ → ℕ → Bool
 unfolding argWordsFit schemaNumberIn atomIn
 factWordsFit w r i =
     eqb (schemaNumberIn w i) 0 && (eqb (atomIn w i .role) r &&
-    (eqb (atomIn w i .part) 0 && argWordsFit w (getD w 0 0) i))
+    (eqb (atomIn w i .part) 0 && argWordsFit w (headIn w .objects) i))
 
 -- the n atoms from i on are ground atoms of role r, strictly ascending
 unfoldable pub factsWordsFit : List ℕ → ℕ → ℕ → ℕ → Bool
 unfolding all upFrom factWordsFit ascending factIn
 factsWordsFit w r i n = all (factWordsFit w r) (upFrom i n) && ascending (factsIn w i n)
 
--- the number of atoms, and of the words before "Zeros fill the rest"
-abbrev pub atomTotal : List ℕ → ℕ
-atomTotal w = getD w 3 0 + getD w 4 0 + getD w 5 0
-
-abbrev pub wordsUsed : List ℕ → ℕ
-wordsUsed w = headWords + getD w 1 0 + getD w 2 0 + atomSize * atomTotal w
-
 -- what the tests of the counts and the arities leave known: every word of an atom lies in the table
 pub record Roomy (w : List ℕ) : Type 0 where
   pub inside : wordsUsed w ≤ length w
-  pub few : wordsUsed w ≤ 13406
-  pub arities : (p : ℕ) → p < getD w 1 0 → arityIn w p ≤ mostArity
+  pub few : wordsUsed w ≤ tableLength
+  pub arities : (p : ℕ) → p < headIn w .predicates → arityIn w p ≤ mostArity
 
 -- each atom from one index to another has a known predicate
 abbrev pub KnownIn : List ℕ → ℕ → ℕ → Type 0
-KnownIn w from to = (i : ℕ) → from ≤ i → i < to → atomIn w i .pred < getD w 1 0
+KnownIn w from to = (i : ℕ) → from ≤ i → i < to → atomIn w i .pred < headIn w .predicates
 
 -- the roles of the atoms from one index to another never fall
 abbrev pub RolesRise : List ℕ → ℕ → ℕ → Type 0
@@ -130,6 +118,6 @@ RolesRise w from to = (i j : ℕ) → from ≤ i → i ≤ j → j < to → atom
 -- `end` is where the atoms of schema s, which begin at `start`, end
 pub record RunOf (w : List ℕ) (s start end : ℕ) : Type 0 where
   pub from : start ≤ end
-  pub to : end ≤ getD w 3 0
+  pub to : end ≤ headIn w .schemaAtoms
   pub inside : (i : ℕ) → start ≤ i → i < end → schemaNumberIn w i ≡ s
-  pub beyond : end < getD w 3 0 → schemaNumberIn w end ≡ s → ⊥
+  pub beyond : end < headIn w .schemaAtoms → schemaNumberIn w end ≡ s → ⊥

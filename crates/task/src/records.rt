@@ -156,7 +156,8 @@ pub(crate) fn remove_row(state: &mut [u16], n: usize, k: usize)
 pub(crate) fn put_in(state: &mut [u16], n: usize, number: u64) -> usize
     requires { ⌜ recordSize * n ≤ length (now state) ⌝ }
     requires { ⌜ RowsAscend (now state) n ⌝ }
-    requires { ⌜ (((i : ℕ) → i < n → rowNumber (now state) i ≡ number → ⊥) → recordSize * n + recordSize ≤ length (now state)) ×
+    requires { ⌜ (((i : ℕ) → i < n → rowNumber (now state) i ≡ number → ⊥) →
+        recordSize * n + recordSize ≤ length (now state)) ×
         (number < 72057594037927936) ⌝ }
     ensures { λ r. ⌜ ((t : Task) (f : Fact) → Known t (now (state .entry)) n f number →
         Keeps t (now (state .exit)) r (insert f (stateIn t (now (state .entry)) n))) ⌝ }
@@ -173,7 +174,8 @@ pub(crate) fn put_in(state: &mut [u16], n: usize, number: u64) -> usize
 
 // Replaces row k by one with this number, whose place is before row j: the rows between the two places move.
 pub(crate) fn replace(state: &mut [u16], k: usize, j: usize, number: u64)
-    requires { ⌜ (recordSize * k + recordSize ≤ length (now state)) × (recordSize * j ≤ length (now state)) × (number < 72057594037927936) ⌝ }
+    requires { ⌜ (recordSize * k + recordSize ≤ length (now state)) × (recordSize * j ≤ length (now state)) ×
+        (number < 72057594037927936) ⌝ }
     ensures { λ _. ⌜ Replaced (now (state .entry)) k j number (now (state .exit)) ⌝ }
 {
     if j <= k {

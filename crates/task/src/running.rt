@@ -17,6 +17,7 @@ ghost use mathlib.Core.Bool.{true};
 ghost use mathlib.Core.Option.{none};
 ghost use Prim.Native.Nat.{suc, _+_, _*_, _≤_, _<_};
 ghost use lib.ListN.{length, getD};
+ghost use Rattle.task.specs.Layout.{headIn};
 ghost use Rattle.task.specs.Table.{taskOf, isTable};
 ghost use Rattle.task.specs.Run.{
   stepAt,
@@ -52,7 +53,8 @@ pub enum Ended {
 fn schema_starts(table: &[u16], starts: &mut [u16; MOST_SCHEMAS + 1])
     requires { ⌜ isTable (now table) ≡ true ⌝ }
     requires { ⌜ (length (now starts) ≡ mostSchemas + 1) × (getD (now starts) 0 0 ≡ 0) ⌝ }
-    ensures { λ _. ⌜ (length (now (starts .exit)) ≡ mostSchemas + 1) × Starts (taskOf (now (table .entry))) (now (starts .exit)) ⌝ }
+    ensures { λ _. ⌜ (length (now (starts .exit)) ≡ mostSchemas + 1) ×
+        Starts (taskOf (now (table .entry))) (now (starts .exit)) ⌝ }
 {
     let count = word(table, 3) as usize;
     let mut k = 0;
@@ -67,7 +69,7 @@ fn schema_starts(table: &[u16], starts: &mut [u16; MOST_SCHEMAS + 1])
 // The first atom from `from` on that has another role, or `to`.
 fn role_end(table: &[u16], from: usize, to: usize, role: u16) -> usize
     requires { ⌜ isTable (now table) ≡ true ⌝ }
-    requires { ⌜ (from ≤ to) × (to ≤ getD (now table) 3 0) ⌝ }
+    requires { ⌜ (from ≤ to) × (to ≤ headIn (now table) .schemaAtoms) ⌝ }
     ensures { λ r. ⌜ RoleEnds (now (table .entry)) from to role r ⌝ }
 {
     let mut k = from;

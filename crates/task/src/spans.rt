@@ -15,7 +15,8 @@ ghost use mathlib.Core.Bool.{true};
 ghost use Prim.Native.Nat.{_+_, _-_, _*_, _≤_, _<_};
 ghost use lib.ListN.{length, getD};
 ghost use Rattle.words.specs.Lists.{all};
-ghost use Rattle.task.specs.Table.{atomBase, factIn, taskOf, isTable};
+ghost use Rattle.task.specs.Layout.{atomTotal, atomBase};
+ghost use Rattle.task.specs.Table.{factIn, taskOf, isTable};
 ghost use Rattle.task.specs.Run.{holds, insertAll, stateIn, roomIn, isState};
 ghost use Rattle.task.specs.Records.{recordNumber, Keeps};
 ghost use Rattle.task.specs.Limits.{atomSize, stepSize};
@@ -25,7 +26,7 @@ ghost use Rattle.task.specs.Spans.{groundAt, groundSpan, objectIn, argum
 // The word at which atom k of a table begins.
 pub(crate) fn atom_at(table: &[u16], k: usize) -> usize
     requires { ⌜ isTable (now table) ≡ true ⌝ }
-    requires { ⌜ k < getD (now table) 3 0 + getD (now table) 4 0 + getD (now table) 5 0 ⌝ }
+    requires { ⌜ k < atomTotal (now table) ⌝ }
     ensures { λ r. ⌜ (r ≡ atomBase (now (table .entry)) k) × (r + atomSize ≤ length (now (table .entry))) ⌝ }
 {
     HEAD_WORDS + word(table, PREDICATES) as usize + word(table, SCHEMAS) as usize + ATOM_SIZE * k
@@ -71,7 +72,7 @@ pub(crate) fn ground(table: &[u16], k: usize, steps: &[u16], i: usize) -> u64
 // The number of an initial or goal atom.
 pub(crate) fn fact_number(table: &[u16], k: usize) -> u64
     requires { ⌜ isTable (now table) ≡ true ⌝ }
-    requires { ⌜ k < getD (now table) 3 0 + getD (now table) 4 0 + getD (now table) 5 0 ⌝ }
+    requires { ⌜ k < atomTotal (now table) ⌝ }
     ensures { λ r. ⌜ r ≡ recordNumber (factIn (now (table .entry)) k) ⌝ }
 {
     let at = atom_at(table, k);

@@ -42,7 +42,8 @@ pub fn is_record(table: &[u16], state: &[u16], i: usize) -> bool
 // Whether the record at word a comes before that at word b. Five words, so that the compiler lays the loop out flat.
 pub fn record_less(state: &[u16], a: usize, b: usize) -> bool
     requires { ⌜ (a + recordSize ≤ length (now state)) × (b + recordSize ≤ length (now state)) ⌝ }
-    ensures { λ r. ⌜ r ≡ lessList (wordsAt (now (state .entry)) a recordSize) (wordsAt (now (state .entry)) b recordSize) ⌝ }
+    ensures { λ r. ⌜ r ≡ lessList (wordsAt (now (state .entry)) a recordSize)
+        (wordsAt (now (state .entry)) b recordSize) ⌝ }
 {
     for k in 0..RECORD_SIZE {
         let x = state[a + k];

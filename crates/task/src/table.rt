@@ -5,9 +5,10 @@ mod schemas;
 
 ghost use mathlib.Core.Path.{_≡_};
 ghost use Prim.Native.Nat.{_+_, _<_, _≤_};
-ghost use lib.ListN.{length, getD};
+ghost use lib.ListN.{length};
 ghost use Rattle.words.specs.Lists.{every};
-ghost use Rattle.task.specs.Limits.{tableWords, headWords};
+ghost use Rattle.task.specs.Layout.{paramsBase};
+ghost use Rattle.task.specs.Limits.{tableWords};
 ghost use Rattle.task.specs.Table.{isTable};
 ghost use Rattle.task.specs.WordTests.{countTests, aritiesFit, numbersFit, Roomy};
 use crate::limits;
@@ -48,7 +49,7 @@ fn counts_fit(table: &[u16]) -> bool
 
 // Whether every arity is at most 4.
 fn arities_fit(table: &[u16]) -> bool
-    requires { ⌜ headWords + getD (now table) 1 0 ≤ length (now table) ⌝ }
+    requires { ⌜ paramsBase (now table) ≤ length (now table) ⌝ }
     ensures { λ r. ⌜ r ≡ aritiesFit (now (table .entry)) ⌝ }
 {
     let predicates = word(table, 1);

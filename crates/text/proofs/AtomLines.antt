@@ -1,5 +1,7 @@
 -- The line of an atom by the words of the table, as code writes it: key, predicate, colon, arguments, byte 10; and how
 -- long it can be.
+use Rattle.task.specs.Limits.{atomSize}
+use Rattle.task.specs.Layout.{arityIn}
 use Prim.Native.Nat.{ℕ, zero, suc, _+_, _-_, _*_, _≤_, _<_}
 use mathlib.Core.Path.{_≡_, refl, sym, _∙_, ap, ap₂}
 use mathlib.Core.List.{List, [], _∷_, _++_, map, append-assoc}
@@ -9,7 +11,6 @@ use native.Mathlib.Decide.{decLt}
 use lib.ListN.{length, getD, length-append, length-map}
 use Rattle.words.specs.Lists.{upTo, upFrom}
 use Rattle.words.specs.Words.{wordsAt}
-use Rattle.task.specs.Table.{arityIn}
 use Rattle.words.proofs.Lists.{In, here, there, length-upTo}
 use Rattle.text.specs.Lines.{bytes, equals, colon, newline, digits, commaed, entryBytes, line}
 use Rattle.text.specs.Text.{keyName}
@@ -139,7 +140,7 @@ module _ (w : List ℕ) (b : ℕ) where
 
 -- ---- the lines of atoms, from atom k on
 abbrev pub atomLine : List ℕ → ℕ → ℕ → List ℕ
-atomLine w b k = atomText w (b + 8 * k)
+atomLine w b k = atomText w (b + atomSize * k)
 
 pub atoms-onwards : (w : List ℕ) (b n : ℕ) → onwards (atomLine w b) 0 n ≡ atomsText w b n
 unfolding atomsText

@@ -7,7 +7,7 @@ use mathlib.Core.List.{List, [], _∷_, _++_, map, append-assoc, append-nil}
 use native.Mathlib.Omega.{arith}
 use lib.ListN.{length, getD, length-append, length-map, take}
 use borrow.Author.Tests.{le-ltb, lt-ltb}
-use Rattle.task.specs.Limits.{tableWords}
+use Rattle.task.specs.Limits.{tableWords, headWords, atomSize, tableLength}
 use Rattle.words.specs.Lists.{any, concatMap, upTo}
 use Rattle.task.specs.Task.{Atom, Fact, argsFit, sameAtom, schemaAtoms}
 use Rattle.task.specs.Table.{atomWords, factWords, schemasFrom}
@@ -18,7 +18,7 @@ use Rattle.text.specs.Reading.{goOn, refuse}
 use Rattle.text.specs.Text.{Draft, rolePhase, addAtom, Line, atomLine, takeLine}
 use Rattle.text.specs.ReadCode.{Standing, Wrote, Listed, Fitting, bareAtom, rowSame, phaseNumber}
 use Rattle.text.specs.Holding.{Few, rowAt, rowsOf, Holds, Touched, InSchema, withAtom, oneAtomMore, entryOf}
-use Rattle.text.specs.Holding.{Grows, firstRow}
+use Rattle.text.specs.Holding.{Grows, firstRow, rowsAt}
 use Rattle.text.proofs.Reading.{need-met}
 use Rattle.text.proofs.Growing.{all-snoc}
 use Rattle.text.proofs.LineTurns.{need-fails}
@@ -28,7 +28,7 @@ use Rattle.text.proofs.RowTests.{listed-take}
 use Rattle.text.specs.declared.draft.Counts.{Counts}
 use Rattle.text.proofs.Dispatch.{atom-place}
 
-pub few-words : {c : Counts} → Few c → c .closed + c .atoms < 1000 → rowAt c + 8 ≤ 13406
+pub few-words : {c : Counts} → Few c → c .closed + c .atoms < 1000 → rowAt c + atomSize ≤ tableLength
 few-words f l =
     let a = f .predicates in
     let b = f .initial in
@@ -36,7 +36,8 @@ few-words f l =
     omega arith
 
 -- a write inside the table touches nothing beyond
-pub inside-touched : {w after : List ℕ} {at n : ℕ} {f : ℕ → ℕ} → at + n ≤ 13406 → Wrote w at n f after → Touched w after
+pub inside-touched : {w after : List ℕ} {at n : ℕ} {f : ℕ → ℕ} → at + n ≤ tableLength → Wrote w at n f after →
+    Touched w after
 inside-touched l h = record { size = h .size; beyond = λ j m. h .behind j (let z = tableWords-is in omega arith) }
 
 pub untouched : (w : List ℕ) → Touched w w
@@ -44,26 +45,26 @@ untouched w = record { size = refl; beyond = λ j m. refl }
 
 -- ---- the words behind a new row
 module _ {d : Draft} {w after : List ℕ} {c : Counts} (row : List ℕ) (h : Holds d w c)
-    (e : length row ≡ 8) (wrote : Wrote w (rowAt c) 8 (λ k. getD row k 0) after) where
-  pub arities-again : Standing after 6 (d .task .arities)
+    (e : length row ≡ atomSize) (wrote : Wrote w (rowAt c) atomSize (λ k. getD row k 0) after) where
+  pub arities-again : Standing after headWords (d .task .arities)
   arities-again =
       let p = h .predicates in
-      stays-before wrote 6 (d .task .arities) (omega arith) (h .arities-stand)
+      stays-before wrote headWords (d .task .arities) (omega arith) (h .arities-stand)
 
-  pub params-again : Standing after (6 + length (d .task .arities)) (map (λ s. s .params) (d .task .schemas))
+  pub params-again : Standing after (headWords + length (d .task .arities)) (map (λ s. s .params) (d .task .schemas))
   params-again =
       let p = h .predicates in
       let s = h .schemas in
       let f = h .few .schemas in
       let m = length-map (d .task .schemas) (λ s. s .params) in
-      stays-before wrote (6 + length (d .task .arities)) (map (λ s. s .params) (d .task .schemas)) (omega arith)
+      stays-before wrote (headWords + length (d .task .arities)) (map (λ s. s .params) (d .task .schemas)) (omega arith)
       (h .params-stand)
 
-  pub row-behind : Standing after (206 + length (d .task .arities)) (rowsOf d ++ row)
+  pub row-behind : Standing after (rowsAt (length (d .task .arities))) (rowsOf d ++ row)
   row-behind =
       let p = h .predicates in
       let l = h .rows-length in
-      let base = 206 + length (d .task .arities) in
+      let base = rowsAt (length (d .task .arities)) in
       at-join after base (rowsOf d) row (stays-before wrote base (rowsOf d) (omega arith) (h .rows-stand))
       (at-move after (rowAt c) (base + length (rowsOf d)) row (omega arith) (stands wrote row e (λ k l. refl)))
 
@@ -102,26 +103,26 @@ module _ {d : Draft} {w : List ℕ} {c : Counts} (h : Holds d w c) where
   abbrev goalRows : List ℕ
   goalRows = concatMap (factWords 4) (d .task .goal)
 
-  pub atoms-length : length atomRows ≡ 8 * c .atoms
+  pub atoms-length : length atomRows ≡ atomSize * c .atoms
   atoms-length =
       let e = h .atoms in
       let l = length-blocks (atomWords (length (d .task .schemas))) (d .current .atoms)
       (λ a i. length-atomWords (length (d .task .schemas)) a (atom-sized a i .short)) in
       omega arith
 
-  pub inits-length : length initRows ≡ 8 * c .initial
+  pub inits-length : length initRows ≡ atomSize * c .initial
   inits-length =
       let e = h .initial in
       let l = length-blocks (factWords 3) (d .task .init) (length-facts (d .task) 3 (d .task .init) init-sized) in
       omega arith
 
-  pub goals-length : length goalRows ≡ 8 * c .goal
+  pub goals-length : length goalRows ≡ atomSize * c .goal
   goals-length =
       let e = h .goal in
       let l = length-blocks (factWords 4) (d .task .goal) (length-facts (d .task) 4 (d .task .goal) goal-sized) in
       omega arith
 
-  pub schemas-length : length schemaRows ≡ 8 * c .closed
+  pub schemas-length : length schemaRows ≡ atomSize * c .closed
   unfolding rowsOf
   schemas-length =
       let total = h .rows-length in
@@ -134,22 +135,23 @@ module _ {d : Draft} {w : List ℕ} {c : Counts} (h : Holds d w c) where
       omega arith
 
   -- the rows of the schema that is being read
-  pub atoms-stand : Standing w (206 + c .predicates + 8 * c .closed) atomRows
+  pub atoms-stand : Standing w (rowsAt (c .predicates) + atomSize * c .closed) atomRows
   unfolding rowsOf
   atoms-stand =
       let p = h .predicates in
       let l = schemas-length in
-      at-left w (206 + c .predicates + 8 * c .closed) atomRows (initRows ++ goalRows)
-      (at-move w ((206 + length A) + length schemaRows) (206 + c .predicates + 8 * c .closed)
+      at-left w (rowsAt (c .predicates) + atomSize * c .closed) atomRows (initRows ++ goalRows)
+      (at-move w ((rowsAt (length A)) + length schemaRows) (rowsAt (c .predicates) + atomSize * c .closed)
       (atomRows ++ (initRows ++ goalRows)) (omega arith)
-      (at-right w (206 + length A) schemaRows (atomRows ++ (initRows ++ goalRows)) (h .rows-stand)))
+      (at-right w (rowsAt (length A)) schemaRows (atomRows ++ (initRows ++ goalRows)) (h .rows-stand)))
 
   -- one row of them
   pub atom-stands : (i : ℕ) (a₀ : Atom) → i < length (d .current .atoms) →
-      Standing w (206 + c .predicates + 8 * c .closed + 8 * i)
+      Standing w (rowsAt (c .predicates) + atomSize * c .closed + atomSize * i)
       (atomWords (length (d .task .schemas)) (getD (d .current .atoms) i a₀))
   atom-stands i a₀ l =
-      at-block (atomWords (length (d .task .schemas))) w (206 + c .predicates + 8 * c .closed) (d .current .atoms) a₀
+      at-block (atomWords (length (d .task .schemas))) w (rowsAt (c .predicates) + atomSize * c .closed)
+      (d .current .atoms) a₀
       (λ a j. length-atomWords (length (d .task .schemas)) a (atom-sized a j .short)) atoms-stand i l
 
 -- ---- what the code found, said of the draft
@@ -163,12 +165,12 @@ atom-fits {d = d} {p = p} {ns = ns} h f e l =
 
 -- a row by other names of its parts
 pub row-named : {w after : List ℕ} {at at′ s s′ : ℕ} (r p : ℕ) {xs ys : List ℕ} → at ≡ at′ → s ≡ s′ → xs ≡ ys →
-    Wrote w at 8 (λ k. getD (atomWords s (bareAtom r p xs)) k 0) after →
-    Wrote w at′ 8 (λ k. getD (atomWords s′ (bareAtom r p ys)) k 0) after
+    Wrote w at atomSize (λ k. getD (atomWords s (bareAtom r p xs)) k 0) after →
+    Wrote w at′ atomSize (λ k. getD (atomWords s′ (bareAtom r p ys)) k 0) after
 row-named {w} {after} {at} {at′} {s} {s′} r p {xs} {ys} e f g h =
-    subst (λ (i : ℕ). Wrote w i 8 (λ k. getD (atomWords s′ (bareAtom r p ys)) k 0) after) e
-    (subst (λ (i : ℕ). Wrote w at 8 (λ k. getD (atomWords i (bareAtom r p ys)) k 0) after) f
-    (subst (λ (zs : List ℕ). Wrote w at 8 (λ k. getD (atomWords s (bareAtom r p zs)) k 0) after) g h))
+    subst (λ (i : ℕ). Wrote w i atomSize (λ k. getD (atomWords s′ (bareAtom r p ys)) k 0) after) e
+    (subst (λ (i : ℕ). Wrote w at atomSize (λ k. getD (atomWords i (bareAtom r p ys)) k 0) after) f
+    (subst (λ (zs : List ℕ). Wrote w at atomSize (λ k. getD (atomWords s (bareAtom r p zs)) k 0) after) g h))
 
 -- ---- an atom of a schema
 module _ {d : Draft} {w : List ℕ} {c : Counts} (h : Holds d w c) (r p : ℕ) (ns : List ℕ) where
@@ -180,20 +182,23 @@ module _ {d : Draft} {w : List ℕ} {c : Counts} (h : Holds d w c) (r p : ℕ) (
 
   -- refusal 6: the code's search among the rows is the definition's among the atoms
   repeated-is : {after : List ℕ} → Sized (d .task .arities) p ns →
-      Wrote w (rowAt c) 8 (λ k. getD (atomWords S new) k 0) after →
-      any (λ i. rowSame after (rowAt c) (206 + c .predicates + 8 * c .closed + 8 * i)) (upTo (c .atoms)) ≡
+      Wrote w (rowAt c) atomSize (λ k. getD (atomWords S new) k 0) after →
+      any (λ i. rowSame after (rowAt c) (rowsAt (c .predicates) + atomSize * c .closed + atomSize * i))
+      (upTo (c .atoms)) ≡
       any (sameAtom new) (d .current .atoms)
   repeated-is {after} fits wrote =
-      any-index (λ i. rowSame after (rowAt c) (206 + c .predicates + 8 * c .closed + 8 * i)) (sameAtom new)
+      any-index (λ i. rowSame after (rowAt c) (rowsAt (c .predicates) + atomSize * c .closed + atomSize * i))
+      (sameAtom new)
       (d .current .atoms) new (c .atoms) (h .atoms) (λ i l.
       let b = getD (d .current .atoms) i new in
       let size : Sized (d .task .arities) (b .pred) (b .args) = atom-sized h b (in-getD (d .current .atoms) i new l) in
       let n = h .atoms in
       let e = length-atomWords S b (size .short) in
-      same-rows after (rowAt c) (206 + c .predicates + 8 * c .closed + 8 * i) S new b (fits .short) (size .short)
+      same-rows after (rowAt c) (rowsAt (c .predicates) + atomSize * c .closed + atomSize * i) S new b (fits .short)
+      (size .short)
       (λ q. fits .count ∙ (ap (λ (x : ℕ). getD (d .task .arities) x 0) q ∙ sym (size .count)))
       (stands wrote (atomWords S new) (length-atomWords S new (fits .short)) (λ k m. refl))
-      (stays-before wrote (206 + c .predicates + 8 * c .closed + 8 * i) (atomWords S b) (omega arith)
+      (stays-before wrote (rowsAt (c .predicates) + atomSize * c .closed + atomSize * i) (atomWords S b) (omega arith)
       (atom-stands h i new l)))
 
   rows-more : d .task .init ≡ [] → d .task .goal ≡ [] → rowsOf (withAtom d r p ns) ≡ rowsOf d ++ atomWords S new
@@ -207,7 +212,8 @@ module _ {d : Draft} {w : List ℕ} {c : Counts} (h : Holds d w c) (r p : ℕ) (
 
   atom-held : {after : List ℕ} → InSchema c r → c .atoms < 64 → c .closed + c .atoms < 1000 →
       argsFit (d .task .arities) (d .current .params) p ns ≡ true →
-      Wrote w (rowAt c) 8 (λ k. getD (atomWords S new) k 0) after → Holds (withAtom d r p ns) after (oneAtomMore c r)
+      Wrote w (rowAt c) atomSize (λ k. getD (atomWords S new) k 0) after →
+      Holds (withAtom d r p ns) after (oneAtomMore c r)
   unfolding withAtom rolePhase
   atom-held {after} inside l m fits wrote =
       let o = h .order in
@@ -261,7 +267,7 @@ module _ {d : Draft} {w : List ℕ} {c : Counts} (h : Holds d w c) (r p : ℕ) (
         long = long-again (atomWords S new) h e wrote;
         arities-stand = arities-again (atomWords S new) h e wrote;
         params-stand = params-again (atomWords S new) h e wrote;
-        rows-stand = subst (Standing after (206 + length (d .task .arities))) (sym rows)
+        rows-stand = subst (Standing after (rowsAt (length (d .task .arities)))) (sym rows)
             (row-behind (atomWords S new) h e wrote);
         rows-length = ap length rows ∙ omega arith;
       }
@@ -313,7 +319,7 @@ module _ (d : Draft) (r p : ℕ) (ns : List ℕ) where
 -- ---- an atom's row is written
 -- the code's search for the new row among those of the schema
 abbrev pub again : Counts → List ℕ → Bool
-again c after = any (λ i. rowSame after (rowAt c) (firstRow c + 8 * i)) (upTo (c .atoms))
+again c after = any (λ i. rowSame after (rowAt c) (firstRow c + atomSize * i)) (upTo (c .atoms))
 
 -- what follows for it, where its predicate and arguments fit
 pub record AtomPut (d : Draft) (c : Counts) (r p : ℕ) (ns after : List ℕ) : Type 0 where
@@ -324,7 +330,8 @@ pub record AtomPut (d : Draft) (c : Counts) (r p : ℕ) (ns after : List ℕ) : 
 pub atom-put : {d : Draft} {w kept ns after : List ℕ} {c : Counts} {row r p count : ℕ} {told : Bool} →
     Holds d w c → InSchema c r → c .atoms < 64 → c .closed + c .atoms < 1000 →
     Fitting w (c .predicates) (c .params) p kept count told → told ≡ true → length kept ≡ 4 → Listed ns count kept →
-    row ≡ rowAt c → Wrote w row 8 (λ k. getD (atomWords (c .schemas) (bareAtom r p (take count kept))) k 0) after →
+    row ≡ rowAt c → Wrote w row atomSize (λ k. getD (atomWords (c .schemas) (bareAtom r p (take count kept))) k 0)
+    after →
     AtomPut d c r p ns after
 atom-put {d} {w} {kept} {ns} {after} {c} {row} {r} {p} h inside below total fitting told four s at put =
     let fits : argsFit (d .task .arities) (d .current .params) p ns ≡ true = sym (atom-fits h fitting four s) ∙ told in

@@ -9,18 +9,19 @@ use native.Mathlib.Omega.{arith}
 use lib.ListN.{length, getD, length-append, take}
 use borrow.Author.Tests.{le-ltb, lt-ltb}
 use Rattle.words.specs.Lists.{all, concatMap, lastOr, lessList}
-use Rattle.task.specs.Task.{Fact, Schema, argsFit, factLess}
+use Rattle.task.specs.Limits.{atomSize, tableLength}
+use Rattle.task.specs.Task.{Fact, Schema, argsFit, factLess, noSchema}
 use Rattle.task.specs.Table.{atomWords, factWords, schemasFrom}
 use Rattle.words.specs.Words.{wordsAt}
 use Rattle.words.proofs.Lists.{In, all-in, in-getD, append-concatMap}
 use Rattle.words.proofs.Words.{At, at-left, at-right, at-move}
 use Rattle.task.proofs.Tables.{at-block, Sized, sized, length-atomWords, length-facts, factAtom, factWords-is}
 use Rattle.text.specs.Reading.{goOn, refuse}
-use Rattle.text.specs.Text.{Draft, inInit, inGoal, noSchema, atPhase, withInit, withGoal, follows, addFact, init}
+use Rattle.text.specs.Text.{Draft, inInit, inGoal, atPhase, withInit, withGoal, follows, addFact, init}
 use Rattle.text.specs.Text.{Phase, Line, takeLine}
 use Rattle.text.specs.ReadCode.{Standing, Wrote, Listed, Fitting, bareAtom, phaseNumber}
 use Rattle.text.specs.Holding.{Few, rowAt, rowsOf, Holds, Allows, factKey, factLine, factsOf, withFacts, soFar}
-use Rattle.text.specs.Holding.{withCounted, oneFactMore, Grows, entryOf}
+use Rattle.text.specs.Holding.{withCounted, oneFactMore, Grows, entryOf, rowsAt}
 use Rattle.text.proofs.Reading.{need-met}
 use Rattle.text.proofs.Growing.{all-snoc}
 use Rattle.text.proofs.LineTurns.{need-fails}
@@ -37,7 +38,7 @@ use Rattle.text.specs.declared.draft.Kind.{Kind}
 abbrev pub factOf : ℕ → List ℕ → Fact
 factOf p ns = record { pred = p; args = ns }
 
-pub fact-room : {c : Counts} → Few c → c .initial + c .goal < 600 → rowAt c + 8 ≤ 13406
+pub fact-room : {c : Counts} → Few c → c .initial + c .goal < 600 → rowAt c + atomSize ≤ tableLength
 fact-room f l =
     let a = f .predicates in
     let t = f .total in
@@ -52,12 +53,12 @@ fact-fits {d = d} {p = p} {ns = ns} h f e l =
 
 -- a fact's row by its words
 pub fact-row : {w after : List ℕ} {at at′ : ℕ} (r p : ℕ) {xs ys : List ℕ} → at ≡ at′ → xs ≡ ys →
-    Wrote w at 8 (λ k. getD (atomWords 0 (bareAtom r p xs)) k 0) after →
-    Wrote w at′ 8 (λ k. getD (factWords r (factOf p ys)) k 0) after
+    Wrote w at atomSize (λ k. getD (atomWords 0 (bareAtom r p xs)) k 0) after →
+    Wrote w at′ atomSize (λ k. getD (factWords r (factOf p ys)) k 0) after
 fact-row {w} {after} {at} {at′} r p {xs} {ys} e g h =
-    subst (λ (i : ℕ). Wrote w i 8 (λ k. getD (factWords r (factOf p ys)) k 0) after) e
-    (subst (λ (zs : List ℕ). Wrote w at 8 (λ k. getD (factWords r (factOf p zs)) k 0) after) g
-    (subst (λ (zs : List ℕ). Wrote w at 8 (λ k. getD zs k 0) after) (sym (factWords-is r (factOf p xs))) h))
+    subst (λ (i : ℕ). Wrote w i atomSize (λ k. getD (factWords r (factOf p ys)) k 0) after) e
+    (subst (λ (zs : List ℕ). Wrote w at atomSize (λ k. getD (factWords r (factOf p zs)) k 0) after) g
+    (subst (λ (zs : List ℕ). Wrote w at atomSize (λ k. getD zs k 0) after) (sym (factWords-is r (factOf p xs))) h))
 
 -- ---- what the code needs of the facts that are read
 -- where a fact may come, behind those of its kind
@@ -70,7 +71,8 @@ pub record FactPlace (c : Counts) (f : Facts) : Type 0 where
 pub record FactsRead (d : Draft) (w : List ℕ) (c : Counts) (f : Facts) (fs : List Fact) : Type 0 where
   pub count : f .read ≡ length fs
   pub fit : all (λ g. argsFit (d .task .arities) (d .task .objects) (g .pred) (g .args)) fs ≡ true
-  pub stand : Standing w (206 + c .predicates + 8 * (((c .closed + c .atoms) + c .initial) + c .goal - f .read))
+  pub stand : Standing w (rowsAt (c .predicates) + atomSize *
+      (((c .closed + c .atoms) + c .initial) + c .goal - f .read))
       (concatMap (factWords (f .role)) fs)
 
 -- ---- the tests of a fact
@@ -138,7 +140,7 @@ later-follows (g ∷ fs) f k e =
 module _ {d : Draft} {w after : List ℕ} {c : Counts} (h : Holds d w c) (facts : Facts) (fs : List Fact)
     (known : FactsRead d w c facts fs) (p : ℕ) (ns : List ℕ) where
   follows-is : 0 < facts .read → facts .read ≤ c .initial + c .goal → Sized (d .task .arities) p ns →
-      Wrote w (rowAt c) 8 (λ k. getD (factWords (facts .role) (factOf p ns)) k 0) after →
+      Wrote w (rowAt c) atomSize (λ k. getD (factWords (facts .role) (factOf p ns)) k 0) after →
       lessList (wordsAt after (rowAt c - 6) 6) (wordsAt after (rowAt c + 2) 6) ≡ follows fs (factOf p ns)
   follows-is pos few fits wrote =
       let f = factOf p ns in
@@ -148,18 +150,20 @@ module _ {d : Draft} {w after : List ℕ} {c : Counts} (h : Holds d w c) (facts 
       let g = getD fs k f in
       let total = ((c .closed + c .atoms) + c .initial) + c .goal in
       let size = fact-size k (omega arith) in
-      let place : (206 + c .predicates + 8 * (total - facts .read)) + 8 * k ≡ rowAt c - 8 = omega arith in
-      let old = at-move w ((206 + c .predicates + 8 * (total - facts .read)) + 8 * k) (rowAt c - 8)
+      let place : (rowsAt (c .predicates) + atomSize * (total - facts .read)) + atomSize * k ≡ rowAt c - atomSize =
+      omega arith in
+      let old = at-move w ((rowsAt (c .predicates) + atomSize * (total - facts .read)) + atomSize * k)
+      (rowAt c - atomSize)
       (factWords (facts .role) g) place
-      (at-block (factWords (facts .role)) w (206 + c .predicates + 8 * (total - facts .read)) fs f
+      (at-block (factWords (facts .role)) w (rowsAt (c .predicates) + atomSize * (total - facts .read)) fs f
       (length-facts (d .task) (facts .role) fs fs-sized) (known .stand) k (omega arith)) in
       let eight = length-facts (d .task) (facts .role) fs fs-sized g (in-getD fs k f (omega arith)) in
-      let z : rowAt c - 6 ≡ (rowAt c - 8) + 2 = omega arith in
+      let z : rowAt c - 6 ≡ (rowAt c - atomSize) + 2 = omega arith in
       ap (λ (i : ℕ). lessList (wordsAt after i 6) (wordsAt after (rowAt c + 2) 6)) z ∙
-      (less-rows (λ q. getD (d .task .arities) q 0) after (rowAt c - 8) (rowAt c) (facts .role) g f (size .short)
+      (less-rows (λ q. getD (d .task .arities) q 0) after (rowAt c - atomSize) (rowAt c) (facts .role) g f (size .short)
       (fits .short)
       (size .count) (fits .count)
-      (stays-before wrote (rowAt c - 8) (factWords (facts .role) g) (omega arith) old)
+      (stays-before wrote (rowAt c - atomSize) (factWords (facts .role) g) (omega arith) old)
       (stands wrote (factWords (facts .role) f) new-size (λ k m. refl)) ∙ sym (later-follows fs f k e))
     where
       fs-sized : (f : Fact) → In f fs → Sized (d .task .arities) (f .pred) (f .args)
@@ -170,7 +174,7 @@ module _ {d : Draft} {w after : List ℕ} {c : Counts} (h : Holds d w c) (facts 
           Sized (d .task .arities) (getD fs k (factOf p ns) .pred) (getD fs k (factOf p ns) .args)
       fact-size k l = fs-sized (getD fs k (factOf p ns)) (in-getD fs k (factOf p ns) l)
 
-      new-size : length (factWords (facts .role) (factOf p ns)) ≡ 8
+      new-size : length (factWords (facts .role) (factOf p ns)) ≡ atomSize
       new-size =
           rw (factWords-is (facts .role) (factOf p ns)) (length-atomWords 0 (factAtom (facts .role) (factOf p ns))
           (fits .short))
@@ -190,7 +194,7 @@ module _ {d : Draft} {w : List ℕ} {c : Counts} (h : Holds d w c) where
   goalRows = concatMap (factWords 4) (d .task .goal)
 
   abbrev base : ℕ
-  base = 206 + length (d .task .arities)
+  base = rowsAt (length (d .task .arities))
 
   facts-stand : At w ((base + length schemaRows) + length atomRows) (initRows ++ goalRows)
   unfolding rowsOf
@@ -257,7 +261,7 @@ module _ {d : Draft} {w : List ℕ} {c : Counts} (h : Holds d w c) (p : ℕ) (ns
 
   init-rows : d .current ≡ noSchema → d .task .goal ≡ [] →
       rowsOf (atPhase inInit (withInit (d .task) (d .task .init ++ (new ∷ [])))) ≡ rowsOf d ++ factWords 3 new
-  unfolding rowsOf atPhase withInit concatMap noSchema
+  unfolding rowsOf atPhase withInit concatMap
   init-rows s g =
       rw (s, g, append-concatMap (factWords 3) (d .task .init) (new ∷ []))
       (regroup (schemasFrom 0 (d .task .schemas)) (concatMap (factWords 3) (d .task .init)) (factWords 3 new))
@@ -267,7 +271,7 @@ module _ {d : Draft} {w : List ℕ} {c : Counts} (h : Holds d w c) (p : ℕ) (ns
 
   goal-rows : d .current ≡ noSchema →
       rowsOf (atPhase inGoal (withGoal (d .task) (d .task .goal ++ (new ∷ [])))) ≡ rowsOf d ++ factWords 4 new
-  unfolding rowsOf atPhase withGoal concatMap noSchema
+  unfolding rowsOf atPhase withGoal concatMap
   goal-rows s =
       rw (s, append-concatMap (factWords 4) (d .task .goal) (new ∷ []))
       (regroup (schemasFrom 0 (d .task .schemas)) (concatMap (factWords 3) (d .task .init))
@@ -276,7 +280,8 @@ module _ {d : Draft} {w : List ℕ} {c : Counts} (h : Holds d w c) (p : ℕ) (ns
       regroup : (x y z v : List ℕ) → x ++ ([] ++ (y ++ (z ++ (v ++ [])))) ≡ (x ++ ([] ++ (y ++ z))) ++ v
       regroup x y z v = simp (append-assoc, append-nil)
 
-  fact-length : (r : ℕ) → argsFit (d .task .arities) (d .task .objects) p ns ≡ true → length (factWords r new) ≡ 8
+  fact-length : (r : ℕ) → argsFit (d .task .arities) (d .task .objects) p ns ≡ true →
+      length (factWords r new) ≡ atomSize
   fact-length r fits =
       let size = sized (d .task .objects) (d .task .arities) p ns (h .low) fits in
       rw (factWords-is r new) (length-atomWords 0 (factAtom r new) (size .short))
@@ -301,7 +306,7 @@ module _ {d : Draft} {w : List ℕ} {c : Counts} (h : Holds d w c) (p : ℕ) (ns
     facts-held : {after : List ℕ} (row : List ℕ) → d .current ≡ noSchema → 8 ≤ phaseNumber place →
         (phaseNumber place ≤ 8 → goals ≡ []) → i ≡ length inits → g ≡ length goals → i ≤ 500 → g ≤ 100 →
         i + g ≡ c .initial + c .goal + 1 → all factFits inits ≡ true → all factFits goals ≡ true →
-        rowsOf grown ≡ rowsOf d ++ row → length row ≡ 8 → Wrote w (rowAt c) 8 (λ k. getD row k 0) after →
+        rowsOf grown ≡ rowsOf d ++ row → length row ≡ atomSize → Wrote w (rowAt c) atomSize (λ k. getD row k 0) after →
         Holds grown after (withCounted c place i g)
     unfolding atPhase
     facts-held {after} row s later no-goal ni ng fi fg more fit-i fit-g rows e wrote =
@@ -344,13 +349,14 @@ module _ {d : Draft} {w : List ℕ} {c : Counts} (h : Holds d w c) (p : ℕ) (ns
           long = long-again row h e wrote;
           arities-stand = arities-again row h e wrote;
           params-stand = params-again row h e wrote;
-          rows-stand = subst (Standing after (206 + length (d .task .arities))) (sym rows) (row-behind row h e wrote);
+          rows-stand = subst (Standing after (rowsAt (length (d .task .arities)))) (sym rows)
+              (row-behind row h e wrote);
           rows-length = ap length rows ∙ omega arith;
         }
 
   -- behind a fact that is taken the code holds the draft again
   fact-held : (k : Kind) → Allows c (factKey k) → {after : List ℕ} → length (factsOf k (d .task)) < soFar c k .most →
-      factFits new ≡ true → Wrote w (rowAt c) 8 (λ i. getD (factWords (soFar c k .role) new) i 0) after →
+      factFits new ≡ true → Wrote w (rowAt c) atomSize (λ i. getD (factWords (soFar c k .role) new) i 0) after →
       Holds (withFacts k d (factsOf k (d .task) ++ (new ∷ []))) after (oneFactMore c k)
   unfolding withInit withGoal
   fact-held kind.Initial allowed l fits wrote =
@@ -388,13 +394,13 @@ pub record FactPut (k : Kind) (f : Facts) (d : Draft) (c : Counts) (p : ℕ) (ns
 pub fact-put : (k : Kind) {f : Facts} {d : Draft} {w kept ns after : List ℕ} {c : Counts} {row p count : ℕ}
     {told : Bool} → Holds d w c → Allows c (factKey k) → f ≡ soFar c k → f .read < f .most →
     Fitting w (c .predicates) (c .objects) p kept count told → told ≡ true → length kept ≡ 4 → Listed ns count kept →
-    row ≡ rowAt c → Wrote w row 8 (λ i. getD (atomWords 0 (bareAtom (f .role) p (take count kept))) i 0) after →
+    row ≡ rowAt c → Wrote w row atomSize (λ i. getD (atomWords 0 (bareAtom (f .role) p (take count kept))) i 0) after →
     FactPut k f d c p ns after
 fact-put k {f} {d} {w} {kept} {ns} {after} {c} {row} {p} {count} h allowed e below fitting told four s at put =
     subst (λ (f : Facts). f .read < f .most → Written f → FactPut k f d c p ns after) (sym e) go below put
   where
     Written : Facts → Type 0
-    Written f = Wrote w row 8 (λ i. getD (atomWords 0 (bareAtom (f .role) p (take count kept))) i 0) after
+    Written f = Wrote w row atomSize (λ i. getD (atomWords 0 (bareAtom (f .role) p (take count kept))) i 0) after
 
     go : soFar c k .read < soFar c k .most → Written (soFar c k) → FactPut k (soFar c k) d c p ns after
     go below put =

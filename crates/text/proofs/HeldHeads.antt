@@ -1,22 +1,22 @@
 -- The code holds the draft again behind a `task`, an `objects` and a `schema` line: no word is written, and the counts
 -- are those of the new draft. Before a schema is opened, the current one is empty.
-use Prim.Native.Nat.{ℕ, _+_, _≤_, _<_}
+use Prim.Native.Nat.{ℕ, _≤_, _<_}
 use mathlib.Core.Path.{_≡_, refl, sym, _∙_, ap, subst}
 use mathlib.Core.Bool.{Bool, true, _&&_}
-use mathlib.Core.List.{List, []}
+use mathlib.Core.List.{List}
 use native.Mathlib.Omega.{arith}
 use lib.ListN.{length}
 use lib.Dec.{leb, ltb}
 use borrow.Author.Tests.{eq-eqb, ne-eqb, le-leb, lt-leb, lt-ltb, le-ltb}
 use Rattle.words.specs.Lists.{all}
-use Rattle.task.specs.Task.{Schema, argsFit}
+use Rattle.task.specs.Task.{Schema, argsFit, noSchema, bareSchema}
 use Rattle.words.proofs.Lists.{and-both}
 use Rattle.words.proofs.Words.{and-false}
 use Rattle.text.specs.Reading.{goOn, finish, refuse}
-use Rattle.text.specs.Text.{Phase, atObjects, atArity, inPre, Draft, noSchema, atPhase, withObjects, taskLine}
+use Rattle.text.specs.Text.{Phase, atObjects, atArity, inPre, Draft, atPhase, withObjects, taskLine}
 use Rattle.text.specs.Text.{objectsLine, schemaLine, endLine, takeLine, task, objects, schema}
 use Rattle.text.specs.ReadCode.{phaseNumber, Standing}
-use Rattle.text.specs.Holding.{Order, Holds, rowsOf, Allows}
+use Rattle.text.specs.Holding.{Order, Holds, rowsOf, Allows, rowsAt}
 use Rattle.text.proofs.Reading.{need-met}
 use Rattle.text.proofs.LineTurns.{need-fails}
 use Rattle.text.specs.declared.draft.Counts.{Counts}
@@ -81,7 +81,7 @@ module _ {d : Draft} {w : List ℕ} {c : Counts} (h : Holds d w c) where
         long = h .long;
         arities-stand = h .arities-stand;
         params-stand = h .params-stand;
-        rows-stand = subst (Standing w (206 + length (d .task .arities))) rows (h .rows-stand);
+        rows-stand = subst (Standing w (rowsAt (length (d .task .arities)))) rows (h .rows-stand);
         rows-length = ap length (sym rows) ∙ h .rows-length;
       }
 
@@ -163,7 +163,7 @@ module _ {d : Draft} {w : List ℕ} {c : Counts} (h : Holds d w c) where
         long = h .long;
         arities-stand = h .arities-stand;
         params-stand = h .params-stand;
-        rows-stand = subst (Standing w (206 + length (d .task .arities))) rows (h .rows-stand);
+        rows-stand = subst (Standing w (rowsAt (length (d .task .arities)))) rows (h .rows-stand);
         rows-length = ap length (sym rows) ∙ h .rows-length;
       }
 
@@ -181,8 +181,8 @@ module _ {d : Draft} {w : List ℕ} {c : Counts} (h : Holds d w c) where
   }
 
   pub schema-held : (n : ℕ) → Allows c schema → n ≤ 12 → length (d .task .schemas) < 200 →
-      Holds (record { phase = inPre; task = d .task; current = record { params = n; atoms = [] } }) w (opening n)
-  unfolding rowsOf all noSchema
+      Holds (record { phase = inPre; task = d .task; current = bareSchema n }) w (opening n)
+  unfolding rowsOf all
   schema-held n allowed l r =
       let z = schema-place (c .phase) allowed in
       let o = h .order in
@@ -225,7 +225,7 @@ module _ {d : Draft} {w : List ℕ} {c : Counts} (h : Holds d w c) where
         long = h .long;
         arities-stand = h .arities-stand;
         params-stand = h .params-stand;
-        rows-stand = subst (Standing w (206 + length (d .task .arities))) rows (h .rows-stand);
+        rows-stand = subst (Standing w (rowsAt (length (d .task .arities)))) rows (h .rows-stand);
         rows-length = ap length (sym rows) ∙ h .rows-length;
       }
 
@@ -262,7 +262,7 @@ module _ (d : Draft) (n : ℕ) where
       need-fails 4 _ (ap (λ (b : Bool). room && b) (lt-leb n 12 h) ∙ and-false room)
 
   pub schema-taken : length (d .task .schemas) < 200 → n ≤ 12 → takeLine d (schemaLine n) ≡
-      goOn (record { phase = inPre; task = d .task; current = record { params = n; atoms = [] } })
+      goOn (record { phase = inPre; task = d .task; current = bareSchema n })
   unfolding takeLine
   schema-taken h k = need-met 4 (and-both _ _ (lt-ltb (length (d .task .schemas)) 200 h) (le-leb n 12 k)) refl
 

@@ -9,13 +9,14 @@ use lib.ListN.{length, getD}
 use lib.Dec.{eqb, ltb}
 use borrow.Author.Tests.{le-leb, lt-leb, eq-eqb, ne-eqb}
 use Rattle.words.specs.Lists.{all, any, upTo}
+use Rattle.task.specs.Limits.{headWords, atomSize, tableLength}
 use Rattle.task.specs.Task.{Atom, names, partCount, noGap, allNamed}
 use Rattle.words.proofs.Lists.{In, here, there, in-getD}
 use Rattle.task.proofs.Tables.{Sized}
 use Rattle.text.specs.Reading.{goOn, refuse}
 use Rattle.text.specs.Text.{Draft, withParts, closeSchema}
 use Rattle.text.specs.ReadCode.{RowIn, rowNames, oneAbove, noGapIn}
-use Rattle.text.specs.Holding.{Holds, withClosed}
+use Rattle.text.specs.Holding.{Holds, withClosed, rowsAt}
 use Rattle.text.proofs.Reading.{need-met}
 use Rattle.text.proofs.LineTurns.{need-fails}
 use Rattle.text.proofs.RowCompare.{any-index, names-row, pred-word}
@@ -54,7 +55,7 @@ gap-alone atoms ps e =
 -- ---- parameters by rows
 module _ {d : Draft} {w : List ℕ} {c : Counts} (h : Holds d w c) where
   abbrev first : ℕ
-  first = 206 + c .predicates + 8 * c .closed
+  first = rowsAt (c .predicates) + atomSize * c .closed
 
   abbrev noAtom : Atom
   noAtom = record { role = 0; pred = 0; part = 0; args = [] }
@@ -66,34 +67,35 @@ module _ {d : Draft} {w : List ℕ} {c : Counts} (h : Holds d w c) where
       Sized (d .task .arities) (getD (d .current .atoms) i noAtom .pred) (getD (d .current .atoms) i noAtom .args)
   size-at i l = atom-sized h (getD (d .current .atoms) i noAtom) (in-getD (d .current .atoms) i noAtom l)
 
-  pub row-in : 13406 ≤ length w → (i : ℕ) → i < c .atoms → RowIn w (first + 8 * i)
+  pub row-in : tableLength ≤ length w → (i : ℕ) → i < c .atoms → RowIn w (first + atomSize * i)
   row-in long i l =
       let n = h .atoms in
       let m : i < length (d .current .atoms) = omega arith in
       let a = getD (d .current .atoms) i noAtom in
       let size = size-at i m in
-      let word = pred-word w (first + 8 * i) S a (size .short) (atom-stands h i noAtom m) in
+      let word = pred-word w (first + atomSize * i) S a (size .short) (atom-stands h i noAtom m) in
       let known = size .known in
       let p = h .predicates in
       let few = h .few .predicates in
       let total = h .few .total in
-      let arity : getD w (6 + getD w (first + 8 * i + 2) 0) 0 ≡ length (a .args) =
-      ap (λ (x : ℕ). getD w (6 + x) 0) word ∙ (h .arities-stand (a .pred) (size .known) ∙ sym (size .count)) in
+      let arity : getD w (headWords + getD w (first + atomSize * i + 2) 0) 0 ≡ length (a .args) =
+      ap (λ (x : ℕ). getD w (headWords + x) 0) word ∙ (h .arities-stand (a .pred) (size .known) ∙ sym (size .count)) in
       let short = size .short in
       record { inside = omega arith; known = omega arith; few = omega arith }
 
-  pub named-is : all (λ x. any (λ i. rowNames w (first + 8 * i) x) (upTo (c .atoms))) (upTo (c .params)) ≡
+  pub named-is : all (λ x. any (λ i. rowNames w (first + atomSize * i) x) (upTo (c .atoms))) (upTo (c .params)) ≡
       allNamed (d .current)
   unfolding allNamed
   named-is =
-      ap (λ (n : ℕ). all (λ x. any (λ i. rowNames w (first + 8 * i) x) (upTo (c .atoms))) (upTo n)) (h .params) ∙
-      all-alike (λ x. any (λ i. rowNames w (first + 8 * i) x) (upTo (c .atoms)))
+      ap (λ (n : ℕ). all (λ x. any (λ i. rowNames w (first + atomSize * i) x) (upTo (c .atoms))) (upTo n)) (h .params) ∙
+      all-alike (λ x. any (λ i. rowNames w (first + atomSize * i) x) (upTo (c .atoms)))
       (λ x. any (names x) (d .current .atoms))
       (upTo (d .current .params)) (λ x j.
-      any-index (λ i. rowNames w (first + 8 * i) x) (names x) (d .current .atoms) noAtom (c .atoms) (h .atoms) (λ i l.
+      any-index (λ i. rowNames w (first + atomSize * i) x) (names x) (d .current .atoms) noAtom (c .atoms) (h .atoms)
+      (λ i l.
       let a = getD (d .current .atoms) i noAtom in
       let size = size-at i l in
-      names-row w (first + 8 * i) S x a (size .short) (atom-stands h i noAtom l)
+      names-row w (first + atomSize * i) S x a (size .short) (atom-stands h i noAtom l)
       (h .arities-stand (a .pred) (size .known) ∙ sym (size .count))))
 
 -- ---- the tests of a part line

@@ -7,15 +7,16 @@ use native.Mathlib.Omega.{arith}
 use lib.ListN.{length, getD, set, length-append, length-map, length-set}
 use lib.Seq.{getD-set-same, getD-set-other}
 use Rattle.words.specs.Lists.{all, concatMap, sum}
-use Rattle.task.specs.Task.{Atom, Schema, schemaAtoms}
+use Rattle.task.specs.Limits.{headWords, atomSize, tableLength}
+use Rattle.task.specs.Task.{Atom, Schema, schemaAtoms, withAtoms}
 use Rattle.task.specs.Table.{atomWords, schemasFrom}
 use Rattle.words.proofs.Lists.{In, in-getD, getD-in, map-append, length-padded}
 use Rattle.words.proofs.Words.{At, at-left, at-move, at-join}
 use Rattle.task.proofs.Tables.{Sized, length-atomWords, length-blocks, tableWords-is}
 use Rattle.task.proofs.TablesByWords.{join-blocks}
-use Rattle.text.specs.Text.{Draft, noSchema, atPhase, withSchemas, withParts, part}
+use Rattle.text.specs.Text.{Draft, atPhase, withSchemas, withParts, part}
 use Rattle.text.specs.ReadCode.{Standing, PartsPut, mayStand}
-use Rattle.text.specs.Holding.{rowsOf, Holds, Touched, withClosed, Allows}
+use Rattle.text.specs.Holding.{rowsOf, Holds, Touched, withClosed, Allows, rowsAt}
 use Rattle.text.proofs.TaskWritten.{schemaAtoms-part}
 use Rattle.text.proofs.TaskGrows.{length-closed}
 use Rattle.text.proofs.HeldAtoms.{atom-sized, atom-stands, schemas-length}
@@ -48,15 +49,15 @@ parts-at (x ∷ xs) (p ∷ ps) (suc i) d e l = parts-at xs ps i d (omega arith) 
 
 -- a row whose part word is written anew
 row-parted : (w after : List ℕ) (row s : ℕ) (a : Atom) (p : ℕ) → length (a .args) ≤ 4 → At w row (atomWords s a) →
-    getD after (row + 3) 0 ≡ p → ((k : ℕ) → k < 8 → (k ≡ 3 → ⊥) → getD after (row + k) 0 ≡ getD w (row + k) 0) →
+    getD after (row + 3) 0 ≡ p → ((k : ℕ) → k < atomSize → (k ≡ 3 → ⊥) → getD after (row + k) 0 ≡ getD w (row + k) 0) →
     At after row (atomWords s (record { role = a .role; pred = a .pred; part = p; args = a .args }))
 unfolding atomWords
 row-parted w after row s a p few h e same k l = go k l
   where
-    size : length (atomWords s a) ≡ 8
+    size : length (atomWords s a) ≡ atomSize
     size = length-atomWords s a few
 
-    kept : (k : ℕ) → k < 8 → (k ≡ 3 → ⊥) → getD after (row + k) 0 ≡ getD (atomWords s a) k 0
+    kept : (k : ℕ) → k < atomSize → (k ≡ 3 → ⊥) → getD after (row + k) 0 ≡ getD (atomWords s a) k 0
     kept k m n = same k m n ∙ h k (let z = size in omega arith)
 
     go : (k : ℕ) → k < length (atomWords s (record { role = a .role; pred = a .pred; part = p; args = a .args })) →
@@ -85,16 +86,17 @@ schema-room h allowed =
 
 module _ {d : Draft} {w mid : List ℕ} {c : Counts} (h : Holds d w c) (ps kept : List ℕ)
     (same : length ps ≡ length (d .current .atoms)) (listed : (k : ℕ) → k < length ps → getD kept k 0 ≡ getD ps k 0)
-    (put : PartsPut w (206 + c .predicates + 8 * c .closed) (length ps) kept mid) (room : c .schemas < 200) where
+    (put : PartsPut w (rowsAt (c .predicates) + atomSize * c .closed) (length ps) kept mid)
+    (room : c .schemas < 200) where
   abbrev S : ℕ
   S = length (d .task .schemas)
 
   abbrev first : ℕ
-  first = 206 + c .predicates + 8 * c .closed
+  first = rowsAt (c .predicates) + atomSize * c .closed
 
   -- the parameter count's place, and the words behind both writes
   abbrev place : ℕ
-  place = 6 + c .predicates + c .schemas
+  place = headWords + c .predicates + c .schemas
 
   abbrev last : List ℕ
   last = set mid place (c .params)
@@ -110,10 +112,10 @@ module _ {d : Draft} {w mid : List ℕ} {c : Counts} (h : Holds d w c) (ps kept 
   early j l n = getD-set-other mid place j (c .params) 0 n ∙ put .other j (λ k m q. omega arith)
 
   -- words from the rows on
-  late : (j : ℕ) → 206 + c .predicates ≤ j → getD last j 0 ≡ getD mid j 0
+  late : (j : ℕ) → rowsAt (c .predicates) ≤ j → getD last j 0 ≡ getD mid j 0
   late j l = getD-set-other mid place j (c .params) 0 (λ q. omega arith)
 
-  closed-size : (x : Atom) → In x closedAtoms → length (atomWords S x) ≡ 8
+  closed-size : (x : Atom) → In x closedAtoms → length (atomWords S x) ≡ atomSize
   closed-size x i =
       let (k, l, e) = getD-in noAtom i in
       let n = length-closed (d .task) (d .current) ps same in
@@ -133,16 +135,17 @@ module _ {d : Draft} {w mid : List ℕ} {c : Counts} (h : Holds d w c) (ps kept 
       let a = getD (d .current .atoms) i noAtom in
       let size : Sized (d .task .arities) (a .pred) (a .args) = atom-sized h a
       (in-getD (d .current .atoms) i noAtom m) in
-      subst (λ (x : Atom). At last (first + 8 * i) (atomWords S x)) (sym
+      subst (λ (x : Atom). At last (first + atomSize * i) (atomWords S x)) (sym
       (parts-at (d .current .atoms) ps i noAtom same m))
-      (row-parted w last (first + 8 * i) S a (getD ps i 0) (size .short) (atom-stands h i noAtom m)
-      (late (first + 8 * i + 3) (omega arith) ∙ (put .put i (omega arith) ∙ listed i (omega arith)))
-      (λ k q n. late (first + 8 * i + k) (omega arith) ∙ put .other (first + 8 * i + k) (λ j r e. apart i j k q n e))))
+      (row-parted w last (first + atomSize * i) S a (getD ps i 0) (size .short) (atom-stands h i noAtom m)
+      (late (first + atomSize * i + 3) (omega arith) ∙ (put .put i (omega arith) ∙ listed i (omega arith)))
+      (λ k q n. late (first + atomSize * i + k) (omega arith) ∙
+      put .other (first + atomSize * i + k) (λ j r e. apart i j k q n e))))
     where
-      apart : (i j k : ℕ) → k < 8 → (k ≡ 3 → ⊥) → first + 8 * i + k ≡ first + 8 * j + 3 → ⊥
+      apart : (i j k : ℕ) → k < atomSize → (k ≡ 3 → ⊥) → first + atomSize * i + k ≡ first + atomSize * j + 3 → ⊥
       apart i j k q n e = n (omega arith)
 
-  closed-length : length (concatMap (atomWords S) closedAtoms) ≡ 8 * c .atoms
+  closed-length : length (concatMap (atomWords S) closedAtoms) ≡ atomSize * c .atoms
   closed-length =
       let n = length-closed (d .task) (d .current) ps same in
       let m = h .atoms in
@@ -154,42 +157,44 @@ module _ {d : Draft} {w mid : List ℕ} {c : Counts} (h : Holds d w c) (ps kept 
 
   rows-closed : d .task .init ≡ [] → d .task .goal ≡ [] →
       rowsOf (withClosed d ps) ≡ schemaRows ++ concatMap (atomWords S) closedAtoms
-  unfolding rowsOf withClosed atPhase withSchemas noSchema concatMap schemaRows
+  unfolding rowsOf withClosed atPhase withSchemas concatMap schemaRows
   rows-closed i g =
       let z : 0 + S ≡ S = omega arith in
-      rw (i, g, schemasFrom-last 0 (d .task .schemas) (record { params = d .current .params; atoms = closedAtoms }), z)
+      rw (i, g, schemasFrom-last 0 (d .task .schemas) (withAtoms (d .current) closedAtoms), z)
       (append-nil _)
 
-  early-rows : At last (206 + length (d .task .arities)) schemaRows
+  early-rows : At last (rowsAt (length (d .task .arities))) schemaRows
   unfolding rowsOf schemaRows
   early-rows k l =
       let p = h .predicates in
       let n = schemas-length h in
-      late (206 + length (d .task .arities) + k) (omega arith) ∙
-      (put .other (206 + length (d .task .arities) + k) (λ j m q. omega arith) ∙
-      at-left w (206 + length (d .task .arities)) schemaRows _ (h .rows-stand) k l)
+      late (rowsAt (length (d .task .arities)) + k) (omega arith) ∙
+      (put .other (rowsAt (length (d .task .arities)) + k) (λ j m q. omega arith) ∙
+      at-left w (rowsAt (length (d .task .arities))) schemaRows _ (h .rows-stand) k l)
 
-  rows-again : At last (206 + length (d .task .arities)) (schemaRows ++ concatMap (atomWords S) closedAtoms)
+  rows-again : At last (rowsAt (length (d .task .arities))) (schemaRows ++ concatMap (atomWords S) closedAtoms)
   unfolding schemaRows
   rows-again =
       let p = h .predicates in
       let n = schemas-length h in
-      at-join last (206 + length (d .task .arities)) schemaRows (concatMap (atomWords S) closedAtoms) early-rows
-      (at-move last first (206 + length (d .task .arities) + length schemaRows) (concatMap (atomWords S) closedAtoms)
+      at-join last (rowsAt (length (d .task .arities))) schemaRows (concatMap (atomWords S) closedAtoms) early-rows
+      (at-move last first (rowsAt (length (d .task .arities)) + length schemaRows) (concatMap (atomWords S) closedAtoms)
       (omega arith) closed-rows)
 
-  params-closed : 13406 ≤ length w →
-      At last (6 + length (d .task .arities)) (map (λ s. s .params) (d .task .schemas) ++ (d .current .params ∷ []))
+  params-closed : tableLength ≤ length w →
+      At last (headWords + length (d .task .arities))
+      (map (λ s. s .params) (d .task .schemas) ++ (d .current .params ∷ []))
   params-closed long =
       let p = h .predicates in
       let s = h .schemas in
       let few = h .few .predicates in
       let size = put .size in
       let m = length-map (d .task .schemas) (λ s. s .params) in
-      at-join last (6 + length (d .task .arities)) (map (λ s. s .params) (d .task .schemas)) (d .current .params ∷ [])
-      (λ k l. early (6 + length (d .task .arities) + k) (omega arith) (λ q. omega arith) ∙ h .params-stand k l)
+      at-join last (headWords + length (d .task .arities)) (map (λ s. s .params) (d .task .schemas))
+      (d .current .params ∷ [])
+      (λ k l. early (headWords + length (d .task .arities) + k) (omega arith) (λ q. omega arith) ∙ h .params-stand k l)
       (λ k l.
-      let z : 6 + length (d .task .arities) + length (map (λ s. s .params)
+      let z : headWords + length (d .task .arities) + length (map (λ s. s .params)
       (d .task .schemas)) + k ≡ place = omega arith in
       let y : k ≡ 0 = omega arith in
       ap (λ (i : ℕ). getD last i 0) z ∙
@@ -209,8 +214,8 @@ module _ {d : Draft} {w mid : List ℕ} {c : Counts} (h : Holds d w c) (ps kept 
     goal = c .goal;
   }
 
-  pub schema-closed : 13406 ≤ length w → Allows c part → Holds (withClosed d ps) last closing
-  unfolding withClosed atPhase withSchemas noSchema all sum schemaRows
+  pub schema-closed : tableLength ≤ length w → Allows c part → Holds (withClosed d ps) last closing
+  unfolding withClosed atPhase withSchemas all sum schemaRows
   schema-closed long allowed =
       let (opened, before) = in-schema h allowed in
       let o = h .order in
@@ -226,7 +231,7 @@ module _ {d : Draft} {w mid : List ℕ} {c : Counts} (h : Holds d w c) (ps kept 
       let ci = h .initial ∙ ap length i in
       let cg = h .goal ∙ ap length g in
       let rows = rows-closed i g in
-      let one : Schema = record { params = d .current .params; atoms = closedAtoms } in
+      let one : Schema = withAtoms (d .current) closedAtoms in
       let last-size = length-set mid place (c .params) in
       record {
         phase = refl;
@@ -264,30 +269,30 @@ module _ {d : Draft} {w mid : List ℕ} {c : Counts} (h : Holds d w c) (ps kept 
         goal-fit = h .goal-fit;
         long = omega arith;
         arities-stand = λ k l. let p = h .predicates in
-            early (6 + k) (omega arith) (λ q. omega arith) ∙ h .arities-stand k l;
+            early (headWords + k) (omega arith) (λ q. omega arith) ∙ h .arities-stand k l;
         params-stand = rw (map-append (λ s. s .params) (d .task .schemas) (one ∷ [])) (params-closed long);
-        rows-stand = subst (Standing last (206 + length (d .task .arities))) (sym rows) rows-again;
+        rows-stand = subst (Standing last (rowsAt (length (d .task .arities)))) (sym rows) rows-again;
         rows-length = ap length rows ∙ rows-size ci cg;
       }
     where
       count-closed :
-          schemaAtoms (d .task .schemas ++ (record { params = d .current .params; atoms = closedAtoms } ∷ [])) ≡
+          schemaAtoms (d .task .schemas ++ (withAtoms (d .current) closedAtoms ∷ [])) ≡
           schemaAtoms (d .task .schemas) + (length closedAtoms + schemaAtoms []) →
           length closedAtoms ≡ length (d .current .atoms) →
           c .closed + c .atoms ≡
-          schemaAtoms (d .task .schemas ++ (record { params = d .current .params; atoms = closedAtoms } ∷ []))
+          schemaAtoms (d .task .schemas ++ (withAtoms (d .current) closedAtoms ∷ []))
       count-closed z y = let n = h .closed in let m = h .atoms in let e : schemaAtoms [] ≡ 0 = refl in omega arith
 
       rows-size : c .initial ≡ 0 → c .goal ≡ 0 → length (schemaRows ++ concatMap (atomWords S) closedAtoms) ≡
-          8 * ((((c .closed + c .atoms) + 0) + c .initial) + c .goal)
+          atomSize * ((((c .closed + c .atoms) + 0) + c .initial) + c .goal)
       rows-size ci cg =
-          let n : length schemaRows ≡ 8 * c .closed = schemas-length h in
+          let n : length schemaRows ≡ atomSize * c .closed = schemas-length h in
           let m = closed-length in
           omega (arith, length-append schemaRows (concatMap (atomWords S) closedAtoms))
 
 -- both writes lie inside the table
 pub closing-touched : {w mid : List ℕ} {first n : ℕ} {parts : List ℕ} (place x : ℕ) → PartsPut w first n parts mid →
-    first + 8 * n ≤ 13406 → place < 13406 → Touched w (set mid place x)
+    first + atomSize * n ≤ tableLength → place < tableLength → Touched w (set mid place x)
 closing-touched {mid = mid} place x put l m = record {
   size = length-set mid place x ∙ put .size;
   beyond = λ j q.

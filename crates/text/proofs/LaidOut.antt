@@ -10,16 +10,16 @@ use lib.ListN.{List·getD-append}
 use lib.Seq.{ext-getD, getD-append-add, getD-drop}
 use lib.Dec.{ltb}
 use borrow.Author.Tests.{ltb-true, ltb-false}
-use Rattle.task.specs.Limits.{tableWords}
+use Rattle.task.specs.Limits.{tableWords, headWords, atomSize, tableLength}
 use Rattle.words.specs.Lists.{concatMap, over}
 use Rattle.task.specs.Task.{wellFormed}
 use Rattle.task.specs.Table.{factWords, schemasFrom, wordsOf}
 use Rattle.words.proofs.Words.{At, at-move, at-join}
 use Rattle.task.proofs.Tables.{sixWords, content, wordsOf-is, words-length, tableWords-is}
 use Rattle.task.proofs.TablesByWords.{zero-behind}
-use Rattle.text.specs.Text.{Draft, noSchema}
+use Rattle.text.specs.Text.{Draft}
 use Rattle.text.specs.ReadCode.{Wrote}
-use Rattle.text.specs.Holding.{rowsOf, Holds, Touched}
+use Rattle.text.specs.Holding.{rowsOf, Holds, Touched, rowsAt}
 use Rattle.text.proofs.WroteWords.{stands, stays-before, stays-behind}
 use Rattle.text.specs.declared.draft.Counts.{Counts}
 
@@ -81,10 +81,10 @@ over-touched xs lent w e l t =
 
 module _ {d : Draft} {w : List ℕ} {c : Counts} (h : Holds d w c) (closed : 7 ≤ c .phase) where
   abbrev to : ℕ
-  to = 6 + c .predicates + c .schemas
+  to = headWords + c .predicates + c .schemas
 
   abbrev many : ℕ
-  many = 8 * (((c .closed + c .atoms) + c .initial) + c .goal)
+  many = atomSize * (((c .closed + c .atoms) + c .initial) + c .goal)
 
   abbrev head : List ℕ
   head = c .objects ∷ c .predicates ∷ c .schemas ∷ c .closed ∷ c .initial ∷ c .goal ∷ []
@@ -95,32 +95,32 @@ module _ {d : Draft} {w : List ℕ} {c : Counts} (h : Holds d w c) (closed : 7 �
       (concatMap (factWords 3) (d .task .init) ++ concatMap (factWords 4) (d .task .goal))
 
   rows-are : rowsOf d ≡ rows
-  unfolding rowsOf noSchema concatMap
+  unfolding rowsOf concatMap
   rows-are = rw (h .order .closed closed) refl
 
   head-is : head ≡ sixWords (d .task)
   unfolding sixWords
   head-is = rw (h .objects, h .predicates, h .schemas, h .closed, h .initial, h .goal) refl
 
-  module _ {moved zeroed after : List ℕ} (down : Wrote w to many (λ k. getD w (206 + c .predicates + k) 0) moved)
-      (zeros : Wrote moved (to + many) (13406 - (to + many)) (λ k. 0) zeroed)
-      (heads : Wrote zeroed 0 6 (λ k. getD head k 0) after) where
-    arities-laid : At after 6 (d .task .arities)
+  module _ {moved zeroed after : List ℕ} (down : Wrote w to many (λ k. getD w (rowsAt (c .predicates) + k) 0) moved)
+      (zeros : Wrote moved (to + many) (tableLength - (to + many)) (λ k. 0) zeroed)
+      (heads : Wrote zeroed 0 headWords (λ k. getD head k 0) after) where
+    arities-laid : At after headWords (d .task .arities)
     arities-laid =
         let p = h .predicates in
-        stays-behind heads 6 (d .task .arities) (omega arith)
-        (stays-before zeros 6 (d .task .arities) (omega arith)
-        (stays-before down 6 (d .task .arities) (omega arith) (h .arities-stand)))
+        stays-behind heads headWords (d .task .arities) (omega arith)
+        (stays-before zeros headWords (d .task .arities) (omega arith)
+        (stays-before down headWords (d .task .arities) (omega arith) (h .arities-stand)))
 
-    params-laid : At after (6 + length (d .task .arities)) (map (λ s. s .params) (d .task .schemas))
+    params-laid : At after (headWords + length (d .task .arities)) (map (λ s. s .params) (d .task .schemas))
     params-laid =
         let p = h .predicates in
         let s = h .schemas in
         let m = length-map (d .task .schemas) (λ s. s .params) in
         let params = map (λ s. s .params) (d .task .schemas) in
-        stays-behind heads (6 + length (d .task .arities)) params (omega arith)
-        (stays-before zeros (6 + length (d .task .arities)) params (omega arith)
-        (stays-before down (6 + length (d .task .arities)) params (omega arith) (h .params-stand)))
+        stays-behind heads (headWords + length (d .task .arities)) params (omega arith)
+        (stays-before zeros (headWords + length (d .task .arities)) params (omega arith)
+        (stays-before down (headWords + length (d .task .arities)) params (omega arith) (h .params-stand)))
 
     rows-long : length rows ≡ many
     rows-long = ap length (sym rows-are) ∙ h .rows-length
@@ -131,9 +131,9 @@ module _ {d : Draft} {w : List ℕ} {c : Counts} (h : Holds d w c) (closed : 7 �
         stays-behind heads to rows (omega arith)
         (stays-before zeros to rows (omega arith) (λ k l.
         let p = h .predicates in
-        let z : 206 + c .predicates + k ≡ 206 + length (d .task .arities) + k = omega arith in
+        let z : rowsAt (c .predicates) + k ≡ rowsAt (length (d .task .arities)) + k = omega arith in
         down .put k (omega arith) ∙ (ap (λ (i : ℕ). getD w i 0) z ∙
-        subst (At w (206 + length (d .task .arities))) rows-are (h .rows-stand) k l)))
+        subst (At w (rowsAt (length (d .task .arities)))) rows-are (h .rows-stand) k l)))
 
     content-laid : At after 0 (content (d .task))
     unfolding content
@@ -143,13 +143,13 @@ module _ {d : Draft} {w : List ℕ} {c : Counts} (h : Holds d w c) (closed : 7 �
         let m = length-map (d .task .schemas) (λ s. s .params) in
         let params = map (λ s. s .params) (d .task .schemas) in
         let six = sixWords (d .task) in
-        let e : length six ≡ 6 = ap length (sym head-is) in
+        let e : length six ≡ headWords = ap length (sym head-is) in
         at-join after 0 six (d .task .arities ++ (params ++ rows))
         (subst (At after 0) head-is (stands heads head refl (λ k l. refl)))
-        (at-move after 6 (0 + length six) (d .task .arities ++ (params ++ rows)) (omega arith)
-        (at-join after 6 (d .task .arities) (params ++ rows) arities-laid
-        (at-join after (6 + length (d .task .arities)) params rows params-laid
-        (at-move after to (6 + length (d .task .arities) + length params) rows (omega arith) rows-laid))))
+        (at-move after headWords (0 + length six) (d .task .arities ++ (params ++ rows)) (omega arith)
+        (at-join after headWords (d .task .arities) (params ++ rows) arities-laid
+        (at-join after (headWords + length (d .task .arities)) params rows params-laid
+        (at-move after to (headWords + length (d .task .arities) + length params) rows (omega arith) rows-laid))))
 
     content-long : length (content (d .task)) ≡ to + many
     unfolding content
@@ -160,13 +160,13 @@ module _ {d : Draft} {w : List ℕ} {c : Counts} (h : Holds d w c) (closed : 7 �
         let n = rows-long in
         let params = map (λ s. s .params) (d .task .schemas) in
         let six = sixWords (d .task) in
-        let e : length six ≡ 6 = ap length (sym head-is) in
+        let e : length six ≡ headWords = ap length (sym head-is) in
         let x = length-append six (d .task .arities ++ (params ++ rows)) in
         let y = length-append (d .task .arities) (params ++ rows) in
         let z = length-append params rows in
         omega arith
 
-    pub laid-out : to + many ≤ 13406 → wellFormed (d .task) ≡ true → after ≡ over (wordsOf (d .task)) w
+    pub laid-out : to + many ≤ tableLength → wellFormed (d .task) ≡ true → after ≡ over (wordsOf (d .task)) w
     laid-out room well =
         let t = tableWords-is in
         let long = h .long in
@@ -178,7 +178,8 @@ module _ {d : Draft} {w : List ℕ} {c : Counts} (h : Holds d w c) (closed : 7 �
         (λ k l. go k (omega arith) (ltb k (to + many)) refl)
         (λ k l. heads .behind k (omega arith) ∙ (zeros .behind k (omega arith) ∙ down .behind k (omega arith)))
       where
-        go : (k : ℕ) → k < 13406 → (b : Bool) → ltb k (to + many) ≡ b → getD after k 0 ≡ getD (wordsOf (d .task)) k 0
+        go : (k : ℕ) → k < tableLength → (b : Bool) → ltb k (to + many) ≡ b →
+            getD after k 0 ≡ getD (wordsOf (d .task)) k 0
         go k l true e =
             let m = ltb-true k (to + many) e in
             let n = content-long in

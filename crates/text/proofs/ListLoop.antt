@@ -101,7 +101,8 @@ list-begins text c kept p = record {
     same none = refl
     same (some m) = refl
 
-module _ {text : List ℕ} {start here : Cursor} {count : ℕ} {kept : List ℕ} (s : ListSoFar text start here count kept) where
+module _ {text : List ℕ} {start here : Cursor} {count : ℕ} {kept : List ℕ}
+    (s : ListSoFar text start here count kept) where
   pub no-number : number (rest text here) ≡ none → numbers (rest text start) ≡ none
   unfolding andThen
   no-number h =
@@ -142,7 +143,8 @@ module _ {text : List ℕ} {start here : Cursor} {count : ℕ} {kept : List ℕ}
         let few = s .few in
         record {
           read = s .read ++ (n ∷ []);
-          split = s .split ∙ (ap (behindThese (s .read)) (step ∙ goes-on n (rest text behind) (rest text next) (w .is)) ∙
+          split = s .split ∙ (ap (behindThese (s .read))
+              (step ∙ goes-on n (rest text behind) (rest text next) (w .is)) ∙
               regroup (numbers (rest text next)));
           listed = listed-more n (s .listed);
           onward = record { on = omega arith; inside = w .inside; line = w .line ∙ (h .moved .line ∙ s .onward .line) };
@@ -151,6 +153,7 @@ module _ {text : List ℕ} {start here : Cursor} {count : ℕ} {kept : List ℕ}
         }
       where
         regroup : (o : Option (Taken (List ℕ))) →
-            behindThese (s .read) (andThen o (λ ns. taken (n ∷ ns .value) (ns .rest))) ≡ behindThese (s .read ++ (n ∷ [])) o
+            behindThese (s .read) (andThen o (λ ns. taken (n ∷ ns .value) (ns .rest))) ≡
+            behindThese (s .read ++ (n ∷ [])) o
         regroup none = refl
         regroup (some m) = ap (λ (xs : List ℕ). taken xs (m .rest)) (sym (append-assoc (s .read) (n ∷ []) (m .value)))

@@ -7,6 +7,7 @@ use mathlib.Core.Bool.{true}
 use mathlib.Core.List.{List, [], _∷_}
 use native.Mathlib.Omega.{arith}
 use lib.ListN.{length, take, replicate}
+use Rattle.task.specs.Limits.{stepSize}
 use Rattle.task.specs.declared.Place.{Place}
 use Rattle.words.specs.Lists.{concatMap, over}
 use Rattle.task.specs.Answers.{result, refused}
@@ -39,7 +40,7 @@ pub record PlanRead (t : Task) (text : List ℕ) (n : ℕ) (after : List ℕ) : 
   pub steps : List Step
   pub is : readPlan t text ≡ read steps
   pub count : length steps ≡ n
-  pub words : GoodPlan t steps (take (13 * n) after)
+  pub words : GoodPlan t steps (take (stepSize * n) after)
 
 pub record PlanRefused (t : Task) (text : List ℕ) (k : ℕ) (p : Place) : Type 0 where
   pub line : ℕ
@@ -63,9 +64,9 @@ module _ (table text lent : List ℕ) where
           let is = read-outcome table text lent xs e in
           let q = told ∙ told-by is in
           let count : length xs ≡ n = cc in
-          let lies : take (13 * length xs) (over (concatMap stepWords xs) lent) ≡ take (13 * n) after =
-          ap (take (13 * length xs)) (sym (left ∙ left-by is)) ∙
-          ap (λ (m : ℕ). take (13 * m) after) count in
+          let lies : take (stepSize * length xs) (over (concatMap stepWords xs) lent) ≡ take (stepSize * n) after =
+          ap (take (stepSize * length xs)) (sym (left ∙ left-by is)) ∙
+          ap (λ (m : ℕ). take (stepSize * m) after) count in
           record {
             steps = xs;
             is = e;

@@ -12,6 +12,7 @@ use lib.ListN.{length, getD, replicate, length-append, drop-of-length-le}
 use lib.Seq.{drop-cons}
 use borrow.Author.Tests.{lt-ltb, le-ltb, eq-eqb, ne-eqb}
 use Rattle.words.specs.Lists.{all, concatMap, over}
+use Rattle.task.specs.Limits.{stepSize}
 use Rattle.task.specs.Task.{Task, wellFormed}
 use Rattle.task.specs.Run.{Step, isStep, stepWords}
 use Rattle.words.proofs.Lists.{here, there}
@@ -127,7 +128,7 @@ module _ (t : Task) (text lent : List ℕ) where
     pub count : length steps ≡ n
     pub few : n ≤ 100
     pub good : all (isStep t) steps ≡ true
-    pub words : Wrote lent 0 (13 * n) (λ k. getD (concatMap stepWords steps) k 0) w
+    pub words : Wrote lent 0 (stepSize * n) (λ k. getD (concatMap stepWords steps) k 0) w
     pub so-far : readPlan t text ≡ readLines nextPlanLine (takePlanLine t) (at .line) steps (rest text at)
 
   pub plan-begins : PlanSoFar startCursor 0 lent

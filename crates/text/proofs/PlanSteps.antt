@@ -12,6 +12,8 @@ use lib.Seq.{getD-append-add, getD-take, length-take-le, getD-set-same, getD-set
 use lib.Dec.{eqb, ltb}
 use borrow.Author.Tests.{leb-true, le-ltb, lt-ltb, eq-eqb, ne-eqb}
 use Rattle.words.specs.Lists.{all, concatMap, over, padded}
+use Rattle.task.specs.Limits.{stepSize}
+use Rattle.task.specs.Layout.{headIn}
 use Rattle.task.specs.Task.{Task, wellFormed}
 use Rattle.task.specs.Table.{taskOf, isTable}
 use Rattle.task.specs.Run.{Step, schemaAt, isStep, stepWords, paramCount, stepsIn, badStep}
@@ -22,7 +24,7 @@ use Rattle.task.proofs.TablesByIndex.{table-frame, objects-word}
 use Rattle.words.proofs.Puts.{take-over}
 use Rattle.task.proofs.States.{isStep-is}
 use Rattle.words.proofs.Words.{and-false}
-use Rattle.task.proofs.StepWords.{Thirteen, length-steps, params-few, thirteen}
+use Rattle.task.proofs.StepWords.{StepSized, length-steps, params-few, step-sized}
 use Rattle.task.proofs.BadSteps.{written-steps, steps-written}
 use Rattle.text.specs.Reading.{read}
 use Rattle.text.specs.Plan.{planWords, readPlan}
@@ -57,13 +59,13 @@ module _ (t : Task) (s : ℕ) (os : List ℕ) where
 -- what code finds of a schema, a count and the objects kept
 pub step-judged : (w : List ℕ) → isTable w ≡ true → (s count : ℕ) (kept : List ℕ) (r : Bool) → length kept ≡ 12 →
     s < length (taskOf w .schemas) → paramCount (taskOf w) s ≡ count →
-    r ≡ all (λ o. ltb o (getD w 0 0)) (take count kept) → (ns : List ℕ) → Listed ns count kept →
+    r ≡ all (λ o. ltb o (headIn w .objects)) (take count kept) → (ns : List ℕ) → Listed ns count kept →
     r ≡ isStep (taskOf w) (stepOf s ns)
 step-judged w table s count kept r size known e h ns listed =
     let few = params-few (taskOf w) (of-table w table .0) s in
     let c = listed .counted in
     let objects = objects-word w (table-frame w table) in
-    h ∙ (ap (all (λ o. ltb o (getD w 0 0))) (listed-take listed (omega arith)) ∙
+    h ∙ (ap (all (λ o. ltb o (headIn w .objects))) (listed-take listed (omega arith)) ∙
     (ap (λ (m : ℕ). all (λ o. ltb o m) ns) (sym objects) ∙ right-number (taskOf w) s ns known (e ∙ sym c)))
 
 -- the numbers of a step are words, and so few that they were kept
@@ -97,11 +99,11 @@ step-kept w table s count kept ns size listed h =
     }
 
 -- ---- a step's words are put
-pub planWords-is : planWords ≡ 13 * 100
+pub planWords-is : planWords ≡ stepSize * 100
 unfolding planWords
 planWords-is = refl
 
-module _ (w : List ℕ) (at s count : ℕ) (objects v u : List ℕ) (room : at + 13 ≤ length w) (few : count ≤ 12)
+module _ (w : List ℕ) (at s count : ℕ) (objects v u : List ℕ) (room : at + stepSize ≤ length w) (few : count ≤ 12)
     (enough : count ≤ length objects) (put : Wrote (set w at s) (at + 1) count (λ k. getD objects k 0) v)
     (zeros : Wrote v (at + 1 + count) (12 - count) (λ k. 0) u) where
   abbrev os : List ℕ
@@ -110,7 +112,7 @@ module _ (w : List ℕ) (at s count : ℕ) (objects v u : List ℕ) (room : at +
   abbrev behind : List ℕ
   behind = replicate (12 - length os) 0
 
-  word-put : (k : ℕ) → k < 13 → getD u (at + k) 0 ≡ getD (s ∷ (os ++ behind)) k 0
+  word-put : (k : ℕ) → k < stepSize → getD u (at + k) 0 ≡ getD (s ∷ (os ++ behind)) k 0
   word-put zero l =
       let z : at + 0 ≡ at = omega arith in
       ap (λ (i : ℕ). getD u i 0) z ∙ (zeros .before at (omega arith) ∙
@@ -130,7 +132,7 @@ module _ (w : List ℕ) (at s count : ℕ) (objects v u : List ℕ) (room : at +
         (sym (getD-append-add os behind (j - count) 0) ∙ ap (λ (i : ℕ). getD (os ++ behind) i 0) q)))
   ]
 
-  pub step-put : Wrote w at 13 (λ k. getD (stepWords (stepOf s os)) k 0) u
+  pub step-put : Wrote w at stepSize (λ k. getD (stepWords (stepOf s os)) k 0) u
   unfolding stepWords padded
   step-put = record {
     size = zeros .size ∙ (put .size ∙ length-set w at s);
@@ -164,33 +166,33 @@ wrote-on {lent} {w} {after} {n} {m} xs ys e a b = record {
     ]
 
 module _ (t : Task) (well : wellFormed t ≡ true) (xs : List Step) (steps : all (isStep t) xs ≡ true) where
-  pub all-thirteen : Thirteen xs
-  all-thirteen x i = thirteen t well x (all-in (isStep t) steps i)
+  pub all-sized : StepSized xs
+  all-sized x i = step-sized t well x (all-in (isStep t) steps i)
 
   -- one step more behind those that were put
   pub one-more : (x : Step) → isStep t x ≡ true → {lent w after : List ℕ} {n : ℕ} → length xs ≡ n →
-      Wrote lent 0 (13 * n) (λ k. getD (concatMap stepWords xs) k 0) w →
-      Wrote w (13 * length xs) 13 (λ k. getD (stepWords x) k 0) after →
-      Wrote lent 0 (13 * (n + 1)) (λ k. getD (concatMap stepWords (xs ++ (x ∷ []))) k 0) after
+      Wrote lent 0 (stepSize * n) (λ k. getD (concatMap stepWords xs) k 0) w →
+      Wrote w (stepSize * length xs) stepSize (λ k. getD (stepWords x) k 0) after →
+      Wrote lent 0 (stepSize * (n + 1)) (λ k. getD (concatMap stepWords (xs ++ (x ∷ []))) k 0) after
   unfolding concatMap
   one-more x is {lent} {w} {after} {n} e a b =
-      let l = length-steps xs all-thirteen in
-      let z : 13 * length xs ≡ 13 * n = omega arith in
-      let y : 13 * n + 13 ≡ 13 * (n + 1) = omega arith in
+      let l = length-steps xs all-sized in
+      let z : stepSize * length xs ≡ stepSize * n = omega arith in
+      let y : stepSize * n + stepSize ≡ stepSize * (n + 1) = omega arith in
       let words : concatMap stepWords xs ++ stepWords x ≡ concatMap stepWords (xs ++ (x ∷ [])) =
       sym (append-concatMap stepWords xs (x ∷ []) ∙
       ap (λ (ys : List ℕ). concatMap stepWords xs ++ ys) (append-nil (stepWords x))) in
       subst (λ (m : ℕ). Wrote lent 0 m (λ k. getD (concatMap stepWords (xs ++ (x ∷ []))) k 0) after) y
-      (subst (λ (ys : List ℕ). Wrote lent 0 (13 * n + 13) (λ k. getD ys k 0) after) words
+      (subst (λ (ys : List ℕ). Wrote lent 0 (stepSize * n + stepSize) (λ k. getD ys k 0) after) words
       (wrote-on (concatMap stepWords xs) (stepWords x) (omega arith) a
-      (subst (λ (i : ℕ). Wrote w i 13 (λ k. getD (stepWords x) k 0) after) z b)))
+      (subst (λ (i : ℕ). Wrote w i stepSize (λ k. getD (stepWords x) k 0) after) z b)))
 
   -- the words lie over those that were lent
-  pub words-over : {lent after : List ℕ} {n : ℕ} → length xs ≡ n → 13 * n ≤ length lent →
-      Wrote lent 0 (13 * n) (λ k. getD (concatMap stepWords xs) k 0) after →
+  pub words-over : {lent after : List ℕ} {n : ℕ} → length xs ≡ n → stepSize * n ≤ length lent →
+      Wrote lent 0 (stepSize * n) (λ k. getD (concatMap stepWords xs) k 0) after →
       after ≡ over (concatMap stepWords xs) lent
   words-over {lent} {after} {n} e l h =
-      let m = length-steps xs all-thirteen in
+      let m = length-steps xs all-sized in
       over-is (concatMap stepWords xs) lent after (h .size) (omega arith)
       (λ k q.
       let z : 0 + k ≡ k = omega arith in
@@ -206,11 +208,11 @@ pub record GoodPlan (t : Task) (xs : List Step) (w : List ℕ) : Type 0 where
   pub steps : stepsIn t w ≡ xs
 
 pub plan-words : (t : Task) → wellFormed t ≡ true → (text lent : List ℕ) (xs : List Step) → readPlan t text ≡ read xs →
-    GoodPlan t xs (take (13 * length xs) (over (concatMap stepWords xs) lent))
+    GoodPlan t xs (take (stepSize * length xs) (over (concatMap stepWords xs) lent))
 plan-words t well text lent xs h =
     let (steps, few) = plan-read-steps t text xs h in
-    let n = length-steps xs (all-thirteen t well xs steps) in
-    let e = take-over (concatMap stepWords xs) lent (13 * length xs) n in
+    let n = length-steps xs (all-sized t well xs steps) in
+    let e = take-over (concatMap stepWords xs) lent (stepSize * length xs) n in
     record {
       few = few;
       are = e;

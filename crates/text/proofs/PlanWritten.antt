@@ -8,6 +8,7 @@ use mathlib.Core.Option.{none}
 use native.Mathlib.Omega.{arith}
 use lib.ListN.{length, getD, length-append}
 use Rattle.words.specs.Lists.{upTo, concatMap}
+use Rattle.task.specs.Limits.{stepSize}
 use Rattle.task.specs.Task.{Task, wellFormed}
 use Rattle.words.specs.Words.{wordsAt}
 use Rattle.task.specs.Run.{Step, stepIn, paramCount, stepAt, stepsIn, badStep}
@@ -50,40 +51,40 @@ stepText-is w b n = refl
 module _ (t : Task) (w : List ℕ) where
   -- the line of step i
   abbrev pub lineAtStep : ℕ → List ℕ
-  lineAtStep i = stepText w (13 * i) (paramCount t (getD w (13 * i) 0))
+  lineAtStep i = stepText w (stepSize * i) (paramCount t (getD w (stepSize * i) 0))
 
   step-line-is : (i : ℕ) → stepPiece (stepAt t w i) ≡ lineAtStep i
   unfolding writePlanLine stepEntry stepText stepAt stepIn line entryBytes
   step-line-is i =
-      let n = paramCount t (getD w (13 * i) 0) in
-      let ds = digits (getD w (13 * i) 0) in
-      let e = ap commaed (spaced-words w (13 * i + 1) n) in
+      let n = paramCount t (getD w (stepSize * i) 0) in
+      let ds = digits (getD w (stepSize * i) 0) in
+      let e = ap commaed (spaced-words w (stepSize * i + 1) n) in
       ap (λ (bs : List ℕ). bytes (planKeyName step) ++ (equals ∷ bs))
-      (append-assoc ds (colon ∷ commaed (wordsAt w (13 * i + 1) n)) (newline ∷ []) ∙
+      (append-assoc ds (colon ∷ commaed (wordsAt w (stepSize * i + 1) n)) (newline ∷ []) ∙
       ap (λ (bs : List ℕ). ds ++ (colon ∷ (bs ++ (newline ∷ [])))) (sym e))
 
-  pub plan-onwards : writePlan (stepsIn t w) ≡ onwards lineAtStep 0 (length w / 13) ++ endBytes
+  pub plan-onwards : writePlan (stepsIn t w) ≡ onwards lineAtStep 0 (length w / stepSize) ++ endBytes
   unfolding stepsIn
   plan-onwards =
       plan-pieces (stepsIn t w) ∙ ap (λ (bs : List ℕ). bs ++ endBytes)
-      (pieces-map stepPiece (stepAt t w) (upTo (length w / 13)) ∙
-      (pieces-same (λ i. stepPiece (stepAt t w i)) lineAtStep (upTo (length w / 13)) (λ i l. step-line-is i) ∙
-      sym (onwards-all lineAtStep (length w / 13))))
+      (pieces-map stepPiece (stepAt t w) (upTo (length w / stepSize)) ∙
+      (pieces-same (λ i. stepPiece (stepAt t w i)) lineAtStep (upTo (length w / stepSize)) (λ i l. step-line-is i) ∙
+      sym (onwards-all lineAtStep (length w / stepSize))))
 
   -- a good step's words are there, and so are its schema's parameters
   pub record StepThere (i : ℕ) : Type 0 where
-    pub inside : 13 * i + 13 ≤ length w
-    pub known : getD w (13 * i) 0 < length (t .schemas)
-    pub few : paramCount t (getD w (13 * i) 0) ≤ 12
+    pub inside : stepSize * i + stepSize ≤ length w
+    pub known : getD w (stepSize * i) 0 < length (t .schemas)
+    pub few : paramCount t (getD w (stepSize * i) 0) ≤ 12
 
-  pub step-there : wellFormed t ≡ true → badStep t w ≡ none → (i : ℕ) → i < length w / 13 → StepThere i
+  pub step-there : wellFormed t ≡ true → badStep t w ≡ none → (i : ℕ) → i < length w / stepSize → StepThere i
   unfolding stepAt stepIn
   step-there well good i l =
       let here = step-here t w i (good-steps t w good i (omega arith)) in
       record {
         inside = here .whole;
         known = isStep-is t (stepAt t w i) (here .step) .known;
-        few = params-few t well (getD w (13 * i) 0);
+        few = params-few t well (getD w (stepSize * i) 0);
       }
 
 -- ---- how long it can be

@@ -19,7 +19,7 @@ use Rattle.text.specs.declared.ReadAnswer.{ReadAnswer}
 use Rattle.task.specs.Answers.{refused, refuseUnless, inOrder}
 use Rattle.text.specs.Outcomes.{readDone, readOutcome, readAnswerTold}
 use Rattle.text.specs.Reading.{Reading, read, refusedAt, atEnd, readLines}
-use Rattle.text.specs.Text.{Draft, started, atPhase, noSchema, takeLine, nextLine, readText}
+use Rattle.text.specs.Text.{Draft, started, atPhase, takeLine, nextLine, readText}
 use Rattle.text.specs.ReadCode.{rest, Placed, startCursor}
 use Rattle.text.specs.Holding.{noCounts, rowsOf, Holds, Touched, Refuses, GoesOn, Finishes}
 use Rattle.text.proofs.ReadersAt.{readText-lines, text-line}
@@ -36,7 +36,7 @@ pub record SoFar (text lent : List ℕ) (at : Cursor) (c : Counts) (w : List ℕ
   pub so-far : readText text ≡ readLines nextLine takeLine (at .line) draft (rest text at)
 
 pub begins : (text lent : List ℕ) → tableWords ≤ length lent → SoFar text lent startCursor noCounts lent
-unfolding started atPhase noSchema all sum rowsOf schemasFrom concatMap
+unfolding started atPhase all sum rowsOf schemasFrom concatMap
 begins text lent long = record {
   placed = record { inside = omega arith; line = omega arith };
   touched = untouched lent;

@@ -9,6 +9,7 @@ use lib.ListN.{length, getD}
 use lib.Dec.{eqb}
 use borrow.Author.Tests.{eqb-true}
 use Rattle.words.specs.Lists.{any, upTo, eqList, lessList, padded}
+use Rattle.task.specs.Limits.{headWords}
 use Rattle.task.specs.Task.{Atom, Fact, sameAtom, factLess, names}
 use Rattle.words.specs.Words.{wordsAt}
 use Rattle.task.specs.Table.{atomWords, factWords}
@@ -119,9 +120,9 @@ less-rows arity w a b r f g few few′ m n h k =
 
 -- ---- the parameters of a row
 pub names-row : (w : List ℕ) (row s x : ℕ) (a : Atom) → length (a .args) ≤ 4 → At w row (atomWords s a) →
-    getD w (6 + a .pred) 0 ≡ length (a .args) → rowNames w row x ≡ names x a
+    getD w (headWords + a .pred) 0 ≡ length (a .args) → rowNames w row x ≡ names x a
 unfolding rowNames names
 names-row w row s x a few h e =
     ap (λ (n : ℕ). any (λ y. eqb x y) (wordsAt w (row + 4) n))
-    (ap (λ (p : ℕ). getD w (6 + p) 0) (pred-word w row s a few h) ∙ e) ∙
+    (ap (λ (p : ℕ). getD w (headWords + p) 0) (pred-word w row s a few h) ∙ e) ∙
     ap (any (λ y. eqb x y)) (own-words w row s a few h)

@@ -9,6 +9,7 @@ use lib.Seq.{ext-getD, getD-take, length-take-le, getD-set-same, getD-set-other}
 use lib.Dec.{eqb, ltb, leb}
 use borrow.Author.Tests.{ltb-true, ltb-false, leb-true, lt-ltb, le-ltb, eq-eqb, ne-eqb, eqb-true, eqb-false}
 use Rattle.words.specs.Lists.{all, padded}
+use Rattle.task.specs.Limits.{headWords, atomSize}
 use Rattle.task.specs.Task.{argsFit}
 use Rattle.task.specs.Table.{atomWords}
 use Rattle.words.proofs.Lists.{no-ft, all-in, in-getD}
@@ -59,7 +60,8 @@ module _ (w : List ℕ) (predicates bound p : ℕ) (kept : List ℕ) (count : �
     low = not-told;
   }
 
-  pub other-arity : p < predicates → (getD w (6 + p) 0 ≡ count → ⊥) → Fitting w predicates bound p kept count false
+  pub other-arity : p < predicates → (getD w (headWords + p) 0 ≡ count → ⊥) →
+      Fitting w predicates bound p kept count false
   other-arity l n = record {
     is = λ arities ns e a low four s. wrong-count l arities ns (λ q.
         n (a p (omega arith) ∙ (sym q ∙ s .counted)));
@@ -68,7 +70,7 @@ module _ (w : List ℕ) (predicates bound p : ℕ) (kept : List ℕ) (count : �
     low = not-told;
   }
 
-  pub right-count : p < predicates → count ≤ length kept → getD w (6 + p) 0 ≡ count → (told : Bool) →
+  pub right-count : p < predicates → count ≤ length kept → getD w (headWords + p) 0 ≡ count → (told : Bool) →
       told ≡ all (λ a. ltb a bound) (take count kept) → Fitting w predicates bound p kept count told
   unfolding argsFit
   right-count l m n told t = record {
@@ -109,9 +111,10 @@ no-part-put w first parts = record {
 }
 
 pub part-put : {w after : List ℕ} {first n : ℕ} {parts : List ℕ} → PartsPut w first n parts after →
-    first + 8 * n + 3 < length w → PartsPut w first (n + 1) parts (set after (first + 8 * n + 3) (getD parts n 0))
+    first + atomSize * n + 3 < length w →
+    PartsPut w first (n + 1) parts (set after (first + atomSize * n + 3) (getD parts n 0))
 part-put {w} {after} {first} {n} {parts} h l =
-    let at = first + 8 * n + 3 in
+    let at = first + atomSize * n + 3 in
     let x = getD parts n 0 in
     let s = h .size in
     record {
@@ -121,14 +124,15 @@ part-put {w} {after} {first} {n} {parts} h l =
     }
   where
     go : (k : ℕ) → k < n + 1 → (b : Bool) → eqb k n ≡ b →
-        getD (set after (first + 8 * n + 3) (getD parts n 0)) (first + 8 * k + 3) 0 ≡ getD parts k 0
+        getD (set after (first + atomSize * n + 3) (getD parts n 0)) (first + atomSize * k + 3) 0 ≡ getD parts k 0
     go k m true q =
         let z = eqb-true k n q in
         let s = h .size in
-        rw z (getD-set-same after (first + 8 * n + 3) (getD parts n 0) 0 (omega arith))
+        rw z (getD-set-same after (first + atomSize * n + 3) (getD parts n 0) 0 (omega arith))
     go k m false q =
         let z = eqb-false k n q in
-        getD-set-other after (first + 8 * n + 3) (first + 8 * k + 3) (getD parts n 0) 0 (λ r. z (omega arith)) ∙
+        getD-set-other after (first + atomSize * n + 3) (first + atomSize * k + 3) (getD parts n 0) 0
+        (λ r. z (omega arith)) ∙
         h .put k (omega arith)
 
 pub parts-all : {w after : List ℕ} {first n k : ℕ} {parts : List ℕ} → n ≡ k → PartsPut w first n parts after →
@@ -152,10 +156,10 @@ small-taken xs n l h k = go (ltb k n) refl
         omega arith
 
 pub eight-words : {s r p z a b c d : ℕ} → s < 65536 → r < 65536 → p < 65536 → z < 65536 → a < 65536 → b < 65536 →
-    c < 65536 → d < 65536 → Words 8 (s ∷ r ∷ p ∷ z ∷ a ∷ b ∷ c ∷ d ∷ [])
+    c < 65536 → d < 65536 → Words atomSize (s ∷ r ∷ p ∷ z ∷ a ∷ b ∷ c ∷ d ∷ [])
 eight-words {s} {r} {p} {z} {a} {b} {c} {d} hs hr hp hz ha hb hc hd = record { enough = omega arith; small = at }
   where
-    at : (k : ℕ) → k < 8 → getD (s ∷ r ∷ p ∷ z ∷ a ∷ b ∷ c ∷ d ∷ []) k 0 < 65536
+    at : (k : ℕ) → k < atomSize → getD (s ∷ r ∷ p ∷ z ∷ a ∷ b ∷ c ∷ d ∷ []) k 0 < 65536
     at zero l = hs
     at (suc zero) l = hr
     at (suc (suc zero)) l = hp

@@ -1,5 +1,6 @@
 -- The lines of a schema by the words of the table: of what they are made, how long they are, and that the parts that
 -- they list lie in the table.
+use Rattle.task.specs.Limits.{atomSize}
 use Prim.Native.Nat.{ℕ, _+_, _*_, _<_}
 use mathlib.Core.Path.{_≡_, refl, ap}
 use mathlib.Core.List.{List, [], _∷_, _++_}
@@ -19,7 +20,7 @@ length-partLine ns = let e = length-append (commaed ns) (newline ∷ []) in omeg
 
 module _ (w : List ℕ) (params b n : ℕ) where
   abbrev pub partsAt : List ℕ
-  partsAt = commaed (spaced w (b + 3) 8 n)
+  partsAt = commaed (spaced w (b + 3) atomSize n)
 
   pub schemaText-is : schemaText w params b n ≡ line "schema" (digits params) ++ (atomsText w b n ++
       line "part" partsAt)
@@ -33,9 +34,10 @@ module _ (w : List ℕ) (params b n : ℕ) where
       let s = length-append (line "schema" (digits params)) (atomsText w b n ++ line "part" partsAt) in
       let a = length-append (atomsText w b n) (line "part" partsAt) in
       let l = length-schemaLine params in
-      let m = length-partLine (spaced w (b + 3) 8 n) in
+      let m = length-partLine (spaced w (b + 3) atomSize n) in
       omega arith
 
   -- the atoms' parts lie in the table
-  pub parts-inside : ((k : ℕ) → k < n → AtomInside w (b + 8 * k)) → (k : ℕ) → k < n → b + 3 + 8 * k < length w
+  pub parts-inside : ((k : ℕ) → k < n → AtomInside w (b + atomSize * k)) → (k : ℕ) → k < n →
+      b + 3 + atomSize * k < length w
   parts-inside h k l = let i = h k l .inside in omega arith

@@ -7,8 +7,10 @@ use mathlib.Core.List.{List}
 use native.Mathlib.Omega.{arith}
 use lib.ListN.{length, getD}
 use Rattle.words.specs.Lists.{sum}
+use Rattle.task.specs.Limits.{headWords, atomSize}
+use Rattle.task.specs.Layout.{headIn, atomTotal, paramsBase, rowsBase, atomBase}
 use Rattle.task.specs.Run.{schemaAt}
-use Rattle.task.specs.Table.{atomBase, taskOf, isTable}
+use Rattle.task.specs.Table.{taskOf, isTable}
 use Rattle.task.proofs.Tables.{startOf, length-content, tableWords-is}
 use Rattle.task.proofs.TablesByIndex.{table-long, arities-word, schemas-word, atoms-word, init-word, goal-word}
 use Rattle.task.proofs.TablesByIndex.{start-suc}
@@ -17,12 +19,12 @@ use Rattle.text.proofs.TableAtoms.{frame, each-inside, start-most, run-
 use Rattle.text.proofs.TableText.{schemaLinesIn, schema-lines}
 
 -- the head of a table: six counts
-pub head-inside : (w : List ℕ) → isTable w ≡ true → 6 ≤ length w
+pub head-inside : (w : List ℕ) → isTable w ≡ true → headWords ≤ length w
 head-inside w table = let l = table-long w table in let e = tableWords-is in omega arith
 
 -- the arities, the parameter counts and the atoms lie in the table
 pub content-inside : (w : List ℕ) → isTable w ≡ true →
-    6 + getD w 1 0 + getD w 2 0 + 8 * (getD w 3 0 + getD w 4 0 + getD w 5 0) ≤ length w
+    rowsBase w + atomSize * (atomTotal w) ≤ length w
 content-inside w table =
     let f = frame w table in
     let b = length-content (taskOf w) (f .sizes) in
@@ -37,13 +39,14 @@ content-inside w table =
 
 -- a turn at schema s: its atoms begin at `at`, and `left` atoms of schemas are from there on
 pub record Turn (w : List ℕ) (schemas counts at left s : ℕ) : Type 0 where
-  pub schemas-are : schemas ≡ getD w 2 0
-  pub counts-begin : counts ≡ 6 + getD w 1 0
+  pub schemas-are : schemas ≡ headIn w .schemas
+  pub counts-begin : counts ≡ paramsBase w
   pub atoms-begin : at ≡ atomBase w (startOf (taskOf w) s)
-  pub atoms-left : startOf (taskOf w) s + left ≡ getD w 3 0
+  pub atoms-left : startOf (taskOf w) s + left ≡ headIn w .schemaAtoms
 
 module _ {w : List ℕ} (table : isTable w ≡ true) where
-  pub turn-first : (schemas counts left : ℕ) → schemas ≡ getD w 2 0 → counts ≡ 6 + getD w 1 0 → left ≡ getD w 3 0 →
+  pub turn-first : (schemas counts left : ℕ) → schemas ≡ headIn w .schemas → counts ≡ paramsBase w →
+      left ≡ headIn w .schemaAtoms →
       Turn w schemas counts (counts + schemas) left 0
   unfolding sum atomBase
   turn-first schemas counts left e f g = record {
@@ -54,7 +57,7 @@ module _ {w : List ℕ} (table : isTable w ≡ true) where
   }
 
   module _ {schemas counts at left s : ℕ} (turn : Turn w schemas counts at left s) where
-    pub begin-inside : at + 8 * left ≤ length w
+    pub begin-inside : at + atomSize * left ≤ length w
     unfolding atomBase
     begin-inside =
         let c = content-inside w table in
@@ -62,7 +65,7 @@ module _ {w : List ℕ} (table : isTable w ≡ true) where
         let l = turn .atoms-left in
         omega arith
 
-    pub read-inside : (k : ℕ) → k < left → at + 8 * k < length w
+    pub read-inside : (k : ℕ) → k < left → at + atomSize * k < length w
     read-inside k h = let b = begin-inside in omega arith
 
     pub count-inside : s < schemas → counts + s < length w
@@ -78,14 +81,14 @@ module _ {w : List ℕ} (table : isTable w ≡ true) where
           let e = turn .schemas-are in
           run-long w table s at left n (omega arith) (turn .atoms-begin) (turn .atoms-left) run
 
-      pub run-inside : at + 8 * n ≤ length w
+      pub run-inside : at + atomSize * n ≤ length w
       run-inside = let l = begin-inside in let r = run .within in omega arith
 
-      pub atoms-inside : (k : ℕ) → k < n → AtomInside w (at + 8 * k)
+      pub atoms-inside : (k : ℕ) → k < n → AtomInside w (at + atomSize * k)
       unfolding atomBase
       atoms-inside k l =
           let b = turn .atoms-begin in
-          let e : atomBase w (startOf (taskOf w) s + k) ≡ at + 8 * k = omega arith in
+          let e : atomBase w (startOf (taskOf w) s + k) ≡ at + atomSize * k = omega arith in
           let r = run .within in
           let m = turn .atoms-left in
           subst (AtomInside w) e (each-inside w table (startOf (taskOf w) s + k) (omega arith))
@@ -95,12 +98,12 @@ module _ {w : List ℕ} (table : isTable w ≡ true) where
           let e = turn .schemas-are in
           let c = turn .counts-begin in
           let b = turn .atoms-begin in
-          let q : 6 + getD w 1 0 + s ≡ counts + s = omega arith in
+          let q : paramsBase w + s ≡ counts + s = omega arith in
           schema-lines w table s (omega arith) ∙
           (ap₂ (λ (i a : ℕ). schemaText w (getD w i 0) a (length (schemaAt (taskOf w) s .atoms))) q (sym b) ∙
           ap (schemaText w (getD w (counts + s) 0) at) (sym run-is))
 
-      pub turn-next : Turn w schemas counts (at + 8 * n) (left - n) (s + 1)
+      pub turn-next : Turn w schemas counts (at + atomSize * n) (left - n) (s + 1)
       unfolding atomBase
       turn-next =
           let e = turn .schemas-are in

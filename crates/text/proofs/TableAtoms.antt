@@ -10,12 +10,14 @@ use lib.ListN.{length, getD, take}
 use lib.Dec.{leb}
 use borrow.Author.Tests.{leb-true}
 use Rattle.words.specs.Lists.{sum}
-use Rattle.task.specs.Task.{Atom, Task, rolesAscend, schemaFits}
+use Rattle.task.specs.Limits.{atomSize}
+use Rattle.task.specs.Layout.{headIn, goalsFrom, atomTotal, arityIn, atomBase}
+use Rattle.task.specs.Task.{Atom, Task, rolesAscend, schemaFits, noSchema}
 use Rattle.task.specs.Run.{schemaAt}
-use Rattle.task.specs.Table.{arityIn, atomBase, atomIn, factIn, schemaNumberIn, taskOf, isTable}
+use Rattle.task.specs.Table.{atomIn, factIn, schemaNumberIn, taskOf, isTable}
 use Rattle.words.proofs.Lists.{and-left, and-right, In, here, there, all-in, in-getD}
 use Rattle.task.proofs.Tests.{schema-tests, task-tests}
-use Rattle.task.proofs.Tables.{Sized, noAtom, noFact, noSchema, counts, startOf, of-table, init-stands, goal-stands}
+use Rattle.task.proofs.Tables.{Sized, noAtom, noFact, counts, startOf, of-table, init-stands, goal-stands}
 use Rattle.task.proofs.TablesByIndex.{Frame, table-frame, table-long, arities-word, schemas-word, atoms-word, init-word}
 use Rattle.task.proofs.TablesByIndex.{goal-word, arity-at, atom-inside, start-suc, atom-at, schema-of-atom, atom-lies}
 use Rattle.task.proofs.TablesByIndex.{init-at, goal-at}
@@ -46,7 +48,7 @@ module _ (w : List ℕ) (table : isTable w ≡ true) where
 
   -- ---- an atom and its arity lie in the table
   abbrev total : ℕ
-  total = getD w 3 0 + getD w 4 0 + getD w 5 0
+  total = atomTotal w
 
   sized-inside : (i : ℕ) → i < total → (p : ℕ) (args : List ℕ) → p ≡ getD w (atomBase w i + 2) 0 →
       Sized (t .arities) p args →
@@ -68,7 +70,7 @@ module _ (w : List ℕ) (table : isTable w ≡ true) where
 
   pub each-inside : (i : ℕ) → i < total → AtomInside w (atomBase w i)
   unfolding atomIn factIn schemaAt
-  each-inside i h = elim (decLt i (getD w 3 0)) [
+  each-inside i h = elim (decLt i (headIn w .schemaAtoms)) [
     | yes l ↦
         let s : ℕ = schemaNumberIn w i in
         let q = atom-lies w frame i l in
@@ -84,18 +86,18 @@ module _ (w : List ℕ) (table : isTable w ≡ true) where
         sized-inside i h (a .pred) (a .args) e
         (frame .sizes .schema (schemaAt t s) (in-getD (t .schemas) s noSchema (omega arith)) a
         (in-getD (schemaAt t s .atoms) k noAtom lies))
-    | no l ↦ elim (decLt i (getD w 3 0 + getD w 4 0)) [
+    | no l ↦ elim (decLt i (goalsFrom w)) [
       | yes m ↦
-          let k : ℕ = i - getD w 3 0 in
-          let z : getD w 3 0 + k ≡ i = omega arith in
+          let k : ℕ = i - headIn w .schemaAtoms in
+          let z : headIn w .schemaAtoms + k ≡ i = omega arith in
           let n = init-word w frame in
           let f = getD (t .init) k noFact in
           let e = sym (ap (λ (j : ℕ). factIn w j .pred) (sym z) ∙
           ap (λ g. g .pred) (init-at w frame k (omega arith))) in
           sized-inside i h (f .pred) (f .args) e (frame .sizes .init f (in-getD (t .init) k noFact (omega arith)))
       | no m ↦
-          let k : ℕ = i - (getD w 3 0 + getD w 4 0) in
-          let z : getD w 3 0 + getD w 4 0 + k ≡ i = omega arith in
+          let k : ℕ = i - (goalsFrom w) in
+          let z : goalsFrom w + k ≡ i = omega arith in
           let n = goal-word w frame in
           let f = getD (t .goal) k noFact in
           let e = sym (ap (λ (j : ℕ). factIn w j .pred) (sym z) ∙
@@ -105,7 +107,8 @@ module _ (w : List ℕ) (table : isTable w ≡ true) where
   ]
 
   -- ---- the roles of atoms
-  pub schema-role : (s k : ℕ) → s < getD w 2 0 → k < length (schemaAt t s .atoms) → atomIn w (startOf t s + k) .role ≤ 2
+  pub schema-role : (s k : ℕ) → s < headIn w .schemas → k < length (schemaAt t s .atoms) →
+      atomIn w (startOf t s + k) .role ≤ 2
   unfolding schemaAt
   schema-role s k l h =
       let n = schemas-word w frame in
@@ -115,13 +118,13 @@ module _ (w : List ℕ) (table : isTable w ≡ true) where
       subst (λ (a : Atom). a .role ≤ 2) (sym (atom-at w frame s k l h))
       (each-role (in-getD (schemaAt t s .atoms) k noAtom h) (c .roles))
 
-  pub init-role : (i : ℕ) → i < getD w 4 0 → getD w (atomBase w (getD w 3 0 + i) + 1) 0 ≡ 3
+  pub init-role : (i : ℕ) → i < headIn w .initialAtoms → getD w (atomBase w (headIn w .schemaAtoms + i) + 1) 0 ≡ 3
   unfolding atomIn
   init-role i h =
       let n = init-word w frame in
       ap (λ (a : Atom). a .role) (init-stands w t (frame .sizes) (frame .tabled) i (omega arith) .atom)
 
-  pub goal-role : (i : ℕ) → i < getD w 5 0 → getD w (atomBase w (getD w 3 0 + getD w 4 0 + i) + 1) 0 ≡ 4
+  pub goal-role : (i : ℕ) → i < headIn w .goalAtoms → getD w (atomBase w (goalsFrom w + i) + 1) 0 ≡ 4
   unfolding atomIn
   goal-role i h =
       let n = goal-word w frame in
@@ -135,23 +138,24 @@ module _ (w : List ℕ) (table : isTable w ≡ true) where
   take-most (c ∷ cs) zero = omega arith
   take-most (c ∷ cs) (suc m) = let r = take-most cs m in omega arith
 
-  pub start-most : (s : ℕ) → startOf t s ≤ getD w 3 0
+  pub start-most : (s : ℕ) → startOf t s ≤ headIn w .schemaAtoms
   start-most s = let r = take-most (counts (t .schemas)) s in let e = atoms-word w frame in omega arith
 
   -- ---- a run of atoms that name a schema is the schema's
-  pub run-long : (s b left n : ℕ) → s < getD w 2 0 → b ≡ atomBase w (startOf t s) → startOf t s + left ≡ getD w 3 0 →
+  pub run-long : (s b left n : ℕ) → s < headIn w .schemas → b ≡ atomBase w (startOf t s) →
+      startOf t s + left ≡ headIn w .schemaAtoms →
       SchemaRun w b left s n → n ≡ length (schemaAt t s .atoms)
   unfolding schemaNumberIn atomBase
   run-long s b left n l e f r = elim (decLt n (length (schemaAt t s .atoms))) [
     | yes m ↦ absurd
-        (let q : atomBase w (startOf t s + n) ≡ b + 8 * n = omega arith in
+        (let q : atomBase w (startOf t s + n) ≡ b + atomSize * n = omega arith in
         let a = start-suc w frame s l in
         let inside = start-most (suc s) in
         r .stops (omega arith) (ap (λ (j : ℕ). getD w j 0) (sym q) ∙ schema-of-atom w frame s n l m))
     | no m ↦ elim (decLt (length (schemaAt t s .atoms)) n) [
       | yes k ↦ absurd
           (let j : ℕ = length (schemaAt t s .atoms) in
-          let q : atomBase w (startOf t s + j) ≡ b + 8 * j = omega arith in
+          let q : atomBase w (startOf t s + j) ≡ b + atomSize * j = omega arith in
           let named : schemaNumberIn w (startOf t s + j) ≡ s = ap (λ (x : ℕ). getD w x 0) q ∙ r .same j k in
           let a = start-suc w frame s l in
           let within = r .within in

@@ -8,10 +8,11 @@ use native.Mathlib.Omega.{arith}
 use lib.ListN.{length, getD}
 use lib.Dec.{eqb}
 use Rattle.words.specs.Lists.{filter, upTo, upFrom, concatMap}
+use Rattle.task.specs.Limits.{headWords, atomSize}
+use Rattle.task.specs.Layout.{headIn, paramsIn, atomBase}
 use Rattle.task.specs.Task.{Atom, Fact, Schema, Task}
 use Rattle.task.specs.Run.{schemaAt}
-use Rattle.words.specs.Words.{wordsAt}
-use Rattle.task.specs.Table.{atomBase, atomIn, factIn, schemaNumberIn, taskOf, isTable}
+use Rattle.task.specs.Table.{atomIn, factIn, schemaNumberIn, taskOf, isTable, aritiesIn}
 use Rattle.words.proofs.Lists.{append-concatMap, upFrom-in, upFrom-append}
 use Rattle.task.proofs.Tables.{startOf, indices}
 use Rattle.task.proofs.TablesByIndex.{schemas-word}
@@ -81,17 +82,18 @@ module _ (w : List ℕ) where
   atomsText-from i n =
       let z : i ≡ i + 0 = omega arith in
       ap (λ (j : ℕ). concatMap lineIn (upFrom j n)) z ∙
-      pieces-from lineIn (λ k. atomText w (atomBase w i + 8 * k)) i 0 n
-      (λ j. let e : atomBase w (i + j) ≡ atomBase w i + 8 * j = omega arith in ap (atomText w) e)
+      pieces-from lineIn (λ k. atomText w (atomBase w i + atomSize * k)) i 0 n
+      (λ j. let e : atomBase w (i + j) ≡ atomBase w i + atomSize * j = omega arith in ap (atomText w) e)
 
-  pub parts-from : (i n : ℕ) → map (λ a. a .part) (map (atomIn w) (upFrom i n)) ≡ spaced w (atomBase w i + 3) 8 n
+  pub parts-from : (i n : ℕ) → map (λ a. a .part) (map (atomIn w) (upFrom i n)) ≡ spaced w (atomBase w i + 3) atomSize n
   unfolding spaced atomBase atomIn upTo
   parts-from i n =
       let z : i ≡ i + 0 = omega arith in
       map-map (upFrom i n) ∙
       (ap (λ (j : ℕ). map (λ i. atomIn w i .part) (upFrom j n)) z ∙
-      map-from (λ i. atomIn w i .part) (λ k. getD w (atomBase w i + 3 + 8 * k) 0) i 0 n
-      (λ j. let e : atomBase w (i + j) + 3 ≡ atomBase w i + 3 + 8 * j = omega arith in ap (λ (k : ℕ). getD w k 0) e))
+      map-from (λ i. atomIn w i .part) (λ k. getD w (atomBase w i + 3 + atomSize * k) 0) i 0 n
+      (λ j. let e : atomBase w (i + j) + 3 ≡ atomBase w i + 3 + atomSize * j = omega arith in
+      ap (λ (k : ℕ). getD w k 0) e))
     where
       map-map : (js : List ℕ) → map (λ a. a .part) (map (atomIn w) js) ≡ map (λ i. atomIn w i .part) js
       map-map [] = refl
@@ -116,18 +118,19 @@ module _ (w : List ℕ) where
 -- schema s of a table's task, as it is read
 abbrev pub schemaIn : List ℕ → ℕ → Schema
 schemaIn w s = record {
-  params = getD w (6 + getD w 1 0 + s) 0;
-  atoms = map (atomIn w) (filter (λ i. eqb s (schemaNumberIn w i)) (upTo (getD w 3 0)));
+  params = paramsIn w s;
+  atoms = map (atomIn w) (filter (λ i. eqb s (schemaNumberIn w i)) (upTo (headIn w .schemaAtoms)));
 }
 
 -- the lines of schema s of a table
 abbrev pub schemaLinesIn : List ℕ → ℕ → List ℕ
 schemaLinesIn w s = schemaPiece (schemaIn w s)
 
-pub schemas-onwards : (w : List ℕ) → onwards (schemaLinesIn w) 0 (getD w 2 0) ≡ schemasText w
+pub schemas-onwards : (w : List ℕ) → onwards (schemaLinesIn w) 0 (headIn w .schemas) ≡ schemasText w
 unfolding schemasText taskOf
 schemas-onwards w =
-    onwards-all (schemaLinesIn w) (getD w 2 0) ∙ sym (pieces-map schemaPiece (schemaIn w) (upTo (getD w 2 0)))
+    onwards-all (schemaLinesIn w) (headIn w .schemas) ∙
+    sym (pieces-map schemaPiece (schemaIn w) (upTo (headIn w .schemas)))
 
 schema-said : (n : ℕ) → writeLine (schemaLine n) ≡ line "schema" (digits n)
 unfolding writeLine
@@ -151,7 +154,7 @@ lines-of w params i n roles =
     (pieces-same (λ j. writeLine (said (atomIn w j))) (lineIn w) (upFrom i n)
     (λ j k. let (a, b) = upFrom-in i n j k in schema-line w j (roles j a b)) ∙
     atomsText-from w i n)) in
-    let parts : concatMap writeLine last ≡ line "part" (commaed (spaced w (atomBase w i + 3) 8 n)) =
+    let parts : concatMap writeLine last ≡ line "part" (commaed (spaced w (atomBase w i + 3) atomSize n)) =
     append-nil (writeLine (partLine (map (λ a. a .part) atoms))) ∙
     (part-said (map (λ a. a .part) atoms) ∙ ap (λ (ns : List ℕ). line "part" (commaed ns)) (parts-from w i n)) in
     ap (λ (bs : List ℕ). writeLine (schemaLine params) ++ bs)
@@ -161,16 +164,16 @@ lines-of w params i n roles =
     sym (schemaText-is w params (atomBase w i) n))
 
 -- the lines of schema s: its atoms begin where those of the schemas before it end
-pub schema-lines : (w : List ℕ) → isTable w ≡ true → (s : ℕ) → s < getD w 2 0 →
+pub schema-lines : (w : List ℕ) → isTable w ≡ true → (s : ℕ) → s < headIn w .schemas →
     schemaLinesIn w s ≡
-    schemaText w (getD w (6 + getD w 1 0 + s) 0) (atomBase w (startOf (taskOf w) s))
+    schemaText w (paramsIn w s) (atomBase w (startOf (taskOf w) s))
     (length (schemaAt (taskOf w) s .atoms))
 unfolding schemaAt
 schema-lines w table s l =
     let t = taskOf w in
     let f = frame w table in
     let n = schemas-word w f in
-    let params : ℕ = getD w (6 + getD w 1 0 + s) 0 in
+    let params : ℕ = paramsIn w s in
     ap (λ (js : List ℕ). schemaPiece (record { params = params; atoms = map (atomIn w) js }))
     (indices w t (f .sizes) (f .tabled) s (omega arith)) ∙
     lines-of w params (startOf t s) (length (schemaAt t s .atoms)) (λ j a b.
@@ -181,12 +184,12 @@ schema-lines w table s l =
 -- ---- a table's initial and goal atoms
 pub facts-lines : (w : List ℕ) → isTable w ≡ true →
     concatMap initPiece (taskOf w .init) ++ concatMap goalPiece (taskOf w .goal) ≡
-    atomsText w (atomBase w (getD w 3 0)) (getD w 4 0 + getD w 5 0)
+    atomsText w (atomBase w (headIn w .schemaAtoms)) (headIn w .initialAtoms + headIn w .goalAtoms)
 unfolding taskOf
 facts-lines w table =
-    let i : ℕ = getD w 3 0 in
-    let n : ℕ = getD w 4 0 in
-    let m : ℕ = getD w 5 0 in
+    let i : ℕ = headIn w .schemaAtoms in
+    let n : ℕ = headIn w .initialAtoms in
+    let m : ℕ = headIn w .goalAtoms in
     let inits : concatMap initPiece (map (factIn w) (upFrom i n)) ≡ concatMap (lineIn w) (upFrom i n) =
     pieces-map initPiece (factIn w) (upFrom i n) ∙
     pieces-same (λ j. initPiece (factIn w j)) (lineIn w) (upFrom i n) (λ j k.
@@ -206,26 +209,29 @@ facts-lines w table =
 
 -- ---- the whole text of a table
 head-is : (w bs : List ℕ) →
-    writeLine (taskLine 1) ++ (writeLine (objectsLine (getD w 0 0)) ++
-    (writeLine (arityLine (wordsAt w 6 (getD w 1 0))) ++ bs)) ≡
+    writeLine (taskLine 1) ++ (writeLine (objectsLine (headIn w .objects)) ++
+    (writeLine (arityLine (aritiesIn w)) ++ bs)) ≡
     headText w ++ bs
 unfolding headText writeLine
 head-is w bs =
     let task = line "task" (digits 1) in
-    let objects = line "objects" (digits (getD w 0 0)) in
-    let arities = line "arity" (commaed (spaced w 6 1 (getD w 1 0))) in
-    ap (λ (ns : List ℕ). task ++ (objects ++ (line "arity" (commaed ns) ++ bs))) (sym (spaced-words w 6 (getD w 1 0))) ∙
+    let objects = line "objects" (digits (headIn w .objects)) in
+    let arities = line "arity" (commaed (spaced w headWords 1 (headIn w .predicates))) in
+    ap (λ (ns : List ℕ). task ++ (objects ++ (line "arity" (commaed ns) ++ bs)))
+    (sym (spaced-words w headWords (headIn w .predicates))) ∙
     (ap (λ (x : List ℕ). task ++ x) (sym (append-assoc objects arities bs)) ∙
     sym (append-assoc task (objects ++ arities) bs))
 
 pub write-table : (w : List ℕ) → isTable w ≡ true → write (taskOf w) ≡
     headText w ++ (schemasText w ++
-    (atomsText w (atomBase w (getD w 3 0)) (getD w 4 0 + getD w 5 0) ++ writeLine (endLine 1)))
+    (atomsText w (atomBase w (headIn w .schemaAtoms)) (headIn w .initialAtoms + headIn w .goalAtoms) ++
+    writeLine (endLine 1)))
 unfolding taskOf schemasText
 write-table w table =
     let t = taskOf w in
     let rest : concatMap initPiece (t .init) ++ (concatMap goalPiece (t .goal) ++ writeLine (endLine 1)) ≡
-    atomsText w (atomBase w (getD w 3 0)) (getD w 4 0 + getD w 5 0) ++ writeLine (endLine 1) =
+    atomsText w (atomBase w (headIn w .schemaAtoms)) (headIn w .initialAtoms + headIn w .goalAtoms) ++
+    writeLine (endLine 1) =
     sym (append-assoc (concatMap initPiece (t .init)) (concatMap goalPiece (t .goal)) (writeLine (endLine 1))) ∙
     ap (λ (x : List ℕ). x ++ writeLine (endLine 1)) (facts-lines w table) in
     write-is t ∙

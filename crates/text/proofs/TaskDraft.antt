@@ -8,7 +8,7 @@ use native.Mathlib.Omega.{arith}
 use lib.ListN.{length}
 use lib.Dec.{leb}
 use Rattle.words.specs.Lists.{all, concatMap}
-use Rattle.task.specs.Task.{Atom, Fact, Schema, Task, argsFit, distinct, rolesAscend, schemaAtoms}
+use Rattle.task.specs.Task.{Atom, Fact, Schema, Task, argsFit, distinct, rolesAscend, schemaAtoms, withAtoms}
 use Rattle.words.proofs.Lists.{In, here, there, append-concatMap, map-append}
 use Rattle.task.proofs.Tests.{TaskTests}
 use Rattle.text.specs.Reading.{goOn}
@@ -91,7 +91,7 @@ whole-schema t s h k =
     go a b c d w e f = rw (e, f) (simp (append-assoc, append-nil))
 
 pub opened-atom : (c : Schema) (a : Atom) →
-    opened (record { params = c .params; atoms = c .atoms ++ (a ∷ []) }) ≡
+    opened (withAtoms c (c .atoms ++ (a ∷ []))) ≡
     opened c ++ (atomLine (a .role) (atomEntry a) ∷ [])
 unfolding opened
 opened-atom c a =

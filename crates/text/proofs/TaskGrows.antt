@@ -10,12 +10,12 @@ use lib.Dec.{eqb, ltb, leb}
 use borrow.Author.Tests.{ltb-true, eqb-true, lt-ltb, le-leb}
 use Rattle.words.specs.Lists.{all, any, sum}
 use Rattle.task.specs.Task.{factsFit, Atom, Fact, Schema, Task, argsFit, sameAtom, distinct, rolesAscend, schemaFits}
-use Rattle.task.specs.Task.{allNamed, noGap, schemaAtoms}
+use Rattle.task.specs.Task.{allNamed, noGap, schemaAtoms, noSchema, withAtoms}
 use Rattle.task.proofs.Tests.{SchemaTests, tests-schema, TaskTests}
 use Rattle.text.specs.Lines.{Entry}
 use Rattle.text.specs.Reading.{goOn}
 use Rattle.text.specs.Text.{TaskTurn, Line, schemaLine, partLine, atomLine, initLine, goalLine, factEntry}
-use Rattle.text.specs.Text.{atomEntry, schemaLines, Phase, between, inInit, inGoal, rolePhase, Draft, noSchema}
+use Rattle.text.specs.Text.{atomEntry, schemaLines, Phase, between, inInit, inGoal, rolePhase, Draft}
 use Rattle.text.specs.Text.{atPhase, withSchemas, withInit, withGoal, addAtom, withParts, closeSchema, follows}
 use Rattle.text.specs.Text.{addFact}
 use Rattle.text.proofs.Reading.{need-went}
@@ -97,7 +97,7 @@ pub atom-next : (p : Phase) (t : Task) (c : Schema) (q r : ℕ) → q ≤ r → 
 unfolding addAtom atomEntry
 atom-next p t c q r l m x e o h =
     let a : Atom = record { role = r; pred = x .head; part = 0; args = x .list } in
-    let s : Schema = record { params = c .params; atoms = c .atoms ++ (a ∷ []) } in
+    let s : Schema = withAtoms c (c .atoms ++ (a ∷ [])) in
     let (k₁, h₁) = need-went (ltb (length (c .atoms)) 64) 4 _ e h in
     let (k₂, h₂) = need-went (ltb (schemaAtoms (t .schemas) + length (c .atoms)) 1000) 4 _ e h₁ in
     let (k₃, h₃) = need-went (argsFit (t .arities) (c .params) (x .head) (x .list)) 5 _ e h₂ in
@@ -125,7 +125,7 @@ atom-next p t c q r l m x e o h =
 
 -- ---- a schema's parts
 abbrev pub closed : Schema → List ℕ → Schema
-closed c ps = record { params = c .params; atoms = withParts (c .atoms) ps }
+closed c ps = withAtoms c (withParts (c .atoms) ps)
 
 pub closed-lines : (c : Schema) (ps : List ℕ) → length ps ≡ length (c .atoms) →
     schemaLines (closed c ps) ≡ opened c ++ (partLine ps ∷ [])

@@ -10,14 +10,14 @@ use lib.Dec.{eqb, ltb, leb}
 use borrow.Author.Tests.{ltb-true, leb-true, eqb-true, le-leb}
 use Rattle.words.specs.Lists.{all, any, concatMap, sum}
 use Rattle.task.specs.Task.{Atom, Fact, Schema, Task, argsFit, sameAtom, rolesAscend, distinct, factsFit, ascending}
-use Rattle.task.specs.Task.{allNamed, noGap, wellFormed, schemaAtoms}
+use Rattle.task.specs.Task.{allNamed, noGap, wellFormed, schemaAtoms, noSchema, bareSchema}
 use Rattle.words.proofs.Lists.{and-left, and-right, In}
 use Rattle.task.proofs.Tests.{TaskTests, tests-task}
 use Rattle.text.specs.Lines.{Entry}
 use Rattle.text.specs.Reading.{goOn, finish, need, read}
 use Rattle.text.specs.Text.{Key, end, keyOf, keysAt, Line, taskLine, objectsLine, schemaLine, endLine, arityLine}
 use Rattle.text.specs.Text.{partLine, atomLine, initLine, goalLine, writeLine, taskLines, write, Phase, atObjects}
-use Rattle.text.specs.Text.{atArity, between, inPre, inAdd, inDel, inInit, inGoal, Draft, TaskTurn, noSchema}
+use Rattle.text.specs.Text.{atArity, between, inPre, inAdd, inDel, inInit, inGoal, Draft, TaskTurn}
 use Rattle.text.specs.Text.{started, atPhase, withObjects, withArities, withInit, withGoal, addAtom, withParts}
 use Rattle.text.specs.Text.{closeSchema, follows, addFact, takeLine, nextLine, readText}
 use Rattle.text.proofs.Reading.{need-went, need-finished, comes-last, goes-on, read-lines}
@@ -90,7 +90,7 @@ line-next t c atArity-arity (says-arity {ns = ns} s l) (g, some, few) e h =
 line-next t c between-schema (says-schema {n = n} s) g e h =
     let t₁ = ltb (length (t .schemas)) 200 in
     let t₂ = leb n 12 in
-    let (k, h₁) = need-went (t₁ && t₂) 4 (goOn (draft inPre t (record { params = n; atoms = [] }))) e h in
+    let (k, h₁) = need-went (t₁ && t₂) 4 (goOn (draft inPre t (bareSchema n))) e h in
     next h₁ (record {
       known = record {
         before = g;

@@ -11,7 +11,7 @@ use lib.Dec.{ltb, leb}
 use borrow.Author.Tests.{ltb-true, leb-true, lt-ltb, eq-eqb}
 use Rattle.words.specs.Lists.{all, concatMap, sum}
 use Rattle.task.specs.Task.{Atom, Fact, Schema, Task, argsFit, distinct, rolesAscend, schemaFits, factsFit, ascending}
-use Rattle.task.specs.Task.{noGap, wellFormed, schemaAtoms}
+use Rattle.task.specs.Task.{noGap, wellFormed, schemaAtoms, noSchema, withAtoms}
 use Rattle.words.proofs.Lists.{and-both, In, here, there, in-right, all-in, sum-append, map-append}
 use Rattle.task.proofs.States.{argsFit-fitting}
 use Rattle.task.proofs.Tests.{SchemaTests, schema-tests, fits, fact-tests, TaskTests, task-tests}
@@ -20,7 +20,7 @@ use Rattle.text.specs.Reading.{goOn, finish, read}
 use Rattle.text.specs.Text.{task, objects, arity, schema, pre, add, del, part, init, goal, end, Line, schemaLine}
 use Rattle.text.specs.Text.{endLine, partLine, atomLine, initLine, goalLine, writeLine, factEntry, atomEntry}
 use Rattle.text.specs.Text.{schemaLines, taskLines, write, Phase, between, inInit, inGoal, keysAt, rolePhase}
-use Rattle.text.specs.Text.{Draft, noSchema, started, withParts, closeSchema, follows, takeLine, nextLine}
+use Rattle.text.specs.Text.{Draft, started, withParts, closeSchema, follows, takeLine, nextLine}
 use Rattle.text.specs.Text.{readText}
 use Rattle.text.proofs.NumberLists.{Small, SmallEntry}
 use Rattle.text.proofs.Reading.{need-met, Leads, comes-last, goes-on, lines-read}
@@ -198,7 +198,7 @@ schema-closes u ss s c =
     let m : length ps ≡ length xs = length-map (s .atoms) partOf ∙ sym n in
     let some : leb 1 (length xs) ≡ true = rw n (c .some-atom) in
     let back : withParts xs ps ≡ s .atoms = parts-back (s .atoms) in
-    let closed : List Atom → Schema = λ x. record { params = s .params; atoms = x } in
+    let closed : List Atom → Schema = λ x. withAtoms s x in
     need-met 7 some (need-met 7 (named-bare (s .params) (s .atoms) ∙ c .used)
     (need-met 8 (eq-eqb (length ps) (length xs) m) (need-met 8 (count-below 16 (s .atoms) (c .parts))
     (need-met 8 (ap noGap back ∙ c .filled)

@@ -5,20 +5,21 @@ use mathlib.Core.Path.{_≡_, refl, _∙_, ap, subst}
 use mathlib.Core.Bool.{true, false}
 use mathlib.Core.List.{List, [], _∷_, _++_}
 use native.Mathlib.Omega.{arith}
-use lib.ListN.{length, getD, length-append}
+use lib.ListN.{length, length-append}
 use lib.Dec.{leb}
 use borrow.Author.Tests.{le-leb}
 use Rattle.task.specs.declared.Place.the-variants as place
 use Rattle.words.specs.Lists.{over}
-use Rattle.task.specs.Limits.{tableWords}
+use Rattle.task.specs.Layout.{headIn, factsBase, atomBase}
+use Rattle.task.specs.Limits.{tableWords, headWords, atomSize}
 use Rattle.task.specs.Answers.{result, refused, refuseUnless, inOrder}
-use Rattle.task.specs.Table.{atomBase, taskOf, longEnough, isTable}
+use Rattle.task.specs.Table.{taskOf, longEnough, isTable}
 use Rattle.task.proofs.Tables.{of-table}
 use Rattle.task.proofs.TablesByIndex.{table-long}
 use Rattle.text.specs.Lines.{bytes, newline, digits, commaed, line}
 use Rattle.text.specs.Text.{endLine, writeLine, write}
 use Rattle.text.specs.Outcomes.{writeOutcome}
-use Rattle.text.specs.Code.{spaced, AtomInside, atomsText, headText, schemasText, factsBase, factCount}
+use Rattle.text.specs.Code.{spaced, AtomInside, atomsText, headText, schemasText, factCount}
 use Rattle.text.specs.Code.{longestText}
 use Rattle.text.proofs.TableAtoms.{each-inside}
 use Rattle.text.proofs.TableText.{write-table}
@@ -27,12 +28,13 @@ use Rattle.text.proofs.LongestText.{text-most}
 
 -- ---- the head
 abbrev pub arityBytes : List ℕ → List ℕ
-arityBytes w = commaed (spaced w 6 1 (getD w 1 0))
+arityBytes w = commaed (spaced w headWords 1 (headIn w .predicates))
 
-pub length-headText : (w : List ℕ) → length (headText w) ≡ 23 + length (digits (getD w 0 0)) + length (arityBytes w)
+pub length-headText : (w : List ℕ) →
+    length (headText w) ≡ 23 + length (digits (headIn w .objects)) + length (arityBytes w)
 unfolding headText line bytes
 length-headText w =
-    let objects = digits (getD w 0 0) in
+    let objects = digits (headIn w .objects) in
     let e = length-append objects (newline ∷ []) in
     let f = length-append (arityBytes w) (newline ∷ []) in
     let g = length-append (objects ++ (newline ∷ [])) (line "arity" (arityBytes w)) in
@@ -42,11 +44,11 @@ abbrev pub taskBytes : List ℕ
 taskBytes = 116 ∷ 97 ∷ 115 ∷ 107 ∷ 61 ∷ 49 ∷ 10 ∷ []
 
 pub head-parts : (w : List ℕ) →
-    headText w ≡ taskBytes ++ (line "objects" (digits (getD w 0 0)) ++ line "arity" (arityBytes w))
+    headText w ≡ taskBytes ++ (line "objects" (digits (headIn w .objects)) ++ line "arity" (arityBytes w))
 unfolding headText
 head-parts w = refl
 
-pub arities-inside : (w : List ℕ) → isTable w ≡ true → (k : ℕ) → k < getD w 1 0 → 6 + 1 * k < length w
+pub arities-inside : (w : List ℕ) → isTable w ≡ true → (k : ℕ) → k < headIn w .predicates → headWords + 1 * k < length w
 arities-inside w table k h = let c = content-inside w table in omega arith
 
 -- ---- the whole
@@ -62,7 +64,7 @@ module _ (w : List ℕ) (table : isTable w ≡ true) where
   factsText = atomsText w (factsBase w) (factCount w)
 
   pub write-by-words : write (taskOf w) ≡ headText w ++ (schemasText w ++ (factsText ++ endBytes))
-  unfolding factsBase factCount atomBase
+  unfolding factCount atomBase
   write-by-words =
       write-table w table ∙ ap (λ (x : List ℕ). headText w ++ (schemasText w ++ (factsText ++ x))) end-is
 
@@ -82,11 +84,11 @@ module _ (w : List ℕ) (table : isTable w ≡ true) where
   pub head-fits : length (headText w) < 2 ^ 64
   head-fits = let l = length-write in let m = write-fits in omega arith
 
-  pub facts-inside : (k : ℕ) → k < factCount w → AtomInside w (factsBase w + 8 * k)
-  unfolding factsBase factCount atomBase
+  pub facts-inside : (k : ℕ) → k < factCount w → AtomInside w (factsBase w + atomSize * k)
+  unfolding factCount atomBase
   facts-inside k l =
-      let q : atomBase w (getD w 3 0 + k) ≡ factsBase w + 8 * k = omega arith in
-      subst (AtomInside w) q (each-inside w table (getD w 3 0 + k) (omega arith))
+      let q : atomBase w (headIn w .schemaAtoms + k) ≡ factsBase w + atomSize * k = omega arith in
+      subst (AtomInside w) q (each-inside w table (headIn w .schemaAtoms + k) (omega arith))
 
 -- ---- what `write` does with a table
 long-enough : (w : List ℕ) → isTable w ≡ true → longEnough w ≡ true

@@ -4,9 +4,10 @@ use mathlib.Core.Path.{_≡_}
 use mathlib.Core.List.{List, [], _∷_, _++_, map}
 use lib.ListN.{length, getD}
 use Rattle.words.specs.Lists.{upTo, concatMap}
+use Rattle.task.specs.Layout.{headIn, arityIn}
 use Rattle.task.specs.Limits.{headWords, atomSize, mostArity}
 use Rattle.words.specs.Words.{wordsAt}
-use Rattle.task.specs.Table.{arityIn, taskOf}
+use Rattle.task.specs.Table.{taskOf}
 use Rattle.text.specs.Lines.{bytes, equals, Entry, digits, commaed, entryBytes, line}
 use Rattle.text.specs.Text.{Key, pre, add, del, init, goal, keyName, writeLine, schemaLines}
 
@@ -61,7 +62,8 @@ unfoldable pub headText : List ℕ → List ℕ
 unfolding line digits commaed spaced
 headText w =
     line "task" (digits 1) ++
-    (line "objects" (digits (getD w 0 0)) ++ line "arity" (commaed (spaced w headWords 1 (getD w 1 0))))
+    (line "objects" (digits (headIn w .objects)) ++
+    line "arity" (commaed (spaced w headWords 1 (headIn w .predicates))))
 
 -- the lines of all schemas of a table
 unfoldable pub schemasText : List ℕ → List ℕ
@@ -74,12 +76,9 @@ pub record SchemaRun (w : List ℕ) (b left schema n : ℕ) : Type 0 where
   pub same : (k : ℕ) → k < n → getD w (b + atomSize * k) 0 ≡ schema
   pub stops : n < left → getD w (b + atomSize * n) 0 ≡ schema → ⊥
 
--- where the initial and goal atoms of a table begin, and how many they are
-unfoldable pub factsBase : List ℕ → ℕ
-factsBase w = headWords + getD w 1 0 + getD w 2 0 + atomSize * getD w 3 0
-
+-- how many initial and goal atoms a table has
 unfoldable pub factCount : List ℕ → ℕ
-factCount w = getD w 4 0 + getD w 5 0
+factCount w = headIn w .initialAtoms + headIn w .goalAtoms
 
 -- no text of a task is longer: 7 and 13 bytes for `task` and `objects`, 806 for 400 arities, 15 for each of 200
 -- schemas, 20 for each of 1,000 atoms and 3 for its part, 25 for each of 600 initial and goal atoms, 6 for `end`; shut,

@@ -13,12 +13,12 @@ use lib.Dec.{ltb, leb}
 use Rattle.task.specs.Limits.{tableWords, mostInitial, mostGoal, mostObjects, mostPredicates, mostSchemas}
 use Rattle.task.specs.Limits.{mostSchemaAtoms, mostArity, mostParameters, mostAtoms, mostParts, headWords, atomSize}
 use Rattle.words.specs.Lists.{all, concatMap}
-use Rattle.task.specs.Task.{Task, Fact, argsFit, schemaAtoms, initial, goalRole, deletion}
+use Rattle.task.specs.Task.{Task, Fact, argsFit, schemaAtoms, initial, goalRole, deletion, noSchema, withAtoms}
 use Rattle.task.specs.Table.{atomWords, factWords, schemasFrom}
 use Rattle.text.specs.declared.cursor.Cursor.{Cursor}
 use Rattle.text.specs.Lines.{Taken, Entry}
 use Rattle.text.specs.Reading.{Reading, goOn, refuse, refusedAt, atEnd, lineAt}
-use Rattle.text.specs.Text.{Line, between, Draft, rolePhase, noSchema, atPhase, withSchemas, withParts}
+use Rattle.text.specs.Text.{Line, between, Draft, rolePhase, atPhase, withSchemas, withParts}
 use Rattle.text.specs.Text.{closeSchema, takeLine, Key, init, goal, initLine, goalLine, Phase, inInit, inGoal}
 use Rattle.text.specs.Text.{withInit, withGoal, pre, roleKey, atTask, atArity, inPre, inDel}
 use Rattle.text.specs.ReadCode.{rest, Standing, NextLine, phaseNumber, bareAtom, keyNumber, mayStand}
@@ -178,7 +178,7 @@ unfoldable pub withAtom : Draft → ℕ → ℕ → List ℕ → Draft
 withAtom d r p args = record {
   phase = rolePhase r;
   task = d .task;
-  current = record { params = d .current .params; atoms = d .current .atoms ++ (bareAtom r p args ∷ []) };
+  current = withAtoms (d .current) (d .current .atoms ++ (bareAtom r p args ∷ []));
 }
 
 abbrev pub oneAtomMore : Counts → ℕ → Counts
@@ -241,7 +241,7 @@ oneFactMore c kind.Goal = withCounted c inGoal (c .initial) (c .goal + 1)
 unfoldable pub withClosed : Draft → List ℕ → Draft
 unfolding atPhase withSchemas withParts
 withClosed d ps = atPhase between (withSchemas (d .task) (d .task .schemas ++
-    (record { params = d .current .params; atoms = withParts (d .current .atoms) ps } ∷ [])))
+    (withAtoms (d .current) (withParts (d .current .atoms) ps) ∷ [])))
 
 -- the parts close the schema, or are refused
 abbrev pub PartsTurn : Draft → List ℕ → Check → Type 0

@@ -27,7 +27,8 @@ pub fn clear(table: &mut [u16], at: usize, n: usize)
 // Moves n words down, from one place to another.
 pub fn move_down(table: &mut [u16], from: usize, to: usize, n: usize)
     requires { ⌜ (to ≤ from) × (from + n ≤ length (now table)) ⌝ }
-    ensures { λ r. ⌜ Wrote (now (table .entry)) to n (λ k. getD (now (table .entry)) (from + k) 0) (now (table .exit)) ⌝ }
+    ensures { λ r. ⌜ Wrote (now (table .entry)) to n (λ k. getD (now (table .entry)) (from + k) 0)
+        (now (table .exit)) ⌝ }
 {
     for k in 0..n {
         let word = table[from + k];

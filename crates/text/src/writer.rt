@@ -19,12 +19,13 @@ ghost use mathlib.Core.Bool.{true};
 ghost use Prim.Native.Nat.{ℕ, _+_, _*_, _^_, _≤_, _<_};
 ghost use lib.ListN.{length, getD};
 ghost use lib.Dec.{leb};
+ghost use Rattle.task.specs.Layout.{factsBase};
 ghost use Rattle.task.specs.Table.{taskOf, isTable};
 ghost use Rattle.text.specs.Text.{write};
 ghost use Rattle.text.specs.Outcomes.{writeOutcome, writeAnswerTold};
 ghost use Rattle.words.specs.Putting.{Puts};
 ghost use Rattle.text.specs.Code.{AtomInside, keyBytes, atomText, atomsText, schemaText, headText, schemasText};
-ghost use Rattle.text.specs.Code.{SchemaRun, factsBase, factCount};
+ghost use Rattle.text.specs.Code.{SchemaRun, factCount};
 ghost use Rattle.task.specs.Limits.{headWords, atomSize};
 
 // "role (0 precondition, 1 add, 2 delete, 3 initial, 4 goal)": the key of an atom's line, and its =.

@@ -8,13 +8,14 @@ use native.Mathlib.Omega.{arith}
 use lib.ListN.{length, getD, length-map}
 use borrow.Author.Tests.{leb-true}
 use Rattle.words.specs.Lists.{upFrom}
-use Rattle.task.specs.Task.{Atom, schemaFits}
+use Rattle.task.specs.Layout.{headIn, arityIn, atomBase}
+use Rattle.task.specs.Task.{Atom, schemaFits, noSchema}
 use Rattle.task.specs.Run.{schemaAt}
 use Rattle.words.specs.Words.{wordsAt}
-use Rattle.task.specs.Table.{arityIn, atomBase, atomIn, schemaNumberIn, taskOf, isTable}
+use Rattle.task.specs.Table.{atomIn, schemaNumberIn, taskOf, isTable}
 use Rattle.words.proofs.Lists.{In, all-in, in-getD, length-upFrom, getD-map, getD-upFrom}
 use Rattle.task.proofs.Tests.{schema-tests, task-tests}
-use Rattle.task.proofs.Tables.{noAtom, noSchema, of-table}
+use Rattle.task.proofs.Tables.{noAtom, of-table}
 use Rattle.task.proofs.TablesByIndex.{table-frame, schemas-word, arities-word, arity-at, atom-at, atom-lies, start-suc}
 use Rattle.task.proofs.States.{Fitting, schemaFits-fits}
 use Rattle.arcs.specs.Code.{IsSchemaAtom}
@@ -63,7 +64,7 @@ module _ (w : List ℕ) (i : ℕ) (is : IsSchemaAtom w i) where
       let t = taskOf w in
       schemaFits-fits (t .arities) (schemaAt t (schemaNumberIn w i)) fits .fit (atomIn w i) (placed .atom)
 
-  pub predicate-known : atomIn w i .pred < getD w 1 0
+  pub predicate-known : atomIn w i .pred < headIn w .predicates
   predicate-known = let f = fitting .known in let e = arities-word w (table-frame w (is .table)) in omega arith
 
   pub argument-small : (x : ℕ) → In x (atomIn w i .args) → x < mostParameters

@@ -5,9 +5,10 @@ use mathlib.Core.Bool.{true}
 use mathlib.Core.List.{List}
 use native.Mathlib.Omega.{arith}
 use native.Mathlib.Numerals.{add-one}
-use lib.ListN.{length, getD}
+use lib.ListN.{length}
 use borrow.Author.Tests.{leb-true}
 use Rattle.words.specs.Lists.{upTo}
+use Rattle.task.specs.Layout.{headIn}
 use Rattle.task.specs.Task.{schemaFits, Task}
 use Rattle.task.specs.Run.{schemaAt}
 use Rattle.task.specs.Table.{taskOf}
@@ -54,7 +55,7 @@ module _ {w : List ℕ} {s : ℕ} {kept : List ℕ} (K : SchemaKept w s kept) wh
   pub count-small : keptCount kept s ≤ mostParts
   count-small = let c = counted in omega (arith, order-few w (K .table) s (K .known) taken)
 
-  word-known : s < getD w 2 0
+  word-known : s < headIn w .schemas
   word-known = schema-known w (K .table) s (K .known)
 
   pub kept-fits : schemaFits (t .arities) (schemaAt t s) ≡ true

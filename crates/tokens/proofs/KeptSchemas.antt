@@ -12,6 +12,7 @@ use lib.ListN.{length, getD, take, length-map}
 use lib.Seq.{getD-take, length-take-le}
 use borrow.Author.Tests.{leb-true}
 use Rattle.words.specs.Lists.{sum, filter, keepIf, head, first, upTo, upFrom}
+use Rattle.task.specs.Layout.{headIn}
 use Rattle.task.specs.Task.{Task, schemaAtoms, partCount}
 use Rattle.task.specs.Run.{schemaAt}
 use Rattle.task.specs.Table.{taskOf, isTable}
@@ -102,7 +103,7 @@ module _ (w : List ℕ) (h : isTable w ≡ true) where
   pub schemas-few : length (taskOf w .schemas) ≤ mostSchemas
   schemas-few = leb-true (length (taskOf w .schemas)) mostSchemas (task-tests (taskOf w) (of-table w h .0) .schemas)
 
-  pub atoms-few : getD w 3 0 ≤ mostSchemaAtoms
+  pub atoms-few : headIn w .schemaAtoms ≤ mostSchemaAtoms
   atoms-few =
       let tests = task-tests (taskOf w) (of-table w h .0) in
       let b = leb-true (schemaAtoms (taskOf w .schemas)) mostSchemaAtoms (tests .atoms) in

@@ -12,6 +12,7 @@ use lib.Seq.{take-suc, take-length, getD-set-same, getD-set-other}
 use lib.Dec.{eqb}
 use borrow.Author.Tests.{eqb-true, eqb-false, eq-eqb, ne-eqb}
 use Rattle.words.specs.Lists.{any, upFrom}
+use Rattle.task.specs.Layout.{headIn}
 use Rattle.task.specs.Task.{Atom, names}
 use Rattle.task.specs.Table.{atomIn, schemaNumberIn, taskOf, isTable}
 use Rattle.words.proofs.Lists.{and-right, any-in, map-in, upFrom-in}
@@ -141,7 +142,7 @@ module _ (w : List ℕ) (from : ℕ) where
 
 -- ---- where a schema's atoms end
 module _ (w : List ℕ) (h : isTable w ≡ true) (s : ℕ) (l : s < length (taskOf w .schemas)) where
-  pub schema-known : s < getD w 2 0
+  pub schema-known : s < headIn w .schemas
   schema-known = let e = schemas-word w (table-frame w h) in omega arith
 
   -- an atom of another schema stands at the end
@@ -159,6 +160,6 @@ module _ (w : List ℕ) (h : isTable w ≡ true) (s : ℕ) (l : s < length (task
   ]
 
   -- an atom of the schema stands before it
-  pub goes-on : (i : ℕ) → i < getD w 3 0 → schemaNumberIn w i ≡ s → i < firstAtom (taskOf w) (suc s)
+  pub goes-on : (i : ℕ) → i < headIn w .schemaAtoms → schemaNumberIn w i ≡ s → i < firstAtom (taskOf w) (suc s)
   goes-on i k e =
       subst (λ (x : ℕ). i < firstAtom (taskOf w) (suc x)) e (atom-lies w (table-frame w h) i k .before-next)

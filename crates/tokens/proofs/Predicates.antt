@@ -11,7 +11,7 @@ use lib.ListN.{length, getD, replicate, length-append, length-replicate, getD-re
 use lib.Seq.{take-length, getD-append-add}
 use borrow.Author.Tests.{lt-ltb}
 use Rattle.words.specs.Lists.{filter, upFrom, upTo, lastOr}
-use Rattle.task.specs.Task.{Schema, Task}
+use Rattle.task.specs.Task.{Schema, Task, noSchema}
 use Rattle.task.specs.Run.{schemaAt}
 use Rattle.tokens.specs.Split.{has, parts, laterParts, shared, sharedBound, maximum, parCount, procnone, doToken}
 use Rattle.tokens.specs.Split.{parToken, splitTask}
@@ -87,7 +87,7 @@ module _ (t : Task) where
   pub do-low : (s j : ℕ) → s < length (t .schemas) → j < parts (schemaAt t s) → doToken t s j ≤ lastBare
   unfolding doToken schemaAt
   do-low s j l h =
-      let a = later-step (t .schemas) s (record { params = 0; atoms = [] }) l in
+      let a = later-step (t .schemas) s noSchema l in
       let b = later-mono (t .schemas) (suc s) (length (t .schemas)) l in
       let c = ap laterParts (take-length (t .schemas)) in
       omega arith
@@ -105,7 +105,7 @@ module _ (t : Task) where
 -- ---- a par for each parameter of two parts
 schema-in : (t : Task) (s : ℕ) → s < length (t .schemas) → In (schemaAt t s) (t .schemas)
 unfolding schemaAt
-schema-in t s l = in-getD (t .schemas) s (record { params = 0; atoms = [] }) l
+schema-in t s l = in-getD (t .schemas) s noSchema l
 
 two-length : {a b : ℕ} {xs : List ℕ} → In a xs → In b xs → (a ≡ b → ⊥) → 1 < length xs
 two-length (here e) (here f) n = absurd (n (e ∙ sym f))

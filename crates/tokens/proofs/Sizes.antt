@@ -9,6 +9,7 @@ use native.Mathlib.Omega.{arith}
 use lib.ListN.{length, getD, length-append, length-map}
 use lib.Dec.{eqb}
 use Rattle.words.specs.Lists.{filter, keepIf, sum, upTo}
+use Rattle.task.specs.Task.{noSchema}
 use Rattle.task.specs.Task.{Atom, Schema, Task, precondition, addition, deletion, schemaAtoms, schemaFits, wellFormed}
 use Rattle.task.specs.Run.{schemaAt, ofRole}
 use Rattle.tokens.specs.Split.{parts, token, own, oldAtoms, required, handedOn, lone, firstHere, lastHere}
@@ -119,7 +120,7 @@ module _ (t : Task) (ordered : Ordered t) where
       length-concatMap (partSchemas t) (upTo (length (t .schemas))) ∙
       total-same (λ s. length (partSchemas t s)) (λ s. parts (schemaAt t s)) (upTo (length (t .schemas)))
       (λ s i. size s (upTo-in (length (t .schemas)) s i)) ∙
-      by-place parts (t .schemas) (record { params = 0; atoms = [] })
+      by-place parts (t .schemas) noSchema
     where
       size : (s : ℕ) → s < length (t .schemas) → length (partSchemas t s) ≡ parts (schemaAt t s)
       size s l =

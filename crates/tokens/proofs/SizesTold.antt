@@ -4,9 +4,10 @@ use mathlib.Core.Path.{_≡_, refl, _∙_, ap}
 use mathlib.Core.Bool.{Bool, true}
 use mathlib.Core.List.{List, map}
 use native.Mathlib.Omega.{arith}
-use lib.ListN.{length, getD, take}
+use lib.ListN.{length, take}
 use lib.Seq.{take-length}
 use Rattle.words.specs.Lists.{every, upTo, concatMap}
+use Rattle.task.specs.Layout.{headIn}
 use Rattle.task.specs.Task.{Schema, Task, schemaAtoms}
 use Rattle.task.specs.Table.{taskOf, isTable}
 use Rattle.task.proofs.TablesByIndex.{table-frame, arities-word, init-word, goal-word}
@@ -43,7 +44,7 @@ module _ (w : List ℕ) (h : isTable w ≡ true) (r : Sizes) (n : ℕ) (all-coun
   unfolding splitTask
   few-told = counted .within ∙ ap (λ (k : ℕ). areFew (concatMap (partSchemas t) (upTo k))) all-counted
 
-  predicates-told : getD w 1 0 + 1 + r .later + r .pars ≡ length (splitTask t .arities)
+  predicates-told : headIn w .predicates + 1 + r .later + r .pars ≡ length (splitTask t .arities)
   predicates-told =
       let e = predicate-count t in
       let a = arities-word w (table-frame w h) in
@@ -51,10 +52,10 @@ module _ (w : List ℕ) (h : isTable w ≡ true) (r : Sizes) (n : ℕ) (all-coun
       let p = pars-told in
       omega arith
 
-  init-told : getD w 4 0 + 1 ≡ length (splitTask t .init)
+  init-told : headIn w .initialAtoms + 1 ≡ length (splitTask t .init)
   init-told = let e = init-count t in let a = init-word w (table-frame w h) in omega arith
 
-  goal-told : getD w 5 0 + 1 ≡ length (splitTask t .goal)
+  goal-told : headIn w .goalAtoms + 1 ≡ length (splitTask t .goal)
   goal-told = let e = goal-count t in let a = goal-word w (table-frame w h) in omega arith
 
   within-told : sizesFit w r ≡ withinLimits (splitTask t)

@@ -11,11 +11,10 @@ use lib.Seq.{take-suc}
 use lib.Dec.{eqb, leb}
 use Rattle.words.specs.Lists.{all, filter, sum, concatMap, upTo, upFrom}
 use Rattle.task.specs.Limits.{mostAtoms, mostParts}
-use Rattle.task.specs.Task.{Atom, Schema, Task, schemaAtoms}
+use Rattle.task.specs.Task.{Atom, Schema, Task, schemaAtoms, noSchema}
 use Rattle.task.specs.Run.{schemaAt}
 use Rattle.task.specs.Table.{atomIn, taskOf}
 use Rattle.words.proofs.Lists.{append-concatMap, length-upTo, map-append, sum-append, upTo-suc}
-use Rattle.task.proofs.Tables.{noSchema}
 use Rattle.words.specs.Sets.{member, members, wordBits}
 use Rattle.arcs.specs.Code.{atomsIn}
 use Rattle.arcs.proofs.Stretches.{atoms-none, atoms-more}

@@ -5,17 +5,18 @@ use mathlib.Core.Path.{_≡_, refl, sym, _∙_, ap}
 use mathlib.Core.Bool.{true, cond}
 use mathlib.Core.List.{List, [], _∷_}
 use native.Mathlib.Omega.{arith}
-use lib.ListN.{length, getD, take, length-map}
+use lib.ListN.{length, take, length-map}
 use lib.Seq.{take-length}
 use lib.Dec.{eqb}
 use borrow.Author.Tests.{leb-true}
 use Rattle.words.specs.Lists.{concatMap, sum, upTo, upFrom}
-use Rattle.task.specs.Task.{Atom, Task, partCount, schemaFits, wellFormed}
+use Rattle.task.specs.Layout.{headIn, paramsBase, paramsIn}
+use Rattle.task.specs.Task.{Atom, Task, partCount, schemaFits, wellFormed, noSchema}
 use Rattle.task.specs.Run.{schemaAt}
 use Rattle.task.specs.Table.{atomWords, taskOf}
 use Rattle.words.proofs.Lists.{all-in, in-getD, length-upTo, length-concatMap, map-same}
 use Rattle.task.proofs.Tests.{TaskTests, task-tests, schema-tests, SchemaTests}
-use Rattle.task.proofs.Tables.{noSchema, of-table, length-content}
+use Rattle.task.proofs.Tables.{of-table, length-content}
 use Rattle.task.proofs.TablesByIndex.{table-frame, table-long, arities-word, schemas-word, params-at}
 use Rattle.words.specs.Sets.{member}
 use Rattle.arcs.proofs.OrderTaken.{orderOf-laws}
@@ -28,7 +29,7 @@ use Rattle.tokens.proofs.Predicates.{predicate-count}
 use Rattle.tokens.proofs.WellSplit.{part-of, limits-only}
 use Rattle.tokens.proofs.PartSplit.{part-words}
 use Rattle.tokens.proofs.SchemaRuns.{schemasUpTo, all-fewer}
-use Rattle.task.specs.Limits.{headWords, mostSchemas, mostPredicates, mostParts, mostParameters}
+use Rattle.task.specs.Limits.{mostSchemas, mostPredicates, mostParts, mostParameters}
 use Rattle.tokens.specs.Kept.{keptStart, keptEnd, keptFirst, keptPart, keptOwn, partsBefore, SchemaKept}
 use Rattle.tokens.specs.Code.{AcceptedKept, partSchemas}
 use Rattle.tokens.specs.declared.measure.Sizes.{Sizes}
@@ -69,7 +70,7 @@ module _ {w : List ℕ} {sizes : Sizes} {kept : List ℕ} (S : AcceptedKept w si
   few-predicates =
       omega (arith, predicate-count t, leb-true (length (splitTask t .arities)) mostPredicates (split-tests .preds))
 
-  pub predicates-word : length (t .arities) ≡ getD w 1 0
+  pub predicates-word : length (t .arities) ≡ headIn w .predicates
   predicates-word = arities-word w (table-frame w (S .table))
 
   module _ (s : ℕ) (l : s < length (t .schemas)) where
@@ -100,7 +101,7 @@ module _ {w : List ℕ} {sizes : Sizes} {kept : List ℕ} (S : AcceptedKept w si
     few-params = leb-true (schemaAt t s .params) mostParameters (tests-of .params)
 
     -- its parameter count lies in the table
-    pub params-inside : 6 + getD w 1 0 + s < length w
+    pub params-inside : paramsBase w + s < length w
     params-inside =
         let fr = table-frame w (S .table) in
         omega (arith, length-content t (fr .sizes), fr .inside, table-long w (S .table), arities-word w fr)
@@ -119,8 +120,8 @@ module _ {w : List ℕ} {sizes : Sizes} {kept : List ℕ} (S : AcceptedKept w si
     -- ---- the place of a part
     module _ (j : ℕ) (h : j < length (orders t s)) (here : PartPlace) where
       pub place-is : here .from ≡ keptStart kept s → here .to ≡ keptEnd kept s → here .part .0 ≡ keptPart kept s j →
-          here .own ≡ keptOwn kept s j → here .params ≡ getD w (headWords + getD w 1 0 + s) 0 →
-          here .par ≡ getD w 1 0 + laterParts (t .schemas) + 1 → PlaceOf w s j here
+          here .own ≡ keptOwn kept s j → here .params ≡ paramsIn w s →
+          here .par ≡ headIn w .predicates + laterParts (t .schemas) + 1 → PlaceOf w s j here
       unfolding parToken procnone
       place-is e₁ e₂ e₃ e₄ e₅ e₆ =
           let fr = table-frame w (S .table) in

@@ -11,7 +11,7 @@ use lib.ListN.{length, getD}
 use lib.Dec.{eqb, ltb}
 use borrow.Author.Tests.{lt-ltb, le-ltb, eqb-true, eq-eqb}
 use Rattle.words.specs.Lists.{filter, keepIf, sum, upTo, firstOr, lastOr}
-use Rattle.task.specs.Task.{Atom, Schema, Task, schemaAtoms, wellFormed}
+use Rattle.task.specs.Task.{Atom, Schema, Task, schemaAtoms, wellFormed, noSchema}
 use Rattle.task.specs.Run.{schemaAt}
 use Rattle.tokens.specs.Split.{has, paramsOf, positions, firstPosition, lastPosition, parts, shared, own, lone}
 use Rattle.tokens.specs.Split.{firstHere, lastHere, laterHere, orders, splitTask}
@@ -235,4 +235,4 @@ atom-total t well ordered =
     (upTo (length (t .schemas)))
     (λ s i. schema-total t s (orders t s)
     (orderOf-laws (schemaAt t s) (orders t s) (ordered s (upTo-in (length (t .schemas)) s i)))) ∙
-    by-place schemaTotal (t .schemas) (record { params = 0; atoms = [] })
+    by-place schemaTotal (t .schemas) noSchema

@@ -11,7 +11,7 @@ use lib.ListN.{length, replicate}
 use lib.Dec.{leb}
 use borrow.Author.Tests.{le-leb}
 use Rattle.words.specs.Lists.{all, upTo}
-use Rattle.task.specs.Task.{Fact, Schema, Task, argsFit, factsFit, schemaFits, schemaAtoms, wellFormed}
+use Rattle.task.specs.Task.{Fact, Schema, Task, argsFit, factsFit, schemaFits, schemaAtoms, wellFormed, noSchema}
 use Rattle.task.specs.Limits.{mostPredicates, mostSchemas, mostSchemaAtoms, mostAtoms, mostInitial, mostGoal, mostArity}
 use Rattle.task.specs.Run.{schemaAt}
 use Rattle.tokens.specs.Split.{parts, laterParts, parCount, procnone, orders, free, splitSchema, splitTask}
@@ -128,7 +128,7 @@ module _ (t : Task) (well : wellFormed t ≡ true) (ordered : Ordered t) where
   unfolding schemaAt parts
   part-of s j l h = record {
     known = l;
-    fits = all-in (schemaFits (t .arities)) (tests .fit) (in-getD (t .schemas) s (record { params = 0; atoms = [] }) l);
+    fits = all-in (schemaFits (t .arities)) (tests .fit) (in-getD (t .schemas) s noSchema l);
     order = orderOf-laws (schemaAt t s) (orders t s) (ordered s l);
     inside = h;
   }

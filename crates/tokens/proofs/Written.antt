@@ -9,11 +9,13 @@ use native.Mathlib.Numerals.{add-one}
 use lib.ListN.{length, getD, replicate, length-map}
 use borrow.Author.Tests.{leb-true}
 use Rattle.words.specs.Lists.{concatMap, upTo}
+use Rattle.task.specs.Limits.{headWords}
+use Rattle.task.specs.Layout.{headIn, atomTotal, rowsBase, factsBase}
 use Rattle.task.specs.Limits.{tableWords, atomSize, mostPredicates, mostSchemas, mostSchemaAtoms, mostInitial, mostGoal}
 use Rattle.task.specs.Task.{Fact, Schema, Task, schemaAtoms, wellFormed}
 use Rattle.task.specs.Run.{schemaAt}
 use Rattle.words.specs.Words.{wordsAt}
-use Rattle.task.specs.Table.{atomWords, factWords, schemasFrom, taskOf, isTable}
+use Rattle.task.specs.Table.{atomWords, factWords, schemasFrom, taskOf, isTable, aritiesIn}
 use Rattle.words.proofs.Lists.{map-same, append-concatMap, upTo-in, map-map, map-concatMap, concatMap-same}
 use Rattle.words.proofs.Words.{at-move, wordsAt-at, At}
 use Rattle.task.proofs.Tables.{length-blocks, length-facts, sixWords, content, places, factWords-is, lengths}
@@ -23,7 +25,7 @@ use Rattle.task.proofs.TablesByIndex.{Frame, table-frame, objects-word, arities
 use Rattle.task.proofs.TablesByIndex.{init-word, goal-word, table-long}
 use Rattle.words.specs.Sets.{member, members, wordBits}
 use Rattle.tokens.specs.Split.{has, procnone, token, orders, free, splitSchema, splitTask}
-use Rattle.tokens.specs.Writing.{setSize, countWords, arityWords, factsBase, setSizes}
+use Rattle.tokens.specs.Writing.{setSize, countWords, arityWords, setSizes}
 use Rattle.tokens.proofs.Places.{has-small}
 use Rattle.words.proofs.SetMembers.{filter-below}
 use Rattle.tokens.proofs.Predicates.{predicate-count}
@@ -49,10 +51,11 @@ module _ {w : List ℕ} {sizes : Sizes} {kept : List ℕ} (S : AcceptedKept w si
   counts-written =
       let z = S .sized in
       let o = objects-word w frame in
-      let p : length (splitTask t .arities) ≡ getD w 1 0 + 1 + sizes .later + sizes .pars =
+      let p : length (splitTask t .arities) ≡ headIn w .predicates + 1 + sizes .later + sizes .pars =
       omega (arith, predicate-count t, arities-word w frame, z .later, z .pars) in
-      let i : length (splitTask t .init) ≡ getD w 4 0 + 1 = omega (arith, init-count t, init-word w frame) in
-      let l : length (splitTask t .goal) ≡ getD w 5 0 + 1 = omega (arith, goal-count t, goal-word w frame) in
+      let i : length (splitTask t .init) ≡ headIn w .initialAtoms + 1 =
+      omega (arith, init-count t, init-word w frame) in
+      let l : length (splitTask t .goal) ≡ headIn w .goalAtoms + 1 = omega (arith, goal-count t, goal-word w frame) in
       let g = sym (z .schemas) in
       let h = sym (z .atoms) in
       λ k. o k ∷ p k ∷ g k ∷ h k ∷ i k ∷ l k ∷ []
@@ -61,9 +64,9 @@ module _ {w : List ℕ} {sizes : Sizes} {kept : List ℕ} (S : AcceptedKept w si
   unfolding splitTask
   arities-written =
       let later = sizes .later in
-      let old : t .arities ≡ wordsAt w 6 (getD w 1 0) =
+      let old : t .arities ≡ aritiesIn w =
       sym (ap (wordsAt w 6) (sym (arities-word w frame)) ∙
-      wordsAt-at w 6 (t .arities) (places w t (frame .sizes) (frame .tabled) .0)) in
+      wordsAt-at w headWords (t .arities) (places w t (frame .sizes) (frame .tabled) .0)) in
       let e = sym (S .sized .later) in
       let f = sym (S .sized .pars) in
       ap₂ (λ (xs ys : List ℕ). xs ++ ys) old
@@ -112,7 +115,7 @@ module _ (w : List ℕ) (table : isTable w ≡ true) where
   -- facts that gain procnone
   with-free : (r : ℕ) (fs : List Fact) →
       concatMap (factWords r) (fs ++ (free task ∷ [])) ≡
-      concatMap (factWords r) fs ++ atomWords 0 (token r (getD w 1 0) [])
+      concatMap (factWords r) fs ++ atomWords 0 (token r (headIn w .predicates) [])
   unfolding concatMap free procnone token
   with-free r fs =
       append-concatMap (factWords r) fs (free task ∷ []) ∙
@@ -124,16 +127,16 @@ module _ (w : List ℕ) (table : isTable w ≡ true) where
   facts-written : (r : ℕ) (fs : List Fact) (at from n : ℕ) → At w at (concatMap (factWords r) fs) → at ≡ from →
       length (concatMap (factWords r) fs) ≡ atomSize * n →
       concatMap (factWords r) (fs ++ (free task ∷ [])) ≡
-      wordsAt w from (atomSize * n) ++ atomWords 0 (token r (getD w 1 0) [])
+      wordsAt w from (atomSize * n) ++ atomWords 0 (token r (headIn w .predicates) [])
   facts-written r fs at from n stand e l =
       with-free r fs ∙
-      ap (λ (xs : List ℕ). xs ++ atomWords 0 (token r (getD w 1 0) []))
+      ap (λ (xs : List ℕ). xs ++ atomWords 0 (token r (headIn w .predicates) []))
       (sym (wordsAt-at w from (concatMap (factWords r) fs) (at-move w at from (concatMap (factWords r) fs) e stand)) ∙
       ap (wordsAt w from) l)
 
-  pub init-written : (from n : ℕ) → from ≡ factsBase w → n ≡ getD w 4 0 →
+  pub init-written : (from n : ℕ) → from ≡ factsBase w → n ≡ headIn w .initialAtoms →
       concatMap (factWords 3) (splitTask task .init) ≡
-      wordsAt w from (atomSize * n) ++ atomWords 0 (token 3 (getD w 1 0) [])
+      wordsAt w from (atomSize * n) ++ atomWords 0 (token 3 (headIn w .predicates) [])
   unfolding splitTask
   init-written from n e f =
       facts-written 3 (task .init) _ from n (places w task (fr .sizes) (fr .tabled) .3)
@@ -141,9 +144,9 @@ module _ (w : List ℕ) (table : isTable w ≡ true) where
       (length-blocks (factWords 3) (task .init) (length-facts task 3 (task .init) (fr .sizes .init)) ∙
       ap (λ (k : ℕ). atomSize * k) (init-word w fr ∙ sym f))
 
-  pub goal-written : (from n : ℕ) → from ≡ factsBase w + atomSize * getD w 4 0 → n ≡ getD w 5 0 →
+  pub goal-written : (from n : ℕ) → from ≡ factsBase w + atomSize * headIn w .initialAtoms → n ≡ headIn w .goalAtoms →
       concatMap (factWords 4) (splitTask task .goal) ≡
-      wordsAt w from (atomSize * n) ++ atomWords 0 (token 4 (getD w 1 0) [])
+      wordsAt w from (atomSize * n) ++ atomWords 0 (token 4 (headIn w .predicates) [])
   unfolding splitTask
   goal-written from n e f =
       facts-written 4 (task .goal) _ from n (places w task (fr .sizes) (fr .tabled) .4)
@@ -152,7 +155,7 @@ module _ (w : List ℕ) (table : isTable w ≡ true) where
       ap (λ (k : ℕ). atomSize * k) (goal-word w fr ∙ sym f))
 
   -- all atoms lie in the table
-  pub facts-inside : 6 + getD w 1 0 + getD w 2 0 + 8 * (getD w 3 0 + getD w 4 0 + getD w 5 0) ≤ length w
+  pub facts-inside : rowsBase w + atomSize * (atomTotal w) ≤ length w
   facts-inside =
       omega (
         arith,

@@ -10,6 +10,7 @@ use mathlib.Core.Option.{Option, none, some}
 use lib.ListN.{length, getD, take}
 use lib.Dec.{eqb, leb}
 use Rattle.words.specs.Lists.{all, any, every, concatMap, upTo}
+use Rattle.task.specs.Layout.{headIn}
 use Rattle.task.specs.Limits.{mostPredicates, mostSchemas, mostSchemaAtoms, mostAtoms, mostInitial, mostGoal, mostParts}
 use Rattle.task.specs.Answers.{Check, refuseUnless, refuses, firstRefusal}
 use Rattle.task.specs.Task.{Schema, Task, names, schemaAtoms}
@@ -100,8 +101,9 @@ areWithin predicates schemas atoms few initial goal =
 unfoldable pub sizesFit : List ℕ → Sizes → Bool
 unfolding areWithin
 sizesFit w r =
-    areWithin (getD w 1 0 + 1 + r .later + r .pars) (r .schemas) (r .atoms) (r .within) (getD w 4 0 + 1)
-    (getD w 5 0 + 1)
+    areWithin (headIn w .predicates + 1 + r .later + r .pars) (r .schemas) (r .atoms) (r .within)
+    (headIn w .initialAtoms + 1)
+    (headIn w .goalAtoms + 1)
 
 -- the sizes of the split
 pub record SizesTold (t : Task) (r : Sizes) : Type 0 where

@@ -7,15 +7,15 @@ use mathlib.Core.List.{List, [], _∷_, _++_, map}
 use lib.ListN.{length, getD, replicate}
 use lib.Dec.{eqb}
 use Rattle.words.specs.Lists.{filter, concatMap, upTo}
+use Rattle.task.specs.Layout.{headIn}
 use Rattle.task.specs.Task.{Atom, Task, precondition, addition, deletion}
-use Rattle.task.specs.Limits.{mostAtoms, mostParameters, headWords, atomSize}
-use Rattle.task.specs.Table.{atomWords, taskOf}
+use Rattle.task.specs.Limits.{mostAtoms, mostParameters, atomSize}
+use Rattle.task.specs.Table.{atomWords, taskOf, aritiesIn}
 use Rattle.task.specs.Run.{ofRole, schemaAt}
 use Rattle.arcs.specs.Code.{IsStretch, atomsIn}
 use Rattle.words.specs.Sets.{member, members, wordBits}
 use Rattle.tokens.specs.Split.{has, orders, parToken, token, required, handedOn, lone}
 use Rattle.tokens.specs.declared.part_atoms.PartPlace.{PartPlace}
-use Rattle.words.specs.Words.{wordsAt}
 use Rattle.tokens.specs.Kept.{keptCount, keptOwn}
 use Rattle.tokens.specs.Code.{ParsHere}
 use Rattle.tokens.specs.declared.measure.Sizes.{Sizes}
@@ -98,16 +98,13 @@ pub record TokensOf (t : Task) (s j : ℕ) (r : PartTokens) : Type 0 where
 -- the six counts of the split, by its sizes
 abbrev pub countWords : List ℕ → Sizes → List ℕ
 countWords w r =
-    getD w 0 0 ∷ (getD w 1 0 + 1 + r .later + r .pars) ∷ r .schemas ∷ r .atoms ∷ (getD w 4 0 + 1) ∷
-    (getD w 5 0 + 1) ∷ []
+    headIn w .objects ∷ (headIn w .predicates + 1 + r .later + r .pars) ∷ r .schemas ∷ r .atoms ∷
+    (headIn w .initialAtoms + 1) ∷
+    (headIn w .goalAtoms + 1) ∷ []
 
 -- the old arities, 0 for procnone and each do, 1 for each par
 abbrev pub arityWords : List ℕ → Sizes → List ℕ
-arityWords w r = wordsAt w headWords (getD w 1 0) ++ (replicate (r .later + 1) 0 ++ replicate (r .pars) 1)
-
--- where the words of a table's initial atoms begin
-abbrev pub factsBase : List ℕ → ℕ
-factsBase w = headWords + getD w 1 0 + getD w 2 0 + atomSize * getD w 3 0
+arityWords w r = aritiesIn w ++ (replicate (r .later + 1) 0 ++ replicate (r .pars) 1)
 
 -- the size of the set kept for position j of schema s, and the sizes for all its parts
 abbrev pub setSize : List ℕ → ℕ → ℕ → ℕ

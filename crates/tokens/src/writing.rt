@@ -24,8 +24,9 @@ ghost use Prim.Native.Nat.{_+_, _*_, _≤_, _<_};
 ghost use mathlib.Core.Path.{_≡_};
 ghost use mathlib.Core.Bool.{true};
 ghost use mathlib.Core.List.{[], _++_};
-ghost use lib.ListN.{length, getD};
+ghost use lib.ListN.{length};
 ghost use Rattle.words.specs.Lists.{concatMap, over};
+ghost use Rattle.task.specs.Layout.{headIn, paramsBase, factsBase};
 ghost use Rattle.task.specs.Limits.{tableWords, headWords, atomSize};
 ghost use Rattle.task.specs.Task.{initial, goalRole};
 ghost use Rattle.task.specs.Table.{taskOf, isTable, atomWords, factWords, wordsOf};
@@ -33,14 +34,15 @@ ghost use Rattle.words.specs.Words.{wordsAt, wordBound};
 ghost use Rattle.tokens.specs.Split.{splitTask, token};
 ghost use Rattle.words.specs.Putting.{Puts};
 ghost use Rattle.tokens.specs.Code.{AcceptedKept};
-ghost use Rattle.tokens.specs.Writing.{countWords, arityWords, factsBase};
+ghost use Rattle.tokens.specs.Writing.{countWords, arityWords};
 
 // The six counts.
 fn head(table: &[u16], sizes: Sizes, out: &mut [u16]) -> usize
     requires { ⌜ headWords ≤ length (now table) ⌝ }
-    requires { ⌜ getD (now table) 1 0 + 1 + sizes .later + sizes .pars < wordBound ⌝ }
+    requires { ⌜ headIn (now table) .predicates + 1 + sizes .later + sizes .pars < wordBound ⌝ }
     requires { ⌜ (sizes .schemas < wordBound) × (sizes .atoms < wordBound) ⌝ }
-    requires { ⌜ (getD (now table) 4 0 + 1 < wordBound) × (getD (now table) 5 0 + 1 < wordBound) ⌝ }
+    requires { ⌜ (headIn (now table) .initialAtoms + 1 < wordBound) ×
+        (headIn (now table) .goalAtoms + 1 < wordBound) ⌝ }
     requires { ⌜ headWords ≤ length (now out) ⌝ }
     ensures { λ r. ⌜ Puts (now (out .entry)) 0 (countWords (now (table .entry)) sizes) (now (out .exit)) r ⌝ }
 {
@@ -60,8 +62,8 @@ fn head(table: &[u16], sizes: Sizes, out: &mut [u16]) -> usize
 
 // The arities: the old ones, 0 for procnone and each do, 1 for each par.
 fn arities(table: &[u16], sizes: Sizes, out: &mut [u16], at: usize) -> usize
-    requires { ⌜ headWords + getD (now table) 1 0 ≤ length (now table) ⌝ }
-    requires { ⌜ at + getD (now table) 1 0 + 1 + sizes .later + sizes .pars ≤ length (now out) ⌝ }
+    requires { ⌜ paramsBase (now table) ≤ length (now table) ⌝ }
+    requires { ⌜ at + headIn (now table) .predicates + 1 + sizes .later + sizes .pars ≤ length (now out) ⌝ }
     ensures { λ r. ⌜ Puts (now (out .entry)) at (arityWords (now (table .entry)) sizes) (now (out .exit)) r ⌝ }
 {
     let old = copy(table, HEAD_WORDS, word(table, PREDICATES), out, at);
@@ -76,7 +78,7 @@ fn facts(table: &[u16], from: usize, count: usize, role: u16, out: &mut [u16], a
     requires { ⌜ at + atomSize * count + atomSize ≤ length (now out) ⌝ }
     ensures { λ r. ⌜ Puts (now (out .entry)) at
         (wordsAt (now (table .entry)) from (atomSize * count) ++
-        atomWords 0 (token role (getD (now (table .entry)) 1 0) []))
+        atomWords 0 (token role (headIn (now (table .entry)) .predicates) []))
         (now (out .exit)) r ⌝ }
     ensures { λ r. ⌜ r ≡ at + atomSize * count + atomSize ⌝ }
 {
@@ -96,7 +98,8 @@ fn facts_begin(table: &[u16]) -> usize
 // The initial atoms, then the goal atoms.
 fn all_facts(table: &[u16], out: &mut [u16], at: usize) -> usize
     requires { ⌜ isTable (now table) ≡ true ⌝ }
-    requires { ⌜ at + atomSize * (getD (now table) 4 0 + 1 + (getD (now table) 5 0 + 1)) ≤ length (now out) ⌝ }
+    requires { ⌜ at + atomSize * (headIn (now table) .initialAtoms + 1 + (headIn (now table) .goalAtoms + 1)) ≤
+        length (now out) ⌝ }
     ensures { λ r. ⌜ Puts (now (out .entry)) at
         (concatMap (factWords initial) (splitTask (taskOf (now (table .entry))) .init) ++
         concatMap (factWords goalRole) (splitTask (taskOf (now (table .entry))) .goal)) (now (out .exit)) r ⌝ }

@@ -117,14 +117,16 @@ module _ {A : Type 0} where
   not-all p [] h = absurd (no-tf h)
   not-all p (x ∷ xs) h = go (p x) refl (not-all p xs) h
     where
-      go : (b : Bool) → p x ≡ b → (all p xs ≡ false → (y : A) × In y xs × (p y ≡ false)) → b && all p xs ≡ false → (y : A) × In y (x ∷ xs) × (p y ≡ false)
+      go : (b : Bool) → p x ≡ b → (all p xs ≡ false → (y : A) × In y xs × (p y ≡ false)) → b && all p xs ≡ false →
+          (y : A) × In y (x ∷ xs) × (p y ≡ false)
       go false e r h = (x, here refl, e)
       go true e r h = let (y, k, f) = r h in (y, there k, f)
 
   pub any-in : (p : A → Bool) (xs : List A) → any p xs ≡ true → (x : A) × In x xs × (p x ≡ true)
   unfolding any
   any-in p [] h = absurd (no-ft h)
-  any-in p (x ∷ xs) h = elim (or-cases (p x) (any p xs) h) [ inl e ↦ (x, here refl, e) | inr k ↦ let (y, i, e) = any-in p xs k in (y, there i, e) ]
+  any-in p (x ∷ xs) h = elim (or-cases (p x) (any p xs) h)
+      [ inl e ↦ (x, here refl, e) | inr k ↦ let (y, i, e) = any-in p xs k in (y, there i, e) ]
 
   pub in-any : (p : A → Bool) {xs : List A} {x : A} → In x xs → p x ≡ true → any p xs ≡ true
   unfolding any
@@ -144,7 +146,8 @@ module _ {A : Type 0} where
   unfolding filter keepIf
   filter-in p (y ∷ ys) x h = go (p y) refl (filter-in p ys) h
     where
-      go : (b : Bool) → p y ≡ b → ((z : A) → In z (filter p ys) → In z ys × (p z ≡ true)) → In x (keepIf b y (filter p ys)) → In x (y ∷ ys) × (p x ≡ true)
+      go : (b : Bool) → p y ≡ b → ((z : A) → In z (filter p ys) → In z ys × (p z ≡ true)) →
+          In x (keepIf b y (filter p ys)) → In x (y ∷ ys) × (p x ≡ true)
       go true e r (here q) = (here q, ap p q ∙ e)
       go true e r (there k) = let (i, f) = r x k in (there i, f)
       go false e r k = let (i, f) = r x k in (there i, f)
@@ -178,9 +181,11 @@ module _ {A B : Type 0} where
 
   pub map-same : (f g : A → B) (xs : List A) → ((x : A) → In x xs → f x ≡ g x) → map f xs ≡ map g xs
   map-same f g [] h = refl
-  map-same f g (x ∷ xs) h = ap₂ (λ (a : B) (b : List B). a ∷ b) (h x (here refl)) (map-same f g xs (λ y k. h y (there k)))
+  map-same f g (x ∷ xs) h = ap₂ (λ (a : B) (b : List B). a ∷ b) (h x (here refl))
+      (map-same f g xs (λ y k. h y (there k)))
 
-  pub getD-map : (f : A → B) (xs : List A) (i : ℕ) (d : A) (e : B) → i < length xs → getD (map f xs) i e ≡ f (getD xs i d)
+  pub getD-map : (f : A → B) (xs : List A) (i : ℕ) (d : A) (e : B) → i < length xs →
+      getD (map f xs) i e ≡ f (getD xs i d)
   getD-map f [] i d e h = absurd (omega arith)
   getD-map f (x ∷ xs) zero d e h = refl
   getD-map f (x ∷ xs) (suc i) d e h = getD-map f xs i d e (omega arith)
@@ -217,7 +222,8 @@ length-upTo n = length-upFrom 0 n
 pub in-upFrom : (s n i : ℕ) → s ≤ i → i < s + n → In i (upFrom s n)
 unfolding upFrom
 in-upFrom s zero i h k = absurd (omega arith)
-in-upFrom s (suc n) i h k = elim (decLe (suc s) i) [ yes l ↦ there (in-upFrom (suc s) n i l (omega arith)) | no l ↦ here {y = s} (omega arith) ]
+in-upFrom s (suc n) i h k = elim
+    (decLe (suc s) i) [ yes l ↦ there (in-upFrom (suc s) n i l (omega arith)) | no l ↦ here {y = s} (omega arith) ]
 
 pub upFrom-in : (s n i : ℕ) → In i (upFrom s n) → (s ≤ i) × (i < s + n)
 unfolding upFrom
@@ -283,14 +289,16 @@ lessList-less [] (y ∷ ys) h = shorter
 lessList-less (x ∷ xs) [] h = absurd (no-ft h)
 lessList-less (x ∷ xs) (y ∷ ys) h = elim (or-cases (ltb x y) (eqb x y && lessList xs ys) h) [
   | inl e ↦ smaller (ltb-true x y e)
-  | inr e ↦ same (eqb-true x y (and-left (eqb x y) (lessList xs ys) e)) (lessList-less xs ys (and-right (eqb x y) (lessList xs ys) e))
+  | inr e ↦ same (eqb-true x y (and-left (eqb x y) (lessList xs ys) e))
+      (lessList-less xs ys (and-right (eqb x y) (lessList xs ys) e))
 ]
 
 pub less-lessList : {xs ys : List ℕ} → Less xs ys → lessList xs ys ≡ true
 unfolding lessList
 less-lessList shorter = refl
 less-lessList (smaller {x = x} {y = y} h) = or-left (ltb x y) _ (lt-ltb x y h)
-less-lessList (same {x = x} {y = y} {xs = xs} {ys = ys} e h) = or-right (ltb x y) _ (and-both _ _ (eq-eqb x y e) (less-lessList h))
+less-lessList (same {x = x} {y = y} {xs = xs} {ys = ys} e h) =
+    or-right (ltb x y) _ (and-both _ _ (eq-eqb x y e) (less-lessList h))
 
 pub less-irrefl : (xs : List ℕ) → Less xs xs → ⊥
 less-irrefl (x ∷ xs) (smaller h) = omega arith
@@ -324,7 +332,8 @@ less-total (x ∷ xs) (y ∷ ys) = elim (decLt x y) [
 ]
 
 -- ---- cancelling
-pub append-same-length : {A : Type 0} (xs ys us vs : List A) → length xs ≡ length ys → xs ++ us ≡ ys ++ vs → (xs ≡ ys) × (us ≡ vs)
+pub append-same-length : {A : Type 0} (xs ys us vs : List A) → length xs ≡ length ys → xs ++ us ≡ ys ++ vs →
+    (xs ≡ ys) × (us ≡ vs)
 append-same-length [] [] us vs l e = (refl, e)
 append-same-length [] (y ∷ ys) us vs l e = absurd (omega arith)
 append-same-length (x ∷ xs) [] us vs l e = absurd (omega arith)
@@ -335,7 +344,8 @@ append-same-length {A} (x ∷ xs) (y ∷ ys) us vs l e =
     (ap₂ (λ (a : A) (bs : List A). a ∷ bs) h f, g)
 
 -- ---- lists by their elements
-pub tabulate : {A : Type 0} (f : ℕ → A) (s : ℕ) (xs : List A) (d : A) → ((k : ℕ) → k < length xs → f (s + k) ≡ getD xs k d) → map f (upFrom s (length xs)) ≡ xs
+pub tabulate : {A : Type 0} (f : ℕ → A) (s : ℕ) (xs : List A) (d : A) →
+    ((k : ℕ) → k < length xs → f (s + k) ≡ getD xs k d) → map f (upFrom s (length xs)) ≡ xs
 unfolding upFrom
 tabulate f s [] d h = refl
 tabulate {A} f s (x ∷ xs) d h =
@@ -357,7 +367,8 @@ upFrom-append s zero b =
 upFrom-append s (suc a) b =
     let e : suc a + b ≡ suc (a + b) = omega arith in
     let q : suc s + a ≡ s + suc a = omega arith in
-    ap (upFrom s) e ∙ ap {B = List ℕ} (λ (x : List ℕ). s ∷ x) (upFrom-append (suc s) a b ∙ ap (λ (x : ℕ). upFrom (suc s) a ++ upFrom x b) q)
+    ap (upFrom s) e ∙ ap {B = List ℕ} (λ (x : List ℕ). s ∷ x)
+    (upFrom-append (suc s) a b ∙ ap (λ (x : ℕ). upFrom (suc s) a ++ upFrom x b) q)
 
 module _ {A : Type 0} (p : A → Bool) where
   pub filter-append : (xs ys : List A) → filter p (xs ++ ys) ≡ filter p xs ++ filter p ys
@@ -365,23 +376,27 @@ module _ {A : Type 0} (p : A → Bool) where
   filter-append [] ys = refl
   filter-append (x ∷ xs) ys = go (p x) (filter-append xs ys)
     where
-      go : (b : Bool) → filter p (xs ++ ys) ≡ filter p xs ++ filter p ys → keepIf b x (filter p (xs ++ ys)) ≡ keepIf b x (filter p xs) ++ filter p ys
+      go : (b : Bool) → filter p (xs ++ ys) ≡ filter p xs ++ filter p ys →
+          keepIf b x (filter p (xs ++ ys)) ≡ keepIf b x (filter p xs) ++ filter p ys
       go true e = ap {B = List A} (λ (zs : List A). x ∷ zs) e
       go false e = e
 
   pub filter-all : (xs : List A) → ((x : A) → In x xs → p x ≡ true) → filter p xs ≡ xs
   unfolding filter keepIf
   filter-all [] h = refl
-  filter-all (x ∷ xs) h = ap₂ (λ (b : Bool) (zs : List A). keepIf b x zs) (h x (here refl)) (filter-all xs (λ y i. h y (there i)))
+  filter-all (x ∷ xs) h = ap₂ (λ (b : Bool) (zs : List A). keepIf b x zs) (h x (here refl))
+      (filter-all xs (λ y i. h y (there i)))
 
   pub filter-none : (xs : List A) → ((x : A) → In x xs → p x ≡ false) → filter p xs ≡ []
   unfolding filter keepIf
   filter-none [] h = refl
-  filter-none (x ∷ xs) h = ap₂ (λ (b : Bool) (zs : List A). keepIf b x zs) (h x (here refl)) (filter-none xs (λ y i. h y (there i)))
+  filter-none (x ∷ xs) h = ap₂ (λ (b : Bool) (zs : List A). keepIf b x zs) (h x (here refl))
+      (filter-none xs (λ y i. h y (there i)))
 
 pub length-padded : (n : ℕ) (xs : List ℕ) → length xs ≤ n → length (padded n xs) ≡ n
 unfolding padded
-length-padded n xs h = let e = length-replicate {A = ℕ} (n - length xs) 0 in omega (arith, length-append xs (replicate (n - length xs) 0))
+length-padded n xs h = let e = length-replicate {A = ℕ} (n - length xs) 0 in
+    omega (arith, length-append xs (replicate (n - length xs) 0))
 
 pub sum-take-rises : (cs : List ℕ) (m n : ℕ) → m ≤ n → sum (take m cs) ≤ sum (take n cs)
 unfolding sum
@@ -439,7 +454,8 @@ concatMap-same {B = B} f g (x ∷ xs) h =
     ap₂ (λ (ys zs : List B). ys ++ zs) (h x (here refl)) (concatMap-same f g xs (λ y i. h y (there i)))
 
 -- tests that agree on every element
-pub filter-same : {A : Type 0} (p q : A → Bool) (xs : List A) → ((x : A) → In x xs → p x ≡ q x) → filter p xs ≡ filter q xs
+pub filter-same : {A : Type 0} (p q : A → Bool) (xs : List A) → ((x : A) → In x xs → p x ≡ q x) →
+    filter p xs ≡ filter q xs
 unfolding filter
 filter-same p q [] h = refl
 filter-same {A} p q (x ∷ xs) h =

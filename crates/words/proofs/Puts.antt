@@ -61,7 +61,8 @@ pub puts-then : {w : List ℕ} {at : ℕ} {xs : List ℕ} {w₁ : List ℕ} {nex
     Puts w at xs w₁ next → Puts w₁ next ys w₂ end → (zs : List ℕ) → zs ≡ xs ++ ys → Puts w at zs w₂ end
 puts-then {w} {at} {xs} {w₁} {next} {ys} {w₂} {end} a b zs e = record {
   words =
-      b .words ∙ (ap (λ (l : List ℕ). put l next ys) (a .words) ∙ (put-on w at xs next ys (a .place) ∙ ap (put w at) (sym e)));
+      b .words ∙ (ap (λ (l : List ℕ). put l next ys) (a .words) ∙
+      (put-on w at xs next ys (a .place) ∙ ap (put w at) (sym e)));
   place =
       let l = length-append xs ys in
       let m = ap length e in

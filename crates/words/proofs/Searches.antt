@@ -8,7 +8,8 @@ use native.Mathlib.Omega.{arith}
 use lib.ListN.{length, getD, take}
 use Rattle.words.specs.Lists.{all, any, upTo}
 use Rattle.words.specs.Words.{wordsAt}
-use Rattle.words.proofs.Lists.{getD-in, in-getD, any-in, in-any, all-in, in-all, false-if, both-ft, in-upTo, upTo-in}
+use Rattle.words.proofs.Lists.{getD-in, in-getD, any-in, in-any, all-in, in-all}
+use Rattle.words.proofs.Lists.{false-if, both-ft, in-upTo, upTo-in}
 use Rattle.words.proofs.Words.{length-wordsAt, getD-wordsAt, wordsAt-take, all-words, not-all-words}
 
 -- a number behind the end of a list

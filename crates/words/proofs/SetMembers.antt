@@ -15,7 +15,8 @@ use lib.Count.{ones, onesIn, ones-cat, ones-le}
 use lib.Dec.{eqb}
 use lib.Pow.{pow-pos, shr-shr, shr-le}
 use Rattle.words.specs.Lists.{lastOr, filter, keepIf, upTo, upFrom}
-use Rattle.words.proofs.Lists.{In, map-append, false-if, upTo-suc, upFrom-in, filter-append, filter-none, upFrom-append}
+use Rattle.words.proofs.Lists.{In, map-append, false-if, upTo-suc, upFrom-in}
+use Rattle.words.proofs.Lists.{filter-append, filter-none, upFrom-append}
 use Rattle.words.specs.Sets.{member, members, wordBits}
 use Rattle.words.proofs.BitSets.{member-and, member-not, member-beyond, member-none}
 use Rattle.words.proofs.Sums.{one, length-keep}

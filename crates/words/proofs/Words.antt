@@ -40,7 +40,8 @@ at-join w i xs ys a b k l = elim (decLt k (length xs)) [
       let j : ℕ = k - length xs in
       let e : k ≡ length xs + j = omega arith in
       let f : i + k ≡ (i + length xs) + j = omega arith in
-      ap (λ (x : ℕ). getD w x 0) f ∙ (b j (omega (arith, length-append xs ys)) ∙ (sym (getD-append-add xs ys j 0) ∙ ap (λ (x : ℕ). getD (xs ++ ys) x 0) (sym e)))
+      ap (λ (x : ℕ). getD w x 0) f ∙ (b j (omega (arith, length-append xs ys)) ∙
+      (sym (getD-append-add xs ys j 0) ∙ ap (λ (x : ℕ). getD (xs ++ ys) x 0) (sym e)))
 ]
 
 pub wordsAt-at : (w : List ℕ) (i : ℕ) (xs : List ℕ) → At w i xs → wordsAt w i (length xs) ≡ xs
@@ -57,7 +58,8 @@ at-wordsAt w i n k l =
     let e = length-wordsAt w i n in
     let m : k < length (upFrom i n) = rw (length-map (upFrom i n) (λ k. getD w k 0)) at l in
     let q = length-upFrom i n in
-    sym (getD-map (λ k. getD w k 0) (upFrom i n) k 0 0 m ∙ ap (λ (x : ℕ). getD w x 0) (getD-upFrom i n k 0 (omega arith)))
+    sym (getD-map (λ k. getD w k 0) (upFrom i n) k 0 0 m ∙
+    ap (λ (x : ℕ). getD w x 0) (getD-upFrom i n k 0 (omega arith)))
 
 pub and-false : (a : Bool) → a && false ≡ false
 and-false true = refl

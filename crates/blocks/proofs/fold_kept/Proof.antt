@@ -10,6 +10,7 @@ use native.Mathlib.Omega.{arith}
 use lib.ListN.{length}
 use borrow.Author.Needs.{needs}
 use borrow.Author.Tests.{le-leb, lt-leb}
+use Rattle.task.specs.Limits.{stepSize}
 use Rattle.task.specs.Answers.{result}
 use Rattle.task.specs.Table.{taskOf}
 use Rattle.task.specs.Run.{Step, badStep, badStepFound}
@@ -85,7 +86,7 @@ found w =
     taken-is-whole (foldingOf (words s) (steps s)) (count w) (sym (apart (parted w)) ∙ w .taken .given .1)
 
 -- and there is room for the steps
-room : (e : tie.Else1) → let w = e .before .before in count w ≤ length (lent (from (parted w))) / 13
+room : (e : tie.Else1) → let w = e .before .before in count w ≤ length (lent (from (parted w))) / stepSize
 room e = let l = e .if1 .left in omega arith
 
 fits : (e : tie.Else1) → let w = e .before .before in
@@ -96,7 +97,7 @@ fits e =
     let (xs, f, n) = found w in
     let r = room e in
     room-folded (taskOf (words s)) (kept s .blocks .few-params) (splitStepsIn (words s) (steps s)) xs f (lent s)
-    ∙ le-leb (length xs) (length (lent s) / 13) (omega arith)
+    ∙ le-leb (length xs) (length (lent s) / stepSize) (omega arith)
 
 -- ---- the checks
 bad-split-step-requires : tie.Need-bad-split-step-requires
@@ -140,7 +141,7 @@ returns-2 c =
     let l = c .if1 .taken in
     let long =
     room-folded (taskOf (words s)) (kept s .blocks .few-params) (splitStepsIn (words s) (steps s)) xs f (lent s)
-    ∙ lt-leb (length xs) (length (lent s) / 13) (omega arith) in
+    ∙ lt-leb (length xs) (length (lent s) / stepSize) (omega arith) in
     both (fold-no-room (words s) (steps s) (lent s) (kept s) (good (checked (noted p))) xs f long)
 
 put-folded-requires : tie.Need-put-folded-requires

@@ -10,6 +10,7 @@ use native.Mathlib.Omega.{arith}
 use lib.ListN.{length}
 use borrow.Author.Needs.{needs}
 use borrow.Author.Tests.{le-leb, lt-leb}
+use Rattle.task.specs.Limits.{stepSize}
 use Rattle.task.specs.Answers.{result}
 use Rattle.task.specs.Table.{taskOf}
 use Rattle.task.specs.Run.{badStep, badStepFound}
@@ -54,7 +55,7 @@ count-is : (p : tie.After-split-steps-of) → p .split-steps-of .result ≡ unfo
 count-is p = p .split-steps-of .ensures (taskOf (words (start (checked p)))) (steps-kept (checked p))
 
 -- and there is room for them
-room : (e : tie.Else1) → let s = start (checked (e .before)) in unfolding·of (e .before) ≤ length (lent s) / 13
+room : (e : tie.Else1) → let s = start (checked (e .before)) in unfolding·of (e .before) ≤ length (lent s) / stepSize
 room e = let c = count-is (e .before) in omega arith
 
 fits : (e : tie.Else1) → let s = start (checked (e .before)) in
@@ -62,7 +63,7 @@ fits : (e : tie.Else1) → let s = start (checked (e .before)) in
 fits e =
     let s = start (checked (e .before)) in
     room-for (steps-kept (checked (e .before))) (lent s)
-    ∙ le-leb (unfolding·of (e .before)) (length (lent s) / 13) (room e)
+    ∙ le-leb (unfolding·of (e .before)) (length (lent s) / stepSize) (room e)
 
 -- ---- the checks
 bad-step-requires : tie.Need-bad-step-requires
@@ -92,7 +93,7 @@ returns-2 c =
     let s = start (checked p) in
     let n = count-is p in
     let long =
-    room-for (steps-kept (checked p)) (lent s) ∙ lt-leb (unfolding·of p) (length (lent s) / 13) (omega arith) in
+    room-for (steps-kept (checked p)) (lent s) ∙ lt-leb (unfolding·of p) (length (lent s) / stepSize) (omega arith) in
     both (unfold-no-room (words s) (steps s) (lent s) (s .pre) (good (checked p)) long)
 
 put-blocks-requires : tie.Need-put-blocks-requires

@@ -7,11 +7,12 @@ use words::runs::word;
 use words::runs::zeros;
 ghost use mathlib.Core.Path.{_≡_};
 ghost use Prim.Native.Nat.{_+_, _<_, _≤_};
-ghost use lib.ListN.{length, getD};
+ghost use lib.ListN.{length};
+ghost use Rattle.task.specs.Layout.{headIn, atomTotal, arityIn, atomBase};
 ghost use Rattle.task.specs.Task.{sameAtom, factLess};
-ghost use Rattle.task.specs.Table.{arityIn, atomBase, schemaNumberIn, atomIn, factIn};
+ghost use Rattle.task.specs.Table.{schemaNumberIn, atomIn, factIn};
 ghost use Rattle.words.specs.Words.{wordBound};
-ghost use Rattle.task.specs.WordTests.{argWordsFit, atomTotal, Roomy};
+ghost use Rattle.task.specs.WordTests.{argWordsFit, Roomy};
 
 // Where atom i begins.
 pub(crate) fn atom_base(table: &[u16], i: usize) -> usize
@@ -72,7 +73,7 @@ pub(crate) fn arguments(table: &[u16], i: usize) -> usize
 // The arity of a predicate.
 pub(crate) fn arity(table: &[u16], p: usize) -> usize
     requires { ⌜ Roomy (now table) ⌝ }
-    requires { ⌜ p < getD (now table) 1 0 ⌝ }
+    requires { ⌜ p < headIn (now table) .predicates ⌝ }
     ensures { λ r. ⌜ r ≡ arityIn (now (table .entry)) p ⌝ }
     ensures { λ r. ⌜ r ≤ 4 ⌝ }
 {
@@ -101,7 +102,7 @@ pub(crate) fn atom_fits(table: &[u16], i: usize, bound: usize) -> bool
 pub(crate) fn same_atom(table: &[u16], i: usize, j: usize) -> bool
     requires { ⌜ Roomy (now table) ⌝ }
     requires { ⌜ (i < atomTotal (now table)) × (j < atomTotal (now table)) ⌝ }
-    requires { ⌜ atomIn (now table) i .pred < getD (now table) 1 0 ⌝ }
+    requires { ⌜ atomIn (now table) i .pred < headIn (now table) .predicates ⌝ }
     ensures { λ r. ⌜ r ≡ sameAtom (atomIn (now (table .entry)) i) (atomIn (now (table .entry)) j) ⌝ }
 {
     if role(table, i) != role(table, j) {
@@ -123,7 +124,7 @@ pub(crate) fn same_atom(table: &[u16], i: usize, j: usize) -> bool
 pub(crate) fn fact_less(table: &[u16], i: usize, j: usize) -> bool
     requires { ⌜ Roomy (now table) ⌝ }
     requires { ⌜ (i < atomTotal (now table)) × (j < atomTotal (now table)) ⌝ }
-    requires { ⌜ atomIn (now table) i .pred < getD (now table) 1 0 ⌝ }
+    requires { ⌜ atomIn (now table) i .pred < headIn (now table) .predicates ⌝ }
     ensures { λ r. ⌜ r ≡ factLess (factIn (now (table .entry)) i) (factIn (now (table .entry)) j) ⌝ }
 {
     let p = predicate(table, i);

@@ -8,8 +8,9 @@ use words::runs::word;
 ghost use mathlib.Core.Path.{_≡_};
 ghost use Prim.Native.Nat.{_-_, _<_, _≤_};
 ghost use Rattle.words.specs.Lists.{all, upFrom};
+ghost use Rattle.task.specs.Layout.{atomTotal};
 ghost use Rattle.task.specs.Task.{ascending};
-ghost use Rattle.task.specs.WordTests.{factWordsFit, factsWordsFit, factsIn, atomTotal, Roomy, KnownIn};
+ghost use Rattle.task.specs.WordTests.{factWordsFit, factsWordsFit, factsIn, Roomy, KnownIn};
 
 // Whether atom i is a ground atom of a role: "schema and part of roles 3 and 4, are 0".
 fn fact_fits(table: &[u16], wanted: usize, i: usize) -> bool

@@ -15,14 +15,14 @@ use words::sets::with;
 ghost use mathlib.Core.Path.{_≡_};
 ghost use mathlib.Core.Bool.{true};
 ghost use Prim.Native.Nat.{ℕ, _-_, _<_, _≤_};
-ghost use lib.ListN.{getD};
 ghost use lib.Dec.{eqb};
 ghost use Rattle.words.specs.Lists.{all, any, upTo, upFrom};
+ghost use Rattle.task.specs.Layout.{headIn, atomTotal};
 ghost use Rattle.task.specs.Task.{distinct, rolesAscend, names, partCount};
 ghost use Rattle.task.specs.Table.{atomIn};
 ghost use Rattle.words.specs.Sets.{member};
 ghost use Rattle.task.specs.WordTests.{argWordsFit, numbersFit, schemaWordsFit, schemasFit, partsFit};
-ghost use Rattle.task.specs.WordTests.{standsAgain, atomsIn, atomTotal, Roomy, KnownIn, RolesRise, RunOf};
+ghost use Rattle.task.specs.WordTests.{standsAgain, atomsIn, Roomy, KnownIn, RolesRise, RunOf};
 
 // "preconditions first, then adds, then deletes", of the atoms from one index to another.
 fn roles_ascend(table: &[u16], first: usize, end: usize) -> bool
@@ -60,7 +60,7 @@ fn atoms_fit(table: &[u16], bound: usize, first: usize, end: usize) -> bool
 fn stands_again(table: &[u16], i: usize, end: usize) -> bool
     requires { ⌜ Roomy (now table) ⌝ }
     requires { ⌜ (i < end) × (end ≤ atomTotal (now table)) ⌝ }
-    requires { ⌜ atomIn (now table) i .pred < getD (now table) 1 0 ⌝ }
+    requires { ⌜ atomIn (now table) i .pred < headIn (now table) .predicates ⌝ }
     requires { ⌜ RolesRise (now table) i end ⌝ }
     ensures { λ r. ⌜ r ≡ standsAgain (now (table .entry)) i end ⌝ }
 {
@@ -173,8 +173,8 @@ fn parts_fit(table: &[u16], first: usize, end: usize) -> bool
 // Whether the atoms from one index to another, with the parameter count of schema s, are a schema.
 fn schema_fits(table: &[u16], s: usize, first: usize, end: usize) -> bool
     requires { ⌜ Roomy (now table) ⌝ }
-    requires { ⌜ s < getD (now table) 2 0 ⌝ }
-    requires { ⌜ (first ≤ end) × (end ≤ getD (now table) 3 0) ⌝ }
+    requires { ⌜ s < headIn (now table) .schemas ⌝ }
+    requires { ⌜ (first ≤ end) × (end ≤ headIn (now table) .schemaAtoms) ⌝ }
     ensures { λ r. ⌜ r ≡ schemaWordsFit (now (table .entry)) s (upFrom first (end - first)) ⌝ }
 {
     let params = word(table, limits::HEAD_WORDS + word(table, 1) + s);
@@ -205,7 +205,7 @@ fn schema_fits(table: &[u16], s: usize, first: usize, end: usize) -> bool
 // Where the atoms of schema s end, which begin at `start`.
 fn run_end(table: &[u16], s: usize, start: usize) -> usize
     requires { ⌜ Roomy (now table) ⌝ }
-    requires { ⌜ start ≤ getD (now table) 3 0 ⌝ }
+    requires { ⌜ start ≤ headIn (now table) .schemaAtoms ⌝ }
     ensures { λ r. ⌜ RunOf (now (table .entry)) s start r ⌝ }
 {
     let atoms = word(table, 3);

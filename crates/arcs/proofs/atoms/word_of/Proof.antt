@@ -1,15 +1,16 @@
 -- `arcs::atoms::word_of` meets its contract: the code counts an atom's place as its definition does, and the atom's
 -- words lie in the table.
+use Rattle.task.specs.Limits.{atomSize}
+use Rattle.task.specs.Layout.{atomBase}
 use Prim.Native.Nat.{_+_, _≤_}
 use mathlib.Core.Path.{refl}
 use native.Mathlib.Omega.{arith}
 use lib.ListN.{length}
-use Rattle.task.specs.Table.{atomBase}
 use Rattle.arcs.proofs.Stretches.{atom-words}
 use Rattle.arcs.proofs.atoms.word_of.Statement.{statement}
 use Rattle.arcs.proofs.atoms.word_of.Tie as tie
 
-inside : (c : tie.Start) → atomBase (c .args .table .now) (c .args .i) + 8 ≤ length (c .args .table .now)
+inside : (c : tie.Start) → atomBase (c .args .table .now) (c .args .i) + atomSize ≤ length (c .args .table .now)
 inside c = atom-words (c .args .table .now) (c .args .i) (c .pre .0)
 
 shared-slice-read-result : tie.Need-shared-slice-read-result

@@ -1,5 +1,5 @@
--- `arcs::orders::order_of` meets its contract. The invariant: the order is the parts placed, then the order of the unplaced
--- ones. The measure is the parts left.
+-- `arcs::orders::order_of` meets its contract.
+-- The invariant: the order is the parts placed, then the order of the unplaced ones. The measure is the parts left.
 use Prim.Native.Nat.{ℕ, _-_, _≤_}
 use mathlib.Core.Path.{_≡_, refl, sym, _∙_, ap, subst}
 use mathlib.Core.List.{List}

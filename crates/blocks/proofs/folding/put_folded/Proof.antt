@@ -7,6 +7,7 @@ use mathlib.Core.Path.{_≡_, refl, sym, _∙_, ap, subst}
 use mathlib.Core.List.{List, _∷_}
 use native.Mathlib.Omega.{arith}
 use lib.ListN.{length, getD}
+use Rattle.task.specs.Limits.{stepSize}
 use Rattle.task.specs.Task.{Task}
 use Rattle.task.specs.Run.{Step, stepsIn}
 use Rattle.words.proofs.Puts.{length-put}
@@ -79,7 +80,7 @@ abbrev schema : Begun → ℕ
 schema c = c .begun-at .result - 1
 
 begins : (c : Begun) → let b = c .before in
-    getD (from b .args .begins .now) (getD (words (from b)) (13 * at b) 0) 0 ≡ schema c + 1
+    getD (from b .args .begins .now) (getD (words (from b)) (stepSize * at b) 0) 0 ≡ schema c + 1
 begins c = let e = c .begun-at .ensures in let n = some-block c in omega arith
 
 known : (c : Begun) (t : Task) → Kept (from (c .before)) t → schema c < length (t .schemas)
@@ -119,7 +120,7 @@ position : (c : Inside) (t : Task) → Kept (start c) t →
     c .before .loop2 .j < length (orders t (s-of c))
 position c t K = let m = counted (opened c) t K in let j = c .loop2-test .taken in omega arith
 
-not-past : (c : Inside) → c .before .loop2 .i < length (words (start c)) / 13
+not-past : (c : Inside) → c .before .loop2 .i < length (words (start c)) / stepSize
 not-past c =
     let (t, xs, K, f, r) = start c .pre in
     let h = so-far (opened c .before .before) in
@@ -208,7 +209,7 @@ loop2-again c =
     let l = d .before .loop2 in
     let r = c .join .result in
     let found = c .join .last .1 .1 .1 .1 .0 in
-    let J : ℕ → Type 0 = λ o. ObjectsJoin (words (start d)) (13 * l .i) o (l .bound) (l .found) r found in (
+    let J : ℕ → Type 0 = λ o. ObjectsJoin (words (start d)) (stepSize * l .i) o (l .bound) (l .found) r found in (
       omega (arith, d .loop2-test .taken),
       omega arith,
       omega (arith, not-past d),
@@ -298,7 +299,7 @@ loop-again c =
       λ t xs K f.
           let h = b .before .loop .inv .2 t xs K f in
           let k = l .inv .3 t (h .rest) K (h .left) in
-          subst (λ (out : List ℕ). PutSo t w xs lent out (b .before .loop .next + 13) (l .i)) (sym put-words)
+          subst (λ (out : List ℕ). PutSo t w xs lent out (b .before .loop .next + stepSize) (l .i)) (sym put-words)
           (put-turn K h s (l .j) (l .bound) (l .found) (l .i) (known (d .before) t K)
           (passed e .0 ∙ counted d t K .0) k),
     )

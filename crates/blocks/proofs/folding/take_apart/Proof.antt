@@ -9,6 +9,7 @@ use mathlib.Core.List.{List}
 use native.Mathlib.Omega.{arith}
 use lib.ListN.{length, getD}
 use borrow.Author.Tests.{not-true, not-false}
+use Rattle.task.specs.Limits.{stepSize}
 use Rattle.task.specs.Task.{Task}
 use Rattle.tokens.specs.Split.{orders}
 use Rattle.blocks.specs.FoldCode.{SplitStepsKept, ObjectsJoin, keptFits}
@@ -57,7 +58,7 @@ from c = c .before .before .before
 abbrev at : Between → ℕ
 at c = c .before .list .i
 
-not-ended : (c : Between) → at c < length (words (from c)) / 13
+not-ended : (c : Between) → at c < length (words (from c)) / stepSize
 not-ended c = let n = c .if1 .left in let l = c .before .list .inv .0 in omega arith
 
 -- where the step begins a block
@@ -68,7 +69,7 @@ abbrev schema : Begun → ℕ
 schema c = c .before .begun-at .result - 1
 
 begins : (c : Begun) → let b = c .before .before in
-    getD (from b .args .begins .now) (getD (words (from b)) (13 * at b) 0) 0 ≡ schema c + 1
+    getD (from b .args .begins .now) (getD (words (from b)) (stepSize * at b) 0) 0 ≡ schema c + 1
 begins c = let e = c .before .begun-at .ensures in let n = c .if2 .left in omega arith
 
 known : (c : Begun) → let b = c .before .before in (t : Task) → Kept (from b) t → schema c < length (t .schemas)
@@ -130,7 +131,7 @@ fitting c t K =
     let l = inner c .before .loop in
     let a = start (inner c) .args in
     c .goes-on .result ≡
-    keptFits (a .steps .now) (13 * l .i) (keptFirst (a .kept .now) (s-of (inner c)) + l .j)
+    keptFits (a .steps .now) (stepSize * l .i) (keptFirst (a .kept .now) (s-of (inner c)) + l .j)
     (keptOwn (a .kept .now) (s-of (inner c)) (l .j)) (l .inv .3 t K .objects)
 
 answered : (c : Asked) (t : Task) (K : Kept (start (inner c)) t) → fitting c t K
@@ -139,7 +140,7 @@ answered c t K =
     let h = l .inv .3 t K in
     let w = words (start (inner c)) in
     c .goes-on .ensures (h .objects) (h .held)
-    ∙ ap₂ (λ (n o : ℕ). keptFits w (13 * l .i) (n + l .j) o (h .objects)) (c .before .before .first-of .ensures)
+    ∙ ap₂ (λ (n o : ℕ). keptFits w (stepSize * l .i) (n + l .j) o (h .objects)) (c .before .before .first-of .ensures)
     (c .before .before .before .own-at .ensures)
 
 -- where it does
@@ -149,7 +150,7 @@ On = tie.Else3 Inv-loop μ-loop Inv-list μ-list
 goes : (c : On) → c .before .goes-on .result ≡ true
 goes c = not-false (c .before .goes-on .result) (c .if3 .left)
 
-not-past : (c : On) → inner (c .before) .before .loop .i < length (words (start (inner (c .before)))) / 13
+not-past : (c : On) → inner (c .before) .before .loop .i < length (words (start (inner (c .before)))) / stepSize
 not-past c =
     let d = inner (c .before) in
     let (t, K) = start d .pre in
@@ -237,7 +238,7 @@ loop-again c =
     let p = not-past on in
     let r = c .join .result in
     let f = c .join .last .1 .1 .1 .1 .0 in
-    let J : ℕ → Type 0 = λ o. ObjectsJoin w (13 * l .i) o (l .bound) (l .found) r f in (
+    let J : ℕ → Type 0 = λ o. ObjectsJoin w (stepSize * l .i) o (l .bound) (l .found) r f in (
       omega arith,
       omega arith,
       omega arith,

@@ -6,6 +6,7 @@ use mathlib.Core.Path.{_≡_, sym, _∙_, ap, subst}
 use mathlib.Core.List.{List}
 use native.Mathlib.Omega.{arith}
 use lib.ListN.{length}
+use Rattle.task.specs.Limits.{stepSize}
 use Rattle.task.specs.Run.{stepWords}
 use Rattle.blocks.specs.Blocks.{listWords}
 use Rattle.words.proofs.Puts.{puts-length}
@@ -19,7 +20,7 @@ use Rattle.blocks.specs.Code.{countFrom, partFrom, partsFrom}
 -- the parts before position j are put, up to `next`
 abbrev Put : List ℕ → List ℕ → ℕ → List ℕ → ℕ → ℕ → List ℕ → ℕ → Type 0
 Put steps kept at out₀ to j out next =
-    Puts out₀ to (listWords (partsFrom steps kept at j)) out next × (next ≡ to + 13 * j)
+    Puts out₀ to (listWords (partsFrom steps kept at j)) out next × (next ≡ to + stepSize * j)
 
 abbrev Inv-loop : tie.InvT-loop
 Inv-loop steps at kept out₀ to count next₀ j₀ out next j = (j ≤ count) × Put steps kept at out₀ to j out next
@@ -80,7 +81,7 @@ loop-again c =
     let a = start (l .before) .args in
     let w = a .steps .now in
     let part = stepWords (partFrom w (a .kept .now) (a .at) (h .j)) in
-    let n : length part ≡ 13 = part-long w (a .kept .now) (a .at) (h .j) in
+    let n : length part ≡ stepSize = part-long w (a .kept .now) (a .at) (h .j) in
     let next = listWords (partsFrom w (a .kept .now) (a .at) (h .j + 1)) in
     let P : List ℕ → ℕ → Type 0 = Puts (a .out .now) (a .to) next in (
       omega arith,

@@ -7,6 +7,7 @@ use mathlib.Core.List.{List}
 use native.Mathlib.Omega.{arith}
 use lib.ListN.{length}
 use Rattle.words.specs.Lists.{over, put}
+use Rattle.task.specs.Limits.{stepSize}
 use Rattle.task.specs.Run.{Step}
 use Rattle.words.proofs.Puts.{put-over}
 use Rattle.blocks.specs.Blocks.{listWords}
@@ -44,7 +45,7 @@ mul-put-block c = omega arith
 
 -- the blocks of all steps have room
 room : (s : tie.Start Inv-loop μ-loop) →
-    13 * sumFrom (s .args .steps .now) (s .args .kept .now) (length (s .args .steps .now) / 13) ≤
+    stepSize * sumFrom (s .args .steps .now) (s .args .kept .now) (length (s .args .steps .now) / stepSize) ≤
     length (s .args .out .now)
 room s = let (t, k, r) = s .pre in let e = sum-is k in omega arith
 
@@ -60,7 +61,7 @@ put-block-requires c κs =
     let p = h .inv .1 .place in
     let l = length-words w (a .kept .now) (h .i) in
     let m = sum-more w (a .kept .now) (h .i) in
-    let g = sum-grows w (a .kept .now) (h .i + 1) (length w / 13) (omega arith) in
+    let g = sum-grows w (a .kept .now) (h .i + 1) (length w / stepSize) (omega arith) in
     let q = room s in
     (step-kept k (h .i) (turn .loop-test .taken), omega arith)
 
@@ -76,9 +77,9 @@ loop-again c =
     let a = c .before .before .before .before .before .before .before .before .args in
     let w = a .steps .now in
     let k = a .kept .now in
-    let block = partsFrom w k (13 * h .i) (countFrom w k (13 * h .i)) in
+    let block = partsFrom w k (stepSize * h .i) (countFrom w k (stepSize * h .i)) in
     let b = c .before .before .put-block .ensures in
-    let l = length-part-words w k (13 * h .i) (countFrom w k (13 * h .i)) in
+    let l = length-part-words w k (stepSize * h .i) (countFrom w k (stepSize * h .i)) in
     let P : List ℕ → ℕ → Type 0 = Puts (a .out .now) 0 (wordsOf w k (h .i + 1)) in (
       omega arith,
       both-at P (b .1) (b .0 ∙ ap (λ (m : ℕ). h .next + m) (sym l))
@@ -95,9 +96,9 @@ returns c =
     let s = c .before .before .before .before in
     let a = s .args in
     let w = a .steps .now in
-    let e : h .i ≡ length w / 13 = omega arith in
+    let e : h .i ≡ length w / stepSize = omega arith in
     let all = wordsOf w (a .kept .now) in
-    let l = length-words w (a .kept .now) (length w / 13) in
+    let l = length-words w (a .kept .now) (length w / stepSize) in
     let q = room s in (
       λ t k.
           let n = h .inv .1 .place ∙ ap (λ (i : ℕ). 0 + length (all i)) e in
@@ -106,7 +107,7 @@ returns c =
       λ t k.
           h .inv .1 .words
           ∙ (ap (λ (i : ℕ). put (a .out .now) 0 (all i)) e
-          ∙ (put-over (all (length w / 13)) (a .out .now) (omega arith)
+          ∙ (put-over (all (length w / stepSize)) (a .out .now) (omega arith)
           ∙ ap (λ (ys : List Step). over (listWords ys) (a .out .now)) (blocks-are k))),
     )
 

@@ -7,6 +7,7 @@ use mathlib.Core.List.{List}
 use native.Mathlib.Omega.{arith}
 use lib.ListN.{length, getD, set, replicate, length-set}
 use Rattle.words.specs.Lists.{put}
+use Rattle.task.specs.Limits.{stepSize}
 use Rattle.task.specs.Run.{stepWords}
 use Rattle.words.proofs.Puts.{length-put}
 use Rattle.blocks.proofs.KeptWords.{put-step}
@@ -98,7 +99,7 @@ returns c =
     let a = start (p .before) .args in
     let next = o .put-objects .result in
     c .before .before .fill .ensures .words
-    ∙ (ap (λ (w : List ℕ). put w next (replicate (a .to + 13 - next) 0)) (h .1 .1)
+    ∙ (ap (λ (w : List ℕ). put w next (replicate (a .to + stepSize - next) 0)) (h .1 .1)
     ∙ (put-step (a .out .now) (a .to) next (p .before .first-of .result + a .j) (objects p) (h .0)
     ∙ ap₂ (λ (n q : ℕ). put (a .out .now) (a .to)
     (stepWords (record { schema = n + a .j; objects = objectsFor (a .steps .now) (a .at) q 12 })))

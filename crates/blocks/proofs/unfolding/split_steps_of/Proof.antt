@@ -1,6 +1,7 @@
 -- `blocks::unfolding::split_steps_of` meets its contract. The invariant: the total is the part counts of the steps
 -- before i, at most sixteen each. The measure is the steps left.
 use Rattle.blocks.proofs.unfolding.split_steps_of.Tie as tie
+use Rattle.task.specs.Limits.{stepSize}
 use Prim.Native.Nat.{_-_, _*_, _/_, _≤_}
 use mathlib.Core.Path.{_≡_, sym, _∙_, ap}
 use native.Mathlib.Omega.{arith}
@@ -26,7 +27,7 @@ loop-holds c =
 -- what is known of the step of this turn
 turn-step : (c : tie.In-loop Inv-loop μ-loop) →
     StepKept (c .before .before .before .args .steps .now) (c .before .before .before .args .kept .now)
-    (13 * c .before .loop .i)
+    (stepSize * c .before .loop .i)
 turn-step c = let (t, k) = c .before .before .before .pre in step-kept k (c .before .loop .i) (c .loop-test .taken)
 
 mul-schema-at : tie.Need-mul-schema-at Inv-loop μ-loop
@@ -41,7 +42,7 @@ count-of-requires c κs = let k = turn-step (c .before) .known in let e = c .sch
 -- the count of this turn
 counted : (c : tie.After-count-of Inv-loop μ-loop) →
     let a = c .before .before .before .before .before .args in
-    c .count-of .result ≡ countFrom (a .steps .now) (a .kept .now) (13 * c .before .before .before .loop .i)
+    c .count-of .result ≡ countFrom (a .steps .now) (a .kept .now) (stepSize * c .before .before .before .loop .i)
 counted c =
     let kept = c .before .before .before .before .before .args .kept .now in
     c .count-of .ensures ∙ ap (keptCount kept) (c .before .schema-at .ensures)
@@ -71,7 +72,7 @@ returns : tie.Need-returns Inv-loop μ-loop
 returns c = λ t k.
     let h = c .before .loop in
     let a = c .before .before .before .args in
-    let e : h .i ≡ length (a .steps .now) / 13 = omega arith in
+    let e : h .i ≡ length (a .steps .now) / stepSize = omega arith in
     h .inv .1 ∙ (ap (sumFrom (a .steps .now) (a .kept .now)) e ∙ sum-is k)
 
 pub split-steps-of-spec : {M : Type 1} → statement M

@@ -7,6 +7,7 @@ use mathlib.Core.List.{List}
 use native.Mathlib.Omega.{arith}
 use lib.ListN.{take}
 use lib.Seq.{length-take-le}
+use Rattle.task.specs.Limits.{stepSize}
 use Rattle.task.specs.Table.{taskOf}
 use Rattle.text.specs.Plan.{readPlan}
 use Rattle.text.specs.Outcomes.{planAnswerTold}
@@ -63,7 +64,7 @@ slice-aggregate-put-unfolding : tie.Need-slice-aggregate-put-unfolding
 slice-aggregate-put-unfolding c =
     let k = c .before .before .before .before .before in
     let n = c .before .before .count .given .0 .0 in
-    sym (length-take-le (13 * n) (k .read-plan .last .1 .1 .0) (plan (c .before) .inside))
+    sym (length-take-le (stepSize * n) (k .read-plan .last .1 .1 .0) (plan (c .before) .inside))
 
 put-unfolding-requires : tie.Need-put-unfolding-requires
 put-unfolding-requires c κs =

@@ -3,6 +3,7 @@ use Prim.Native.Nat.{ℕ, _+_}
 use mathlib.Core.Path.{_∙_, ap}
 use native.Mathlib.Omega.{arith}
 use lib.ListN.{getD}
+use Rattle.task.specs.Limits.{headWords}
 use Rattle.task.proofs.TableReads.{arity-inside, arity-word}
 use borrow.Author.Needs.{needs}
 use Rattle.task.proofs.lookup.arity.Statement.{statement}
@@ -32,7 +33,7 @@ returns c =
     let start = c .before .before .before .before in
     let w = start .args .table .now in
     let e = c .before .before .wide .ensures in
-    c .wide2 .ensures ∙ (ap (λ (p : ℕ). getD w (6 + p) 0) e ∙
+    c .wide2 .ensures ∙ (ap (λ (p : ℕ). getD w (headWords + p) 0) e ∙
     arity-word w (start .pre .0) (start .args .predicate) (start .pre .1))
 
 pub arity-spec : {M : Type 1} → statement M

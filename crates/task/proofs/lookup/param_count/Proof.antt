@@ -3,6 +3,7 @@ use Prim.Native.Nat.{ℕ, _+_}
 use mathlib.Core.Path.{_∙_, ap₂}
 use native.Mathlib.Omega.{arith}
 use lib.ListN.{getD}
+use Rattle.task.specs.Limits.{headWords}
 use Rattle.task.proofs.TableReads.{counts-inside, params-inside, params-word}
 use borrow.Author.Needs.{needs}
 use Rattle.task.proofs.lookup.param_count.Statement.{statement}
@@ -58,7 +59,7 @@ returns c =
     let w = start .args .table .now in
     let e = c .before .before .before .wide .ensures in
     let f = c .before .before .wide2 .ensures in
-    c .wide3 .ensures ∙ (ap₂ (λ (p s : ℕ). getD w (6 + p + s) 0) e f ∙
+    c .wide3 .ensures ∙ (ap₂ (λ (p s : ℕ). getD w (headWords + p + s) 0) e f ∙
     params-word w (start .pre .0) (start .args .schema) (start .pre .1))
 
 pub param-count-spec : {M : Type 1} → statement M

@@ -5,6 +5,7 @@ use mathlib.Core.Path.{_≡_, _∙_}
 use mathlib.Core.Bool.{true}
 use native.Mathlib.Omega.{arith}
 use lib.ListN.{getD}
+use Rattle.task.specs.Limits.{stepSize}
 use Rattle.task.specs.Table.{taskOf}
 use Rattle.task.specs.Run.{isStepAt}
 use Rattle.task.specs.Turns.{endedAs, recordsLeft}
@@ -39,7 +40,7 @@ step : (c : tie.In-loop Inv-loop μ-loop) →
     isStepAt (taskOf (start c .args .table .now)) (start c .args .steps .now) (c .before .loop .i) ≡ true
 step c = good-step _ _ (start c .pre .1 .1 .0) _ (c .loop-test .taken)
 
-below : (c : tie.In-loop Inv-loop μ-loop) → getD (start c .args .steps .now) (13 * c .before .loop .i) 0 < 200
+below : (c : tie.In-loop Inv-loop μ-loop) → getD (start c .args .steps .now) (stepSize * c .before .loop .i) 0 < 200
 below c = schema-below _ (start c .args .starts .now) _ _ (start c .pre .0) (start c .pre .1 .0 .1) (step c)
 
 loop-holds : tie.Need-loop-holds Inv-loop μ-loop
@@ -59,7 +60,7 @@ shared-slice-read-schema c = omega arith
 cast-schema : tie.Need-cast-schema Inv-loop μ-loop
 cast-schema c =
     let at-loop = c .before .before in
-    omega (arith, c .shared-slice-known4 .given (13 * at-loop .loop .i))
+    omega (arith, c .shared-slice-known4 .given (stepSize * at-loop .loop .i))
 
 mul-start : tie.Need-mul-start Inv-loop μ-loop
 mul-start c = let l = below (c .before) in omega arith
@@ -79,7 +80,7 @@ cast-start c =
       arith,
       c .shared-slice-known5 .given
           (getD (start .args .steps .now)
-          (13 * at-loop .loop .i) 0),
+          (stepSize * at-loop .loop .i) 0),
     )
 
 add-end : tie.Need-add-end Inv-loop μ-loop
@@ -107,7 +108,7 @@ cast-end c =
       arith,
       c .shared-slice-known6 .given
           (getD (start .args .steps .now)
-          (13 * at-loop .loop .i) 0 + 1),
+          (stepSize * at-loop .loop .i) 0 + 1),
     )
 
 run-step-requires : tie.Need-run-step-requires Inv-loop μ-loop

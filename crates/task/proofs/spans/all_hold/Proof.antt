@@ -53,7 +53,8 @@ start c = c .before .before .before .before .before .before .before
 -- what was looked up is atom k with the step's objects
 held-is : (c : tie.After-held Inv-loop μ-loop) → c .held .result ≡
     holds (stateIn (taskOf (start c .args .table .now)) (start c .args .state .now) (start c .args .n))
-    (groundAt (start c .args .table .now) (start c .args .steps .now) (start c .args .i) (c .before .before .before .loop .k))
+    (groundAt (start c .args .table .now) (start c .args .steps .now) (start c .args .i)
+    (c .before .before .before .loop .k))
 held-is c =
     let at-loop = c .before .before .before in
     c .held .ensures _ _

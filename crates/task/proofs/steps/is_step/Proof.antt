@@ -9,6 +9,7 @@ use native.Mathlib.Omega.{arith}
 use lib.ListN.{length, getD}
 use borrow.Author.Needs.{needs}
 use borrow.Author.Tests.{not-true, not-false}
+use Rattle.task.specs.Limits.{stepSize}
 use Rattle.task.specs.Task.{Task, wellFormed}
 use Rattle.task.specs.Table.{taskOf}
 use Rattle.task.proofs.Tables.{of-table}
@@ -30,10 +31,10 @@ W c = c .args .steps .now
 abbrev start₂ : tie.Else2 → tie.Start
 start₂ c = c .before .before .before .before .before .before
 
-whole : (c : tie.Else2) → 13 * start₂ c .args .i + 13 ≤ length (W (start₂ c))
+whole : (c : tie.Else2) → stepSize * start₂ c .args .i + stepSize ≤ length (W (start₂ c))
 whole c = omega arith
 
-known : (c : tie.Else2) → getD (W (start₂ c)) (13 * start₂ c .args .i) 0 < length (T (start₂ c) .schemas)
+known : (c : tie.Else2) → getD (W (start₂ c)) (stepSize * start₂ c .args .i) 0 < length (T (start₂ c) .schemas)
 known c = let e = c .before .schema-count .ensures in omega arith
 
 -- past the test of the objects
@@ -44,7 +45,7 @@ few : (c : tie.After-param-count) → c .param-count .result ≤ 12
 few c =
     let start = start₂ (c .before) in
     let e = c .param-count .ensures in
-    let l = params-few (T start) (well start) (getD (W start) (13 * start .args .i) 0) in
+    let l = params-few (T start) (well start) (getD (W start) (stepSize * start .args .i) 0) in
     omega arith
 
 mul-at : tie.Need-mul-at

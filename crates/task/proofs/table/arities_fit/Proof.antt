@@ -3,11 +3,10 @@
 use Prim.Native.Nat.{ℕ, _-_}
 use mathlib.Core.Path.{_≡_, ap}
 use native.Mathlib.Omega.{arith}
-use lib.ListN.{getD}
 use lib.Dec.{leb}
 use borrow.Author.Tests.{le-leb, lt-leb}
 use Rattle.words.specs.Lists.{all, upTo, upFrom}
-use Rattle.task.specs.Table.{arityIn}
+use Rattle.task.specs.Layout.{headIn, arityIn}
 use Rattle.task.specs.WordTests.{aritiesFit}
 use Rattle.words.proofs.Ranges.{all-more, all-fails, all-ends}
 use Rattle.task.proofs.table.arities_fit.Statement.{statement}
@@ -27,7 +26,7 @@ unfolding aritiesFit upTo
 loop-holds c =
     let w = c .before .before .args .table .now in
     let e = c .word .ensures .0 in
-    let h : getD w 1 0 ≡ c .word .result - 0 = omega arith in
+    let h : headIn w .predicates ≡ c .word .result - 0 = omega arith in
     ap (λ (n : ℕ). all (λ p. leb (arityIn w p) 4) (upFrom 0 n)) h
 
 add-word : tie.Need-add-word Inv-loop μ-loop

@@ -6,13 +6,12 @@ use mathlib.Core.Path.{_≡_, sym, _∙_, ap, ap₂}
 use mathlib.Core.Bool.{Bool, true}
 use mathlib.Core.List.{List}
 use native.Mathlib.Omega.{arith}
-use lib.ListN.{getD}
 use borrow.Author.Needs.{needs}
 use borrow.Author.Tests.{not-true, not-false}
 use Rattle.words.specs.Lists.{every}
+use Rattle.task.specs.Layout.{headIn, goalsFrom, atomTotal, wordsUsed, atomBase}
 use Rattle.task.specs.Limits.{tableWords}
-use Rattle.task.specs.Table.{atomBase}
-use Rattle.task.specs.WordTests.{countTests, aritiesFit, numbersFit, factsWordsFit, atomTotal, wordsUsed, Roomy}
+use Rattle.task.specs.WordTests.{countTests, aritiesFit, numbersFit, factsWordsFit, Roomy}
 use Rattle.words.specs.Words.{zerosAt}
 use Rattle.words.proofs.Lists.{both-ft}
 use Rattle.task.proofs.Counts.{counted, roomy}
@@ -62,15 +61,15 @@ room₄ c = room (c .before .before .before .before)
 
 -- the initial atoms, and the goal atoms behind them
 abbrev Initial : List ℕ → Bool
-Initial w = factsWordsFit w 3 (getD w 3 0) (getD w 4 0)
+Initial w = factsWordsFit w 3 (headIn w .schemaAtoms) (headIn w .initialAtoms)
 
 abbrev Goal : List ℕ → Bool
-Goal w = factsWordsFit w 4 (getD w 3 0 + getD w 4 0) (getD w 5 0)
+Goal w = factsWordsFit w 4 (goalsFrom w) (headIn w .goalAtoms)
 
 initial-is : (c : tie.After-facts-fit) → c .facts-fit .result ≡ Initial (words (start₅ c))
 initial-is c =
     let from = c .before .before .word .result in
-    let n : from + c .before .word2 .result - from ≡ getD (words (start₅ c)) 4 0 = omega
+    let n : from + c .before .word2 .result - from ≡ headIn (words (start₅ c)) .initialAtoms = omega
     (arith, c .before .word2 .ensures .0) in
     c .facts-fit .ensures ∙ ap₂ (factsWordsFit (words (start₅ c)) 3) (c .before .before .word .ensures .0) n
 
@@ -79,8 +78,9 @@ goal-is c =
     let w = words (start₆ c) in
     let k = c .before .before .before .before in
     let from = k .before .word .result + k .word2 .result in
-    let e : from ≡ getD w 3 0 + getD w 4 0 = omega (arith, k .word2 .ensures .0, k .before .word .ensures .0) in
-    let n : from + c .before .word3 .result - from ≡ getD w 5 0 = omega (arith, c .before .word3 .ensures .0) in
+    let e : from ≡ goalsFrom w = omega (arith, k .word2 .ensures .0, k .before .word .ensures .0) in
+    let n : from + c .before .word3 .result - from ≡ headIn w .goalAtoms =
+    omega (arith, c .before .word3 .ensures .0) in
     c .facts-fit2 .ensures ∙ ap₂ (factsWordsFit w 4) e n
 
 -- where the atoms end

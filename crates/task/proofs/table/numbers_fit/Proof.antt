@@ -4,9 +4,9 @@
 use Prim.Native.Nat.{ℕ, _-_}
 use mathlib.Core.Path.{_≡_, ap}
 use native.Mathlib.Omega.{arith}
-use lib.ListN.{getD}
 use lib.Dec.{leb}
 use Rattle.words.specs.Lists.{all, upTo, upFrom}
+use Rattle.task.specs.Layout.{headIn}
 use Rattle.task.specs.Table.{schemaNumberIn}
 use Rattle.task.specs.WordTests.{numberFits, numbersFit}
 use Rattle.words.proofs.Ranges.{all-more, all-fails, all-ends}
@@ -33,7 +33,7 @@ unfolding numbersFit upTo
 loop-holds c =
     let w = c .before .before .before .args .table .now in
     let e = c .word2 .ensures .0 in
-    let n : getD w 3 0 ≡ c .word2 .result - 0 = omega arith in
+    let n : headIn w .schemaAtoms ≡ c .word2 .result - 0 = omega arith in
     (ap (λ (n : ℕ). all (numberFits w) (upFrom 0 n)) n, number-first w)
 
 schema-number-requires : tie.Need-schema-number-requires Inv-loop μ-loop

@@ -35,7 +35,8 @@ add-above c =
     let k = at-loop .loop .k in
     let list = start .args .list .now in
     let small = ltb-true (getD list k 0) 16
-    (each-first (λ a. ltb a 16) list (start .args .n) (start .pre .0) (start .pre .1) k (c .before .before .loop-test .taken)) in
+    (each-first (λ a. ltb a 16) list (start .args .n) (start .pre .0) (start .pre .1) k
+    (c .before .before .loop-test .taken)) in
     omega arith
 
 add-k : tie.Need-add-k Inv-loop μ-loop
@@ -49,8 +50,11 @@ loop-again c =
     let at-loop = c .before .before .before in
     let start = at-loop .before in
     let more = above-more (start .args .list .now) (at-loop .loop .k) (omega arith) in
-    let so-far = at-loop .loop .inv .1 in
-    (omega arith, ⊎-elim (λ w. let e = w .1 in let l = w .0 .taken in omega arith) (λ w. let e = w .1 in let l = w .0 .left in omega arith) (c .if1 .came))
+    let so-far = at-loop .loop .inv .1 in (
+      omega arith,
+      ⊎-elim (λ w. let e = w .1 in let l = w .0 .taken in omega arith)
+          (λ w. let e = w .1 in let l = w .0 .left in omega arith) (c .if1 .came),
+    )
 
 returns : tie.Need-returns Inv-loop μ-loop
 returns c =

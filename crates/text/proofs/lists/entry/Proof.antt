@@ -27,7 +27,8 @@ slice-aggregate-word c = search needs
 word-requires : tie.Need-word-requires
 word-requires c κs =
     let n = c .before .before in
-    moved-placed (c .before .before .before .before .before .before .before .pre) (subst (NumberAt _ _) (n .head .given .1) (n .before .before .number .ensures) .moved)
+    moved-placed (c .before .before .before .before .before .before .before .pre)
+    (subst (NumberAt _ _) (n .head .given .1) (n .before .before .number .ensures) .moved)
 
 enum-known-next : tie.Need-enum-known-next
 enum-known-next c = search needs
@@ -45,7 +46,8 @@ listing-requires : tie.Need-listing-requires
 listing-requires c κs =
     let n = c .before .before .before .before .before .before .before in
     let w = c .before .before in
-    word-placed (moved-placed (c .before .before .before .before .before .before .before .before .before .before .before .before .pre)
+    word-placed (moved-placed (c .before .before .before .before .before .before .before .before .before .before
+    .before .before .pre)
     (subst (NumberAt _ _) (n .head .given .1) (n .before .before .number .ensures) .moved))
     (subst (WordAt _ _ _) (w .next .given .1) (w .before .before .word .ensures))
 

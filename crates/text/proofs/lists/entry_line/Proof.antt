@@ -20,7 +20,8 @@ same-length : tie.Need-same-length
 same-length c = search needs
 
 returns : tie.Need-returns
-returns c = no-body _ (subst (EntryAt _ _ _) (c .enum-told .given .1) (c .before .before .before .before .entry .ensures))
+returns c = no-body _ (subst (EntryAt _ _ _) (c .enum-told .given .1)
+    (c .before .before .before .before .entry .ensures))
 
 line-end-requires : tie.Need-line-end-requires
 line-end-requires c κs =
@@ -40,7 +41,8 @@ same-length-2 c = search needs
 returns-2 : tie.Need-returns-2
 returns-2 c =
     let body = c .before .before .before .before in
-    no-end _ _ _ (subst (EntryAt _ _ _) (body .head .given .1) (body .before .before .before .before .entry .ensures) .is)
+    no-end _ _ _ (subst (EntryAt _ _ _) (body .head .given .1)
+    (body .before .before .before .before .entry .ensures) .is)
     (subst (EndAt _ _) (c .enum-told2 .given .1) (c .before .before .line-end .ensures))
 
 same-length-3 : tie.Need-same-length-3

@@ -41,7 +41,11 @@ returns-2 c =
       ns = _;
       is = listing-ends _ _ (w .is);
       listed = listed-none _;
-      onward = record { on = omega arith; inside = c .before .before .before .before .before .before .pre .inside; line = refl };
+      onward = record {
+        on = omega arith;
+        inside = c .before .before .before .before .before .before .pre .inside;
+        line = refl;
+      };
     }
 
 pub listing-spec : {M : Type 1} → statement M

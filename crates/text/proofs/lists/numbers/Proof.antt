@@ -12,7 +12,8 @@ use Rattle.text.proofs.WholeLines.{moved-placed}
 use Rattle.text.proofs.lists.numbers.Statement.{statement}
 
 abbrev Inv-loop : tie.InvT-loop
-Inv-loop text list₀ here₀ count₀ t9 list here count = (length list ≡ length list₀) × ListSoFar text here₀ here count list
+Inv-loop text list₀ here₀ count₀ t9 list here count = (length list ≡ length list₀) ×
+    ListSoFar text here₀ here count list
 
 abbrev μ-loop : tie.MeasureT-loop
 μ-loop text list₀ here₀ count₀ t9 list here count = length text - here .at
@@ -61,7 +62,8 @@ enum-told-2 c = search needs
 same-length-2 : tie.Need-same-length-2 Inv-loop μ-loop
 same-length-2 c =
     let keep = c .before .before .before .before .before .before in
-    keep .keep .kept .0 ∙ c .before .before .before .before .before .before .before .before .before .before .before .before .loop .inv .0
+    keep .keep .kept .0 ∙ c .before .before .before .before .before .before .before .before .before .before .before
+    .before .loop .inv .0
 
 returns-2 : tie.Need-returns-2 Inv-loop μ-loop
 returns-2 c =
@@ -86,7 +88,8 @@ loop-again : tie.Need-loop-again Inv-loop μ-loop
 loop-again c =
     let keep = c .before .before .before .before .before .before .before in
     let n = c .before .before .before .before .before .before .before .before .before .before in (
-      keep .keep .kept .0 ∙ c .before .before .before .before .before .before .before .before .before .before .before .before .before .loop .inv .0,
+      keep .keep .kept .0 ∙ c .before .before .before .before .before .before .before .before .before .before .before
+          .before .before .loop .inv .0,
       rw (keep .keep .ensures)
           (list-goes-on (n .before .before .before .loop .inv .1)
           (subst (NumberAt _ _) (n .n .given .1) (n .before .before .number .ensures))

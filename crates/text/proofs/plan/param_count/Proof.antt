@@ -3,6 +3,7 @@ use Prim.Native.Nat.{ℕ, _+_}
 use mathlib.Core.Path.{_∙_, ap}
 use native.Mathlib.Omega.{arith}
 use lib.ListN.{getD}
+use Rattle.task.specs.Limits.{headWords}
 use Rattle.task.proofs.TableReads.{counts-inside, params-inside, params-word}
 use borrow.Author.Needs.{needs}
 use Rattle.text.proofs.plan.param_count.Statement.{statement}
@@ -53,7 +54,7 @@ returns c =
     let start = c .before .before .before .before .before in
     let w = start .args .table .now in
     c .wide2 .ensures ∙
-    (ap (λ (p : ℕ). getD w (6 + p + start .args .schema) 0) (c .before .before .wide .ensures) ∙
+    (ap (λ (p : ℕ). getD w (headWords + p + start .args .schema) 0) (c .before .before .wide .ensures) ∙
     params-word w (start .pre .0) (start .args .schema) (start .pre .1))
 
 pub param-count-spec : {M : Type 1} → statement M

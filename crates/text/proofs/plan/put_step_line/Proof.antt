@@ -22,7 +22,8 @@ objects c = commaed (spaced (c .args .words .now) (c .args .base + 1) 1 (c .args
 -- what is still to come of the line, in a text and from a place on
 abbrev Left : tie.Start → List ℕ → List ℕ → ℕ → Type 0
 Left c left text next =
-    Going (c .args .text .now) (c .args .at) (stepText (c .args .words .now) (c .args .base) (c .args .params)) left text
+    Going (c .args .text .now) (c .args .at) (stepText (c .args .words .now) (c .args .base) (c .args .params)) left
+    text
     next
 
 begin : (c : tie.Start) →

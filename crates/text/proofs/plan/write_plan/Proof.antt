@@ -5,6 +5,7 @@ use Prim.Native.Nat.{ℕ, _+_, _-_, _*_, _/_, _≤_}
 use mathlib.Core.Path.{_≡_, _∙_, ap}
 use mathlib.Core.List.{List, _++_, append-assoc}
 use lib.ListN.{length, getD}
+use Rattle.task.specs.Limits.{stepSize}
 use Rattle.task.specs.Table.{taskOf}
 use Rattle.task.specs.Run.{paramCount, stepsIn}
 use Rattle.task.proofs.Tables.{of-table}
@@ -21,12 +22,12 @@ use Rattle.text.proofs.plan.write_plan.Tie as tie
 
 abbrev Inv-loop : tie.InvT-loop
 Inv-loop table words text₀ next₀ count i₀ t text next i =
-    (i ≤ length words / 13) ×
+    (i ≤ length words / stepSize) ×
     Going text₀ 0 (writePlan (stepsIn (taskOf table) words))
-    (onwards (lineAtStep (taskOf table) words) i (length words / 13) ++ endBytes) text next
+    (onwards (lineAtStep (taskOf table) words) i (length words / stepSize) ++ endBytes) text next
 
 abbrev μ-loop : tie.MeasureT-loop
-μ-loop table words text₀ next₀ count i₀ t text next i = length words / 13 - i
+μ-loop table words text₀ next₀ count i₀ t text next i = length words / stepSize - i
 
 loop-holds : tie.Need-loop-holds Inv-loop μ-loop
 loop-holds c =
@@ -59,12 +60,12 @@ module _ (c : tie.In-loop Inv-loop μ-loop) where
   to-come :
       Going (start (c .before) .args .text .now) 0
       (writePlan (stepsIn (taskOf (start (c .before) .args .table .now)) words))
-      (lines i ++ (onwards lines (i + 1) (length words / 13) ++ endBytes))
+      (lines i ++ (onwards lines (i + 1) (length words / stepSize) ++ endBytes))
       (c .before .loop .text) (c .before .loop .next)
   to-come =
       going-left
-      (ap (λ (bs : List ℕ). bs ++ endBytes) (onwards-next lines i (length words / 13) (c .loop-test .taken)) ∙
-      append-assoc (lines i) (onwards lines (i + 1) (length words / 13)) endBytes)
+      (ap (λ (bs : List ℕ). bs ++ endBytes) (onwards-next lines i (length words / stepSize) (c .loop-test .taken)) ∙
+      append-assoc (lines i) (onwards lines (i + 1) (length words / stepSize)) endBytes)
       (c .before .loop .inv .1)
 
 mul-base : tie.Need-mul-base Inv-loop μ-loop
@@ -88,14 +89,17 @@ param-count-requires c κs =
 -- the parameters are those of the step's schema
 params-read : (c : tie.After-param-count Inv-loop μ-loop) →
     let at = c .before .before .before in
-    c .param-count .result ≡ paramCount (taskOf (start (at .before) .args .table .now)) (getD (words at) (13 * i at) 0)
+    c .param-count .result ≡ paramCount (taskOf (start (at .before) .args .table .now))
+    (getD (words at) (stepSize * i at) 0)
 params-read c =
     c .param-count .ensures ∙
     ap (paramCount (taskOf (start (c .before .before .before .before) .args .table .now))) (c .before .wide .ensures)
 
 line-read : (c : tie.After-param-count Inv-loop μ-loop) →
-    let at = c .before .before .before in stepText (words at) (13 * i at) (c .param-count .result) ≡ lines at (i at)
-line-read c = ap (stepText (words (c .before .before .before)) (13 * i (c .before .before .before))) (params-read c)
+    let at = c .before .before .before in stepText (words at) (stepSize * i at) (c .param-count .result) ≡ lines at
+    (i at)
+line-read c = ap (stepText (words (c .before .before .before)) (stepSize * i (c .before .before .before)))
+    (params-read c)
 
 put-step-line-requires : tie.Need-put-step-line-requires Inv-loop μ-loop
 put-step-line-requires c κs =
@@ -103,7 +107,7 @@ put-step-line-requires c κs =
     let e = params-read (c .before) in
     let inside = there at .inside in
     let few = there at .few in
-    let later = onwards (lines at) (i at + 1) (length (words at) / 13) ++ endBytes in
+    let later = onwards (lines at) (i at + 1) (length (words at) / stepSize) ++ endBytes in
     let r = going-room (lines at (i at)) later (to-come at) in
     let l = ap length (line-read (c .before)) in
     (omega arith, omega arith)
@@ -131,7 +135,8 @@ ending c =
     let w = args .words .now in
     going-left
     (ap (λ (bs : List ℕ). bs ++ endBytes)
-    (onwards-none (lineAtStep (taskOf (args .table .now)) w) (c .before .loop .i) (length w / 13) (c .loop-test .left)))
+    (onwards-none (lineAtStep (taskOf (args .table .now)) w) (c .before .loop .i) (length w / stepSize)
+    (c .loop-test .left)))
     (c .before .loop .inv .1)
 
 slice-aggregate-put-bytes : tie.Need-slice-aggregate-put-bytes Inv-loop μ-loop

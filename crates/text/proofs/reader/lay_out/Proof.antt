@@ -55,7 +55,8 @@ sub-clear c = search needs
 
 clear-requires : tie.Need-clear-requires
 clear-requires c κs =
-    let h = c .before .before .before .before .before .before .before .before .before .before .before .before .pre .holds in
+    let h = c .before .before .before .before .before .before .before .before .before .before .before .before .pre
+    .holds in
     let few = h .few in
     let predicates = few .predicates in
     let schemas = few .schemas in
@@ -73,7 +74,8 @@ cast-t14 c = search needs
 
 cast-t15 : tie.Need-cast-t15
 cast-t15 c =
-    let h = c .before .before .before .before .before .before .before .before .before .before .before .before .before .before .before .before .before .pre .holds in
+    let h = c .before .before .before .before .before .before .before .before .before .before .before .before .before
+    .before .before .before .before .pre .holds in
     let few = h .few in
     let predicates = few .predicates in
     let schemas = few .schemas in
@@ -86,7 +88,8 @@ cast-t15 c =
 
 cast-t16 : tie.Need-cast-t16
 cast-t16 c =
-    let h = c .before .before .before .before .before .before .before .before .before .before .before .before .before .before .before .before .before .before .pre .holds in
+    let h = c .before .before .before .before .before .before .before .before .before .before .before .before .before
+    .before .before .before .before .before .pre .holds in
     let few = h .few in
     let predicates = few .predicates in
     let schemas = few .schemas in
@@ -99,7 +102,8 @@ cast-t16 c =
 
 cast-t17 : tie.Need-cast-t17
 cast-t17 c =
-    let h = c .before .before .before .before .before .before .before .before .before .before .before .before .before .before .before .before .before .before .before .pre .holds in
+    let h = c .before .before .before .before .before .before .before .before .before .before .before .before .before
+    .before .before .before .before .before .before .pre .holds in
     let few = h .few in
     let predicates = few .predicates in
     let schemas = few .schemas in
@@ -112,7 +116,8 @@ cast-t17 c =
 
 cast-t18 : tie.Need-cast-t18
 cast-t18 c =
-    let h = c .before .before .before .before .before .before .before .before .before .before .before .before .before .before .before .before .before .before .before .before .pre .holds in
+    let h = c .before .before .before .before .before .before .before .before .before .before .before .before .before
+    .before .before .before .before .before .before .before .pre .holds in
     let few = h .few in
     let predicates = few .predicates in
     let schemas = few .schemas in
@@ -125,7 +130,8 @@ cast-t18 c =
 
 cast-t19 : tie.Need-cast-t19
 cast-t19 c =
-    let h = c .before .before .before .before .before .before .before .before .before .before .before .before .before .before .before .before .before .before .before .before .before .pre .holds in
+    let h = c .before .before .before .before .before .before .before .before .before .before .before .before .before
+    .before .before .before .before .before .before .before .before .pre .holds in
     let few = h .few in
     let predicates = few .predicates in
     let schemas = few .schemas in
@@ -141,7 +147,8 @@ slice-aggregate-put-words c = search needs
 
 put-words-requires : tie.Need-put-words-requires
 put-words-requires c κs =
-    let h = c .before .before .before .before .before .before .before .before .before .before .before .before .before .before .before .before .before .before .before .before .before .before .before .pre .holds in
+    let h = c .before .before .before .before .before .before .before .before .before .before .before .before .before
+    .before .before .before .before .before .before .before .before .before .before .pre .holds in
     let few = h .few in
     let predicates = few .predicates in
     let schemas = few .schemas in
@@ -151,22 +158,32 @@ put-words-requires c κs =
     let objects = few .objects in
     let long = h .long in
     let z = tableWords-is in
-    let size₁ = c .before .before .before .before .before .before .before .before .before .before .before .before .before .before .move-down .kept .0 in
+    let size₁ = c .before .before .before .before .before .before .before .before .before .before .before .before
+    .before .before .move-down .kept .0 in
     let size₂ = c .before .before .before .before .before .before .before .before .before .before .clear .kept .0 in
     (omega arith, six-words (omega arith) (omega arith) (omega arith) (omega arith) (omega arith) (omega arith))
 
 same-length : tie.Need-same-length
-same-length c = c .before .before .put-words .kept .0 ∙ (c .before .before .before .before .before .before .before .before .before .before .before .before .before .clear .kept .0 ∙ c .before .before .before .before .before .before .before .before .before .before .before .before .before .before .before .before .before .move-down .kept .0)
+same-length c = c .before .before .put-words .kept .0 ∙
+    (c .before .before .before .before .before .before .before .before .before .before .before .before .before .clear
+    .kept .0 ∙ c .before .before .before .before .before .before .before .before .before .before .before .before
+    .before .before .before .before .before .move-down .kept .0)
 
 returns : tie.Need-returns
 returns c =
-    let few = c .before .before .before .before .before .before .before .before .before .before .before .before .before .before .before .before .before .before .before .before .before .before .before .before .before .before .pre .holds .few in
+    let few = c .before .before .before .before .before .before .before .before .before .before .before .before
+    .before .before .before .before .before .before .before .before .before .before .before .before .before
+    .before .pre .holds .few in
     let predicates = few .predicates in
     let schemas = few .schemas in
     let total = few .total in
     let initial = few .initial in
     let goal = few .goal in
-    λ d h closed well. laid-out h closed (c .before .before .before .before .before .before .before .before .before .before .before .before .before .before .before .before .before .move-down .ensures) (c .before .before .before .before .before .before .before .before .before .before .before .before .before .clear .ensures) (c .before .before .put-words .ensures)
+    λ d h closed well. laid-out h closed
+    (c .before .before .before .before .before .before .before .before .before .before .before .before .before
+    .before .before .before .before .move-down .ensures)
+    (c .before .before .before .before .before .before .before .before .before .before .before .before .before
+    .clear .ensures) (c .before .before .put-words .ensures)
     (omega arith) well
 
 pub lay-out-spec : {M : Type 1} → statement M

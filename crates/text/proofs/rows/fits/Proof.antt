@@ -1,3 +1,4 @@
+use Rattle.task.specs.Limits.{headWords}
 use Prim.Native.Nat.{_+_, _-_}
 use native.Mathlib.Omega.{arith}
 use borrow.Author.Needs.{needs}
@@ -21,7 +22,11 @@ shared-slice-read-if3 : tie.Need-shared-slice-read-if3
 shared-slice-read-if3 c = search needs
 
 cast-if3 : tie.Need-cast-if3
-cast-if3 c = omega (arith, c .shared-slice-known3 .given (6 + c .before .before .before .before .before .args .predicate))
+cast-if3 c = omega (
+  arith,
+  c .shared-slice-known3 .given
+      (headWords + c .before .before .before .before .before .args .predicate),
+)
 
 returns-3 : tie.Need-returns-3
 returns-3 c = other-arity _ _ _ _ _ _ (omega arith) (c .if3 .taken)

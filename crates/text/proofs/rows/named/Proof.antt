@@ -1,3 +1,4 @@
+use Rattle.task.specs.Limits.{atomSize}
 use Prim.Native.Nat.{ℕ, _+_, _-_, _*_, _≤_, _<_}
 use mathlib.Core.Path.{_≡_, sym, _∙_}
 use native.Mathlib.Omega.{arith}
@@ -9,7 +10,8 @@ use Rattle.text.proofs.rows.named.Statement.{statement}
 use Rattle.text.proofs.rows.named.Tie as tie
 
 abbrev Inv-loop : tie.InvT-loop
-Inv-loop table first n parameter i₀ i = (i ≤ n) × ((j : ℕ) → j < i → rowNames table (first + 8 * j) parameter ≡ false)
+Inv-loop table first n parameter i₀ i = (i ≤ n) ×
+    ((j : ℕ) → j < i → rowNames table (first + atomSize * j) parameter ≡ false)
 
 abbrev μ-loop : tie.MeasureT-loop
 μ-loop table first n parameter i₀ i = n - i
@@ -18,10 +20,12 @@ loop-holds : tie.Need-loop-holds Inv-loop μ-loop
 loop-holds c = (omega arith, λ j l. absurd (omega arith))
 
 mul-names : tie.Need-mul-names Inv-loop μ-loop
-mul-names c = let r = c .before .before .before .pre (c .before .loop .i) (c .loop-test .taken) in let i = r .inside in omega arith
+mul-names c = let r = c .before .before .before .pre (c .before .loop .i) (c .loop-test .taken) in let i =
+    r .inside in omega arith
 
 add-names : tie.Need-add-names Inv-loop μ-loop
-add-names c = let r = c .before .before .before .pre (c .before .loop .i) (c .loop-test .taken) in let i = r .inside in omega arith
+add-names c = let r = c .before .before .before .pre (c .before .loop .i) (c .loop-test .taken) in let i =
+    r .inside in omega arith
 
 names-requires : tie.Need-names-requires Inv-loop μ-loop
 names-requires c κs = c .before .before .before .pre (c .before .loop .i) (c .loop-test .taken)
@@ -29,8 +33,10 @@ names-requires c κs = c .before .before .before .pre (c .before .loop .i) (c .l
 returns : tie.Need-returns Inv-loop μ-loop
 returns c =
     let start = c .before .before .before .before .before in
-    sym (some-up-to (λ i. rowNames (start .args .table .now) (start .args .first + 8 * i) (start .args .parameter))
-    (start .args .n) (c .before .before .before .loop .i) (c .before .before .loop-test .taken) (sym (c .before .names .ensures) ∙ c .if1 .taken))
+    sym (some-up-to (λ i. rowNames (start .args .table .now) (start .args .first + atomSize * i)
+    (start .args .parameter))
+    (start .args .n) (c .before .before .before .loop .i) (c .before .before .loop-test .taken)
+    (sym (c .before .names .ensures) ∙ c .if1 .taken))
 
 add-i : tie.Need-add-i Inv-loop μ-loop
 add-i c = omega arith
@@ -47,7 +53,8 @@ loop-again c = (
 returns-2 : tie.Need-returns-2 Inv-loop μ-loop
 returns-2 c =
     let start = c .before .before .before in
-    sym (none-up-to (λ i. rowNames (start .args .table .now) (start .args .first + 8 * i) (start .args .parameter))
+    sym (none-up-to (λ i. rowNames (start .args .table .now) (start .args .first + atomSize * i)
+    (start .args .parameter))
     (start .args .n) (λ i l. c .before .loop .inv .1 i (omega arith)))
 
 pub named-spec : {M : Type 1} → statement M

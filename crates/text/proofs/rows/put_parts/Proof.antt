@@ -21,7 +21,8 @@ shared-slice-read-table : tie.Need-shared-slice-read-table Inv-loop μ-loop
 shared-slice-read-table c = omega arith
 
 cast-table : tie.Need-cast-table Inv-loop μ-loop
-cast-table c = let l = c .before .before .before .pre .1 (c .before .before .loop .k) (c .before .loop-test .taken) in omega arith
+cast-table c = let l = c .before .before .before .pre .1 (c .before .before .loop .k) (c .before .loop-test .taken) in
+    omega arith
 
 mul-table-2 : tie.Need-mul-table-2 Inv-loop μ-loop
 mul-table-2 c = omega arith

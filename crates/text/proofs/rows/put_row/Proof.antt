@@ -51,8 +51,10 @@ returns c =
     let l = length-take-le (args .count) (args .args .now) enough in
     subst (λ (xs : List ℕ). Wrote (args .table .now) (args .at) 8 (λ k. getD xs k 0) (put .put-words .last .0))
     (row-words (args .schema) (args .role) (args .predicate) ns (omega arith) _ _ _ _
-    (c .before .before .before .before .before .before .before .before .number-or-zero .ensures) (c .before .before .before .before .before .before .before .number-or-zero2 .ensures)
-    (c .before .before .before .before .before .before .number-or-zero3 .ensures) (c .before .before .before .before .before .number-or-zero4 .ensures))
+    (c .before .before .before .before .before .before .before .before .number-or-zero .ensures)
+    (c .before .before .before .before .before .before .before .number-or-zero2 .ensures)
+    (c .before .before .before .before .before .before .number-or-zero3 .ensures)
+    (c .before .before .before .before .before .number-or-zero4 .ensures))
     (put .put-words .ensures)
 
 pub put-row-spec : {M : Type 1} → statement M

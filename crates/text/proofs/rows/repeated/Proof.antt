@@ -1,3 +1,4 @@
+use Rattle.task.specs.Limits.{atomSize}
 use Prim.Native.Nat.{ℕ, _+_, _-_, _*_, _≤_, _<_}
 use mathlib.Core.Path.{_≡_, sym, _∙_}
 use native.Mathlib.Omega.{arith}
@@ -9,7 +10,7 @@ use Rattle.text.proofs.rows.repeated.Statement.{statement}
 use Rattle.text.proofs.rows.repeated.Tie as tie
 
 abbrev Inv-loop : tie.InvT-loop
-Inv-loop table row first n i₀ i = (i ≤ n) × ((j : ℕ) → j < i → rowSame table row (first + 8 * j) ≡ false)
+Inv-loop table row first n i₀ i = (i ≤ n) × ((j : ℕ) → j < i → rowSame table row (first + atomSize * j) ≡ false)
 
 abbrev μ-loop : tie.MeasureT-loop
 μ-loop table row first n i₀ i = n - i
@@ -29,8 +30,9 @@ same-atom-requires c κs = omega arith
 returns : tie.Need-returns Inv-loop μ-loop
 returns c =
     let start = c .before .before .before .before .before in
-    sym (some-up-to (λ i. rowSame (start .args .table .now) (start .args .row) (start .args .first + 8 * i))
-    (start .args .n) (c .before .before .before .loop .i) (c .before .before .loop-test .taken) (sym (c .before .same-atom .ensures) ∙ c .if1 .taken))
+    sym (some-up-to (λ i. rowSame (start .args .table .now) (start .args .row) (start .args .first + atomSize * i))
+    (start .args .n) (c .before .before .before .loop .i) (c .before .before .loop-test .taken)
+    (sym (c .before .same-atom .ensures) ∙ c .if1 .taken))
 
 add-i : tie.Need-add-i Inv-loop μ-loop
 add-i c = omega arith
@@ -47,7 +49,7 @@ loop-again c = (
 returns-2 : tie.Need-returns-2 Inv-loop μ-loop
 returns-2 c =
     let start = c .before .before .before in
-    sym (none-up-to (λ i. rowSame (start .args .table .now) (start .args .row) (start .args .first + 8 * i))
+    sym (none-up-to (λ i. rowSame (start .args .table .now) (start .args .row) (start .args .first + atomSize * i))
     (start .args .n) (λ i l. c .before .loop .inv .1 i (omega arith)))
 
 pub repeated-spec : {M : Type 1} → statement M

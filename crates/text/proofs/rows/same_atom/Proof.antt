@@ -30,7 +30,8 @@ same-words-requires-2 c κs = search needs
 
 returns-2 : tie.Need-returns-2
 unfolding rowSame
-returns-2 c = c .same-words2 .ensures ∙ sym (rw (sym (c .before .before .same-words .ensures) ∙ not-false _ (c .before .if1 .left)) refl)
+returns-2 c = c .same-words2 .ensures ∙
+    sym (rw (sym (c .before .before .same-words .ensures) ∙ not-false _ (c .before .if1 .left)) refl)
 
 pub same-atom-spec : {M : Type 1} → statement M
 same-atom-spec =

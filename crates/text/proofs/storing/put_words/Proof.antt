@@ -23,7 +23,8 @@ shared-slice-read-table : tie.Need-shared-slice-read-table Inv-loop μ-loop
 shared-slice-read-table c = omega arith
 
 cast-table : tie.Need-cast-table Inv-loop μ-loop
-cast-table c = let l = c .before .before .before .pre .1 .small (c .before .before .loop .k) (c .before .loop-test .taken) in omega arith
+cast-table c = let l = c .before .before .before .pre .1 .small (c .before .before .loop .k)
+    (c .before .loop-test .taken) in omega arith
 
 add-table : tie.Need-add-table Inv-loop μ-loop
 add-table c = omega arith

@@ -1,10 +1,11 @@
 -- `text::writer::atom_size` meets its contract: the sizes of key, predicate, colon, arguments and byte 10 add up.
 -- Each is small, so no sum wraps.
+use Rattle.task.specs.Limits.{headWords}
+use Rattle.task.specs.Layout.{arityIn}
 use native.Mathlib.Omega.{arith}
 use Prim.Native.Nat.{ℕ, _+_, _≤_}
 use mathlib.Core.Path.{_≡_, _∙_, ap}
 use lib.ListN.{length, getD}
-use Rattle.task.specs.Table.{arityIn}
 use Rattle.text.specs.Lines.{commaed}
 use Rattle.text.specs.Code.{spaced}
 use Rattle.text.proofs.DigitSteps.{at-most-five}
@@ -22,7 +23,8 @@ arity-read : (c : tie.After-wide2) →
     c .wide2 .result ≡ arityIn w (getD w (start c .args .base + 2) 0)
 unfolding arityIn
 arity-read c =
-    c .wide2 .ensures ∙ ap (λ (p : ℕ). getD (start c .args .table .now) (6 + p) 0) (c .before .before .wide .ensures)
+    c .wide2 .ensures ∙ ap (λ (p : ℕ). getD (start c .args .table .now) (headWords + p) 0)
+    (c .before .before .wide .ensures)
 
 -- the arguments take at most 24 bytes
 args-most : (c : tie.After-wide2) →

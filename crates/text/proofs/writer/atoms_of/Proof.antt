@@ -1,5 +1,6 @@
 -- `text::writer::atoms_of` meets its contract. The invariant of its loop: the first n atoms are the schema's. The
 -- measure is the number of atoms left, less n.
+use Rattle.task.specs.Limits.{atomSize}
 use native.Mathlib.Omega.{arith}
 use Prim.Native.Nat.{ℕ, _+_, _-_, _*_, _≤_, _<_}
 use mathlib.Core.Path.{_≡_, sym, _∙_}
@@ -9,7 +10,7 @@ use Rattle.text.proofs.writer.atoms_of.Statement.{statement}
 use Rattle.text.proofs.writer.atoms_of.Tie as tie
 
 abbrev Inv-loop : tie.InvT-loop
-Inv-loop table base left schema n₀ n = (n ≤ left) × ((k : ℕ) → k < n → getD table (base + 8 * k) 0 ≡ schema)
+Inv-loop table base left schema n₀ n = (n ≤ left) × ((k : ℕ) → k < n → getD table (base + atomSize * k) 0 ≡ schema)
 
 abbrev μ-loop : tie.MeasureT-loop
 μ-loop table base left schema n₀ n = left - n
@@ -19,7 +20,7 @@ loop-holds c = (omega arith, λ k l. absurd (omega arith))
 
 atom-inside : (c : tie.In-loop Inv-loop μ-loop) →
     let args = c .before .before .before .args in
-    args .base + 8 * c .before .loop .n < length (args .table .now)
+    args .base + atomSize * c .before .loop .n < length (args .table .now)
 atom-inside c = c .before .before .before .pre (c .before .loop .n) (c .loop-test .taken)
 
 mul-wide : tie.Need-mul-wide Inv-loop μ-loop

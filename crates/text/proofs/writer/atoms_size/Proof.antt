@@ -1,5 +1,6 @@
 -- `text::writer::atoms_size` meets its contract. The invariant of its loop: the size so far and that of the lines from
 -- atom k on make the size of all. The measure is n less k.
+use Rattle.task.specs.Limits.{atomSize}
 use native.Mathlib.Omega.{arith}
 use Prim.Native.Nat.{_+_, _-_, _*_, _≤_}
 use mathlib.Core.Path.{_≡_, ap}
@@ -25,7 +26,7 @@ loop-holds c =
 
 atom-inside : (c : tie.In-loop Inv-loop μ-loop) →
     AtomInside (c .before .before .before .args .table .now)
-    (c .before .before .before .args .base + 8 * c .before .loop .k)
+    (c .before .before .before .args .base + atomSize * c .before .loop .k)
 atom-inside c = c .before .before .before .pre .0 (c .before .loop .k) (c .loop-test .taken)
 
 longer : (c : tie.In-loop Inv-loop μ-loop) →

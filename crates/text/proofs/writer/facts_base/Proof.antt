@@ -1,6 +1,5 @@
 -- `text::writer::facts_base` meets its contract: head, arities, parameter counts and schema atoms lie in the table.
 use native.Mathlib.Omega.{arith}
-use Rattle.text.specs.Code.{factsBase}
 use Rattle.text.proofs.SchemaTurns.{content-inside}
 use borrow.Author.Needs.{needs}
 use Rattle.text.proofs.writer.facts_base.Statement.{statement}
@@ -45,7 +44,6 @@ add-result-3 c =
     omega arith
 
 returns : tie.Need-returns
-unfolding factsBase
 returns c =
     let e = c .before .before .count .ensures in
     let f = c .before .count2 .ensures in

@@ -1,11 +1,12 @@
 -- `text::writer::put_atom` meets its contract: key, predicate, colon, arguments and byte 10 are put one behind
 -- another. A lemma for each says what is still to come behind it.
+use Rattle.task.specs.Limits.{headWords}
+use Rattle.task.specs.Layout.{arityIn}
 use native.Mathlib.Omega.{arith}
 use Prim.Native.Nat.{ℕ, _+_, _≤_}
 use mathlib.Core.Path.{_≡_, sym, _∙_, ap, subst}
 use mathlib.Core.List.{List, [], _∷_, _++_}
 use lib.ListN.{length, getD}
-use Rattle.task.specs.Table.{arityIn}
 use Rattle.text.specs.Lines.{colon, newline, digits, commaed}
 use Rattle.text.specs.Code.{spaced, keyBytes}
 use Rattle.words.proofs.Puts.{puts-same, Going, first-room, going-start, going-room, going-on, going-last, byte-room}
@@ -45,7 +46,8 @@ arity-read : (c : tie.After-wide2) →
     c .wide2 .result ≡ arityIn w (getD w (start c .args .base + 2) 0)
 unfolding arityIn
 arity-read c =
-    c .wide2 .ensures ∙ ap (λ (p : ℕ). getD (start c .args .table .now) (6 + p) 0) (c .before .before .wide .ensures)
+    c .wide2 .ensures ∙ ap (λ (p : ℕ). getD (start c .args .table .now) (headWords + p) 0)
+    (c .before .before .wide .ensures)
 
 abbrev arity : tie.After-slice-known2 → tie.After-wide2
 arity c = c .before .before .before .before .before

@@ -1,5 +1,6 @@
 -- `text::writer::put_atoms` meets its contract. The invariant of its loop: what is still to come is the lines from
 -- atom k on. The measure is n less k.
+use Rattle.task.specs.Limits.{atomSize}
 use native.Mathlib.Omega.{arith}
 use Prim.Native.Nat.{_+_, _-_, _*_, _≤_}
 use mathlib.Core.Path.{sym}
@@ -32,7 +33,7 @@ start c = c .before .before .before
 
 atom-inside : (c : tie.In-loop Inv-loop μ-loop) →
     let args = start (c .before) .args in
-    AtomInside (args .table .now) (args .base + 8 * c .before .loop .k)
+    AtomInside (args .table .now) (args .base + atomSize * c .before .loop .k)
 atom-inside c = start (c .before) .pre .0 (c .before .loop .k) (c .loop-test .taken)
 
 -- what is to come is the line of atom k, and then those from k + 1 on

@@ -1,10 +1,11 @@
 -- `text::writer::put_head` meets its contract: its three lines are put one behind another. A lemma for each says what
 -- is still to come behind it.
+use Rattle.task.specs.Layout.{headIn}
 use native.Mathlib.Omega.{arith}
 use Prim.Native.Nat.{ℕ, _+_}
 use mathlib.Core.Path.{_≡_, ap}
 use mathlib.Core.List.{List, [], _∷_, _++_}
-use lib.ListN.{length, getD}
+use lib.ListN.{length}
 use Rattle.text.specs.Lines.{bytes, newline, digits, commaed, line}
 use Rattle.text.specs.Code.{spaced, headText}
 use Rattle.words.proofs.Puts.{Going, puts-same, going-start, going-left, going-room, going-on, last-room, going-last}
@@ -15,7 +16,7 @@ use Rattle.text.proofs.writer.put_head.Statement.{statement}
 use Rattle.text.proofs.writer.put_head.Tie as tie
 
 abbrev objects : tie.Start → List ℕ
-objects c = line "objects" (digits (getD (c .args .table .now) 0 0))
+objects c = line "objects" (digits (headIn (c .args .table .now) .objects))
 
 abbrev arities : tie.Start → List ℕ
 arities c = line "arity" (arityBytes (c .args .table .now))

@@ -1,5 +1,6 @@
 -- `text::writer::put_schemas` meets its contract. The invariant of its loop: a turn stands at schema s, and what is
 -- still to come is the lines from schema s on. The measure is the number of schemas less s.
+use Rattle.task.specs.Limits.{headWords}
 use native.Mathlib.Omega.{arith}
 use Prim.Native.Nat.{ℕ, _+_, _-_, _≤_}
 use mathlib.Core.Path.{sym, _∙_, ap}
@@ -74,7 +75,8 @@ schemas c = c .before .before .before .count .result
 abbrev lines : tie.After-atoms-of Inv-loop μ-loop → List ℕ
 lines c =
     let at-loop = c .before .before in
-    schemaText (words at-loop) (getD (words at-loop) (6 + at-loop .before .before .count2 .result + at-loop .loop .s) 0)
+    schemaText (words at-loop) (getD (words at-loop)
+    (headWords + at-loop .before .before .count2 .result + at-loop .loop .s) 0)
     (at-loop .loop .base) (c .atoms-of .result)
 
 -- what is to come is the lines of schema s, and then those from s + 1 on

@@ -4,7 +4,8 @@ use Prim.Native.Nat.{ℕ, _+_, _<_}
 use mathlib.Core.Path.{_≡_, sym, _∙_, ap}
 use native.Mathlib.Omega.{arith}
 use lib.ListN.{length, getD}
-use Rattle.task.specs.Table.{atomBase, atomIn}
+use Rattle.task.specs.Layout.{atomBase}
+use Rattle.task.specs.Table.{atomIn}
 use Rattle.words.proofs.Lists.{in-getD}
 use Rattle.tokens.proofs.AtomWords.{few-arguments, argument-small, argument-at}
 use Rattle.tokens.proofs.atoms.argument.Statement.{statement}

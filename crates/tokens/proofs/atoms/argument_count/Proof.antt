@@ -4,7 +4,8 @@ use Rattle.tokens.proofs.atoms.argument_count.Tie as tie
 use mathlib.Core.Path.{_≡_, sym, _∙_, ap}
 use native.Mathlib.Omega.{arith}
 use borrow.Author.Needs.{needs}
-use Rattle.task.specs.Table.{atomBase, arityIn, atomIn}
+use Rattle.task.specs.Layout.{arityIn, atomBase}
+use Rattle.task.specs.Table.{atomIn}
 use Rattle.arcs.proofs.Stretches.{atom-words}
 use Rattle.tokens.proofs.AtomWords.{predicate-known, few-arguments, argument-count}
 use Rattle.tokens.proofs.atoms.argument_count.Statement.{statement}

@@ -4,7 +4,8 @@ use mathlib.Core.Path.{_≡_, _∙_, ap}
 use native.Mathlib.Omega.{arith}
 use lib.ListN.{getD}
 use borrow.Author.Needs.{needs}
-use Rattle.task.specs.Table.{schemaNumberIn, atomBase}
+use Rattle.task.specs.Layout.{atomBase}
+use Rattle.task.specs.Table.{schemaNumberIn}
 use Rattle.tokens.proofs.atoms.schema_of.Statement.{statement}
 use Rattle.tokens.proofs.atoms.schema_of.Tie as tie
 

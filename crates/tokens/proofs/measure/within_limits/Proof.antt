@@ -6,7 +6,8 @@ use Prim.Native.Nat.{ℕ, _+_, _≤_}
 use mathlib.Core.Path.{_∙_, ap}
 use mathlib.Core.Bool.{Bool}
 use native.Mathlib.Omega.{arith}
-use lib.ListN.{getD, length}
+use lib.ListN.{length}
+use Rattle.task.specs.Layout.{headIn}
 use Rattle.task.proofs.Tables.{tableWords-is}
 use Rattle.task.proofs.TablesByIndex.{table-long}
 use Rattle.tokens.specs.Code.{sizesFit, areWithin}
@@ -56,8 +57,8 @@ returns c =
     let fit : ℕ → ℕ → ℕ → Bool = λ p i g.
     areWithin (p + 1 + r .later + r .pars) (r .schemas) (r .atoms) (r .within) (i + 1) (g + 1) in
     c .are-within .ensures ∙ ap (λ p. fit p (initial .result) (goal .result)) (old .ensures .0) ∙
-    ap (λ i. fit (getD w 1 0) i (goal .result)) (initial .ensures .0) ∙
-    ap (fit (getD w 1 0) (getD w 4 0)) (goal .ensures .0)
+    ap (λ i. fit (headIn w .predicates) i (goal .result)) (initial .ensures .0) ∙
+    ap (fit (headIn w .predicates) (headIn w .initialAtoms)) (goal .ensures .0)
 
 pub within-limits-spec : {M : Type 1} → statement M
 within-limits-spec =

@@ -1,6 +1,7 @@
 -- `tokens::part_atoms::old_atoms` meets its contract. The invariant: the part's atoms of the role that come before atom
 -- i were put. The measure is the atoms left.
 use Rattle.tokens.proofs.part_atoms.old_atoms.Tie as tie
+use Rattle.task.specs.Limits.{atomSize}
 use Prim.Native.Nat.{ℕ, _+_, _*_, _-_, _≤_}
 use mathlib.Core.Path.{_≡_, refl, sym, _∙_, subst}
 use mathlib.Core.Logic.{⊎-elim}
@@ -14,7 +15,7 @@ use Rattle.tokens.proofs.part_atoms.old_atoms.Statement.{statement}
 
 abbrev Inv-loop : tie.InvT-loop
 Inv-loop table here role out₀ at to next₀ i₀ out next i =
-    (here .from ≤ i) × (i ≤ to) × (next ≤ at + 8 * (i - here .from)) × (length out ≡ length out₀) ×
+    (here .from ≤ i) × (i ≤ to) × (next ≤ at + atomSize * (i - here .from)) × (length out ≡ length out₀) ×
     Puts out₀ at (oldUpTo (here .own) role (here .part .0) table (here .number) (here .from) i) out next
 
 abbrev μ-loop : tie.MeasureT-loop
@@ -53,7 +54,7 @@ loop-less c = omega arith
 turn : (c : tie.Joined1 Inv-loop μ-loop) →
     let a = c .before .before .before .before .before .before .args in
     let i = c .before .before .before .loop .i in
-    (c .if1 .next ≤ a .at + 8 * (i + 1 - a .here .from)) ×
+    (c .if1 .next ≤ a .at + atomSize * (i + 1 - a .here .from)) ×
     Puts (a .out .now) (a .at)
     (oldUpTo (a .here .own) (a .role) (a .here .part .0) (a .table .now) (a .here .number) (a .here .from) (i + 1))
     (c .if1 .out) (c .if1 .next)

@@ -1,6 +1,7 @@
 -- `tokens::part_atoms::par_atoms` meets its contract. An empty set has no pars. The invariant: the pars of the set's
 -- parameters below x were put. The measure is the parameters left.
 use Rattle.tokens.proofs.part_atoms.par_atoms.Tie as tie
+use Rattle.task.specs.Limits.{atomSize}
 use Prim.Native.Nat.{ℕ, _+_, _*_, _-_, _≤_}
 use mathlib.Core.Path.{_≡_, refl, sym, _∙_, subst}
 use mathlib.Core.Logic.{⊎-elim}
@@ -13,7 +14,7 @@ use Rattle.tokens.proofs.part_atoms.par_atoms.Statement.{statement}
 
 abbrev Inv-loop : tie.InvT-loop
 Inv-loop here role which out₀ at params next₀ x₀ out next x =
-    (x ≤ params) × (next ≤ at + 8 * x) × (length out ≡ length out₀) ×
+    (x ≤ params) × (next ≤ at + atomSize * x) × (length out ≡ length out₀) ×
     Puts out₀ at (parsUpTo (here .own) (here .par) role (here .number) which x) out next
 
 abbrev μ-loop : tie.MeasureT-loop
@@ -59,7 +60,7 @@ loop-less c = omega arith
 turn : (c : tie.Joined2 Inv-loop μ-loop) →
     let a = c .before .before .before .before .before .before .args in
     let x = c .before .before .before .loop .x in
-    (c .if2 .next ≤ a .at + 8 * (x + 1)) ×
+    (c .if2 .next ≤ a .at + atomSize * (x + 1)) ×
     Puts (a .out .now) (a .at) (parsUpTo (a .here .own) (a .here .par) (a .role) (a .here .number) (a .which) (x + 1))
     (c .if2 .out) (c .if2 .next)
 turn c =

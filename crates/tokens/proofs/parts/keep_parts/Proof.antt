@@ -8,8 +8,9 @@ use mathlib.Core.List.{List}
 use native.Mathlib.Omega.{arith}
 use native.Mathlib.Numerals.{add-one}
 use borrow.Author.Tests.{not-true, not-false}
-use lib.ListN.{length, getD}
+use lib.ListN.{length}
 use Rattle.words.specs.Lists.{sum, upFrom, upTo}
+use Rattle.task.specs.Layout.{headIn}
 use Rattle.task.specs.Run.{schemaAt}
 use Rattle.task.specs.Table.{taskOf, isTable}
 use Rattle.task.proofs.Tables.{tableWords-is}
@@ -81,7 +82,7 @@ module _ (i : Turn) (to : ℕ) (e : to ≡ firstAtom (task (i .before)) (suc (i 
   abbrev l : Loop
   l = i .before
 
-  said : l .loop .s < getD (words l) 2 0
+  said : l .loop .s < headIn (words l) .schemas
   said = let k = known i in omega (arith, schemas-word (words l) (table-frame (words l) (is-table l)))
 
   stretch : IsStretch (words l) (l .loop .from) to

@@ -4,6 +4,7 @@ use Rattle.tokens.proofs.parts.schema_end.Tie as tie
 use Prim.Native.Nat.{suc, _-_, _≤_, _<_}
 use mathlib.Core.Path.{sym, _∙_}
 use native.Mathlib.Omega.{arith}
+use Rattle.task.specs.Layout.{headIn}
 use Rattle.task.specs.Table.{taskOf}
 use Rattle.task.proofs.Tables.{tableWords-is}
 use Rattle.task.proofs.TablesByIndex.{table-long}
@@ -11,7 +12,6 @@ use Rattle.arcs.specs.Code.{IsStretch}
 use Rattle.arcs.proofs.Stretches.{schema-stretch}
 use Rattle.tokens.proofs.PartParameters.{schema-known, ends-here, goes-on}
 use Rattle.tokens.proofs.parts.schema_end.Statement.{statement}
-use lib.ListN.{getD}
 use Rattle.task.specs.Turns.{firstAtom}
 
 abbrev Inv-loop : tie.InvT-loop
@@ -38,7 +38,7 @@ stretch s =
 
 -- a turn is at an atom
 inside : (c : tie.In-loop Inv-loop μ-loop) →
-    c .before .loop .i < getD (start (c .before) .args .table .now) 3 0
+    c .before .loop .i < headIn (start (c .before) .args .table .now) .schemaAtoms
 inside c = let n = c .before .before .word .ensures .0 in omega (arith, c .loop-test .taken)
 
 word-requires : tie.Need-word-requires Inv-loop μ-loop

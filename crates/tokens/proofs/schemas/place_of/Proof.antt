@@ -5,6 +5,7 @@ use Prim.Native.Nat.{ℕ, _+_, _≤_, _<_}
 use mathlib.Core.Path.{_∙_, ap}
 use native.Mathlib.Omega.{arith}
 use lib.ListN.{length, getD}
+use Rattle.task.specs.Layout.{headIn, paramsBase}
 use Rattle.task.specs.Limits.{headWords, mostSchemas, mostParts, mostPredicates}
 use Rattle.tokens.specs.Kept.{keptFirst}
 use Rattle.tokens.proofs.Splitting.{few-schemas, few-predicates, predicates-word, few-parts, params-inside}
@@ -25,8 +26,8 @@ read c = c .before .before
 record Small (c : tie.Start) : Type 0 where
   schema : c .args .s < mostSchemas
   position : c .args .j < mostParts
-  inside : headWords + getD (c .args .table .now) 1 0 + c .args .s < length (c .args .table .now)
-  tokens : getD (c .args .table .now) 1 0 + c .args .sizes .later + 1 ≤ mostPredicates
+  inside : paramsBase (c .args .table .now) + c .args .s < length (c .args .table .now)
+  tokens : headIn (c .args .table .now) .predicates + c .args .sizes .later + 1 ≤ mostPredicates
   number : keptFirst (c .args .kept .now) (c .args .s) ≤ mostSchemas
 
 small : (c : tie.Start) → Small c

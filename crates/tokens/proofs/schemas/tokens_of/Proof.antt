@@ -5,8 +5,9 @@ use Prim.Native.Nat.{ℕ, _+_, _-_, _≤_, _<_}
 use mathlib.Core.Path.{_≡_, sym, _∙_, ap}
 use native.Mathlib.Omega.{arith}
 use native.Mathlib.Numerals.{add-one}
-use lib.ListN.{length, getD, take}
+use lib.ListN.{length, take}
 use lib.Dec.{eqb}
+use Rattle.task.specs.Layout.{headIn}
 use Rattle.task.specs.Limits.{headWords, mostSchemas, mostParts, mostPredicates}
 use Rattle.task.specs.Table.{taskOf}
 use Rattle.tokens.specs.Split.{procnone, orders, lone, laterParts}
@@ -36,7 +37,7 @@ record Known (c : tie.Start) : Type 0 where
   parts : keptCount (c .args .kept .now) (c .args .s) ≤ mostParts
   first : keptFirst (c .args .kept .now) (c .args .s) ≡
       laterParts (take (c .args .s) (taskOf (c .args .table .now) .schemas)) + c .args .s
-  tokens : getD (c .args .table .now) 1 0 +
+  tokens : headIn (c .args .table .now) .predicates +
       laterParts (take (c .args .s) (taskOf (c .args .table .now) .schemas)) ≤ mostPredicates
 
 known : (c : tie.Start) → Known c

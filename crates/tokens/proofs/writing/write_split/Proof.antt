@@ -5,9 +5,10 @@ use Prim.Native.Nat.{ℕ, _+_, _-_, _*_, _≤_, _<_}
 use mathlib.Core.Path.{_≡_, refl, sym, _∙_, ap}
 use mathlib.Core.List.{_++_, map, List}
 use native.Mathlib.Omega.{arith}
-use lib.ListN.{length, getD, replicate}
+use lib.ListN.{length, replicate}
 use borrow.Author.Needs.{needs}
-use Rattle.task.specs.Limits.{tableWords, atomSize, mostSchemas}
+use Rattle.task.specs.Layout.{headIn, factsBase}
+use Rattle.task.specs.Limits.{tableWords, atomSize, mostSchemas, headWords, tableLength}
 use Rattle.task.specs.Task.{Schema, Task}
 use Rattle.task.specs.Table.{taskOf, wordsOf}
 use Rattle.words.proofs.Puts.{put-over, puts-is, puts-then, puts-length}
@@ -20,7 +21,6 @@ use Rattle.tokens.proofs.Sizes.{init-count, goal-count}
 use Rattle.tokens.proofs.Splitting.{split-well, few-schemas, few-parts, predicates-word}
 use Rattle.tokens.proofs.Written.{Room, room, facts-inside, counts-written, arities-written, params-written}
 use Rattle.tokens.proofs.writing.write_split.Statement.{statement}
-use Rattle.tokens.specs.Writing.{factsBase}
 
 -- the places, one from the next
 abbrev begun : tie.After-head → tie.Start
@@ -50,15 +50,16 @@ split c = splitTask (taskOf (c .args .table .now))
 -- what is known of the numbers where the function begins
 record Known (c : tie.Start) : Type 0 where
   room : Room (split c)
-  old : length (taskOf (c .args .table .now) .schemas) ≡ getD (c .args .table .now) 2 0
-  few : getD (c .args .table .now) 2 0 ≤ mostSchemas
+  old : length (taskOf (c .args .table .now) .schemas) ≡ headIn (c .args .table .now) .schemas
+  few : headIn (c .args .table .now) .schemas ≤ mostSchemas
   predicates : length (split c .arities) ≡
-      getD (c .args .table .now) 1 0 + 1 + c .args .sizes .later + c .args .sizes .pars
-  inits : length (split c .init) ≡ getD (c .args .table .now) 4 0 + 1
-  goals : length (split c .goal) ≡ getD (c .args .table .now) 5 0 + 1
+      headIn (c .args .table .now) .predicates + 1 + c .args .sizes .later + c .args .sizes .pars
+  inits : length (split c .init) ≡ headIn (c .args .table .now) .initialAtoms + 1
+  goals : length (split c .goal) ≡ headIn (c .args .table .now) .goalAtoms + 1
   inside : factsBase (c .args .table .now) +
-      atomSize * (getD (c .args .table .now) 4 0 + getD (c .args .table .now) 5 0) ≤ length (c .args .table .now)
-  long : 13406 ≤ length (c .args .out .now)
+      atomSize * (headIn (c .args .table .now) .initialAtoms + headIn (c .args .table .now) .goalAtoms) ≤
+      length (c .args .table .now)
+  long : tableLength ≤ length (c .args .out .now)
 
 known : (c : tie.Start) → Known c
 known c =
@@ -133,7 +134,7 @@ head-ends : (c : tie.After-head) → Headed c
 head-ends c = record { ends = c .head .ensures .place; long = puts-length (six-put c) }
 
 record Named (c : tie.After-arities) : Type 0 where
-  ends : c .arities .result ≡ 6 + length (split (begun (head c)) .arities)
+  ends : c .arities .result ≡ headWords + length (split (begun (head c)) .arities)
   long : length (named c) ≡ length (begun (head c) .args .out .now)
 
 names-end : (c : tie.After-arities) → Named c
@@ -143,7 +144,7 @@ names-end c =
     record { ends = omega (arith, p .place, h .ends); long = puts-length p ∙ h .long }
 
 record Sized (c : tie.After-all-params) : Type 0 where
-  ends : c .all-params .result ≡ 6 + length (split (begun (head (names c))) .arities) +
+  ends : c .all-params .result ≡ headWords + length (split (begun (head (names c))) .arities) +
       length (map (λ (u : Schema). u .params) (split (begun (head (names c))) .schemas))
   long : length (sized c) ≡ length (begun (head (names c)) .args .out .now)
 
@@ -254,7 +255,8 @@ returns c =
     let t = split st in
     let d = facts (c .before .before) in
     let p = content-put d in
-    let n : tableWords - length (content t) ≡ 13406 - d .all-facts .result = omega (arith, p .place, tableWords-is) in
+    let n : tableWords - length (content t) ≡ tableLength - d .all-facts .result =
+    omega (arith, p .place, tableWords-is) in
     let whole = puts-then p (c .before .before .fill .ensures) (wordsOf t)
     (wordsOf-is t ∙ ap (λ (m : ℕ). content t ++ replicate m 0) n) in
     let l = words-length t (split-well (st .pre .0)) in

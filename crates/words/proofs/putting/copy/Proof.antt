@@ -67,7 +67,8 @@ returns c =
     let a = c .before .before .before .before .args in
     let h = c .before .loop in
     let e : h .k ≡ a .count = omega arith in
-    subst (λ (n : ℕ). Puts (a .out .now) (a .at) (wordsAt (a .table .now) (a .from) n) (h .out) (a .at + n)) e (h .inv .2)
+    subst (λ (n : ℕ). Puts (a .out .now) (a .at) (wordsAt (a .table .now) (a .from) n) (h .out) (a .at + n)) e
+    (h .inv .2)
 
 pub copy-spec : {M : Type 1} → statement M
 copy-spec =

@@ -63,7 +63,8 @@ loop-again c =
       λ x. any-joins (isAt (given .table .now) x) (at .loop .i) (given .to) (member (at .loop .set) x)
           (at .loop .inv .1 x) (c .before .before .loop-test .taken)
           (c .with .ensures x ∙ ap (λ (b : Bool). member (at .loop .set) x || b)
-          (ap (λ (n : ℕ). eqb n x) (c .before .word .ensures .0) ∙ eqb-turn (getD (given .table .now) (at .loop .i) 0) x)),
+          (ap (λ (n : ℕ). eqb n x) (c .before .word .ensures .0) ∙
+          eqb-turn (getD (given .table .now) (at .loop .i) 0) x)),
     )
 
 returns : tie.Need-returns Inv-loop μ-loop

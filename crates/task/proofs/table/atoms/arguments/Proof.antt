@@ -1,8 +1,8 @@
 -- `task::table::atoms::arguments` meets its contract.
 -- Four words behind where atom i begins; its eight words lie in the table.
 use native.Mathlib.Omega.{arith}
-use Rattle.task.specs.Table.{atomBase}
 use borrow.Author.Needs.{needs}
+use Rattle.task.specs.Layout.{atomBase}
 use Rattle.task.proofs.table.atoms.arguments.Statement.{statement}
 use Rattle.task.proofs.table.atoms.arguments.Tie as tie
 

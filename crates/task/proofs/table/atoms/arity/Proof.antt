@@ -1,8 +1,8 @@
 -- `task::table::atoms::arity` meets its contract.
 -- The predicate's word behind the head; at most 4, as the table's arities are.
 use native.Mathlib.Omega.{arith}
-use Rattle.task.specs.Table.{arityIn}
 use borrow.Author.Needs.{needs}
+use Rattle.task.specs.Layout.{arityIn}
 use Rattle.task.proofs.table.atoms.arity.Statement.{statement}
 use Rattle.task.proofs.table.atoms.arity.Tie as tie
 

@@ -2,7 +2,7 @@
 -- The sum of the words before atom i.
 use native.Mathlib.Omega.{arith}
 use borrow.Author.Needs.{needs}
-use Rattle.task.specs.Table.{atomBase}
+use Rattle.task.specs.Layout.{atomBase}
 use Rattle.task.proofs.table.atoms.atom_base.Statement.{statement}
 use Rattle.task.proofs.table.atoms.atom_base.Tie as tie
 

@@ -8,7 +8,7 @@ use borrow.Author.Tests.{not-true, not-false}
 use lib.Dec.{ltb}
 use Rattle.words.specs.Lists.{all}
 use Rattle.words.specs.Words.{wordsAt, zerosAt}
-use Rattle.task.specs.Table.{arityIn}
+use Rattle.task.specs.Layout.{arityIn}
 use Rattle.task.specs.WordTests.{argWordsFit}
 use Rattle.words.proofs.Ranges.{and-more, and-fails}
 use Rattle.task.proofs.AtomWords.{args-unknown, args-words}

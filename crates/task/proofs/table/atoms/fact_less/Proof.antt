@@ -2,7 +2,7 @@
 -- Predicates that differ decide; else the arguments do, as many of both.
 use mathlib.Core.Path.{sym, _∙_, ap, ap₂}
 use lib.Dec.{ltb}
-use Rattle.task.specs.Table.{arityIn}
+use Rattle.task.specs.Layout.{arityIn}
 use Rattle.task.proofs.AtomWords.{less-predicate, less-args}
 use borrow.Author.Needs.{needs}
 use Rattle.task.proofs.table.atoms.fact_less.Statement.{statement}

@@ -4,7 +4,8 @@ use Prim.Native.Nat.{ℕ, _+_}
 use mathlib.Core.Path.{_∙_, ap}
 use native.Mathlib.Omega.{arith}
 use lib.ListN.{getD}
-use Rattle.task.specs.Table.{atomBase, atomIn}
+use Rattle.task.specs.Layout.{atomBase}
+use Rattle.task.specs.Table.{atomIn}
 use borrow.Author.Needs.{needs}
 use Rattle.task.proofs.table.atoms.role.Statement.{statement}
 use Rattle.task.proofs.table.atoms.role.Tie as tie

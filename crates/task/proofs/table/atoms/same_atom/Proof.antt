@@ -1,7 +1,7 @@
 -- `task::table::atoms::same_atom` meets its contract.
 -- Role, predicate and arguments in turn; where the predicates are equal, the arities are.
 use mathlib.Core.Path.{sym, _∙_, ap}
-use Rattle.task.specs.Table.{arityIn}
+use Rattle.task.specs.Layout.{arityIn}
 use Rattle.task.proofs.AtomWords.{other-role, other-predicate, same-args}
 use borrow.Author.Needs.{needs}
 use Rattle.task.proofs.table.atoms.same_atom.Statement.{statement}

@@ -4,7 +4,8 @@ use Prim.Native.Nat.{ℕ}
 use mathlib.Core.Path.{_∙_, ap}
 use native.Mathlib.Omega.{arith}
 use lib.ListN.{getD}
-use Rattle.task.specs.Table.{atomBase, schemaNumberIn}
+use Rattle.task.specs.Layout.{atomBase}
+use Rattle.task.specs.Table.{schemaNumberIn}
 use borrow.Author.Needs.{needs}
 use Rattle.task.proofs.table.atoms.schema_number.Statement.{statement}
 use Rattle.task.proofs.table.atoms.schema_number.Tie as tie

@@ -8,9 +8,10 @@ use mathlib.Core.List.{List}
 use native.Mathlib.Omega.{arith}
 use lib.Dec.{eqb}
 use Rattle.words.specs.Lists.{any, upFrom}
+use Rattle.task.specs.Layout.{arityIn}
 use Rattle.task.specs.Task.{names}
 use Rattle.words.specs.Words.{wordsAt}
-use Rattle.task.specs.Table.{arityIn, atomIn}
+use Rattle.task.specs.Table.{atomIn}
 use Rattle.words.specs.Sets.{member}
 use Rattle.task.specs.WordTests.{argWordsFit, atomsIn}
 use Rattle.words.proofs.BitSets.{member-zero}

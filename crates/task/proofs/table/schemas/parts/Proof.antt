@@ -64,7 +64,8 @@ loop-again c =
       λ p. any-joins (inPart (given .table .now) p) (at .loop .i) (given .end) (member (at .loop .set) p)
           (at .loop .inv .1 p) (c .before .before .loop-test .taken)
           (c .with .ensures p ∙ ap (λ (b : Bool). member (at .loop .set) p || b)
-          (ap (λ (n : ℕ). eqb n p) (c .before .part .ensures .0) ∙ eqb-turn (atomIn (given .table .now) (at .loop .i) .part) p)),
+          (ap (λ (n : ℕ). eqb n p) (c .before .part .ensures .0) ∙
+          eqb-turn (atomIn (given .table .now) (at .loop .i) .part) p)),
     )
 
 returns : tie.Need-returns Inv-loop μ-loop

@@ -8,8 +8,10 @@ use native.Mathlib.Omega.{arith}
 use lib.ListN.{getD}
 use borrow.Author.Tests.{le-leb, lt-leb, not-true, not-false}
 use Rattle.words.specs.Lists.{all, any, every, upTo, upFrom}
+use Rattle.task.specs.Limits.{headWords}
+use Rattle.task.specs.Layout.{paramsIn}
 use Rattle.task.specs.Task.{names}
-use Rattle.task.specs.WordTests.{argWordsFit, paramsIn, atomsIn, schemaWordsFit, KnownIn}
+use Rattle.task.specs.WordTests.{argWordsFit, atomsIn, schemaWordsFit, KnownIn}
 use Rattle.words.proofs.Lists.{met-none, met-more}
 use Rattle.words.proofs.Ranges.{some-fails, last-decides, all-from}
 use Rattle.task.proofs.AtomWords.{args-fit-known}
@@ -56,7 +58,7 @@ fails c k e = some-fails (tests c) k e ∙ sym (whole c)
 
 params : (c : tie.After-word2) → c .word2 .result ≡ paramsIn (words (start₁ c)) (start₁ c .args .s)
 params c =
-    c .word2 .ensures .0 ∙ ap (λ (n : ℕ). getD (words (start₁ c)) (6 + n + start₁ c .args .s) 0)
+    c .word2 .ensures .0 ∙ ap (λ (n : ℕ). getD (words (start₁ c)) (headWords + n + start₁ c .args .s) 0)
     (c .before .word .ensures .0)
 
 -- the tests by the parameter count that was read are those by the schema's

@@ -6,9 +6,9 @@ use mathlib.Core.Path.{_≡_, sym, _∙_, ap}
 use mathlib.Core.Bool.{Bool}
 use mathlib.Core.List.{List}
 use native.Mathlib.Omega.{arith}
-use lib.ListN.{getD}
 use borrow.Author.Tests.{not-true, not-false}
 use Rattle.words.specs.Lists.{all, upTo, upFrom}
+use Rattle.task.specs.Layout.{headIn}
 use Rattle.task.specs.WordTests.{schemaWordsFit, indicesOf, schemasFit}
 use Rattle.words.proofs.Ranges.{all-more, all-fails, all-ends}
 use Rattle.task.proofs.SchemaWords.{Cut, cut-start, cut-next, cut-indices}
@@ -49,7 +49,7 @@ unfolding schemasFit upTo
 loop-holds c =
     let w = c .before .before .args .table .now in
     let e = c .word .ensures .0 in
-    let n : getD w 2 0 ≡ c .word .result - 0 = omega arith in
+    let n : headIn w .schemas ≡ c .word .result - 0 = omega arith in
     (cut-start w, ap (λ (n : ℕ). all (fitsAt w) (upFrom 0 n)) n)
 
 run-end-requires : tie.Need-run-end-requires Inv-loop μ-loop

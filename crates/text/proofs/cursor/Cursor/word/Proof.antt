@@ -10,7 +10,8 @@ use Rattle.text.proofs.WordLoop.{after-short, found-here, differs-here,
 use Rattle.text.proofs.cursor.Cursor.word.Statement.{statement}
 
 abbrev Inv-loop : tie.InvT-loop
-Inv-loop text word at line k₀ k-end k = (k ≤ length word) × (k-end ≡ length word) × (at + length word ≤ length text) × (after word (drop at text) ≡ after (drop k word) (drop (at + k) text))
+Inv-loop text word at line k₀ k-end k = (k ≤ length word) × (k-end ≡ length word) × (at + length word ≤ length text) ×
+    (after word (drop at text) ≡ after (drop k word) (drop (at + k) text))
 
 abbrev μ-loop : tie.MeasureT-loop
 μ-loop text word at line k₀ k-end k = length word - k

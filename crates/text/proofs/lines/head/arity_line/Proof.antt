@@ -119,7 +119,9 @@ returns-4 c =
       λ d h. record {
         draft = _;
         is = line-goes-on arityLine d _ _ _ (list .is) _ (arities-taken d (list .ns) (omega arith) fits);
-        holds = arities-held h (list .ns) _ _ (lists b .before .before .before .before .before .before .before .before .pre .1 .1) (omega arith) fits (omega arith)
+        holds = arities-held h (list .ns) _ _
+            (lists b .before .before .before .before .before .before .before .before .pre .1 .1) (omega arith) fits
+            (omega arith)
             (list .listed) put;
         line = list .line;
       },
