@@ -1,4 +1,7 @@
--- `blocks::fold` meets its contract: what acceptance refuses is refused, and where it accepts the rest decides.
+-- `blocks::fold` meets its contract.
+-- What acceptance refuses is the outcome's refusal, with its number and place, and `out` is as found
+-- (`fold-refused-as`). Where it accepts, what it kept is what `fold_kept` requires (`told-accepted`), whose promise is
+-- the same.
 use Rattle.blocks.proofs.fold.Tie as tie
 use borrow.Author.Needs.{needs}
 use Rattle.tokens.proofs.SplitOutcome.{told-accepted, told-refused}

@@ -1,4 +1,7 @@
--- `blocks::unfold` meets its contract: what acceptance refuses is refused, and where it accepts the rest decides.
+-- `blocks::unfold` meets its contract.
+-- What acceptance refuses is the outcome's refusal, with its number and place, and `out` is as found
+-- (`unfold-refused-as`). Where it accepts, what it kept is what `unfold_kept` requires (`table-kept`), whose promise is
+-- the same.
 use Rattle.blocks.proofs.unfold.Tie as tie
 use borrow.Author.Needs.{needs}
 use Rattle.tokens.proofs.SplitOutcome.{told-accepted, told-refused}

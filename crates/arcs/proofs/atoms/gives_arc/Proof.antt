@@ -1,4 +1,6 @@
--- `arcs::atoms::gives_arc` meets its contract: words 2 and 1 of an atom are its predicate and its role.
+-- `arcs::atoms::gives_arc` meets its contract.
+-- Words 2 and 1 of an atom are its predicate and its role. Where the predicates are the same the roles decide
+-- (`by-roles`), and where they differ there is no arc (`by-predicate`).
 use mathlib.Core.Path.{_≡_, refl, sym, _∙_, ap₂}
 use mathlib.Core.Bool.{false}
 use borrow.Author.Needs.{needs}

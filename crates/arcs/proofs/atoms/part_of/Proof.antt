@@ -1,4 +1,6 @@
--- `arcs::atoms::part_of` meets its contract: word 3 of an atom is its part, and a table's parts are below 16.
+-- `arcs::atoms::part_of` meets its contract.
+-- Word 3 of an atom is its part. It is below its schema's number of parts, which is at most 16 in a table
+-- (`part-below`).
 use mathlib.Core.Path.{_≡_}
 use native.Mathlib.Omega.{arith}
 use borrow.Author.Needs.{needs}

@@ -1,4 +1,7 @@
--- `arcs::atoms::role_before` meets its contract, by the tests that led to each answer.
+-- `arcs::atoms::role_before` meets its contract.
+-- The definition has a case for a precondition and one for a delete. Where r is a precondition the second is false, and
+-- whether q is an add or a delete is left; where r is a delete the first is false, and whether q is an add is left; any
+-- other r makes both false.
 use Prim.Native.Nat.{ℕ}
 use mathlib.Core.Path.{_≡_, refl, sym}
 use mathlib.Core.Bool.{_||_}

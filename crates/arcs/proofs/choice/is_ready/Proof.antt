@@ -1,4 +1,6 @@
--- `arcs::choice::is_ready` meets its contract: by the two tests, in the code's order.
+-- `arcs::choice::is_ready` meets its contract.
+-- A part that is not unplaced makes both sides false. For one that is, the parts with an arc to it, `before[p]`, and
+-- the unplaced ones have none in common just where it is ready (`ready-apart`).
 use mathlib.Core.Path.{sym, _∙_, ap}
 use mathlib.Core.Bool.{Bool, not, _&&_}
 use borrow.Author.Needs.{needs}

@@ -1,4 +1,6 @@
--- `blocks::folding::bad_split_step` meets its contract: what is written is the table of the accepted split.
+-- `blocks::folding::bad_split_step` meets its contract.
+-- What is written over the zeros are the words of the accepted split (`split-written`). So they are a table, as
+-- `bad_step` requires, and their task is the split of the task (`split-is`).
 use Rattle.blocks.proofs.folding.bad_split_step.Tie as tie
 use mathlib.Core.Path.{_∙_, ap}
 use borrow.Author.Needs.{needs}

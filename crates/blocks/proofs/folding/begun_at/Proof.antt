@@ -1,4 +1,6 @@
--- `blocks::folding::begun_at` meets its contract: what is noted for the step's schema.
+-- `blocks::folding::begun_at` meets its contract.
+-- What is noted for the step's schema. By the contract the schema is below 200, so the place is inside, and what is
+-- noted is at most 200, so the cast keeps it.
 use Rattle.blocks.proofs.folding.begun_at.Tie as tie
 use Prim.Native.Nat.{ℕ}
 use mathlib.Core.Path.{_≡_, ap}

@@ -1,4 +1,7 @@
--- `blocks::folding::goes_on` meets its contract: the list has ended, or another schema comes, or the objects decide.
+-- `blocks::folding::goes_on` meets its contract.
+-- `keptFits` asks for a whole step, its schema and its objects, in this order: it fails where less than a step is left
+-- (`fits-short`) or another schema stands there (`fits-other`), and else the objects decide (`fits-same`), as `agree`
+-- tells.
 use Rattle.blocks.proofs.folding.goes_on.Tie as tie
 use mathlib.Core.Path.{sym, _∙_}
 use native.Mathlib.Omega.{arith}

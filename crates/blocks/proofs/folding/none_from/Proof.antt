@@ -1,4 +1,6 @@
--- `blocks::folding::none_from` meets its contract: where nothing is left of the shift, the set is below 2 to the p.
+-- `blocks::folding::none_from` meets its contract.
+-- A shift by p divides by 2 ^ p. Where it leaves 0 the set is below 2 ^ p (`below-power`), and has no number from p on
+-- (`member-beyond`).
 use Prim.Native.Nat.{ℕ, _+_, _*_, _/_, _%_, _^_, _<_}
 use mathlib.Core.Path.{_≡_, ap}
 use native.Mathlib.Omega.{arith}

@@ -1,4 +1,5 @@
--- `tokens::atoms::schema_of` meets its contract: word 0 of an atom is its schema.
+-- `tokens::atoms::schema_of` meets its contract.
+-- Word 0 of an atom is its schema's number, which `schemaNumberIn` reads where the atom begins.
 use Prim.Native.Nat.{ℕ, _+_}
 use mathlib.Core.Path.{_≡_, _∙_, ap}
 use native.Mathlib.Omega.{arith}

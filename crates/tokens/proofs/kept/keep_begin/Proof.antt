@@ -1,4 +1,6 @@
--- `tokens::kept::keep_begin` meets its contract: one word is put after the other.
+-- `tokens::kept::keep_begin` meets its contract.
+-- Two words of the row are put one after the other, as the contract nests them. Both numbers are below 2 ^ 16, as is
+-- required, so the casts keep them.
 use Rattle.tokens.proofs.kept.keep_begin.Tie as tie
 use mathlib.Core.Path.{_∙_, ap}
 use mathlib.Core.List.{List}

@@ -1,4 +1,6 @@
--- `tokens::kept::keep_part` meets its contract: one word is put after the other.
+-- `tokens::kept::keep_part` meets its contract.
+-- Two words of the row are put one after the other, as the contract nests them. Position j is below 16, so both places
+-- are in the row, and the set is below 2 ^ 16, so the cast keeps it.
 use Rattle.tokens.proofs.kept.keep_part.Tie as tie
 use mathlib.Core.Path.{_∙_, ap}
 use mathlib.Core.List.{List}

@@ -1,4 +1,6 @@
--- `tokens::measure::are_within` meets its contract: each answer by the tests that led to it.
+-- `tokens::measure::are_within` meets its contract.
+-- The definition is six tests in the code's order. Each early answer is false: the tests before it are passed, and its
+-- own fails (`lt-leb`, `not-true`). Behind five that are passed the last one decides.
 use Rattle.tokens.proofs.measure.are_within.Tie as tie
 use mathlib.Core.Path.{_≡_, refl, sym}
 use mathlib.Core.Bool.{Bool, true, false, _&&_}

@@ -1,4 +1,7 @@
--- `tokens::measure::with_schema` meets its contract, by the larger of the two bounds.
+-- `tokens::measure::with_schema` meets its contract.
+-- The counts are the sums that the contract gives; `pars` is the larger of the two bounds, whichever way the test went
+-- (`larger`). The contract limits what is added, so no sum wraps, and a schema has a part at least, so count - 1 does
+-- not wrap.
 use borrow.Author.Needs.{needs}
 use Prim.Native.Nat.{max}
 use mathlib.Core.Path.{_≡_, refl, sym, _∙_, ap}

@@ -1,4 +1,6 @@
--- `tokens::part_atoms::bare_token` meets its contract: an atom without arguments is four words and four zeros.
+-- `tokens::part_atoms::bare_token` meets its contract.
+-- Four words and four zeros behind them are the eight words of an atom without arguments (`puts-then`). The first four
+-- keep the buffer's length, so there is room for the zeros (`puts-length`).
 use Rattle.tokens.proofs.part_atoms.bare_token.Tie as tie
 use mathlib.Core.Path.{refl}
 use native.Mathlib.Omega.{arith}

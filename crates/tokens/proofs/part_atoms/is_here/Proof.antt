@@ -1,4 +1,6 @@
--- `tokens::part_atoms::is_here` meets its contract: word 1 of an atom is its role.
+-- `tokens::part_atoms::is_here` meets its contract.
+-- Word 1 of an atom is its role. Where it is the role asked for the parts decide (`same-role`), else the answer is
+-- false (`other-role`).
 use Rattle.tokens.proofs.part_atoms.is_here.Tie as tie
 use Prim.Native.Nat.{ℕ}
 use mathlib.Core.Path.{_≡_, refl, sym, _∙_}

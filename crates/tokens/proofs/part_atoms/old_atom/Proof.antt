@@ -1,4 +1,6 @@
--- `tokens::part_atoms::old_atom` meets its contract: word 2 of the old atom is its predicate.
+-- `tokens::part_atoms::old_atom` meets its contract.
+-- Four words, of which the predicate is word 2 of the old atom, and behind them the four of its renumbered arguments
+-- are the eight words of the atom (`puts-then`).
 use Rattle.tokens.proofs.part_atoms.old_atom.Tie as tie
 use Prim.Native.Nat.{ℕ}
 use mathlib.Core.Path.{sym, ap}

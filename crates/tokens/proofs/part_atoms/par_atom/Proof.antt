@@ -1,4 +1,6 @@
--- `tokens::part_atoms::par_atom` meets its contract: an atom with one argument is four words, it, and three zeros.
+-- `tokens::part_atoms::par_atom` meets its contract.
+-- Four words, and behind them the parameter's new number and three zeros, are the eight words of an atom with one
+-- argument (`puts-then`). The predicate of par 0 is below 1000 and x below 16, so their sum is a word.
 use Rattle.tokens.proofs.part_atoms.par_atom.Tie as tie
 use Prim.Native.Nat.{ℕ, _+_}
 use mathlib.Core.Path.{sym, ap}

@@ -1,4 +1,6 @@
--- `tokens::part_atoms::renumbered_in` meets its contract: the numbers of the set that are below x, counted.
+-- `tokens::part_atoms::renumbered_in` meets its contract.
+-- The numbers common to the set and to all those below x are the set's numbers below x (`members-below`), and how many
+-- they are is the new number. They are at most 16, so the cast keeps it.
 use Rattle.tokens.proofs.part_atoms.renumbered_in.Tie as tie
 use mathlib.Core.Path.{_∙_, ap}
 use mathlib.Core.Bool.{Bool, _&&_}

@@ -1,4 +1,6 @@
--- `tokens::schemas::token_at` meets its contract, by the tests that led to each answer.
+-- `tokens::schemas::token_at` meets its contract.
+-- The two tests are those of the contract, in the same order. procnone + before + count is below 2 ^ 16, as is
+-- required, and j is at most count, so the sum does not wrap and each cast keeps its number.
 use mathlib.Core.Path.{refl}
 use native.Mathlib.Omega.{arith}
 use borrow.Author.Tests.{eq-eqb, ne-eqb}

@@ -1,4 +1,6 @@
--- `words::putting::copy` meets its contract. The invariant: the first k words were put. The measure is the words left.
+-- `words::putting::copy` meets its contract.
+-- The invariant: the first k words of the run are put from `at` on, and the buffer is as long as it was lent. The next
+-- store makes them one more (`puts-word`). The measure is count - k.
 use Prim.Native.Nat.{ℕ, _+_, _-_, _≤_}
 use mathlib.Core.Path.{_≡_, refl, sym, _∙_, ap, subst}
 use mathlib.Core.List.{[], _∷_, _++_}

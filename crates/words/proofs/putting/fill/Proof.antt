@@ -1,4 +1,6 @@
--- `words::putting::fill` meets its contract. The invariant: k words were put. The measure is the words left.
+-- `words::putting::fill` meets its contract.
+-- The invariant: the word is put k times from `at` on, and the buffer is as long as it was lent. The next store makes
+-- them one more (`puts-word`). The measure is count - k.
 use Prim.Native.Nat.{ℕ, _+_, _-_, _≤_}
 use mathlib.Core.Path.{_≡_, refl, _∙_, subst}
 use native.Mathlib.Omega.{arith}

@@ -1,4 +1,5 @@
--- `words::putting::four` meets its contract, store by store.
+-- `words::putting::four` meets its contract.
+-- Four stores one behind another are four words put (`puts-four`). A store keeps the length, so each place is inside.
 use native.Mathlib.Omega.{arith}
 use lib.ListN.{length-set}
 use Rattle.words.proofs.Puts.{puts-four}

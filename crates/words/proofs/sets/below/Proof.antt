@@ -1,4 +1,6 @@
--- `words::sets::below` meets its contract: 2 ^ n - 1 has just the digits below n.
+-- `words::sets::below` meets its contract.
+-- A bit shifted by n is 2 ^ n, since n is below 64 (`bit-is`), so 1 can be taken from it; and 2 ^ n - 1 has just the
+-- digits below n (`member-ones`).
 use Prim.Native.Nat.{ℕ, _≤_, _-_}
 use mathlib.Core.Path.{_∙_, sym, ap, subst}
 use lib.Pow.{pow-pos}
