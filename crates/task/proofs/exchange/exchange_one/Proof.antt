@@ -1,4 +1,8 @@
--- `exchange::exchange_one` meets its contract, in each of the four ways that a delete is dealt with.
+-- `task::exchange::exchange_one` meets its contract.
+-- Four ways, a law each: the delete does not hold (`not-there`); it is one of the adds passed, which hold (`is-add`);
+-- the next missing add takes its row (`replaced-by`); no add is missing, and its row goes out alone (`goes-alone`). The
+-- rows of a state ascend, so whether the row that `find` gives has the delete's number says whether the delete holds
+-- (`found-holds`).
 use mathlib.Core.Path.{sym, _∙_}
 use native.Mathlib.Omega.{arith}
 use borrow.Author.Tests.{not-true, not-false}

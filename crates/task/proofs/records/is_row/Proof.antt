@@ -1,4 +1,6 @@
--- `records::is_row` meets its contract: the test is that of the row's number, behind the end it is false.
+-- `task::records::is_row` meets its contract.
+-- Below n the row's five words lie in the state, and its number is compared. From n on the answer is false, and k is
+-- none of the rows.
 use mathlib.Core.Path.{sym, _∙_}
 use native.Mathlib.Omega.{arith}
 use borrow.Author.Tests.{eqb-true, eqb-false}

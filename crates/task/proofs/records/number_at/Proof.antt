@@ -1,4 +1,5 @@
--- `records::number_at` meets its contract: the five words are those that `wordsAt` lists.
+-- `task::records::number_at` meets its contract.
+-- The five words are those that `numberAt` reads, each below 2 ^ 16, as `number_of` requires; all lie in the state.
 use Rattle.task.specs.Records.{numberAt}
 use borrow.Author.Needs.{needs}
 use Rattle.task.proofs.records.number_at.Statement.{statement}

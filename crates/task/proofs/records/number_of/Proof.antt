@@ -1,4 +1,6 @@
--- `records::number_of` meets its contract: each sum is below 2 ^ 64, since even five whole words in base 1024 are.
+-- `task::records::number_of` meets its contract.
+-- The sum is `inBase`, written out. Five words of 16 bits in base 1024 are below 2 ^ 57, so no product and no sum
+-- wraps.
 use mathlib.Core.Path.{refl}
 use Rattle.task.specs.Records.{inBase}
 use borrow.Author.Needs.{needs}

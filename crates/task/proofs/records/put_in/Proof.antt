@@ -1,4 +1,7 @@
--- `records::put_in` meets its contract: the fact is there; or no row has its number, so that there is room for a row.
+-- `task::records::put_in` meets its contract.
+-- Where the row that `find` gives has the number, the fact holds, and inserting it changes nothing (`row-there`). Else
+-- no row has it (`no-row`), so that the contract gives room for one: the rows from there on move up, and the new one is
+-- written in their place (`row-came`).
 use Prim.Native.Nat.{ℕ, _+_, _*_, _≤_, _<_}
 use mathlib.Core.Path.{_≡_, _∙_}
 use mathlib.Core.Bool.{Bool, false}

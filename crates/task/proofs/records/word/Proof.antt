@@ -1,4 +1,5 @@
--- `records::word` meets its contract: a word of a slice is below 2 ^ 16.
+-- `task::records::word` meets its contract.
+-- The word is read as it stands. A word of a slice is below 2 ^ 16, so the cast keeps it.
 use native.Mathlib.Omega.{arith}
 use mathlib.Core.Path.{refl}
 use borrow.Author.Needs.{needs}

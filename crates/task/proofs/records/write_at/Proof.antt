@@ -1,4 +1,6 @@
--- `records::write_at` meets its contract: five stores, none of which changes another's word.
+-- `task::records::write_at` meets its contract.
+-- Five stores, none of which changes another's word (`written`). The number is below 2 ^ 56, so its first digit is
+-- below 2 ^ 16, and the others are below 1024: each cast keeps its digit.
 use native.Mathlib.Omega.{arith}
 use lib.ListN.{length-set}
 use Rattle.task.proofs.Moves.{written}

@@ -1,4 +1,6 @@
--- `sizes::comes` meets its contract: an atom is new where it is none of those that came and does not stay.
+-- `task::sizes::comes` meets its contract.
+-- An atom that is none of those that came in is new where it does not stay (`comes-new`), and one that came in is not
+-- new (`comes-again`). That no number of theirs is the atom's says that it is none of them (`span-absent`).
 use mathlib.Core.Path.{sym, _∙_}
 use Rattle.task.proofs.SizeLaws.{span-absent, comes-new, comes-again}
 use borrow.Author.Needs.{needs}

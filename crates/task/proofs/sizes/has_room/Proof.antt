@@ -1,4 +1,7 @@
--- `sizes::has_room` meets its contract: there is room for every atom that comes in, or the size is counted.
+-- `task::sizes::has_room` meets its contract.
+-- Where there is room for every atom that comes in, there is room for the next state, since deletes make it no longer
+-- (`all-fit`). Else its size is counted and compared. A state has no more records than fit, so the room left does not
+-- wrap (`state-room`).
 use Prim.Native.Nat.{ℕ}
 use mathlib.Core.Path.{ap}
 use lib.Dec.{leb}

@@ -1,4 +1,6 @@
--- `sizes::stays` meets its contract: an atom stays where it holds and is none of those that go out.
+-- `task::sizes::stays` meets its contract.
+-- An atom that holds stays where it is none of those that go out (`stays-held`), and one that does not hold does not
+-- stay (`stays-missing`). The rows of a state ascend, as `held` requires.
 use mathlib.Core.Path.{sym, _∙_}
 use Rattle.task.proofs.SpanLaws.{state-long, state-ascends}
 use Rattle.task.proofs.SizeLaws.{span-absent, stays-held, stays-missing}

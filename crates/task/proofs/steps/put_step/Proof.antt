@@ -1,4 +1,6 @@
--- `steps::put_step` meets its contract: the schema, and behind it all of the objects.
+-- `task::steps::put_step` meets its contract.
+-- The schema is stored, and all twelve objects are put behind it, which is one run from `to` on (`put-on`). Twelve
+-- words of an array of twelve are all of it (`take-all`).
 use Prim.Native.Nat.{_+_}
 use mathlib.Core.Path.{_∙_, ap, refl}
 use mathlib.Core.List.{[], _∷_}
