@@ -1,3 +1,6 @@
+-- `text::read` meets its contract.
+-- A table that is too short is refused with 1 and left as found (`short-outcome`). For any other the outcome is what
+-- the text reads as (`long-outcome`), which is what `read_task` gives.
 use Rattle.text.proofs.read.Tie as tie
 use mathlib.Core.Path.{_∙_}
 use native.Mathlib.Omega.{arith}

@@ -1,4 +1,6 @@
--- `checks::number_or_zero`: a number before the end of the list is read, and behind it there is none.
+-- `text::checks::number_or_zero` meets its contract.
+-- Before place n the number is also that of the first n (`getD-take`); from there on the first n have none, for which 0
+-- stands (`past-end`).
 use Rattle.text.proofs.checks.number_or_zero.Tie as tie
 use Prim.Native.Nat.{_-_}
 use mathlib.Core.Path.{sym}

@@ -1,4 +1,7 @@
--- `checks::one_above`: above is one more than the highest of the numbers before place k; the measure is n - k.
+-- `text::checks::one_above` meets its contract.
+-- The invariant: `above` is one more than the highest of the first k numbers, 0 for none. With a number more it is the
+-- larger of what it was and one more than that number (`above-more`). The measure is n - k. Each number is below 16, so
+-- one more does not wrap.
 use Rattle.text.proofs.checks.one_above.Tie as tie
 use Prim.Native.Nat.{_-_, _≤_}
 use mathlib.Core.Path.{_≡_, refl}

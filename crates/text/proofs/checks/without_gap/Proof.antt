@@ -1,4 +1,6 @@
--- `checks::without_gap`: each number below p stands among the first n; the measure is above - p.
+-- `text::checks::without_gap` meets its contract.
+-- The invariant: each number below p stands among the first n. One that does not makes the whole test false
+-- (`not-all-up-to`), and where each below `above` does, it is true (`all-up-to`). The measure is above - p.
 use Rattle.text.proofs.checks.without_gap.Tie as tie
 use Prim.Native.Nat.{ℕ, _-_, _≤_, _<_}
 use mathlib.Core.Path.{_≡_, sym, _∙_}

@@ -1,4 +1,6 @@
--- `keys::head_key_at`: each key of a line that stands once is looked for in turn, by its bytes.
+-- `text::keys::head_key_at` meets its contract.
+-- The four keys are looked for in turn, by their bytes. One that stands here is the answer (`key-found`), and behind
+-- the last each has been missed, which is what `NoOnceKey` asks.
 use Rattle.text.proofs.keys.head_key_at.Tie as tie
 use Prim.Native.Nat.{_-_}
 use mathlib.Core.Path.{subst}

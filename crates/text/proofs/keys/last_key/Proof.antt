@@ -1,3 +1,6 @@
+-- `text::keys::last_key` meets its contract.
+-- The two comparisons are those of `lastKey`, in the same order: before the schemas a place allows its own key alone,
+-- in a schema the keys up to `part`, and behind it those up to `end`.
 use Rattle.text.proofs.keys.last_key.Tie as tie
 use Prim.Native.Nat.{_-_}
 use mathlib.Core.Path.{refl, sym}

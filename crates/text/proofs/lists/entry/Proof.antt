@@ -1,4 +1,7 @@
--- `lists::entry`: a number, a colon and a list follow one another; where one of them is missing there is no atom.
+-- `text::lists::entry` meets its contract.
+-- A number, a colon and a list follow one another: all three make the atom (`entry-made`), and where one is missing
+-- there is none (`no-head`, `no-colon`, `no-list`). The cursor behind each lies in the text, as the next requires
+-- (`moved-placed`, `word-placed`), and in the line where the first stood (`onward-both`).
 use Rattle.text.proofs.lists.entry.Tie as tie
 use Prim.Native.Nat.{_-_}
 use mathlib.Core.Path.{subst}

@@ -1,4 +1,7 @@
--- `lists::entry_line`: there is no atom, or its line doesn't end behind it, or the next line comes there.
+-- `text::lists::entry_line` meets its contract.
+-- There is no atom (`no-body`), or its line doesn't end behind it (`no-end`), or both stand there (`line-whole`) and
+-- the cursor comes to the next line (`to-next`). The cursor behind the atom lies in the text, as `line_end` requires
+-- (`onward-placed`).
 use Rattle.text.proofs.lists.entry_line.Tie as tie
 use Prim.Native.Nat.{_-_}
 use mathlib.Core.Path.{subst}

@@ -1,3 +1,5 @@
+-- `text::lists::keep` meets its contract.
+-- A place inside is stored to; at a place behind the end nothing is done, and `set` changes nothing there (`set-out`).
 use Rattle.text.proofs.lists.keep.Tie as tie
 use Prim.Native.Nat.{_-_}
 use mathlib.Core.Path.{sym}

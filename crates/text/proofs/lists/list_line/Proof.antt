@@ -1,4 +1,7 @@
--- `lists::list_line`: there was no list, or its line doesn't end behind it, or the next line comes there.
+-- `text::lists::list_line` meets its contract.
+-- Whatever body the list was found in: there was no list (`no-body`), or its line doesn't end behind it (`no-end`), or
+-- both stand there (`line-whole`) and the cursor comes to the next line (`to-next`). That the cursor behind the list
+-- lies in the text is required.
 use Rattle.text.proofs.lists.list_line.Tie as tie
 use mathlib.Core.Path.{subst}
 use borrow.Author.Needs.{needs}

@@ -1,4 +1,6 @@
--- `lists::listing`: the line ends here and the list is empty, or the list is one of numbers.
+-- `text::lists::listing` meets its contract.
+-- Where byte 10 stands here the list is empty, and the cursor stays (`listing-ends`); else it is the list that
+-- `numbers` reads (`listing-begins`).
 use Rattle.text.proofs.lists.listing.Tie as tie
 use Prim.Native.Nat.{_-_}
 use mathlib.Core.Path.{refl, subst}

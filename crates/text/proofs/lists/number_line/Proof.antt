@@ -1,4 +1,7 @@
--- `lists::number_line`: there is no number, or its line doesn't end behind it, or the next line comes there.
+-- `text::lists::number_line` meets its contract.
+-- There is no number (`no-body`), or its line doesn't end behind it (`no-end`), or both stand there (`line-whole`) and
+-- the cursor comes to the next line (`to-next`). The cursor behind the number lies in the text, as `line_end` requires
+-- (`moved-placed`).
 use Rattle.text.proofs.lists.number_line.Tie as tie
 use Prim.Native.Nat.{_-_}
 use mathlib.Core.Path.{subst}

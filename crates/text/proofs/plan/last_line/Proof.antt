@@ -1,4 +1,6 @@
--- `text::plan::last_line` meets its contract: the turn is what the line's number does, once it is read.
+-- `text::plan::last_line` meets its contract.
+-- A line without a number is refused with 3 (`no-turn`), and so is a number other than 1 (`end-wrong`); 1 ends the plan
+-- with the steps read (`end-taken`). It is lent no words, so whatever they are, they stay.
 use mathlib.Core.Path.{refl, subst}
 use borrow.Author.Needs.{needs}
 use Rattle.text.specs.Plan.{endLine, takePlanLine}

@@ -1,4 +1,5 @@
--- `text::plan::refused` meets its contract: what is cleared are the words of 100 steps.
+-- `text::plan::refused` meets its contract.
+-- What is cleared are 13 words for each of 100 steps, which `planWords` is (`planWords-is`), and that many are lent.
 use mathlib.Core.Path.{refl, sym}
 use native.Mathlib.Omega.{arith}
 use borrow.Author.Needs.{needs}

@@ -1,4 +1,6 @@
--- `text::put::number_size` meets its contract: each comparison tells one more digit.
+-- `text::put::number_size` meets its contract.
+-- A comparison that fails gives a power of ten that n reaches, and the next, which holds, one that it does not: so n
+-- has one digit more than the power (`digits-long`). A word is below 100,000, so there are five at most.
 use native.Mathlib.Omega.{arith}
 use Rattle.text.proofs.DigitSteps.{one-digit-long, digits-long}
 use Rattle.text.proofs.put.number_size.Statement.{statement}

@@ -1,4 +1,5 @@
--- `text::put::put_further` meets its contract: a comma, then the number's digits.
+-- `text::put::put_further` meets its contract.
+-- A comma, and the number's digits behind it, are one run (`puts-append`). The room that is required is that of both.
 use Rattle.words.proofs.Puts.{puts-append}
 use borrow.Author.Needs.{needs}
 use Rattle.text.proofs.put.put_further.Statement.{statement}

@@ -1,4 +1,5 @@
--- `reader::refused`: all words of the table are cleared.
+-- `text::reader::refused` meets its contract.
+-- What is cleared are 13,406 words, all of a table (`tableWords-is`), and that many are lent.
 use Rattle.text.proofs.reader.refused.Tie as tie
 use Prim.Native.Nat.{_-_}
 use mathlib.Core.Path.{refl, sym}

@@ -1,3 +1,6 @@
+-- `text::rows::all_named` meets its contract.
+-- The invariant: each parameter below x stands in one of the n rows. One that does not makes the whole test false
+-- (`not-all-up-to`), and where all do, it is true (`all-up-to`). The measure is params - x.
 use Rattle.task.specs.Limits.{atomSize}
 use Prim.Native.Nat.{ℕ, _+_, _-_, _*_, _≤_, _<_}
 use mathlib.Core.Path.{_≡_, sym, _∙_}

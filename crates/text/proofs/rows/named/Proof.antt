@@ -1,3 +1,7 @@
+-- `text::rows::named` meets its contract.
+-- The invariant: the parameter stands in none of the rows before i. One in which it stands makes the whole test true
+-- (`some-up-to`), and where it stands in none, it is false (`none-up-to`). The measure is n - i. Each row lies in the
+-- table, so that its place does not wrap.
 use Rattle.task.specs.Limits.{atomSize}
 use Prim.Native.Nat.{ℕ, _+_, _-_, _*_, _≤_, _<_}
 use mathlib.Core.Path.{_≡_, sym, _∙_}

@@ -1,3 +1,6 @@
+-- `text::rows::put_parts` meets its contract.
+-- The invariant: the part words of the first k rows are put, and no other word is touched. The store into row k adds
+-- its own (`part-put`). The measure is n - k. A part is below 2 ^ 16, as is required, so the cast keeps it.
 use Prim.Native.Nat.{_-_, _≤_}
 use native.Mathlib.Omega.{arith}
 use Rattle.text.specs.ReadCode.{PartsPut}

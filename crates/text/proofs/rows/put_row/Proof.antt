@@ -1,3 +1,6 @@
+-- `text::rows::put_row` meets its contract.
+-- The eight words are those of the atom: at most four arguments, and zeros behind them (`row-words`). Each is below
+-- 2 ^ 16, as `put_words` requires: an argument by the contract, and 0 where there is none (`small-taken`).
 use Prim.Native.Nat.{ℕ, _-_}
 use native.Mathlib.Omega.{arith}
 use borrow.Author.Needs.{needs}

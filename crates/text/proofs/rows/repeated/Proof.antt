@@ -1,3 +1,6 @@
+-- `text::rows::repeated` meets its contract.
+-- The invariant: none of the rows before i has the same atom. One that has makes the whole test true (`some-up-to`),
+-- and where none has, it is false (`none-up-to`). The measure is n - i. The rows lie in the table, so no place wraps.
 use Rattle.task.specs.Limits.{atomSize}
 use Prim.Native.Nat.{ℕ, _+_, _-_, _*_, _≤_, _<_}
 use mathlib.Core.Path.{_≡_, sym, _∙_}

@@ -1,3 +1,6 @@
+-- `text::rows::same_atom` meets its contract.
+-- `rowSame` compares words 1 and 2, role and predicate, and words 4 to 7, the arguments. Where the first differ it is
+-- false, else the arguments decide. A row has eight words, so all of them lie in the table.
 use Prim.Native.Nat.{_-_}
 use mathlib.Core.Path.{refl, sym, _∙_}
 use borrow.Author.Needs.{needs}

@@ -1,3 +1,6 @@
+-- `text::storing::clear` meets its contract.
+-- The invariant: the first k words from `at` on are 0, and all others stand as found. The next store adds one
+-- (`wrote-more`). The measure is n - k.
 use Prim.Native.Nat.{_-_, _≤_}
 use mathlib.Core.Path.{refl}
 use native.Mathlib.Omega.{arith}

@@ -1,3 +1,6 @@
+-- `text::storing::move_down` meets its contract.
+-- The invariant: the first k words have come down to `to`, and all others stand as found. The word that moves next
+-- stands no lower than the place that it moves to, so it is still as found. The measure is n - k.
 use Prim.Native.Nat.{_+_, _-_, _≤_}
 use native.Mathlib.Omega.{arith}
 use lib.ListN.{getD}

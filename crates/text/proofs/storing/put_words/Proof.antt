@@ -1,3 +1,6 @@
+-- `text::storing::put_words` meets its contract.
+-- The invariant: the first k words stand from `at` on, and all others stand as found. The next store adds one
+-- (`wrote-more`). The measure is n - k. Each is below 2 ^ 16, as is required (`Words`), so the cast keeps it.
 use Prim.Native.Nat.{_-_, _≤_}
 use mathlib.Core.Path.{refl}
 use native.Mathlib.Omega.{arith}

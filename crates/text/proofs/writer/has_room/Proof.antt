@@ -1,4 +1,6 @@
--- `text::writer::has_room` meets its contract: no text is longer than the longest, and any other is counted.
+-- `text::writer::has_room` meets its contract.
+-- Bytes that hold the longest text hold this one, since a table's task is well formed (`text-most`). For fewer the size
+-- is counted and compared.
 use native.Mathlib.Omega.{arith}
 use Prim.Native.Nat.{ℕ}
 use mathlib.Core.Path.{sym, ap}

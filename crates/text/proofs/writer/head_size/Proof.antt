@@ -1,4 +1,6 @@
--- `text::writer::head_size` meets its contract: the sizes of its lines add up.
+-- `text::writer::head_size` meets its contract.
+-- Its three lines are 23 bytes that never change, the digits of the object count and the list of arities
+-- (`length-headText`). They are a part of the whole text, which is shorter than 2 ^ 64 (`head-fits`), so no sum wraps.
 use native.Mathlib.Omega.{arith}
 use Prim.Native.Nat.{ℕ, _+_, _^_, _<_}
 use mathlib.Core.Path.{_≡_, _∙_, ap}

@@ -1,4 +1,6 @@
--- `text::writer::put_key` meets its contract: an arm for each role, whose bytes are the role's key.
+-- `text::writer::put_key` meets its contract.
+-- An arm for each role, whose bytes are the role's key, so the room that is required is that of the bytes. The last arm
+-- is for all roles from 4 on, which have one key, `goal` (`key-other`).
 use native.Mathlib.Omega.{arith}
 use Prim.Native.Nat.{ℕ}
 use mathlib.Core.Path.{_≡_, sym, ap}

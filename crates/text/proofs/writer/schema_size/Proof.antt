@@ -1,4 +1,6 @@
--- `text::writer::schema_size` meets its contract: the sizes of its lines add up, and none of the sums passes the whole.
+-- `text::writer::schema_size` meets its contract.
+-- Its lines are 14 bytes that never change, the digits of the parameter count, the lines of the atoms and the list of
+-- parts (`length-schemaText`). The whole is shorter than 2 ^ 64, as is required, so no sum wraps.
 use native.Mathlib.Omega.{arith}
 use Prim.Native.Nat.{_+_}
 use mathlib.Core.Path.{_≡_}

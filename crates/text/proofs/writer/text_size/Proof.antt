@@ -1,4 +1,7 @@
--- `text::writer::text_size` meets its contract: the sizes of its parts add up to that of the whole, which is small.
+-- `text::writer::text_size` meets its contract.
+-- Head, schemas, initial and goal atoms and the six bytes of the last line make the text (`length-write`). No text is
+-- longer than the longest, far below 2 ^ 64 (`write-fits`), so no sum wraps. The initial and goal atoms lie in the
+-- table, as `atoms_size` requires (`facts-inside`).
 use native.Mathlib.Omega.{arith}
 use Prim.Native.Nat.{ℕ, _+_, _^_, _<_}
 use mathlib.Core.Path.{_≡_, ap₂}

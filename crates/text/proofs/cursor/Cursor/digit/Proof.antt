@@ -1,4 +1,6 @@
--- `Cursor::digit`: the text has ended, or the byte here is no digit, or it is one of the ten.
+-- `text::cursor::Cursor::digit` meets its contract.
+-- The text has ended (`no-digit-left`), or the byte here is below 48 or above 57, so no digit (`no-digit-here`), or it
+-- is one of the ten (`digit-here`): its number is the byte less 48, and the cursor goes on by a byte in its line.
 use Rattle.text.proofs.cursor.Cursor.digit.Tie as tie
 use Prim.Native.Nat.{suc, _+_, _-_, _<_}
 use mathlib.Core.Path.{_≡_, refl, _∙_}

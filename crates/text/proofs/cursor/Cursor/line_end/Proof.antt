@@ -1,4 +1,6 @@
--- `Cursor::line_end`: byte 10 stands here, and the cursor goes on to the next line, or it doesn't.
+-- `text::cursor::Cursor::line_end` meets its contract.
+-- `word` tells whether byte 10 stands here; where it does the cursor goes on to the next line. Each line before its own
+-- took a byte at least (`Placed`), so the line's number is no more than the text's length and 1, and does not wrap.
 use Rattle.text.proofs.cursor.Cursor.line_end.Tie as tie
 use Prim.Native.Nat.{_-_}
 use mathlib.Core.Path.{subst}

@@ -1,3 +1,5 @@
+-- `text::draft::Counts::facts` meets its contract.
+-- By the kind: the role, the count and the limit of its arm are those that `soFar` gives for it.
 use Rattle.text.proofs.draft.Counts.facts.Tie as tie
 use mathlib.Core.Path.{sym, ap}
 use borrow.Author.Needs.{needs}

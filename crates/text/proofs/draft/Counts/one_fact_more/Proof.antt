@@ -1,3 +1,6 @@
+-- `text::draft::Counts::one_fact_more` meets its contract.
+-- By the kind: its arm changes the place in the order and the kind's count, as `oneFactMore` does. At most 500 initial
+-- and 100 goal atoms are read (`Few`), so one more does not wrap.
 use Rattle.text.proofs.draft.Counts.one_fact_more.Tie as tie
 use mathlib.Core.Path.{sym, ap}
 use borrow.Author.Needs.{needs}

@@ -1,4 +1,7 @@
--- `lines::atom::atom_line`: the line has no atom, or its atom is refused, or the code holds the draft behind it.
+-- `text::lines::atom::atom_line` meets its contract.
+-- Whatever draft the code holds: a line without an atom is refused with 3, and nothing is touched (`no-line`); an atom
+-- that `add_atom` refuses has its line refused so (`atom-refused`); else table and counts, with an atom more, hold the
+-- draft behind the line (`atom-goes-on`). A schema has at most 64 atoms so far (`Few`), so one more does not wrap.
 use Rattle.text.proofs.lines.atom.atom_line.Tie as tie
 use mathlib.Core.Path.{refl, subst}
 use native.Mathlib.Omega.{arith}

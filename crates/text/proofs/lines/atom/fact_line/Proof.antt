@@ -1,4 +1,7 @@
--- `lines::atom::fact_line`: the line has no atom, or its atom is refused, or the code holds the draft behind it.
+-- `text::lines::atom::fact_line` meets its contract.
+-- Whatever draft the code holds: a line without an atom is refused with 3, and nothing is touched (`no-line`); an atom
+-- that `add_fact` refuses has its line refused so (`atom-refused`); else table and counts, with a fact of the kind
+-- more, hold the draft behind the line (`atom-goes-on`).
 use Rattle.text.proofs.lines.atom.fact_line.Tie as tie
 use mathlib.Core.Path.{subst}
 use borrow.Author.Needs.{needs}
