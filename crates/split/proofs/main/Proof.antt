@@ -1,4 +1,6 @@
--- `split::main` meets its contract: what `split_text` printed lies within the bytes lent to it.
+-- `split::main` meets its contract.
+-- The parts of the two buffers that are handed on lie inside them: `read_full` reads no more bytes than it is lent, and
+-- what `split_text` prints lies over the front of `out`, so it is no longer than that (`printed-within`).
 use Prim.Native.Nat.{_≤_}
 use mathlib.Core.Path.{sym}
 use lib.ListN.{length}

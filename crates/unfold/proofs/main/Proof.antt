@@ -1,4 +1,6 @@
--- `unfold::main` meets its contract: what `unfold_texts` printed lies within the bytes lent to it.
+-- `unfold::main` meets its contract.
+-- The parts of the three buffers that are handed on lie inside them: `read_file` reads no more bytes than it is lent,
+-- and what `unfold_texts` prints lies over the front of `out`, so it is no longer than that (`printed-within`).
 use Prim.Native.Nat.{_≤_}
 use mathlib.Core.Path.{sym}
 use lib.ListN.{length}

@@ -1,4 +1,6 @@
--- `programs::inputs::read_table` meets its contract: the bytes that are read are those that are taken.
+-- `programs::inputs::read_table` meets its contract.
+-- The bytes that `text::read` is lent are the first n of the input, and those are what is taken of it, as `bytes_taken`
+-- tells. n is at most the input's length, so that many bytes are there.
 use Rattle.programs.proofs.inputs.read_table.Tie as tie
 use Prim.Native.Nat.{ℕ}
 use mathlib.Core.Path.{sym, _∙_, ap}

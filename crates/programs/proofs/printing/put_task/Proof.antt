@@ -1,4 +1,7 @@
--- `programs::printing::put_task` meets its contract: where the bytes lent hold every text, writing gives a result.
+-- `programs::printing::put_task` meets its contract.
+-- The words are a table and the bytes lent hold the longest text, so the outcome of writing is a result
+-- (`task-written`): its bytes and their number are what is printed. The arm of a refusal is never taken, since a result
+-- is none.
 use Rattle.programs.proofs.printing.put_task.Tie as tie
 use Prim.Native.Nat.{ℕ}
 use mathlib.Core.Path.{_≡_, sym, _∙_, ap}
