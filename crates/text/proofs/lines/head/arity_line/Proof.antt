@@ -11,7 +11,7 @@ use Rattle.words.specs.Lists.{all}
 use Rattle.task.proofs.Tables.{tableWords-is}
 use Rattle.text.specs.Text.{arityLine}
 use Rattle.text.specs.ReadCode.{ListLineAt, rest, ListLine}
-use Rattle.words.proofs.Searches.{each-first}
+use Rattle.words.proofs.Words.{each-first}
 use Rattle.text.proofs.RowTests.{listed-take}
 use Rattle.text.proofs.HeldAtoms.{untouched, inside-touched}
 use Rattle.text.proofs.WholeLines.{list-placed}

@@ -14,7 +14,7 @@ use Rattle.task.proofs.Tables.{tableWords-is}
 use Rattle.text.specs.Text.{partLine, takeLine, Draft}
 use Rattle.text.specs.ReadCode.{ListLineAt, rest, ListLine}
 use Rattle.text.specs.Holding.{PartsTurn, Holds, Drafted}
-use Rattle.words.proofs.Searches.{each-first}
+use Rattle.words.proofs.Words.{each-first}
 use Rattle.text.proofs.RowTests.{listed-take, parts-all}
 use Rattle.text.proofs.HeldAtoms.{untouched}
 use Rattle.text.proofs.HeldSchemas.{schema-closed, closing-touched, schema-room}
