@@ -12,22 +12,13 @@ use borrow.Author.Tests.{eqb-true, eqb-false, eq-eqb, ne-eqb, not-true}
 use Rattle.words.specs.Lists.{any, upFrom}
 use Rattle.task.specs.Task.{Atom, precondition, addition}
 use Rattle.task.specs.Table.{atomIn}
-use Rattle.words.proofs.Ranges.{or-false}
+use Rattle.words.proofs.Ranges.{or-false, or-assoc, any-last}
 use Rattle.words.proofs.Lists.{and-left, and-right, both-ft, bool-ext, false-if, In, any-in, map-in, upFrom-in}
 use Rattle.arcs.specs.Order.{givesArc, roleBefore, arc}
 use Rattle.arcs.specs.Code.{AreArcs, ArePreconditions, Joins, atomsIn, arcsBetween}
 use Rattle.words.specs.Sets.{member}
 use Rattle.words.proofs.BitSets.{member-zero}
 use Rattle.arcs.proofs.Stretches.{zeros-at, atoms-none, atoms-more}
-
-pub or-assoc : (a b c : Bool) → (a || b) || c ≡ a || (b || c)
-or-assoc true b c = refl
-or-assoc false b c = refl
-
-pub any-more : {A : Type 0} (p : A → Bool) (xs : List A) (x : A) → any p (xs ++ (x ∷ [])) ≡ any p xs || p x
-unfolding any
-any-more p [] x = or-false (p x)
-any-more p (y ∷ ys) x = ap (λ (b : Bool). p y || b) (any-more p ys x) ∙ sym (or-assoc (p y) (any p ys) (p x))
 
 -- ---- joining
 joins-none : (test : ℕ → ℕ → Bool) (sets : List ℕ) → ((p q : ℕ) → test p q ≡ false) → Joins test sets sets
@@ -55,7 +46,7 @@ between-more-right : (a : Atom) (bs : List Atom) (b : Atom) (p q : ℕ) →
     arcsBetween (a ∷ []) (bs ++ (b ∷ [])) p q ≡ arcsBetween (a ∷ []) bs p q || arcsBetween (a ∷ []) (b ∷ []) p q
 unfolding arcsBetween any
 between-more-right a bs b p q =
-    ap (λ (s : Bool). not (eqb p q) && ((eqb (a .part) p && s) || false)) (any-more test bs b)
+    ap (λ (s : Bool). not (eqb p q) && ((eqb (a .part) p && s) || false)) (any-last test bs b)
     ∙ go (not (eqb p q)) (eqb (a .part) p) (any test bs) (test b)
   where
     test : Atom → Bool
@@ -72,7 +63,7 @@ between-more : (xs : List Atom) (a : Atom) (bs : List Atom) (p q : ℕ) →
     arcsBetween (xs ++ (a ∷ [])) bs p q ≡ arcsBetween xs bs p q || arcsBetween (a ∷ []) bs p q
 unfolding arcsBetween any
 between-more xs a bs p q =
-    ap (λ (s : Bool). not (eqb p q) && s) (any-more test xs a) ∙ go (not (eqb p q)) (any test xs) (test a)
+    ap (λ (s : Bool). not (eqb p q) && s) (any-last test xs a) ∙ go (not (eqb p q)) (any test xs) (test a)
   where
     test : Atom → Bool
     test a = eqb (a .part) p && any (λ b. eqb (b .part) q && givesArc a b) bs

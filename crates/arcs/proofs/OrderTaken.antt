@@ -13,6 +13,7 @@ use lib.Dec.{eqb}
 use borrow.Author.Tests.{eqb-true, not-true, eq-eqb}
 use Rattle.words.specs.Lists.{any, filter, upTo}
 use Rattle.task.specs.Task.{Atom, Schema, partCount}
+use Rattle.task.proofs.SchemaWords.{part-small}
 use Rattle.arcs.specs.Order.{arc, OrderOfParts, Complies, ready, best, consTo, place, orderFrom, orderOf}
 use Rattle.words.proofs.Lists.{both-ft, bool-cases, false-if, In, here, there, in-eq, any-in, in-any, in-filter}
 use Rattle.words.proofs.Lists.{filter-in, in-getD, getD-in, in-upTo, length-upTo}
@@ -152,11 +153,6 @@ pub order-once : (s : Schema) (o : List ℕ) → orderOf s ≡ some o → EachOn
 order-once s o h = orderOf-laws s o h .once
 
 -- ---- what orders tell of atoms
-pub part-small : {atoms : List Atom} {a : Atom} → In a atoms → a .part < partCount atoms
-unfolding partCount
-part-small (here e) = let q = ap (λ a. a .part) e in omega arith
-part-small (there k) = let q = part-small k in omega arith
-
 -- an atom's part has a place
 pub atom-placed : (s : Schema) (o : List ℕ) → OrderOfParts s o → (a : Atom) → In a (s .atoms) →
     (i : ℕ) × (i < length o) × (getD o i 0 ≡ a .part)

@@ -14,12 +14,13 @@ use Rattle.task.specs.Layout.{headIn, atomBase}
 use Rattle.task.specs.Task.{Atom, partCount, schemaFits, noSchema}
 use Rattle.task.specs.Run.{schemaAt}
 use Rattle.task.specs.Table.{atomIn, schemaNumberIn, taskOf, isTable}
-use Rattle.words.proofs.Lists.{In, here, there, all-in, in-getD, getD-map, map-append, upFrom-last, length-upFrom}
+use Rattle.words.proofs.Lists.{all-in, in-getD, getD-map, map-append, upFrom-last, length-upFrom}
 use Rattle.words.proofs.Lists.{getD-upFrom}
 use Rattle.task.proofs.Tests.{schema-tests, task-tests}
 use Rattle.task.proofs.Tables.{noAtom, counts, startOf, of-table}
 use Rattle.task.proofs.TablesByIndex.{table-frame, table-long, schemas-word, atom-inside, atom-at, atom-lies, start-suc}
 use Rattle.task.proofs.TablesByIndex.{start-end}
+use Rattle.task.proofs.SchemaWords.{part-small}
 use Rattle.arcs.specs.Code.{IsSchemaAtom, IsStretch, atomsIn}
 
 -- what an array begins with
@@ -36,11 +37,6 @@ atom-words w i a =
     let h = atom-inside w (table-frame w (a .table)) i (let k = a .known in omega arith) in
     omega arith
 
-part-in : {atoms : List Atom} {a : Atom} → In a atoms → a .part < partCount atoms
-unfolding partCount
-part-in (here e) = let q = ap (λ a. a .part) e in omega arith
-part-in (there k) = let q = part-in k in omega arith
-
 -- "It has 1 to 16 parts"
 pub part-below : (w : List ℕ) (i : ℕ) → IsSchemaAtom w i → atomIn w i .part < 16
 unfolding schemaAt
@@ -55,7 +51,7 @@ part-below w i a =
     let l : k < length (schemaAt t s .atoms) = omega arith in
     let e : startOf t s + k ≡ i = omega arith in
     let q = ap (λ (x : Atom). x .part) (ap (atomIn w) (sym e) ∙ atom-at w fr s k (lies .known) l) in
-    let p = part-in (in-getD (schemaAt t s .atoms) k noAtom l) in
+    let p = part-small (in-getD (schemaAt t s .atoms) k noAtom l) in
     let i = in-getD (t .schemas) s noSchema (omega arith) in
     let f = all-in (schemaFits (t .arities)) (task-tests t (of-table w (a .table) .0) .fit) i in
     let b = leb-true (partCount (schemaAt t s .atoms)) 16 (schema-tests (t .arities) (schemaAt t s) f .parts) in

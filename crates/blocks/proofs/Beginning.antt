@@ -15,7 +15,8 @@ use borrow.Author.Tests.{ne-eqb}
 use Rattle.words.specs.Lists.{upTo, upFrom}
 use Rattle.task.specs.Task.{Task}
 use Rattle.words.proofs.Lists.{in-upTo, upTo-in, upTo-suc}
-use Rattle.blocks.specs.Blocks.{firstOf, beginner}
+use Rattle.tokens.specs.Split.{firstOf}
+use Rattle.blocks.specs.Blocks.{beginner}
 use Rattle.blocks.specs.Code.{BlocksKept}
 use Rattle.blocks.specs.FoldCode.{begunWord}
 use Rattle.blocks.proofs.Numbers.{first-step, first-mono}

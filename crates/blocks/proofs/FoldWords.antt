@@ -19,8 +19,8 @@ use Rattle.task.specs.Run.{Step, schemaAt, stepIn, stepAt, stepsIn, paramCount}
 use Rattle.words.proofs.Lists.{and-left, and-right, any-in, getD-mapped}
 use Rattle.task.proofs.StepWords.{noStep, length-stepsIn}
 use Rattle.words.specs.Sets.{members, SetBelow}
-use Rattle.tokens.specs.Split.{has, paramsOf, orders, own, splitSchema, splitTask}
-use Rattle.blocks.specs.Blocks.{firstOf, paramsAt, beginner, inside, fitsAt}
+use Rattle.tokens.specs.Split.{has, paramsOf, orders, own, splitSchema, splitTask, firstOf}
+use Rattle.blocks.specs.Blocks.{paramsAt, beginner, inside, fitsAt}
 use Rattle.blocks.specs.FoldCode.{begunWord, SplitStepsKept, givenObjects, keptFits}
 use Rattle.blocks.proofs.Numbers.{split-count, split-schema}
 use Rattle.blocks.proofs.KeptBlocks.{members-are, schema-known}

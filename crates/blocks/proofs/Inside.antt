@@ -16,12 +16,12 @@ use borrow.Author.Tests.{eqb-true}
 use Rattle.words.specs.Lists.{upTo, indexOf}
 use Rattle.task.specs.Task.{Task}
 use Rattle.task.specs.Run.{Step, schemaAt}
-use Rattle.tokens.specs.Split.{has, orders, paramsOf}
+use Rattle.tokens.specs.Split.{has, orders, paramsOf, firstOf}
 use Rattle.words.proofs.Lists.{and-left, and-right, In, here, there, in-getD, getD-in, map-in, getD-map, map-same}
 use Rattle.words.proofs.Lists.{map-append, upTo-suc, upTo-in}
 use Rattle.task.proofs.States.{IsStep}
 use Rattle.tokens.proofs.Places.{index-small, index-getD}
-use Rattle.blocks.specs.Blocks.{firstOf, paramsAt, partStep, beginner, Stage, outside, inside, begun, stageFor}
+use Rattle.blocks.specs.Blocks.{paramsAt, partStep, beginner, Stage, outside, inside, begun, stageFor}
 use Rattle.blocks.specs.Blocks.{fitsAt, completed}
 use Rattle.blocks.proofs.FoldBlock.{param-small}
 use Rattle.task.specs.Bindings.{Bound, agrees, fits, bind, orZero}

@@ -21,8 +21,8 @@ use Rattle.words.proofs.Words.{getD-wordsAt}
 use Rattle.task.proofs.StepWords.{step-here}
 use Rattle.task.proofs.BadSteps.{good-steps}
 use Rattle.words.specs.Sets.{member, members}
-use Rattle.tokens.specs.Split.{has, paramsOf, orders}
-use Rattle.blocks.specs.Blocks.{firstOf, paramsAt, partStep, block, unfoldSteps, listWords, fitsIn}
+use Rattle.tokens.specs.Split.{has, paramsOf, orders, firstOf}
+use Rattle.blocks.specs.Blocks.{paramsAt, partStep, block, unfoldSteps, listWords, fitsIn}
 use Rattle.blocks.specs.Code.{StepsKept, StepKept, objectsFor, partFrom, partsFrom, countFrom, sumFrom}
 use Rattle.blocks.specs.Code.{blocksFrom}
 use Rattle.blocks.proofs.Numbers.{first-mono}

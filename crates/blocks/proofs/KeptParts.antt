@@ -17,17 +17,11 @@ use Rattle.task.proofs.Tables.{of-table}
 use Rattle.task.proofs.StepWords.{params-few}
 use Rattle.tokens.specs.declared.measure.Sizes.{Sizes}
 use Rattle.tokens.specs.Split.{has, paramsOf, orders}
-use Rattle.tokens.specs.Kept.{partsBefore}
 use Rattle.tokens.specs.Code.{AcceptedKept}
 use Rattle.tokens.proofs.Places.{has-small, in-params, params-in}
-use Rattle.blocks.specs.Blocks.{firstOf, paramsAt}
+use Rattle.blocks.specs.Blocks.{paramsAt}
 use Rattle.blocks.specs.Code.{TableKept}
 use Rattle.blocks.proofs.SplitParts.{few-schemas, few-splits, some-part, few-parts}
-
--- the split's number of a schema's first part is the number of parts before it
-first-is : (t : Task) (s : ℕ) → partsBefore t s ≡ firstOf t s
-unfolding partsBefore firstOf
-first-is t s = refl
 
 -- a part has a parameter exactly if that stands among the part's parameters
 params-are : (t : Task) → WellFormed t → (s : ℕ) → s < length (t .schemas) → (x p : ℕ) →
@@ -50,7 +44,7 @@ table-kept {w} {sizes} {kept} K = record {
     few-params = params-few t well;
     some-part = some-part t well (K .accepted);
     few-parts = few-parts t well (K .accepted);
-    first = λ s l. K .parts .first s l ∙ first-is t s;
+    first = λ s l. K .parts .first s l;
     count = K .parts .count;
     params = λ s j x l m.
         K .parts .params s j x l m ∙ params-are t (wellFormed-is t well) s l x (getD (orders t s) j 0);

@@ -11,9 +11,9 @@ use Rattle.task.specs.Run.{Step, schemaAt, isStep}
 use Rattle.words.proofs.Lists.{every-at, all-in, in-getD}
 use Rattle.task.proofs.Tests.{schema-tests, task-tests}
 use Rattle.task.proofs.States.{isStep-is}
-use Rattle.tokens.specs.Split.{parts, orders, splitTask, splitAs, limitTests, withinLimits, split}
+use Rattle.tokens.specs.Split.{parts, orders, splitTask, splitAs, limitTests, withinLimits, split, firstOf}
 use Rattle.tokens.proofs.Accepted.{split-within}
-use Rattle.blocks.specs.Blocks.{firstOf, block}
+use Rattle.blocks.specs.Blocks.{block}
 use Rattle.blocks.proofs.Numbers.{split-count}
 use Rattle.blocks.proofs.Unfolded.{block-fixes-step}
 use Rattle.blocks.proofs.Given.{Given, given, part-count, filled, covered}

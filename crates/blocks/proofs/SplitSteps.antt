@@ -14,11 +14,11 @@ use Rattle.task.specs.Table.{taskOf}
 use Rattle.task.specs.Run.{Step, isStep, schemaAt}
 use Rattle.words.proofs.Lists.{In, in-append, all-in, in-all, map-in, upTo-in}
 use Rattle.task.proofs.States.{IsStep, is-isStep, getD-small}
-use Rattle.tokens.specs.Split.{own, splitSchema, orders, splitTask, splitAs, split}
+use Rattle.tokens.specs.Split.{own, splitSchema, orders, splitTask, splitAs, split, firstOf}
 use Rattle.tokens.proofs.Places.{in-params}
 use Rattle.tokens.proofs.Accepted.{split-is}
 use Rattle.tokens.proofs.SplitAnswers.{AcceptedSplit}
-use Rattle.blocks.specs.Blocks.{firstOf, paramsAt, partStep, block, unfoldSteps}
+use Rattle.blocks.specs.Blocks.{paramsAt, partStep, block, unfoldSteps}
 use Rattle.blocks.proofs.Numbers.{split-schema, schema-small}
 use Rattle.blocks.proofs.Given.{Given, given, head-step, tail-steps}
 use Rattle.blocks.proofs.Unfolded.{partsOf, length-unfold}

@@ -13,8 +13,8 @@ use Rattle.task.specs.Task.{Task}
 use Rattle.task.specs.Table.{taskOf, longEnough, isTable}
 use Rattle.task.specs.Run.{Step, paramCount, badStep}
 use Rattle.words.specs.Sets.{member, members}
-use Rattle.tokens.specs.Split.{orders, splitTask, splitAs, split}
-use Rattle.blocks.specs.Blocks.{firstOf, paramsAt}
+use Rattle.tokens.specs.Split.{orders, splitTask, splitAs, split, firstOf}
+use Rattle.blocks.specs.Blocks.{paramsAt}
 use Rattle.tokens.specs.Kept.{keptFirst, keptCount, keptOwn}
 
 -- ---- what is kept of a task whose split is accepted

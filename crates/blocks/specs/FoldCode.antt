@@ -14,9 +14,9 @@ use Rattle.task.specs.Task.{Task}
 use Rattle.words.specs.Words.{wordsAt}
 use Rattle.task.specs.Run.{badStep}
 use Rattle.words.specs.Sets.{SetBelow, members}
-use Rattle.tokens.specs.Split.{splitTask}
+use Rattle.tokens.specs.Split.{splitTask, firstOf}
 use Rattle.blocks.specs.declared.folding.Taken.{Taken}
-use Rattle.blocks.specs.Blocks.{firstOf, beginner, Folding, folded, misfit}
+use Rattle.blocks.specs.Blocks.{beginner, Folding, folded, misfit}
 use Rattle.blocks.specs.Code.{BlocksKept}
 use Rattle.task.specs.Bindings.{Bound, fits, bind, Held}
 

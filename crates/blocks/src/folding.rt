@@ -19,9 +19,8 @@ use tokens::kept::own_at;
 use tokens::measure::Sizes;
 use tokens::writing::write_split;
 use words::sets;
-ghost use Prim.Native.Nat.{ℕ, _+_, _*_, _≤_, _<_};
+ghost use Prim.Native.Nat.{_+_, _*_, _≤_, _<_};
 ghost use mathlib.Core.Path.{_≡_};
-ghost use mathlib.Core.Bool.{true, false};
 ghost use mathlib.Core.List.{List};
 ghost use lib.ListN.{length, getD};
 ghost use Rattle.words.specs.Lists.{over};
@@ -29,7 +28,7 @@ ghost use Rattle.task.specs.Limits.{mostParameters, mostSchemas, stepSize};
 ghost use Rattle.task.specs.Task.{Task};
 ghost use Rattle.task.specs.Table.{taskOf};
 ghost use Rattle.task.specs.Run.{Step, badStep, badStepFound, stepsIn};
-ghost use Rattle.words.specs.Sets.{member, members};
+ghost use Rattle.words.specs.Sets.{members};
 ghost use Rattle.tokens.specs.Split.{splitTask};
 ghost use Rattle.blocks.specs.Blocks.{foldSteps, folded, listWords};
 ghost use Rattle.blocks.specs.Code.{BlocksKept};
@@ -81,14 +80,6 @@ pub fn bad_split_step(table: &[u16], kept: &Kept, sizes: Sizes, steps: &[u16]) -
     bad_step(&split, steps)
 }
 
-// Whether a set has no number from p on, so that a loop over its numbers ends there.
-fn none_from(set: u64, p: usize) -> bool
-    requires { ⌜ p < 64 ⌝ }
-    ensures { λ r. ⌜ (r ≡ true → (k : ℕ) → p ≤ k → member set k ≡ false) ⌝ }
-{
-    set >> p == 0
-}
-
 // Whether the objects of the step whose words begin at `at` agree with those found for a part's parameters: those of
 // the set, ascending, are the part's own from 0 on.
 fn agree(steps: &[u16], at: usize, own: u64, bound: u64, found: &Found) -> bool
@@ -98,7 +89,7 @@ fn agree(steps: &[u16], at: usize, own: u64, bound: u64, found: &Found) -> bool
 {
     let mut k = 0;
     for p in 0..MOST_PARAMETERS {
-        if none_from(own, p) {
+        if sets::none_from(own, p) {
             return true;
         }
         if sets::has(own, p) {
@@ -121,7 +112,7 @@ fn join(steps: &[u16], at: usize, own: u64, bound: u64, found: &mut Found) -> u6
     let mut known = bound;
     let mut k = 0;
     for p in 0..MOST_PARAMETERS {
-        if none_from(own, p) {
+        if sets::none_from(own, p) {
             return known;
         }
         if sets::has(own, p) {

@@ -12,8 +12,8 @@ use lib.ListN.{length, length-map}
 use Rattle.words.specs.Lists.{all, concatMap, upTo}
 use Rattle.task.specs.Task.{Fact, Task}
 use Rattle.task.specs.Run.{Step, schemaAt, applies, next, ran, runFrom}
-use Rattle.tokens.specs.Split.{parts, procnone, doToken, orders, free}
-use Rattle.blocks.specs.Blocks.{firstOf, partStep, block, unfoldSteps}
+use Rattle.tokens.specs.Split.{parts, procnone, doToken, orders, free, firstOf}
+use Rattle.blocks.specs.Blocks.{partStep, block, unfoldSteps}
 use Rattle.words.proofs.Lists.{In, here, in-right, in-append, map-in, length-upTo}
 use Rattle.task.proofs.States.{applies-in, run-on, run-stop, State, IsStep, is-isStep, next-state}
 use Rattle.tokens.proofs.Ground.{bare, the-bare}

@@ -14,7 +14,8 @@ use Rattle.words.specs.Lists.{upTo, indexOf}
 use Rattle.task.specs.Task.{Fact, Schema, Task}
 use Rattle.task.specs.Run.{Step, schemaAt, applies, next}
 use Rattle.tokens.specs.Split.{has, paramsOf, firstPosition, parToken, own, laterHere, splitSchema, orders, splitTask}
-use Rattle.blocks.specs.Blocks.{firstOf, paramsAt, partStep}
+use Rattle.tokens.specs.Split.{firstOf}
+use Rattle.blocks.specs.Blocks.{paramsAt, partStep}
 use Rattle.words.proofs.Lists.{bool-cases, In, in-getD, map-in, map-same, upTo-in, length-upTo, getD-map, getD-upTo}
 use Rattle.words.proofs.Lists.{map-append, upTo-suc}
 use Rattle.task.proofs.States.{applies-in, IsStep}

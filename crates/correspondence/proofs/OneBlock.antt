@@ -12,8 +12,8 @@ use lib.ListN.{length, getD}
 use Rattle.words.specs.Lists.{upTo, upFrom}
 use Rattle.task.specs.Task.{Fact, Task, precondition, addition, deletion}
 use Rattle.task.specs.Run.{Step, schemaAt, ground, groundRole, applies, next, stopped, runFrom}
-use Rattle.tokens.specs.Split.{procnone, orders, free}
-use Rattle.blocks.specs.Blocks.{firstOf, partStep, block}
+use Rattle.tokens.specs.Split.{procnone, orders, free, firstOf}
+use Rattle.blocks.specs.Blocks.{partStep, block}
 use Rattle.words.proofs.Lists.{both-ft, bool-cases, false-if, In, here, in-eq, in-left, in-right, in-append}
 use Rattle.task.proofs.States.{asc-ext, in-role, role-in, in-next, next-add, next-keep, applies-in, in-applies, run-on}
 use Rattle.task.proofs.States.{run-stop, State, IsStep, next-state}

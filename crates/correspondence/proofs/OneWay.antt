@@ -11,8 +11,8 @@ use lib.Seq.{ext-getD}
 use Rattle.words.specs.Lists.{concatMap, upTo, upFrom, indexOf}
 use Rattle.task.specs.Task.{Task}
 use Rattle.task.specs.Run.{Step, schemaAt}
-use Rattle.tokens.specs.Split.{own, orders}
-use Rattle.blocks.specs.Blocks.{firstOf, paramsAt, partStep, block, unfoldSteps}
+use Rattle.tokens.specs.Split.{own, orders, firstOf}
+use Rattle.blocks.specs.Blocks.{paramsAt, partStep, block, unfoldSteps}
 use Rattle.words.proofs.Lists.{In, length-upTo, append-same-length, getD-map, getD-upTo}
 use Rattle.task.proofs.States.{IsStep, isStep-is}
 use Rattle.blocks.proofs.Numbers.{first-inj, part-objects, length-block, take-block}

@@ -26,7 +26,8 @@ use Rattle.task.proofs.States.{holds-in, in-holds}
 use Rattle.task.proofs.Tables.{noFact}
 use Rattle.words.proofs.Words.{wordsAt-is, length-wordsAt}
 use Rattle.task.proofs.RecordWords.{arity-few, length-recordWords}
-use Rattle.task.proofs.StateWords.{Short, length-state, at-record, state-words, words-read, words-state, length-stateIn}
+use Rattle.task.proofs.StateWords.{Short, length-state, at-record, state-words, words-read, words-state}
+use Rattle.task.proofs.Rows.{length-stateIn}
 use Rattle.tokens.proofs.SplitAnswers.{AcceptedSplit}
 use Rattle.correspondence.specs.SharedRuns.{withFree}
 use Rattle.correspondence.specs.SharedRunsOnWords.{procnoneRecord, thenProcnone, LeavesProcnone, SecondStart}

@@ -1,6 +1,6 @@
 -- The tests of a run of atoms, one atom further: what is left of a test at atom i is what atom i says and what is left
--- at the next. A loop whose invariant is 'the whole test is what is left of it' goes on by `and-more` and ends by
--- `and-fails`.
+-- at the next. So 'the facts ascend' and 'the atoms differ' are tests of each atom, as a loop makes them; a loop over
+-- the roles goes on by `and-more` and ends by `and-fails`.
 use Prim.Native.Nat.{ℕ, zero, suc, _+_, _-_, _≤_, _<_, max}
 use mathlib.Core.Path.{_≡_, sym, _∙_, ap, subst}
 use mathlib.Core.Bool.{Bool, true, not, _&&_}
@@ -16,6 +16,7 @@ use Rattle.task.specs.Table.{atomIn, factIn}
 use Rattle.task.specs.WordTests.{atomsIn, factsIn, standsAgain, RolesRise}
 use Rattle.words.proofs.Lists.{and-left, and-right}
 use Rattle.words.proofs.Ranges.{range-step, range-done, any-map}
+use Rattle.words.proofs.Loops.{AllLeft, all-steps}
 
 -- a range of two or more
 two-step : (i e : ℕ) → i + 1 < e → upFrom i (e - i) ≡ i ∷ (i + 1) ∷ upFrom (i + 1 + 1) (e - (i + 1 + 1))
@@ -46,30 +47,40 @@ module _ (w : List ℕ) (i e : ℕ) where
   unfolding rolesAscend
   roles-last l = ap (λ (is : List ℕ). rolesAscend (map (atomIn w) is)) (one-step i e l)
 
-  pub ascend-step : i + 1 < e → ascendLeft i ≡ factLess (factIn w i) (factIn w (i + 1)) && ascendLeft (i + 1)
+  ascend-step : i + 1 < e → ascendLeft i ≡ factLess (factIn w i) (factIn w (i + 1)) && ascendLeft (i + 1)
   unfolding ascending
   ascend-step l =
       ap (λ (is : List ℕ). ascending (map (factIn w) is)) (two-step i e l) ∙
       ap (λ (is : List ℕ). factLess (factIn w i) (factIn w (i + 1)) && ascending (map (factIn w) is))
       (sym (range-step (i + 1) e l))
 
-  pub ascend-ends : e ≤ i + 1 → ascendLeft i ≡ true
+  ascend-ends : e ≤ i + 1 → ascendLeft i ≡ true
   unfolding ascending
   ascend-ends l = elim (decLe e i) [
     | yes m ↦ ap (λ (is : List ℕ). ascending (map (factIn w) is)) (range-done i e m)
     | no m ↦ ap (λ (is : List ℕ). ascending (map (factIn w) is)) (one-step i e (omega arith))
   ]
 
-  pub distinct-step : i < e → distinctLeft i ≡ not (standsAgain w i e) && distinctLeft (i + 1)
+  distinct-step : i < e → distinctLeft i ≡ not (standsAgain w i e) && distinctLeft (i + 1)
   unfolding distinct standsAgain
   distinct-step l =
       ap (λ (is : List ℕ). distinct (map (atomIn w) is)) (range-step i e l) ∙
       ap (λ (b : Bool). not b && distinctLeft (i + 1))
       (any-map (λ b. sameAtom (atomIn w i) b) (atomIn w) (upFrom (i + 1) (e - (i + 1))))
 
-  pub distinct-none : e ≤ i → distinctLeft i ≡ true
+  distinct-none : e ≤ i → distinctLeft i ≡ true
   unfolding distinct
   distinct-none l = ap (λ (is : List ℕ). distinct (map (atomIn w) is)) (range-done i e l)
+
+-- ---- as tests of each atom
+module _ (w : List ℕ) (first e : ℕ) where
+  pub ascend-start : AllLeft (λ k. factLess (factIn w k) (factIn w (k + 1))) (e - 1) (ascendLeft w first e first) first
+  ascend-start = all-steps (ascendLeft w first e) (λ k. factLess (factIn w k) (factIn w (k + 1))) (e - 1)
+      (λ k l. ascend-step w k e (omega arith)) (λ k l. ascend-ends w k e (omega arith)) first
+
+  pub distinct-start : AllLeft (λ k. not (standsAgain w k e)) e (distinctLeft w first e first) first
+  distinct-start = all-steps (distinctLeft w first e) (λ k. not (standsAgain w k e)) e
+      (λ k l. distinct-step w k e l) (λ k l. distinct-none w k e l) first
 
 -- ---- roles that ascend rise from any atom to any later one
 module _ (w : List ℕ) (first e : ℕ) (h : rolesLeft w first e first ≡ true) where

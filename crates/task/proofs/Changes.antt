@@ -7,7 +7,7 @@ use mathlib.Core.List.{List, [], _∷_, _++_}
 use mathlib.Core.Logic.{inl, inr}
 use native.Mathlib.Omega.{arith}
 use lib.ListN.{length}
-use Rattle.words.specs.Lists.{all, any, filter, keepIf}
+use Rattle.words.specs.Lists.{any, filter, keepIf}
 use Rattle.task.specs.Task.{Fact, factLess, factEq}
 use Rattle.task.specs.Run.{holds, insert, insertAll, removeAll}
 use Rattle.words.proofs.Lists.{both-ft, bool-ext, and-left, and-right, and-both, or-cases, or-left, or-right, In, here}
@@ -125,13 +125,3 @@ insertAll-length (f ∷ fs) s a =
     let (p, q) = insert-length f s a in
     let (u, v) = insertAll-length fs (insert f s) (asc-insert f a) in
     (omega arith, omega arith)
-
--- ---- tests over a list
-module _ {A : Type 0} (p : A → Bool) where
-  pub all-more : (x : A) (xs : List A) → p x ≡ true → all p (x ∷ xs) ≡ all p xs
-  unfolding all
-  all-more x xs h = ap (λ (b : Bool). b && all p xs) h
-
-  pub all-stops : (x : A) (xs : List A) → p x ≡ false → all p (x ∷ xs) ≡ false
-  unfolding all
-  all-stops x xs h = ap (λ (b : Bool). b && all p xs) h

@@ -1,7 +1,7 @@
 -- Goal atoms by their places in the table: each is a ground atom of the task, and all of them are its goal.
 use Prim.Native.Nat.{ℕ, _+_, _-_, _≤_, _<_}
 use mathlib.Core.Path.{_≡_, sym, _∙_, ap, ap₂}
-use mathlib.Core.Bool.{Bool, true}
+use mathlib.Core.Bool.{true}
 use mathlib.Core.List.{List, map}
 use native.Mathlib.Omega.{arith}
 use lib.ListN.{getD}
@@ -12,6 +12,8 @@ use Rattle.task.specs.Table.{factIn, taskOf, isTable}
 use Rattle.task.specs.Run.{holds, isState, goalMet}
 use Rattle.task.specs.Records.{recordNumber, Known}
 use Rattle.words.proofs.Lists.{In, in-eq, in-getD}
+use Rattle.words.proofs.Ranges.{all-map}
+use Rattle.words.proofs.Loops.{AllLeft}
 use Rattle.task.proofs.States.{fitting-argsFit, wellFormed-is}
 use Rattle.task.proofs.Tables.{noFact, of-table}
 use Rattle.task.proofs.TablesByIndex.{table-frame, goal-word, goal-at}
@@ -36,10 +38,13 @@ goal-known w state n k number h s l m e =
       is = sym e;
     }
 
-pub goal-so : (w : List ℕ) (s : List Fact) (from to : ℕ) {r : Bool} → from ≡ goalsFrom w →
-    to ≡ from + headIn w .goalAtoms →
-    r ≡ all (holds s) (map (factIn w) (upFrom from (to - from))) → r ≡ goalMet (taskOf w) s
+-- the test of the goal, from the first goal atom to behind the last
+pub goal-start : (w : List ℕ) (s : List Fact) (from to : ℕ) → from ≡ goalsFrom w → to ≡ from + headIn w .goalAtoms →
+    AllLeft (λ k. holds s (factIn w k)) to (goalMet (taskOf w) s) from
 unfolding goalMet taskOf
-goal-so w s from to a b e =
-    let z : to - from ≡ headIn w .goalAtoms = omega arith in
-    e ∙ ap₂ (λ (x y : ℕ). all (holds s) (map (factIn w) (upFrom x y))) a z
+goal-start w s from to a b =
+    let z : headIn w .goalAtoms ≡ to - from = omega arith in
+    record {
+      left = ap₂ (λ (x y : ℕ). all (holds s) (map (factIn w) (upFrom x y))) (sym a) z ∙
+          all-map (holds s) (factIn w) (upFrom from (to - from));
+    }

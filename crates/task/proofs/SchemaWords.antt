@@ -4,7 +4,6 @@ use Prim.Native.Nat.{ℕ, zero, suc, _+_, _-_, _≤_, _<_}
 use mathlib.Core.Path.{_≡_, sym, _∙_, ap, ap₂, subst}
 use mathlib.Core.Bool.{Bool, true, false, _&&_}
 use mathlib.Core.List.{List, [], _∷_, _++_, append-nil}
-use native.Mathlib.Nat.{le-max-left, le-max-right}
 use native.Mathlib.Omega.{arith}
 use native.Mathlib.Decide.{decLt}
 use lib.ListN.{length, length-map}
@@ -36,20 +35,14 @@ parts-few atoms n e l =
     ap (λ (m : ℕ). all (hasPart atoms) (upTo m)) (sym e)
 
 -- every part is below the count
-in-parts : {a : Atom} {atoms : List Atom} → In a atoms → a .part < partCount atoms
+pub part-small : {atoms : List Atom} {a : Atom} → In a atoms → a .part < partCount atoms
 unfolding partCount
-in-parts (here {y = b} {ys = bs} e) =
-    let l = le-max-left (suc (b .part)) (partCount bs) in
-    let p = ap (λ (a : Atom). a .part) e in
-    omega arith
-in-parts (there {y = b} {ys = bs} k) =
-    let l = le-max-right (suc (b .part)) (partCount bs) in
-    let p = in-parts k in
-    omega arith
+part-small (here e) = let q = ap (λ a. a .part) e in omega arith
+part-small (there k) = let q = part-small k in omega arith
 
 pub part-below : (w : List ℕ) (i first end : ℕ) → first ≤ i → i < end →
     atomIn w i .part < partCount (atomsIn w first (end - first))
-part-below w i first end l m = in-parts (in-map (atomIn w) (in-upFrom first (end - first) i l (omega arith)))
+part-below w i first end l m = part-small (in-map (atomIn w) (in-upFrom first (end - first) i l (omega arith)))
 
 -- ---- a schema
 module _ (w : List ℕ) (s first n : ℕ) where

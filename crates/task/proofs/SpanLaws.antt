@@ -1,20 +1,20 @@
 -- Loops over the ground atoms of a span: between the turns, what is done with the atoms left gives what was to be done
 -- with all. One law a loop for its start, its turn and its end.
-use Prim.Native.Nat.{ℕ, suc, _+_, _-_, _*_, _≤_, _<_}
+use Prim.Native.Nat.{ℕ, _+_, _-_, _*_, _≤_, _<_}
 use mathlib.Core.Path.{_≡_, refl, sym, _∙_, ap}
-use mathlib.Core.Bool.{Bool, true, false}
+use mathlib.Core.Bool.{true}
 use mathlib.Core.List.{List, [], _∷_, map}
 use native.Mathlib.Omega.{arith}
-use native.Mathlib.Numerals.{add-one}
 use lib.ListN.{length}
 use borrow.Author.Tests.{leb-true}
-use Rattle.words.specs.Lists.{all, upFrom, padded}
+use Rattle.words.specs.Lists.{padded}
 use Rattle.task.specs.Task.{Fact, Task}
 use Rattle.task.specs.Table.{taskOf, isTable}
 use Rattle.task.specs.Run.{insert, insertAll, stateIn, roomIn, isState}
 use Rattle.task.specs.Records.{inBase, recordNumber, rowNumber, RowsAscend, Known, Keeps}
 use Rattle.task.specs.Spans.{groundAt, groundSpan, AtomOf}
 use Rattle.words.proofs.Lists.{In, length-padded}
+use Rattle.words.proofs.Ranges.{range-step, range-done}
 use Rattle.task.proofs.Tests.{task-tests}
 use Rattle.task.proofs.States.{asc-insert}
 use Rattle.task.proofs.Tables.{of-table}
@@ -22,31 +22,19 @@ use Rattle.task.proofs.Numbers.{base-mono, small-padded, slight}
 use Rattle.task.proofs.Rows.{state-kept, kept-ascend, room-words}
 use Rattle.task.proofs.RowsMoved.{in-row}
 use Rattle.task.proofs.RowsFound.{known-kept, known-fits}
-use Rattle.task.proofs.Changes.{insert-missing, insertAll-length, all-more, all-stops}
+use Rattle.task.proofs.Changes.{insert-missing, insertAll-length}
 use Rattle.task.proofs.GroundWords.{ground-args-fit}
 
 -- ---- spans
-module _ (g : ℕ → Fact) where
-  pub row-more : (k to : ℕ) → k < to → map g (upFrom k (to - k)) ≡ g k ∷ map g (upFrom (k + 1) (to - (k + 1)))
-  unfolding upFrom
-  row-more k to l =
-      let e : to - k ≡ suc (to - (k + 1)) = omega arith in
-      ap (λ (n : ℕ). map g (upFrom k n)) e ∙
-      ap {B = List Fact} (λ (a : ℕ). g k ∷ map g (upFrom a (to - (k + 1)))) (sym (add-one k))
-
-  pub row-end : (k to : ℕ) → to ≤ k → map g (upFrom k (to - k)) ≡ []
-  unfolding upFrom
-  row-end k to l = let e : to - k ≡ 0 = omega arith in ap (λ (n : ℕ). map g (upFrom k n)) e
-
 module _ (w steps : List ℕ) (i : ℕ) where
   pub span-more : (k to : ℕ) → k < to →
       groundSpan w steps i k (to - k) ≡ groundAt w steps i k ∷ groundSpan w steps i (k + 1) (to - (k + 1))
   unfolding groundSpan
-  span-more k to l = row-more (groundAt w steps i) k to l
+  span-more k to l = ap (map (groundAt w steps i)) (range-step k to l)
 
   pub span-end : (k to : ℕ) → to ≤ k → groundSpan w steps i k (to - k) ≡ []
   unfolding groundSpan
-  span-end k to l = row-end (groundAt w steps i) k to l
+  span-end k to l = ap (map (groundAt w steps i)) (range-done k to l)
 
 -- ---- states
 pub state-long : (w state : List ℕ) (n : ℕ) → isTable w ≡ true → isState (taskOf w) state n ≡ true →
@@ -96,34 +84,6 @@ known-room {t} {w} {n} {f} {number} d fs l h =
     let z = c .count in
     let r = room-words w (n + 1) (omega arith) in
     omega arith
-
--- ---- whether all hold
-module _ (g : ℕ → Fact) (h : Fact → Bool) where
-  pub record AllSo (from to k : ℕ) : Type 0 where
-    pub from-first : from ≤ k
-    pub to-last : k ≤ to
-    pub same : all h (map g (upFrom k (to - k))) ≡ all h (map g (upFrom from (to - from)))
-
-  pub all-start : (from to : ℕ) → from ≤ to → AllSo from to from
-  all-start from to l = record { from-first = omega arith; to-last = l; same = refl }
-
-  pub all-turn : (from to k : ℕ) → k < to → AllSo from to k → h (g k) ≡ true → AllSo from to (k + 1)
-  all-turn from to k l c e = record {
-    from-first = let z = c .from-first in omega arith;
-    to-last = omega arith;
-    same = sym (all-more h (g k) (map g (upFrom (k + 1) (to - (k + 1)))) e) ∙
-        (ap (all h) (sym (row-more g k to l)) ∙ c .same);
-  }
-
-  pub all-left : (from to k : ℕ) → k < to → AllSo from to k → h (g k) ≡ false →
-      false ≡ all h (map g (upFrom from (to - from)))
-  all-left from to k l c e =
-      sym (all-stops h (g k) (map g (upFrom (k + 1) (to - (k + 1)))) e) ∙
-      (ap (all h) (sym (row-more g k to l)) ∙ c .same)
-
-  pub all-ended : (from to k : ℕ) → to ≤ k → AllSo from to k → true ≡ all h (map g (upFrom from (to - from)))
-  unfolding all
-  all-ended from to k l c = ap (all h) (sym (row-end g k to l)) ∙ c .same
 
 -- ---- a state into which facts come one by one
 pub insert-nothing : (s : List Fact) → insertAll [] s ≡ s

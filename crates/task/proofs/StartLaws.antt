@@ -17,6 +17,7 @@ use Rattle.task.specs.Table.{atomIn, schemaNumberIn, taskOf, isTable}
 use Rattle.task.specs.Run.{schemaAt}
 use Rattle.task.specs.Turns.{Starts, RoleEnds}
 use Rattle.words.proofs.Lists.{all-in, in-getD, sum-take-rises}
+use Rattle.words.proofs.Loops.{run-more}
 use Rattle.task.proofs.Tests.{schema-tests, task-tests}
 use Rattle.task.proofs.Tables.{counts, startOf, of-table}
 use Rattle.task.proofs.TablesByIndex.{table-frame, schemas-word, start-suc, start-end, atom-lies}
@@ -136,10 +137,7 @@ pub role-turn : {w : List ℕ} {a b role k : ℕ} → RoleSo w a b role k → k 
 role-turn {w} {role = role} {k = k} c l e = record {
   from = let z = c .from in omega arith;
   within = omega arith;
-  has = λ j x y. elim (decLt j k) [
-    | yes z ↦ c .has j x z
-    | no z ↦ let q : k ≡ j = omega arith in subst (λ (i : ℕ). atomIn w i .role ≡ role) q e
-  ];
+  has = run-more (λ j. atomIn w j .role ≡ role) (c .has) e;
 }
 
 pub role-ends : {w : List ℕ} {a b role k : ℕ} → RoleSo w a b role k → (k < b → atomIn w k .role ≡ role → ⊥) →

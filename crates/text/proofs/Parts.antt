@@ -12,6 +12,7 @@ use borrow.Author.Tests.{ltb-true, leb-true, lt-ltb, le-leb}
 use Rattle.words.specs.Lists.{all, any, upTo}
 use Rattle.task.specs.Task.{Atom, sameAtom, distinct, rolesAscend, names, partCount}
 use Rattle.words.proofs.Lists.{In, here, there, all-in, in-all, in-map, map-in}
+use Rattle.task.proofs.SchemaWords.{part-small}
 use Rattle.text.specs.Text.{withParts}
 
 abbrev pub bare : Atom → Atom
@@ -77,11 +78,6 @@ pub parts-same : {B : Type 0} (f : List Atom → B) → ((xs : List Atom) → f 
 parts-same f h xs ps l = sym (h (withParts xs ps)) ∙ (ap f (parts-bare xs ps l) ∙ h xs)
 
 -- ---- the highest part
-pub part-below : {a : Atom} {bs : List Atom} → In a bs → a .part < partCount bs
-unfolding partCount
-part-below (here {y = b} {ys = bs} e) = let q = ap partOf e in omega arith
-part-below (there {y = b} {ys = bs} i) = let q = part-below i in omega arith
-
 pub part-reached : (bs : List Atom) (p : ℕ) → p < partCount bs → (a : Atom) × In a bs × (p ≤ a .part)
 unfolding partCount
 part-reached [] p h = absurd (omega arith)
@@ -95,7 +91,7 @@ pub count-below : (n : ℕ) (bs : List Atom) → leb (partCount bs) n ≡ true �
 count-below n bs h =
     in-all (λ p. ltb p n) (map partOf bs) (λ p i.
     let (a, j, e) = map-in partOf bs p i in
-    let k = part-below j in
+    let k = part-small j in
     let l = leb-true (partCount bs) n h in
     lt-ltb p n (omega arith))
 

@@ -13,9 +13,8 @@ use Rattle.task.specs.Limits.{headWords, atomSize}
 use Rattle.task.specs.Task.{argsFit}
 use Rattle.task.specs.Table.{atomWords}
 use Rattle.words.proofs.Lists.{no-ft, all-in, in-getD}
-use Rattle.words.proofs.Words.{and-false}
+use Rattle.words.proofs.Words.{and-false, each-first, past-end}
 use Rattle.text.specs.ReadCode.{Listed, Fitting, PartsPut, Words, bareAtom}
-use Rattle.words.proofs.Searches.{each-first, past-end}
 
 -- the numbers that were kept are the list, where there was room for all
 pub listed-take : {ns : List ℕ} {count : ℕ} {kept : List ℕ} → Listed ns count kept → count ≤ length kept →

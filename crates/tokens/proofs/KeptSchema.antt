@@ -17,7 +17,8 @@ use Rattle.task.proofs.Tables.{noAtom}
 use Rattle.task.proofs.Tests.{SchemaTests, schema-tests}
 use Rattle.task.proofs.TablesByIndex.{table-frame, start-suc}
 use Rattle.arcs.specs.Code.{IsStretch, atomsIn}
-use Rattle.arcs.proofs.OrderTaken.{OrderOf, orderOf-laws, part-small}
+use Rattle.task.proofs.SchemaWords.{part-small}
+use Rattle.arcs.proofs.OrderTaken.{OrderOf, orderOf-laws}
 use Rattle.arcs.proofs.Stretches.{schema-atoms, schema-stretch}
 use Rattle.tokens.specs.Split.{parts, orders}
 use Rattle.tokens.proofs.AtomWords.{schema-fits}

@@ -27,7 +27,7 @@ use Rattle.arcs.specs.Order.{orderOf}
 use Rattle.words.specs.Sets.{member}
 use Rattle.arcs.specs.Code.{atomsIn, orderTold}
 use Rattle.arcs.proofs.OrderTaken.{orderOf-laws}
-use Rattle.tokens.specs.Split.{has, isNone, orderAt, orEmpty, orders, parts}
+use Rattle.tokens.specs.Split.{has, isNone, orderAt, orEmpty, orders, parts, firstOf}
 use Rattle.tokens.specs.Code.{partAt, OrderKept}
 use Rattle.tokens.proofs.Accepted.{circularAt}
 use Rattle.tokens.proofs.AtomWords.{schema-fits}
@@ -36,13 +36,13 @@ use Rattle.tokens.proofs.KeptParts.{part-is}
 use Rattle.task.specs.Limits.{mostParts, mostSchemas, mostSchemaAtoms}
 use Rattle.task.specs.Turns.{firstAtom}
 use Rattle.tokens.specs.Kept.{startPlace, firstPlace, countPlace, orderPlace, ownPlace, keptRow, keptWords, field}
-use Rattle.tokens.specs.Kept.{withField, keptStart, keptFirst, keptCount, keptPart, keptOwn, partsBefore}
+use Rattle.tokens.specs.Kept.{withField, keptStart, keptFirst, keptCount, keptPart, keptOwn}
 use Rattle.tokens.specs.Kept.{PartsKept}
 use Rattle.tokens.proofs.KeptRows.{field-long, field-put, field-stays, before-stays}
 
 -- ---- the parts of the schemas before one
-pub before-step : (t : Task) (s : ℕ) → partsBefore t (suc s) ≡ partsBefore t s + length (orders t s)
-unfolding partsBefore sum
+pub before-step : (t : Task) (s : ℕ) → firstOf t (suc s) ≡ firstOf t s + length (orders t s)
+unfolding firstOf sum
 before-step t s =
     let n : ℕ → ℕ = λ q. length (orders t q) in
     let a = ap (λ (z : List ℕ). sum (map n z)) (upTo-suc s) ∙ ap sum (map-append n (upTo s) (s ∷ [])) in
@@ -89,11 +89,11 @@ module _ (t : Task) (s : ℕ) (f : Order) (told : orderTold f ≡ orderOf (schem
       omega (arith, found-part f j l k)
 
   -- the next schema's parts come behind those of this one
-  pub first-more : f .found ≡ true → f .count ≤ length (f .parts) → (first : ℕ) → first ≡ partsBefore t s →
-      first + f .count ≡ partsBefore t (s + 1)
+  pub first-more : f .found ≡ true → f .count ≤ length (f .parts) → (first : ℕ) → first ≡ firstOf t s →
+      first + f .count ≡ firstOf t (s + 1)
   first-more e l first h =
       let n = ap length (told-order e) ∙ found-count f l in
-      omega (arith, before-step t s, ap (partsBefore t) (add-one s))
+      omega (arith, before-step t s, ap (firstOf t) (add-one s))
 
   told-taken : f .found ≡ true → orderOf (schemaAt t s) ≡ some (orders t s)
   told-taken e = told-some e ∙ ap some (sym (told-order e))
@@ -126,7 +126,7 @@ module _ (w : List ℕ) (h : isTable w ≡ true) where
   -- ---- schema by schema
   pub parts-none : (kept : List ℕ) → length kept ≡ keptWords →
       PartsKept (taskOf w) 0 (withField (withField kept 0 startPlace 0) 0 firstPlace 0)
-  unfolding sum partsBefore upTo upFrom
+  unfolding sum firstOf upTo upFrom
   parts-none kept l = record {
     long = field-long one 0 firstPlace 0 (field-long kept 0 startPlace 0 l);
     start = λ s k. let e : s ≡ 0 = omega arith in
@@ -134,7 +134,7 @@ module _ (w : List ℕ) (h : isTable w ≡ true) where
         (field-stays one 0 firstPlace 0 0 startPlace (omega arith) (omega arith) (λ z. omega arith) ∙
         field-put kept 0 startPlace 0 l (omega arith) (omega arith));
     first = λ s k. let e : s ≡ 0 = omega arith in
-        subst (λ (n : ℕ). keptFirst both n ≡ partsBefore (taskOf w) n) (sym e)
+        subst (λ (n : ℕ). keptFirst both n ≡ firstOf (taskOf w) n) (sym e)
         (field-put one 0 firstPlace 0 (field-long kept 0 startPlace 0 l) (omega arith) (omega arith));
     taken = λ s k. absurd (omega arith);
     count = λ s k. absurd (omega arith);
@@ -151,7 +151,7 @@ module _ (w : List ℕ) (h : isTable w ≡ true) where
   module _ (s from to next : ℕ) (l : s < length (taskOf w .schemas)) (ends : to ≡ firstAtom (taskOf w) (suc s))
       (atoms : schemaAt (taskOf w) s .atoms ≡ atomsIn w from to) (f : Order) (fits : f .count ≤ length (f .parts))
       (found : f .found ≡ true) (told : orderTold f ≡ orderOf (schemaAt (taskOf w) s))
-      (goes-on : next ≡ partsBefore (taskOf w) (s + 1)) (kept ordered : List ℕ)
+      (goes-on : next ≡ firstOf (taskOf w) (s + 1)) (kept ordered : List ℕ)
       (new : OrderKept w from to s (f .count) (f .parts) (withField kept s countPlace (f .count)) ordered)
       (old : PartsKept (taskOf w) s kept) where
     abbrev t : Task
@@ -226,12 +226,12 @@ module _ (w : List ℕ) (h : isTable w ≡ true) where
           ends ∙ ap (firstAtom t) (sym (add-one s)))
     ]
 
-    firsts-more : (r : ℕ) → r ≤ s + 1 → keptFirst after r ≡ partsBefore t r
+    firsts-more : (r : ℕ) → r ≤ s + 1 → keptFirst after r ≡ firstOf t r
     firsts-more r k = elim (decLt r (s + 1)) [
       | yes m ↦ stays (keptRow * r + firstPlace) (omega arith) ∙ old .first r (omega arith)
       | no m ↦
           let e : s + 1 ≡ r = omega arith in
-          subst (λ (n : ℕ). keptFirst after n ≡ partsBefore t n) e
+          subst (λ (n : ℕ). keptFirst after n ≡ firstOf t n) e
           (field-put begun (s + 1) firstPlace next begun-long (omega (arith, few)) (omega arith) ∙ goes-on)
     ]
 

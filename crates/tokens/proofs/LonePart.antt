@@ -16,7 +16,7 @@ use Rattle.task.specs.Run.{schemaAt, ofRole}
 use Rattle.tokens.specs.Split.{has, paramsOf, firstPosition, parts, procnone, token, own, oldAtoms, required}
 use Rattle.tokens.specs.Split.{lone, laterHere, pars, splitSchema}
 use Rattle.words.proofs.Lists.{In, in-getD, filter-in, upTo-in, length-upTo, filter-all, filter-none, map-keeps}
-use Rattle.arcs.proofs.OrderTaken.{part-small}
+use Rattle.task.proofs.SchemaWords.{part-small}
 use Rattle.tokens.proofs.Places.{atom-has}
 use Rattle.tokens.proofs.RoleAtoms.{renumber, atomsHere, parAtom, here-atom}
 use Rattle.tokens.proofs.PartRoles.{PartOf, facts}

@@ -12,10 +12,9 @@ use borrow.Author.Tests.{eq-eqb, ne-eqb, ltb-true, lt-ltb, le-ltb}
 use Rattle.words.specs.Lists.{any, filter, upTo, upFrom}
 use Rattle.task.specs.Task.{Schema, Task, schemaFits}
 use Rattle.task.specs.Run.{schemaAt}
-use Rattle.words.proofs.Lists.{bool-ext, and-left, any-in, in-any, in-upFrom, upFrom-in, upFrom-last, filter-same}
+use Rattle.words.proofs.Lists.{bool-ext, and-left, any-in, in-any, in-upFrom, upFrom-in, filter-same}
 use Rattle.task.proofs.States.{schemaFits-fits}
 use Rattle.words.specs.Sets.{member, members}
-use Rattle.arcs.proofs.ArcSets.{any-more}
 use Rattle.tokens.specs.Split.{has, paramsOf, firstPosition, lastPosition, own, firstHere, lastHere, laterHere}
 use Rattle.tokens.specs.Code.{ParsHere}
 use Rattle.tokens.specs.declared.pars.Pars.{Pars}
@@ -23,20 +22,6 @@ use Rattle.tokens.proofs.Places.{At, at-first, at-last, first-at, last-
 use Rattle.words.proofs.Sums.{eqb-turn, filter-filter}
 use Rattle.words.proofs.SetMembers.{filter-below}
 use Rattle.tokens.specs.Kept.{keptOwn, ParamsKept}
-
--- ---- positions, one after another
-pub between-none : (test : ℕ → Bool) (from : ℕ) → any test (upFrom from (from - from)) ≡ false
-unfolding any upFrom
-between-none test from = ap (λ (n : ℕ). any test (upFrom from n)) (let z : from - from ≡ 0 = omega arith in z)
-
-pub between-more : (test : ℕ → Bool) (from j : ℕ) → from ≤ j →
-    any test (upFrom from (j + 1 - from)) ≡ any test (upFrom from (j - from)) || test j
-between-more test from j l =
-    let e : j + 1 - from ≡ suc (j - from) = omega arith in
-    let q : from + (j - from) ≡ j = omega arith in
-    ap (λ (n : ℕ). any test (upFrom from n)) e ∙ ap (any test) (upFrom-last from (j - from)) ∙
-    any-more test (upFrom from (j - from)) (from + (j - from)) ∙
-    ap (λ (i : ℕ). any test (upFrom from (j - from)) || test i) q
 
 -- ---- a parameter that the part at position j has
 module _ (s : Schema) (o : List ℕ) (x j : ℕ) where

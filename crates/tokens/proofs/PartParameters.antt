@@ -1,14 +1,12 @@
--- How the parameters that are found of a part grow, an argument and then an atom at a time, and where a schema's atoms
--- end. Parameters are tests over lists that grow at their end.
+-- How the parameters that are found of a part grow, an atom at a time, and where a schema's atoms end. Parameters are tests over lists that grow at their end.
 use Prim.Native.Nat.{ℕ, suc, _+_, _-_, _≤_, _<_}
 use mathlib.Core.Path.{_≡_, refl, sym, _∙_, ap, subst}
 use mathlib.Core.Bool.{Bool, true, false, _&&_, _||_}
 use mathlib.Core.List.{List}
 use native.Mathlib.Omega.{arith}
 use native.Mathlib.Decide.{decLt}
-use native.Mathlib.Numerals.{add-one}
-use lib.ListN.{length, getD, set, take, replicate}
-use lib.Seq.{take-suc, take-length, getD-set-same, getD-set-other}
+use lib.ListN.{length, getD, set, replicate}
+use lib.Seq.{getD-set-same, getD-set-other}
 use lib.Dec.{eqb}
 use borrow.Author.Tests.{eqb-true, eqb-false, eq-eqb, ne-eqb}
 use Rattle.words.specs.Lists.{any, upFrom}
@@ -20,46 +18,12 @@ use Rattle.task.proofs.States.{names-in}
 use Rattle.task.proofs.TablesByIndex.{table-frame, schemas-word, start-suc, schema-of-atom, atom-lies}
 use Rattle.words.specs.Sets.{member}
 use Rattle.arcs.specs.Code.{IsStretch, atomsIn}
-use Rattle.words.proofs.Ranges.{or-false}
-use Rattle.arcs.proofs.ArcSets.{or-assoc, any-more}
+use Rattle.words.proofs.Ranges.{or-false, any-last}
 use Rattle.words.proofs.BitSets.{member-zero}
 use Rattle.arcs.proofs.Stretches.{zeros-at, stretch-atom, atoms-none, atoms-more}
-use Rattle.words.proofs.Sums.{eqb-turn}
 use Rattle.tokens.proofs.AtomWords.{argument-small}
 use Rattle.task.specs.Turns.{firstAtom}
 use Rattle.task.specs.Limits.{mostParameters, mostParts}
-
--- ---- an atom's arguments
--- x is in the set, or among the first k arguments
-abbrev pub namedIn : ℕ → List ℕ → ℕ → ℕ → Bool
-namedIn set args k x = member set x || any (λ y. eqb x y) (take k args)
-
-pub named-none : (set : ℕ) (args : List ℕ) (x : ℕ) → member set x ≡ namedIn set args 0 x
-unfolding any
-named-none set args x = sym (or-false (member set x))
-
-pub named-more : (set named r : ℕ) (args : List ℕ) (k y : ℕ) → k < length args → y ≡ getD args k 0 →
-    ((x : ℕ) → member named x ≡ namedIn set args k x) → ((x : ℕ) → member r x ≡ member named x || eqb y x) →
-    (x : ℕ) → member r x ≡ namedIn set args (k + 1) x
-named-more set named r args k y l e h g x =
-    g x ∙ ap (λ (b : Bool). b || eqb y x) (h x) ∙
-    or-assoc (member set x) (any (λ z. eqb x z) (take k args)) (eqb y x) ∙
-    ap (λ (b : Bool). member set x || b) (sym grown)
-  where
-    grown : any (λ z. eqb x z) (take (k + 1) args) ≡ any (λ z. eqb x z) (take k args) || eqb y x
-    grown =
-        ap (λ (n : ℕ). any (λ z. eqb x z) (take n args)) (add-one k) ∙
-        ap (any (λ z. eqb x z)) (take-suc args k 0 l) ∙
-        any-more (λ z. eqb x z) (take k args) (getD args k 0) ∙
-        ap (λ (b : Bool). any (λ z. eqb x z) (take k args) || b)
-        (eqb-turn x (getD args k 0) ∙ ap (λ (z : ℕ). eqb z x) (sym e))
-
-pub named-all : (set : ℕ) (a : Atom) (n x : ℕ) → n ≡ length (a .args) →
-    namedIn set (a .args) n x ≡ member set x || names x a
-unfolding names
-named-all set a n x e =
-    ap (λ (xs : List ℕ). member set x || any (λ y. eqb x y) xs)
-    (ap (λ (k : ℕ). take k (a .args)) e ∙ take-length (a .args))
 
 -- ---- a part's atoms
 -- whether an atom in part p among these names x
@@ -76,7 +40,7 @@ module _ (w : List ℕ) (from p : ℕ) where
       inPart p x (atomsIn w from i) || (eqb p (atomIn w i .part) && names x (atomIn w i))
   grown i x l =
       ap (inPart p x) (atoms-more w from i l) ∙
-      any-more (λ a. eqb p (a .part) && names x a) (atomsIn w from i) (atomIn w i)
+      any-last (λ a. eqb p (a .part) && names x a) (atomsIn w from i) (atomIn w i)
 
   -- an atom in the part
   pub part-more : (named r i q : ℕ) → from ≤ i → q ≡ atomIn w i .part → q ≡ p →

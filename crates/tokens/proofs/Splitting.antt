@@ -21,7 +21,7 @@ use Rattle.task.proofs.TablesByIndex.{table-frame, table-long, arities-word, sc
 use Rattle.words.specs.Sets.{member}
 use Rattle.arcs.proofs.OrderTaken.{orderOf-laws}
 use Rattle.tokens.specs.Split.{parts, laterParts, parCount, procnone, doToken, parToken, orders, splitSchema}
-use Rattle.tokens.specs.Split.{splitTask}
+use Rattle.tokens.specs.Split.{splitTask, firstOf}
 use Rattle.tokens.specs.Writing.{PlaceOf, partWords, TokensOf}
 use Rattle.tokens.specs.declared.part_atoms.PartPlace.{PartPlace}
 use Rattle.tokens.proofs.Accepted.{Ordered, later-step, later-mono, tokenAt, split-within}
@@ -30,7 +30,7 @@ use Rattle.tokens.proofs.WellSplit.{part-of, limits-only}
 use Rattle.tokens.proofs.PartSplit.{part-words}
 use Rattle.tokens.proofs.SchemaRuns.{schemasUpTo, all-fewer}
 use Rattle.task.specs.Limits.{mostSchemas, mostPredicates, mostParts, mostParameters}
-use Rattle.tokens.specs.Kept.{keptStart, keptEnd, keptFirst, keptPart, keptOwn, partsBefore, SchemaKept}
+use Rattle.tokens.specs.Kept.{keptStart, keptEnd, keptFirst, keptPart, keptOwn, SchemaKept}
 use Rattle.tokens.specs.Code.{AcceptedKept, partSchemas}
 use Rattle.tokens.specs.declared.measure.Sizes.{Sizes}
 use Rattle.tokens.specs.declared.part_atoms.PartTokens.{PartTokens}
@@ -147,8 +147,8 @@ module _ {w : List ℕ} {sizes : Sizes} {kept : List ℕ} (S : AcceptedKept w si
 
   -- ---- the parts of the schemas before one
   -- each schema before has one part that is no later one
-  later-before : (s : ℕ) → s ≤ length (t .schemas) → partsBefore t s ≡ laterParts (take s (t .schemas)) + s
-  unfolding partsBefore laterParts sum upTo upFrom
+  later-before : (s : ℕ) → s ≤ length (t .schemas) → firstOf t s ≡ laterParts (take s (t .schemas)) + s
+  unfolding firstOf laterParts sum upTo upFrom
   later-before zero l = refl
   later-before (suc s) l =
       omega (arith, before-step t s, later-more s l, some-part s l, later-before s (omega arith))
@@ -158,7 +158,7 @@ module _ {w : List ℕ} {sizes : Sizes} {kept : List ℕ} (S : AcceptedKept w si
 
   -- they are the split's schemas before its first part
   pub kept-number : (s : ℕ) → s < length (t .schemas) → keptFirst kept s ≡ length (schemasUpTo (partSchemas t) s)
-  unfolding partsBefore
+  unfolding firstOf
   kept-number s l =
       S .parts .first s (omega arith) ∙
       sym (length-concatMap (partSchemas t) (upTo s) ∙

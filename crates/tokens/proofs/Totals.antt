@@ -17,7 +17,8 @@ use Rattle.tokens.specs.Split.{has, paramsOf, positions, firstPosition, 
 use Rattle.tokens.specs.Split.{firstHere, lastHere, laterHere, orders, splitTask}
 use Rattle.words.proofs.Lists.{In, here, there, in-eq, in-upTo, upTo-in, length-upTo, filter-all, filter-none}
 use Rattle.words.proofs.Ascending.{Once, once-cons, once-upFrom, once-filter}
-use Rattle.arcs.proofs.OrderTaken.{OrderOf, orderOf-laws, part-small}
+use Rattle.task.proofs.SchemaWords.{part-small}
+use Rattle.arcs.proofs.OrderTaken.{OrderOf, orderOf-laws}
 use Rattle.tokens.proofs.Places.{last-in, first-least, last-most}
 use Rattle.words.proofs.Sums.{one, total, total-same, total-add, total-one, length-filter, filter-filter, exchange}
 use Rattle.words.proofs.Sums.{by-place, once-apart, eqb-turn, pick-one, reorder}

@@ -3,10 +3,9 @@
 use Prim.Native.Nat.{ℕ, _+_, _*_, _≤_, _<_}
 use mathlib.Core.Path.{_≡_}
 use mathlib.Core.Bool.{true}
-use mathlib.Core.List.{List, map}
+use mathlib.Core.List.{List}
 use mathlib.Core.Option.{some}
 use lib.ListN.{length, getD, set}
-use Rattle.words.specs.Lists.{sum, upTo}
 use Rattle.task.specs.Limits.{mostSchemas, mostParts}
 use Rattle.task.specs.Task.{Task}
 use Rattle.task.specs.Run.{schemaAt}
@@ -14,7 +13,7 @@ use Rattle.task.specs.Table.{taskOf, isTable}
 use Rattle.task.specs.Turns.{firstAtom}
 use Rattle.arcs.specs.Order.{orderOf}
 use Rattle.words.specs.Sets.{member}
-use Rattle.tokens.specs.Split.{has, orders}
+use Rattle.tokens.specs.Split.{has, orders, firstOf}
 
 -- ---- the words of a row
 -- where in a row each thing stands: the index of the schema's first atom, the split's number of its first part, how
@@ -70,16 +69,11 @@ abbrev pub keptOwn : List ℕ → ℕ → ℕ → ℕ
 keptOwn kept s j = field kept s (ownPlace + j)
 
 -- ---- what the words say
--- how many parts the schemas before s have together
-unfoldable pub partsBefore : Task → ℕ → ℕ
-unfolding sum upTo orders
-partsBefore t s = sum (map (λ q. length (orders t q)) (upTo s))
-
 -- the first n schemas of a task are kept
 pub record PartsKept (t : Task) (n : ℕ) (kept : List ℕ) : Type 0 where
   pub long : length kept ≡ keptWords
   pub start : (s : ℕ) → s ≤ n → keptStart kept s ≡ firstAtom t s
-  pub first : (s : ℕ) → s ≤ n → keptFirst kept s ≡ partsBefore t s
+  pub first : (s : ℕ) → s ≤ n → keptFirst kept s ≡ firstOf t s
   pub taken : (s : ℕ) → s < n → orderOf (schemaAt t s) ≡ some (orders t s)
   pub count : (s : ℕ) → s < n → keptCount kept s ≡ length (orders t s)
   pub part : (s j : ℕ) → s < n → j < length (orders t s) → keptPart kept s j ≡ getD (orders t s) j 0

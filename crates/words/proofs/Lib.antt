@@ -4,8 +4,8 @@ pub mod Ranges
 pub mod Ascending
 pub mod Sums
 pub mod Words
-pub mod Searches
-pub mod Comparing
 pub mod Puts
 pub mod BitSets
 pub mod SetMembers
+pub mod Loops
+pub mod Comparing

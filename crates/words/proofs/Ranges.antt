@@ -9,7 +9,7 @@ use native.Mathlib.Numerals.{add-one}
 use lib.ListN.{getD}
 use Rattle.words.specs.Lists.{all, any, every, upTo, upFrom}
 use Rattle.words.proofs.Lists.{and-left, and-right, and-both, both-ft, bool-ext, false-if, every-at, Met}
-use Rattle.words.proofs.Lists.{met-none, met-more, all-in, in-all, any-in, in-upFrom, upFrom-in, in-upTo}
+use Rattle.words.proofs.Lists.{met-none, met-more, all-in, in-all, in-upFrom, upFrom-in, in-upTo}
 use Rattle.words.proofs.Lists.{upTo-in}
 
 pub or-false : (b : Bool) → b || false ≡ b
@@ -19,6 +19,12 @@ or-false false = refl
 pub or-assoc : (a b c : Bool) → (a || b) || c ≡ a || (b || c)
 or-assoc true b c = refl
 or-assoc false b c = refl
+
+-- one element more, at the end
+pub any-last : {A : Type 0} (p : A → Bool) (xs : List A) (x : A) → any p (xs ++ (x ∷ [])) ≡ any p xs || p x
+unfolding any
+any-last p [] x = or-false (p x)
+any-last p (y ∷ ys) x = ap (λ (b : Bool). p y || b) (any-last p ys x) ∙ sym (or-assoc (p y) (any p ys) (p x))
 
 pub and-more : {t rest whole : Bool} → whole ≡ t && rest → t ≡ true → whole ≡ rest
 and-more {rest = rest} h e = h ∙ ap (λ (b : Bool). b && rest) e
@@ -45,6 +51,7 @@ pub range-done : (i e : ℕ) → e ≤ i → upFrom i (e - i) ≡ []
 unfolding upFrom
 range-done i e l = let q : e - i ≡ 0 = omega arith in rw q refl
 
+-- ---- what is met or found so far joins what is left
 module _ (p : ℕ → Bool) (i e : ℕ) where
   abbrev allLeft : ℕ → Bool
   allLeft k = all p (upFrom k (e - k))
@@ -52,56 +59,22 @@ module _ (p : ℕ → Bool) (i e : ℕ) where
   abbrev anyLeft : ℕ → Bool
   anyLeft k = any p (upFrom k (e - k))
 
-  pub all-step : i < e → allLeft i ≡ p i && allLeft (i + 1)
-  unfolding all
-  all-step l = ap (all p) (range-step i e l)
-
-  pub all-more : {whole : Bool} → whole ≡ allLeft i → i < e → p i ≡ true → whole ≡ allLeft (i + 1)
-  all-more h l t = h ∙ (all-step l ∙ ap (λ (b : Bool). b && allLeft (i + 1)) t)
-
-  pub all-fails : {whole : Bool} → whole ≡ allLeft i → i < e → p i ≡ false → false ≡ whole
-  all-fails h l t = sym (h ∙ (all-step l ∙ ap (λ (b : Bool). b && allLeft (i + 1)) t))
-
-  pub all-ends : {whole : Bool} → whole ≡ allLeft i → e ≤ i → true ≡ whole
-  unfolding all
-  all-ends h l = sym (h ∙ ap (all p) (range-done i e l))
-
-  -- what is met so far joins what is left
   pub all-joins : {whole m′ : Bool} (m : Bool) → whole ≡ m && allLeft i → i < e → m′ ≡ m && p i → whole ≡ m′ &&
       allLeft (i + 1)
+  unfolding all
   all-joins m h l t =
-      h ∙ (ap (λ (b : Bool). m && b) (all-step l) ∙
+      h ∙ (ap (λ (is : List ℕ). m && all p is) (range-step i e l) ∙
       (sym (and-assoc m (p i) (allLeft (i + 1))) ∙ ap (λ (b : Bool). b && allLeft (i + 1)) (sym t)))
 
   pub all-joined : {whole : Bool} (m : Bool) → whole ≡ m && allLeft i → e ≤ i → m ≡ whole
   unfolding all
   all-joined m h l = sym (h ∙ (ap (λ (is : List ℕ). m && all p is) (range-done i e l) ∙ and-true m))
 
-  pub any-step : i < e → anyLeft i ≡ p i || anyLeft (i + 1)
-  unfolding any
-  any-step l = ap (any p) (range-step i e l)
-
-  pub any-more : {whole : Bool} → whole ≡ anyLeft i → i < e → p i ≡ false → whole ≡ anyLeft (i + 1)
-  any-more h l t = h ∙ (any-step l ∙ ap (λ (b : Bool). b || anyLeft (i + 1)) t)
-
-  pub any-found : {whole : Bool} → whole ≡ anyLeft i → i < e → p i ≡ true → true ≡ whole
-  any-found h l t = sym (h ∙ (any-step l ∙ ap (λ (b : Bool). b || anyLeft (i + 1)) t))
-
-  pub any-ends : {whole : Bool} → whole ≡ anyLeft i → e ≤ i → false ≡ whole
-  unfolding any
-  any-ends h l = sym (h ∙ ap (any p) (range-done i e l))
-
-  pub none-left : ((k : ℕ) → i ≤ k → k < e → p k ≡ false) → anyLeft i ≡ false
-  none-left h = false-if (anyLeft i) (λ t.
-      let (k, m, y) = any-in p (upFrom i (e - i)) t in
-      let (a, b) = upFrom-in i (e - i) k m in
-      both-ft y (h k a (omega arith)))
-
-  -- what is found so far joins what is left
   pub any-joins : {whole m′ : Bool} (m : Bool) → whole ≡ m || anyLeft i → i < e → m′ ≡ m || p i → whole ≡ m′ ||
       anyLeft (i + 1)
+  unfolding any
   any-joins m h l t =
-      h ∙ (ap (λ (b : Bool). m || b) (any-step l) ∙
+      h ∙ (ap (λ (is : List ℕ). m || any p is) (range-step i e l) ∙
       (sym (or-assoc m (p i) (anyLeft (i + 1))) ∙ ap (λ (b : Bool). b || anyLeft (i + 1)) (sym t)))
 
   pub any-joined : {whole : Bool} (m : Bool) → whole ≡ m || anyLeft i → e ≤ i → m ≡ whole

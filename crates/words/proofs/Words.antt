@@ -12,10 +12,8 @@ use lib.Dec.{eqb}
 use borrow.Author.Tests.{eq-eqb}
 use Rattle.words.specs.Lists.{all, concatMap, upFrom, eqList, padded}
 use Rattle.words.specs.Words.{wordsAt}
-use Rattle.words.proofs.Lists.{In, here, there, in-getD, getD-in, all-in, in-all, false-if, both-ft, map-append}
-use Rattle.words.proofs.Lists.{getD-map}
-use Rattle.words.proofs.Lists.{length-upFrom, getD-upFrom}
-use Rattle.words.proofs.Lists.{upFrom-append, tabulate}
+use Rattle.words.proofs.Lists.{In, here, there, map-append, getD-map, in-getD, all-in}
+use Rattle.words.proofs.Lists.{length-upFrom, getD-upFrom, upFrom-append, tabulate}
 use native.Mathlib.Decide.{decLt}
 
 -- ---- words that stand from a place on
@@ -90,19 +88,18 @@ wordsAt-take w n h =
 pub wordsAt-is : (w : List ℕ) (i n : ℕ) (xs : List ℕ) → length xs ≡ n → At w i xs → wordsAt w i n ≡ xs
 wordsAt-is w i n xs e h = ap (wordsAt w i) (sym e) ∙ wordsAt-at w i xs h
 
--- ---- a test of every word
-module _ (p : ℕ → Bool) (w : List ℕ) (i n : ℕ) where
-  pub all-words : ((k : ℕ) → k < n → p (getD w (i + k) 0) ≡ true) → all p (wordsAt w i n) ≡ true
-  all-words h = in-all p (wordsAt w i n) (λ x j.
-      let (k, l, e) = getD-in 0 j in
-      let m = length-wordsAt w i n in
-      let k< : k < n = omega arith in
-      ap p (sym e ∙ getD-wordsAt w i n k k<) ∙ h k k<)
+-- ---- the numbers of a list
+pub past-end : (xs : List ℕ) (k : ℕ) → length xs ≤ k → getD xs k 0 ≡ 0
+past-end [] k l = refl
+past-end (x ∷ xs) zero l = absurd (omega arith)
+past-end (x ∷ xs) (suc k) l = past-end xs k (omega arith)
 
-  pub not-all-words : (k : ℕ) → k < n → p (getD w (i + k) 0) ≡ false → all p (wordsAt w i n) ≡ false
-  not-all-words k l f = false-if (all p (wordsAt w i n)) (λ h.
-      let m = length-wordsAt w i n in
-      both-ft (ap p (sym (getD-wordsAt w i n k l)) ∙ all-in p h (in-getD (wordsAt w i n) k 0 (omega arith))) f)
+-- what a test of the first n says of each
+pub each-first : (p : ℕ → Bool) (xs : List ℕ) (n : ℕ) → n ≤ length xs → all p (take n xs) ≡ true → (k : ℕ) → k < n →
+    p (getD xs k 0) ≡ true
+each-first p xs n l h k m =
+    let e = length-take-le n xs l in
+    ap p (sym (getD-take n xs k 0 m)) ∙ all-in p h (in-getD (take n xs) k 0 (omega arith))
 
 -- ---- rows of one length: `pos k` is where row k begins
 module _ {A : Type 0} (g : A → List ℕ) (size : ℕ) (pos : ℕ → ℕ) (none : pos 0 ≡ 0)

@@ -2,7 +2,7 @@
 use crate::runs::word;
 ghost use Prim.Native.Nat.{ℕ, suc, _-_, _≤_, _<_};
 ghost use mathlib.Core.Path.{_≡_};
-ghost use mathlib.Core.Bool.{not, _&&_, _||_};
+ghost use mathlib.Core.Bool.{true, false, not, _&&_, _||_};
 ghost use mathlib.Core.List.{map};
 ghost use lib.ListN.{length, getD};
 ghost use lib.Dec.{eqb, ltb};
@@ -104,6 +104,14 @@ pub fn bound(set: u64) -> usize
         k += 1;
     }
     most
+}
+
+// Whether a set has no number from p on, so that a loop over its numbers can end there.
+pub fn none_from(set: u64, p: usize) -> bool
+    requires { ⌜ p < 64 ⌝ }
+    ensures { λ r. ⌜ (r ≡ true → (k : ℕ) → p ≤ k → member set k ≡ false) ⌝ }
+{
+    set >> p == 0
 }
 
 // Whether a set has all numbers below n.

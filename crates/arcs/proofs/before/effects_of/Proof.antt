@@ -1,12 +1,12 @@
 -- `arcs::before::effects_of` meets its contract. The invariant: the atoms before i are preconditions. The measure is
 -- the atoms left.
-use Prim.Native.Nat.{ℕ, _-_, _≤_}
+use Prim.Native.Nat.{_-_, _≤_}
 use native.Mathlib.Omega.{arith}
-use native.Mathlib.Decide.{decLt}
 use borrow.Author.Tests.{eqb-true, not-false}
-use mathlib.Core.Path.{_≡_, sym, _∙_, ap}
+use mathlib.Core.Path.{_≡_, sym, _∙_}
 use Rattle.task.specs.Task.{precondition}
 use Rattle.task.specs.Table.{atomIn}
+use Rattle.words.proofs.Loops.{run-more}
 use Rattle.arcs.specs.Code.{ArePreconditions}
 use Rattle.arcs.proofs.Stretches.{stretch-atom}
 use Rattle.arcs.proofs.before.effects_of.Statement.{statement}
@@ -41,10 +41,7 @@ loop-again c =
     let here = eqb-true (atomIn w (at .loop .i) .role) precondition found in (
       omega arith,
       omega arith,
-      λ k l m. elim (decLt k (at .loop .i)) [
-        | yes x ↦ at .loop .inv .2 k l x
-        | no x ↦ let e : k ≡ at .loop .i = omega arith in ap (λ (n : ℕ). atomIn w n .role) e ∙ here
-      ],
+      run-more (λ k. atomIn w k .role ≡ precondition) (at .loop .inv .2) here,
     )
 
 returns-2 : tie.Need-returns-2 Inv-loop μ-loop

@@ -1,19 +1,22 @@
--- `running::goal_met` meets its contract. Between the turns, whether the goal atoms left hold says whether all do; the
--- measure is how many are left.
-use Prim.Native.Nat.{_+_, _-_}
+-- `running::goal_met` meets its contract.
+-- The invariant: the whole test is what is left of it from atom k on. The measure is how many atoms are left.
+use Prim.Native.Nat.{_-_, _≤_}
 use mathlib.Core.Path.{_≡_, sym, _∙_}
 use native.Mathlib.Omega.{arith}
 use borrow.Author.Tests.{not-true, not-false}
 use Rattle.task.specs.Table.{factIn, taskOf}
-use Rattle.task.specs.Run.{holds, stateIn}
+use Rattle.task.specs.Run.{holds, stateIn, goalMet}
 use Rattle.task.proofs.GroundWords.{table-is-long}
-use Rattle.task.proofs.SpanLaws.{state-long, state-ascends, AllSo, all-start, all-turn, all-left, all-ended}
-use Rattle.task.proofs.GoalLaws.{goal-known, goal-so}
+use Rattle.words.proofs.Loops.{AllLeft, all-more, all-fails, all-ends}
+use Rattle.task.proofs.SpanLaws.{state-long, state-ascends}
+use Rattle.task.proofs.GoalLaws.{goal-known, goal-start}
 use Rattle.task.proofs.running.goal_met.Statement.{statement}
 use Rattle.task.proofs.running.goal_met.Tie as tie
 
 abbrev Inv-loop : tie.InvT-loop
-Inv-loop table state n from to k₀ k = AllSo (factIn table) (holds (stateIn (taskOf table) state n)) from to k
+Inv-loop table state n from to k₀ k = (from ≤ k) ×
+    AllLeft (λ j. holds (stateIn (taskOf table) state n) (factIn table j)) to
+    (goalMet (taskOf table) (stateIn (taskOf table) state n)) k
 
 abbrev μ-loop : tie.MeasureT-loop
 μ-loop table state n from to k₀ k = to - k
@@ -40,7 +43,11 @@ add-to : tie.Need-add-to Inv-loop μ-loop
 add-to c = omega arith
 
 loop-holds : tie.Need-loop-holds Inv-loop μ-loop
-loop-holds c = all-start _ _ _ _ (omega arith)
+loop-holds c =
+    let e₃ = c .before .before .word .ensures in
+    let e₄ = c .before .word2 .ensures in
+    let e₅ = c .word3 .ensures in
+    (omega arith, goal-start _ _ _ _ (omega arith) (omega arith))
 
 fact-number-requires : tie.Need-fact-number-requires Inv-loop μ-loop
 fact-number-requires c κs =
@@ -76,7 +83,7 @@ held-is c =
     let e₃ = at-word3 .before .before .word .ensures in
     let e₄ = at-word3 .before .word2 .ensures in
     let e₅ = at-word3 .word3 .ensures in
-    let l = at-loop .loop .inv .from-first in
+    let l = at-loop .loop .inv .0 in
     let m = c .before .before .loop-test .taken in
     c .held .ensures _ _
     (goal-known _ _ _ (at-loop .loop .k) _ (start c .pre .0) (start c .pre .1) (omega arith) (omega arith)
@@ -84,14 +91,9 @@ held-is c =
 
 returns : tie.Need-returns Inv-loop μ-loop
 returns c =
-    let at-loop = c .before .before .before .before in
-    let at-word3 = at-loop .before in
-    let e₃ = at-word3 .before .before .word .ensures in
-    let e₄ = at-word3 .before .word2 .ensures in
-    let e₅ = at-word3 .word3 .ensures in
-    goal-so _ _ (at-word3 .before .before .word .result + at-word3 .before .word2 .result) _ (omega arith) (omega arith)
-    (all-left _ _ _ _ _ (c .before .before .before .loop-test .taken) (at-loop .loop .inv)
-    (sym (held-is (c .before)) ∙ not-true _ (c .if1 .taken)))
+    let turn = c .before .before .before in
+    all-fails (turn .before .loop .inv .1) (turn .loop-test .taken)
+    (sym (held-is (c .before)) ∙ not-true _ (c .if1 .taken))
 
 add-k : tie.Need-add-k Inv-loop μ-loop
 add-k c = omega arith
@@ -101,20 +103,14 @@ loop-less c = omega arith
 
 loop-again : tie.Need-loop-again Inv-loop μ-loop
 loop-again c =
-    let at-loop-test = c .before .before .before in
-    all-turn _ _ _ _ _ (at-loop-test .loop-test .taken) (at-loop-test .before .loop .inv)
-    (sym (held-is (c .before)) ∙ not-false _ (c .if1 .left))
+    let turn = c .before .before .before in (
+      omega arith,
+      all-more (turn .before .loop .inv .1) (turn .loop-test .taken)
+          (sym (held-is (c .before)) ∙ not-false _ (c .if1 .left)),
+    )
 
 returns-2 : tie.Need-returns-2 Inv-loop μ-loop
-returns-2 c =
-    let at-word3 = c .before .before in
-    let at-word2 = at-word3 .before in
-    let at-word = at-word2 .before in
-    let e₃ = at-word .word .ensures in
-    let e₄ = at-word2 .word2 .ensures in
-    let e₅ = at-word3 .word3 .ensures in
-    goal-so _ _ (at-word .word .result + at-word2 .word2 .result) _ (omega arith) (omega arith)
-    (all-ended _ _ _ _ _ (c .loop-test .left) (c .before .loop .inv))
+returns-2 c = all-ends (c .before .loop .inv .1) (c .loop-test .left)
 
 pub goal-met-spec : {M : Type 1} → statement M
 goal-met-spec =

@@ -1,42 +1,35 @@
--- `spans::all_hold` meets its contract. Between the turns, whether the atoms left hold says whether all do; the measure
--- is how many are left.
-use Prim.Native.Nat.{_-_}
+-- `spans::all_hold` meets its contract.
+-- The invariant: the whole test is what is left of it from atom k on. The measure is how many atoms are left.
+use Prim.Native.Nat.{_-_, _≤_}
 use mathlib.Core.Path.{_≡_, sym, _∙_}
 use native.Mathlib.Omega.{arith}
 use borrow.Author.Tests.{not-true, not-false}
+use Rattle.words.specs.Lists.{all}
 use Rattle.task.specs.Table.{taskOf}
 use Rattle.task.specs.Run.{holds, stateIn}
 use Rattle.task.specs.Spans.{groundAt, groundSpan}
+use Rattle.words.proofs.Loops.{AllLeft, all-mapped, all-more, all-fails, all-ends}
 use Rattle.task.proofs.GroundWords.{span-atom}
-use Rattle.task.proofs.SpanLaws.{
-  state-long,
-  state-ascends,
-  atom-known,
-  AllSo,
-  all-start,
-  all-turn,
-  all-left,
-  all-ended,
-}
+use Rattle.task.proofs.SpanLaws.{state-long, state-ascends, atom-known}
 use Rattle.task.proofs.spans.all_hold.Statement.{statement}
 use Rattle.task.proofs.spans.all_hold.Tie as tie
 
 abbrev Inv-loop : tie.InvT-loop
 Inv-loop table from to steps i state n k₀ k =
-    AllSo (groundAt table steps i) (holds (stateIn (taskOf table) state n)) from to k
+    (from ≤ k) × AllLeft (λ j. holds (stateIn (taskOf table) state n) (groundAt table steps i j)) to
+    (all (holds (stateIn (taskOf table) state n)) (groundSpan table steps i from (to - from))) k
 
 abbrev μ-loop : tie.MeasureT-loop
 μ-loop table from to steps i state n k₀ k = to - k
 
 loop-holds : tie.Need-loop-holds Inv-loop μ-loop
-loop-holds c =
-    let start = c .before .before .before in
-    all-start _ _ _ _ (start .pre .0 .ordered)
+unfolding groundSpan
+loop-holds c = (omega arith, all-mapped _ _ _ _)
 
 ground-requires : tie.Need-ground-requires Inv-loop μ-loop
 ground-requires c κs =
     let start = c .before .before .before .before .before in
-    span-atom _ _ _ _ _ (start .pre .0) _ (c .before .loop .inv .from-first) (c .loop-test .taken)
+    span-atom _ _ _ _ _ (start .pre .0) _ (c .before .loop .inv .0) (c .loop-test .taken)
 
 held-requires : tie.Need-held-requires Inv-loop μ-loop
 held-requires c κs =
@@ -59,14 +52,13 @@ held-is c =
     let at-loop = c .before .before .before in
     c .held .ensures _ _
     (atom-known
-    (span-atom _ _ _ _ _ (start c .pre .0) _ (at-loop .loop .inv .from-first) (c .before .before .loop-test .taken))
+    (span-atom _ _ _ _ _ (start c .pre .0) _ (at-loop .loop .inv .0) (c .before .before .loop-test .taken))
     (start c .pre .1) (c .before .ground .ensures))
 
 returns : tie.Need-returns Inv-loop μ-loop
-unfolding groundSpan
 returns c =
-    let at-loop-test = c .before .before .before in
-    all-left _ _ _ _ _ (at-loop-test .loop-test .taken) (at-loop-test .before .loop .inv)
+    let turn = c .before .before .before in
+    all-fails (turn .before .loop .inv .1) (turn .loop-test .taken)
     (sym (held-is (c .before)) ∙ not-true _ (c .if1 .taken))
 
 add-k : tie.Need-add-k Inv-loop μ-loop
@@ -77,13 +69,14 @@ loop-less c = omega arith
 
 loop-again : tie.Need-loop-again Inv-loop μ-loop
 loop-again c =
-    let at-loop-test = c .before .before .before in
-    all-turn _ _ _ _ _ (at-loop-test .loop-test .taken) (at-loop-test .before .loop .inv)
-    (sym (held-is (c .before)) ∙ not-false _ (c .if1 .left))
+    let turn = c .before .before .before in (
+      omega arith,
+      all-more (turn .before .loop .inv .1) (turn .loop-test .taken)
+          (sym (held-is (c .before)) ∙ not-false _ (c .if1 .left)),
+    )
 
 returns-2 : tie.Need-returns-2 Inv-loop μ-loop
-unfolding groundSpan
-returns-2 c = all-ended _ _ _ _ _ (c .loop-test .left) (c .before .loop .inv)
+returns-2 c = all-ends (c .before .loop .inv .1) (c .loop-test .left)
 
 pub all-hold-spec : {M : Type 1} → statement M
 all-hold-spec =

@@ -1,53 +1,23 @@
--- `task::state::record_less` meets its contract. The invariant of its loop: the comparison of the two records is that
--- of what is left of them from k on. Words that are equal leave it so, and words that differ decide it.
-use Prim.Native.Nat.{ℕ, _+_, _-_, _≤_, _<_}
-use mathlib.Core.Path.{_≡_, refl, sym, _∙_}
-use mathlib.Core.List.{List}
+-- `task::state::record_less` meets its contract.
+-- The invariant: the whole comparison is what is left of it from word k on. Words that are equal leave it so, and words
+-- that differ decide it. The measure is how many words are left.
+use Prim.Native.Nat.{_-_}
+use mathlib.Core.Path.{sym, _∙_}
 use native.Mathlib.Omega.{arith}
-use lib.ListN.{length, getD, drop}
-use Rattle.words.specs.Lists.{lessList}
-use Rattle.words.specs.Words.{wordsAt}
-use Rattle.words.proofs.Words.{length-wordsAt, getD-wordsAt}
-use Rattle.words.proofs.Comparing.{less-here, more-here, less-rest, less-end}
+use borrow.Author.Tests.{lt-ltb, le-ltb}
+use Rattle.task.specs.Limits.{recordSize}
+use Rattle.words.proofs.Comparing.{LessLeft, less-start, less-more, less-decides, less-ends}
 use Rattle.task.proofs.state.record_less.Statement.{statement}
 use Rattle.task.proofs.state.record_less.Tie as tie
 
 abbrev Inv-loop : tie.InvT-loop
-Inv-loop state a b k₀ k = (k ≤ 5) ×
-    (lessList (wordsAt state a 5) (wordsAt state b 5) ≡
-    lessList (drop k (wordsAt state a 5)) (drop k (wordsAt state b 5)))
+Inv-loop state a b k₀ k = LessLeft state a b recordSize k
 
 abbrev μ-loop : tie.MeasureT-loop
-μ-loop state a b k₀ k = 5 - k
-
--- the two records, and what stands in each at k
-abbrev A : tie.Start Inv-loop μ-loop → List ℕ
-A c = wordsAt (c .args .state .now) (c .args .a) 5
-
-abbrev B : tie.Start Inv-loop μ-loop → List ℕ
-B c = wordsAt (c .args .state .now) (c .args .b) 5
-
-record Compared (w : List ℕ) (a b k : ℕ) : Type 0 where
-  in-a : k < length (wordsAt w a 5)
-  in-b : k < length (wordsAt w b 5)
-  at-a : getD (wordsAt w a 5) k 0 ≡ getD w (a + k) 0
-  at-b : getD (wordsAt w b 5) k 0 ≡ getD w (b + k) 0
-
-compared : (c : tie.In-loop Inv-loop μ-loop) →
-    Compared (c .before .before .args .state .now) (c .before .before .args .a) (c .before .before .args .b)
-    (c .before .loop .k)
-compared c =
-    let w = c .before .before .args .state .now in
-    let l = c .loop-test .taken in
-    record {
-      in-a = let n = length-wordsAt w (c .before .before .args .a) 5 in omega arith;
-      in-b = let n = length-wordsAt w (c .before .before .args .b) 5 in omega arith;
-      at-a = getD-wordsAt w (c .before .before .args .a) 5 (c .before .loop .k) l;
-      at-b = getD-wordsAt w (c .before .before .args .b) 5 (c .before .loop .k) l;
-    }
+μ-loop state a b k₀ k = recordSize - k
 
 loop-holds : tie.Need-loop-holds Inv-loop μ-loop
-loop-holds c = (omega arith, refl)
+loop-holds c = less-start
 
 add-x : tie.Need-add-x Inv-loop μ-loop
 add-x c = omega arith
@@ -70,18 +40,13 @@ shared-slice-read-y c = omega arith
 returns : tie.Need-returns Inv-loop μ-loop
 returns c =
     let turn = c .before .before .before in
-    let h = compared turn in
-    sym (turn .before .loop .inv .1 ∙
-    less-here (A (turn .before .before)) (B (turn .before .before)) (turn .before .loop .k) (h .in-a) (h .in-b)
-    (omega arith))
+    sym (lt-ltb _ _ (c .if1 .taken)) ∙ less-decides (turn .before .loop .inv) (turn .loop-test .taken) (λ e. omega arith)
 
 returns-2 : tie.Need-returns-2 Inv-loop μ-loop
 returns-2 c =
     let turn = c .before .before .before .before in
-    let h = compared turn in
-    sym (turn .before .loop .inv .1 ∙
-    more-here (A (turn .before .before)) (B (turn .before .before)) (turn .before .loop .k) (h .in-a) (h .in-b)
-    (omega arith))
+    sym (le-ltb _ _ (c .before .if1 .left)) ∙ less-decides (turn .before .loop .inv) (turn .loop-test .taken) (λ e.
+    omega arith)
 
 add-k : tie.Need-add-k Inv-loop μ-loop
 add-k c = omega arith
@@ -92,19 +57,10 @@ loop-less c = omega arith
 loop-again : tie.Need-loop-again Inv-loop μ-loop
 loop-again c =
     let turn = c .before .before .before .before in
-    let h = compared turn in (
-      omega arith,
-      turn .before .loop .inv .1 ∙
-          less-rest (A (turn .before .before)) (B (turn .before .before)) (turn .before .loop .k) (h .in-a) (h .in-b)
-          (omega arith),
-    )
+    less-more (turn .before .loop .inv) (turn .loop-test .taken) (omega arith)
 
 returns-3 : tie.Need-returns-3 Inv-loop μ-loop
-returns-3 c =
-    let start = c .before .before in
-    let m = length-wordsAt (start .args .state .now) (start .args .a) 5 in
-    let n = length-wordsAt (start .args .state .now) (start .args .b) 5 in
-    sym (c .before .loop .inv .1 ∙ less-end (A start) (B start) (c .before .loop .k) (omega arith) (omega arith))
+returns-3 c = less-ends (c .before .loop .inv) (c .loop-test .left)
 
 pub record-less-spec : {M : Type 1} → statement M
 record-less-spec =

@@ -1,22 +1,20 @@
 -- `task::table::numbers_fit` meets its contract.
 -- The invariant: the whole test is what is left of it from i on, and `before` compares with atom i's number as that of
 -- the atom before it does. The measure is how many atoms are left.
-use Prim.Native.Nat.{ℕ, _-_}
-use mathlib.Core.Path.{_≡_, ap}
+use Prim.Native.Nat.{_-_}
+use mathlib.Core.Path.{_≡_, sym}
 use native.Mathlib.Omega.{arith}
 use lib.Dec.{leb}
-use Rattle.words.specs.Lists.{all, upTo, upFrom}
-use Rattle.task.specs.Layout.{headIn}
 use Rattle.task.specs.Table.{schemaNumberIn}
 use Rattle.task.specs.WordTests.{numberFits, numbersFit}
-use Rattle.words.proofs.Ranges.{all-more, all-fails, all-ends}
+use Rattle.words.proofs.Loops.{AllLeft, all-up-to, all-more, all-fails, all-ends}
 use Rattle.task.proofs.AtomWords.{number-low, number-high, number-right, number-first, number-next}
 use Rattle.task.proofs.table.numbers_fit.Statement.{statement}
 use Rattle.task.proofs.table.numbers_fit.Tie as tie
 
 abbrev Inv-loop : tie.InvT-loop
 Inv-loop table schemas atoms before₀ i₀ before i =
-    (numbersFit table ≡ all (numberFits table) (upFrom i (atoms - i))) ×
+    AllLeft (numberFits table) atoms (numbersFit table) i ×
     (leb before (schemaNumberIn table i) ≡ leb (schemaNumberIn table (i - 1)) (schemaNumberIn table i))
 
 abbrev μ-loop : tie.MeasureT-loop
@@ -29,12 +27,8 @@ word-requires-2 : tie.Need-word-requires-2 Inv-loop μ-loop
 word-requires-2 c κs = let r = c .before .before .pre in omega arith
 
 loop-holds : tie.Need-loop-holds Inv-loop μ-loop
-unfolding numbersFit upTo
-loop-holds c =
-    let w = c .before .before .before .args .table .now in
-    let e = c .word2 .ensures .0 in
-    let n : headIn w .schemaAtoms ≡ c .word2 .result - 0 = omega arith in
-    (ap (λ (n : ℕ). all (numberFits w) (upFrom 0 n)) n, number-first w)
+unfolding numbersFit
+loop-holds c = (all-up-to (sym (c .word2 .ensures .0)), number-first (c .before .before .before .args .table .now))
 
 schema-number-requires : tie.Need-schema-number-requires Inv-loop μ-loop
 schema-number-requires c κs =
@@ -48,7 +42,7 @@ returns c =
     let w = at .before .before .before .before .args .table .now in
     let i = at .loop .i in
     let e = k .schema-number .ensures in
-    all-fails (numberFits w) i (at .before .word2 .result) (at .loop .inv .0) (k .before .loop-test .taken)
+    all-fails (at .loop .inv .0) (k .before .loop-test .taken)
     (number-low w i (at .loop .before) (at .loop .inv .1) (omega arith))
 
 returns-2 : tie.Need-returns-2 Inv-loop μ-loop
@@ -58,7 +52,7 @@ returns-2 c =
     let w = at .before .before .before .before .args .table .now in
     let i = at .loop .i in
     let e = k .schema-number .ensures in
-    all-fails (numberFits w) i (at .before .word2 .result) (at .loop .inv .0) (k .before .loop-test .taken)
+    all-fails (at .loop .inv .0) (k .before .loop-test .taken)
     (number-high w i (at .loop .before) (at .loop .inv .1) (omega (arith, at .before .before .word .ensures .0)))
 
 add-i : tie.Need-add-i Inv-loop μ-loop
@@ -74,17 +68,14 @@ loop-again c =
     let w = at .before .before .before .before .args .table .now in
     let i = at .loop .i in
     let e = k .schema-number .ensures in (
-      all-more (numberFits w) i (at .before .word2 .result) (at .loop .inv .0) (k .before .loop-test .taken)
+      all-more (at .loop .inv .0) (k .before .loop-test .taken)
           (number-right w i (at .loop .before) (at .loop .inv .1) (omega arith)
           (omega (arith, at .before .before .word .ensures .0))),
       number-next w i (k .schema-number .result) e,
     )
 
 returns-3 : tie.Need-returns-3 Inv-loop μ-loop
-returns-3 c =
-    let at = c .before in
-    let w = at .before .before .before .before .args .table .now in
-    all-ends (numberFits w) (at .loop .i) (at .before .word2 .result) (at .loop .inv .0) (c .loop-test .left)
+returns-3 c = all-ends (c .before .loop .inv .0) (c .loop-test .left)
 
 pub numbers-fit-spec : {M : Type 1} → statement M
 numbers-fit-spec =

@@ -1,24 +1,24 @@
--- `checks::all_below`: each of the numbers before place k is below the bound; the measure is n - k.
+-- `text::checks::all_below` meets its contract.
+-- The invariant: the whole test is what is left of it from number k on. The measure is how many are left.
 use Rattle.text.proofs.checks.all_below.Tie as tie
-use Prim.Native.Nat.{ℕ, _-_, _≤_, _<_}
-use mathlib.Core.Path.{_≡_, sym}
+use Prim.Native.Nat.{_-_}
 use native.Mathlib.Omega.{arith}
-use mathlib.Core.Bool.{true}
-use lib.ListN.{getD}
+use lib.ListN.{getD, take}
 use lib.Dec.{ltb}
 use borrow.Author.Tests.{lt-ltb, le-ltb}
-use borrow.Author.Count.{below-more}
-use Rattle.words.proofs.Searches.{all-first, not-all-first}
+use Rattle.words.specs.Lists.{all}
+use Rattle.words.proofs.Loops.{AllLeft, all-first, all-more, all-fails, all-ends}
 use Rattle.text.proofs.checks.all_below.Statement.{statement}
 
 abbrev Inv-loop : tie.InvT-loop
-Inv-loop list n bound k₀ k = (k ≤ n) × ((j : ℕ) → j < k → ltb (getD list j 0) bound ≡ true)
+Inv-loop list n bound k₀ k =
+    AllLeft (λ j. ltb (getD list j 0) bound) n (all (λ a. ltb a bound) (take n list)) k
 
 abbrev μ-loop : tie.MeasureT-loop
 μ-loop list n bound k₀ k = n - k
 
 loop-holds : tie.Need-loop-holds Inv-loop μ-loop
-loop-holds c = (omega arith, λ j l. absurd (omega arith))
+loop-holds c = all-first _ _ _ (c .pre)
 
 mul-if1 : tie.Need-mul-if1 Inv-loop μ-loop
 mul-if1 c = omega arith
@@ -27,8 +27,7 @@ shared-slice-read-if1 : tie.Need-shared-slice-read-if1 Inv-loop μ-loop
 shared-slice-read-if1 c = omega arith
 
 returns : tie.Need-returns Inv-loop μ-loop
-returns c = sym (not-all-first _ _ _ (c .before .before .before .before .pre) _
-    (c .before .before .loop-test .taken) (le-ltb _ _ (c .if1 .taken)))
+returns c = search (all-fails, le-ltb)
 
 add-k : tie.Need-add-k Inv-loop μ-loop
 add-k c = omega arith
@@ -37,10 +36,10 @@ loop-less : tie.Need-loop-less Inv-loop μ-loop
 loop-less c = omega arith
 
 loop-again : tie.Need-loop-again Inv-loop μ-loop
-loop-again c = (omega arith, below-more _ _ (c .before .before .before .loop .inv .1) (lt-ltb _ _ (c .if1 .left)))
+loop-again c = search (all-more, lt-ltb)
 
 returns-2 : tie.Need-returns-2 Inv-loop μ-loop
-returns-2 c = sym (all-first _ _ _ (c .before .before .pre) (λ j l. c .before .loop .inv .1 j (omega arith)))
+returns-2 c = search all-ends
 
 pub all-below-spec : {M : Type 1} → statement M
 all-below-spec =

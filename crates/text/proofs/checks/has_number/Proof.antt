@@ -1,24 +1,24 @@
--- `checks::has_number`: none of the numbers before place k is the one that is looked for; the measure is n - k.
+-- `text::checks::has_number` meets its contract.
+-- The invariant: the whole search is what is left of it from number k on. The measure is how many are left.
 use Rattle.text.proofs.checks.has_number.Tie as tie
-use Prim.Native.Nat.{ℕ, _-_, _≤_, _<_}
-use mathlib.Core.Path.{_≡_, sym}
+use Prim.Native.Nat.{_-_}
 use native.Mathlib.Omega.{arith}
-use mathlib.Core.Bool.{false}
-use lib.ListN.{getD}
+use lib.ListN.{getD, take}
 use lib.Dec.{eqb}
 use borrow.Author.Tests.{eq-eqb, ne-eqb}
-use borrow.Author.Count.{below-more}
-use Rattle.words.proofs.Searches.{some-first, no-first}
+use Rattle.words.specs.Lists.{any}
+use Rattle.words.proofs.Loops.{AnyLeft, any-first, any-more, any-found, any-ends}
 use Rattle.text.proofs.checks.has_number.Statement.{statement}
 
 abbrev Inv-loop : tie.InvT-loop
-Inv-loop list n number k₀ k = (k ≤ n) × ((j : ℕ) → j < k → eqb number (getD list j 0) ≡ false)
+Inv-loop list n number k₀ k =
+    AnyLeft (λ j. eqb number (getD list j 0)) n (any (λ y. eqb number y) (take n list)) k
 
 abbrev μ-loop : tie.MeasureT-loop
 μ-loop list n number k₀ k = n - k
 
 loop-holds : tie.Need-loop-holds Inv-loop μ-loop
-loop-holds c = (omega arith, λ j l. absurd (omega arith))
+loop-holds c = any-first _ _ _ (c .pre)
 
 mul-if1 : tie.Need-mul-if1 Inv-loop μ-loop
 mul-if1 c = omega arith
@@ -27,8 +27,7 @@ shared-slice-read-if1 : tie.Need-shared-slice-read-if1 Inv-loop μ-loop
 shared-slice-read-if1 c = omega arith
 
 returns : tie.Need-returns Inv-loop μ-loop
-returns c = sym (some-first _ _ _ (c .before .before .before .before .pre) _
-    (c .before .before .loop-test .taken) (eq-eqb _ _ (c .if1 .taken)))
+returns c = search (any-found, eq-eqb)
 
 add-k : tie.Need-add-k Inv-loop μ-loop
 add-k c = omega arith
@@ -37,10 +36,10 @@ loop-less : tie.Need-loop-less Inv-loop μ-loop
 loop-less c = omega arith
 
 loop-again : tie.Need-loop-again Inv-loop μ-loop
-loop-again c = (omega arith, below-more _ _ (c .before .before .before .loop .inv .1) (ne-eqb _ _ (c .if1 .left)))
+loop-again c = search (any-more, ne-eqb)
 
 returns-2 : tie.Need-returns-2 Inv-loop μ-loop
-returns-2 c = sym (no-first _ _ _ (c .before .before .pre) (λ j l. c .before .loop .inv .1 j (omega arith)))
+returns-2 c = search any-ends
 
 pub has-number-spec : {M : Type 1} → statement M
 has-number-spec =

@@ -8,7 +8,7 @@ use native.Mathlib.Omega.{arith}
 use borrow.Author.Needs.{needs}
 use lib.ListN.{take}
 use lib.Seq.{getD-take, length-take-le}
-use Rattle.words.proofs.Searches.{past-end}
+use Rattle.words.proofs.Words.{past-end}
 use Rattle.text.proofs.checks.number_or_zero.Statement.{statement}
 
 mul-result : tie.Need-mul-result

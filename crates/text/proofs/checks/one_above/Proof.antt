@@ -11,7 +11,7 @@ use lib.ListN.{getD, take}
 use lib.Dec.{ltb}
 use borrow.Author.Tests.{ltb-true}
 use Rattle.text.specs.ReadCode.{oneAbove}
-use Rattle.words.proofs.Searches.{each-first}
+use Rattle.words.proofs.Words.{each-first}
 use Rattle.text.proofs.WordTests.{above-more}
 use Rattle.text.proofs.checks.one_above.Statement.{statement}
 

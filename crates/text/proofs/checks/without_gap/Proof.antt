@@ -1,22 +1,19 @@
 -- `text::checks::without_gap` meets its contract.
--- The invariant: each number below p stands among the first n. One that does not makes the whole test false
--- (`not-all-up-to`), and where each below `above` does, it is true (`all-up-to`). The measure is above - p.
+-- The invariant: the whole test is what is left of it from number p on. The measure is how many are left.
 use Rattle.text.proofs.checks.without_gap.Tie as tie
-use Prim.Native.Nat.{ℕ, _-_, _≤_, _<_}
-use mathlib.Core.Path.{_≡_, sym, _∙_}
+use Prim.Native.Nat.{_-_}
+use mathlib.Core.Path.{sym}
 use native.Mathlib.Omega.{arith}
-use mathlib.Core.Bool.{true}
 use lib.ListN.{take}
 use lib.Dec.{eqb}
-use borrow.Author.Tests.{not-true, not-false}
-use borrow.Author.Count.{below-more}
 use Rattle.words.specs.Lists.{any}
-use Rattle.text.specs.ReadCode.{noGapIn, oneAbove}
-use Rattle.words.proofs.Searches.{all-up-to, not-all-up-to}
+use Rattle.text.specs.ReadCode.{noGapIn}
+use Rattle.words.proofs.Loops.{AllLeft, all-up-to, all-yes, all-no, all-ends}
 use Rattle.text.proofs.checks.without_gap.Statement.{statement}
 
 abbrev Inv-loop : tie.InvT-loop
-Inv-loop list n above p₀ p = (p ≤ above) × ((q : ℕ) → q < p → any (λ y. eqb q y) (take n list) ≡ true)
+Inv-loop list n above p₀ p =
+    AllLeft (λ q. any (λ y. eqb q y) (take n list)) above (noGapIn (take n list)) p
 
 abbrev μ-loop : tie.MeasureT-loop
 μ-loop list n above p₀ p = above - p
@@ -25,20 +22,14 @@ one-above-requires : tie.Need-one-above-requires Inv-loop μ-loop
 one-above-requires c κs = c .before .pre
 
 loop-holds : tie.Need-loop-holds Inv-loop μ-loop
-loop-holds c = (omega arith, λ q l. absurd (omega arith))
+unfolding noGapIn
+loop-holds c = all-up-to (sym (c .one-above .ensures))
 
 has-number-requires : tie.Need-has-number-requires Inv-loop μ-loop
 has-number-requires c κs = c .before .before .before .before .pre .0
 
 returns : tie.Need-returns Inv-loop μ-loop
-unfolding noGapIn
-returns c =
-    let at-loop = c .before .before .before in
-    let start = c .before .before .before .before .before .before in
-    let ps = take (start .args .n) (start .args .list .now) in
-    let e = at-loop .before .one-above .ensures in
-    sym (not-all-up-to (λ p. any (λ q. eqb p q) ps) (oneAbove ps) (at-loop .loop .p) (omega arith)
-    (sym (c .before .has-number .ensures) ∙ not-true _ (c .if1 .taken)))
+returns c = search all-no
 
 add-p : tie.Need-add-p Inv-loop μ-loop
 add-p c = omega arith
@@ -47,21 +38,10 @@ loop-less : tie.Need-loop-less Inv-loop μ-loop
 loop-less c = omega arith
 
 loop-again : tie.Need-loop-again Inv-loop μ-loop
-loop-again c =
-    let at-loop = c .before .before .before in (
-      omega arith,
-      below-more _ _ (at-loop .loop .inv .1)
-          (sym (c .before .has-number .ensures) ∙ not-false _ (c .if1 .left)),
-    )
+loop-again c = search all-yes
 
 returns-2 : tie.Need-returns-2 Inv-loop μ-loop
-unfolding noGapIn
-returns-2 c =
-    let at-loop = c .before in
-    let start = c .before .before .before .before in
-    let ps = take (start .args .n) (start .args .list .now) in
-    let e = at-loop .before .one-above .ensures in
-    sym (all-up-to (λ p. any (λ q. eqb p q) ps) (oneAbove ps) (λ q l. at-loop .loop .inv .1 q (omega arith)))
+returns-2 c = search all-ends
 
 pub without-gap-spec : {M : Type 1} → statement M
 without-gap-spec =

@@ -1,4 +1,4 @@
--- `keys::key_at`: each key that may stand more than once is looked for in turn, by its bytes; behind them all those of
+-- `text::keys::key_at`: each key that may stand more than once is looked for in turn, by its bytes; behind them all those of
 -- lines that stand once are. The key that is found is the only one, since no two stand at one place.
 use Rattle.text.proofs.keys.key_at.Tie as tie
 use Prim.Native.Nat.{_-_}

@@ -1,4 +1,4 @@
--- `lists::numbers`: what was kept and counted so far is a beginning of the list, and the rest of the list is read at
+-- `text::lists::numbers`: what was kept and counted so far is a beginning of the list, and the rest of the list is read at
 -- the cursor. A turn reads one number and goes on behind a comma; the measure is the bytes left.
 use Rattle.text.proofs.lists.numbers.Tie as tie
 use Prim.Native.Nat.{_-_}

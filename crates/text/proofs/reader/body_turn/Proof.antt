@@ -1,4 +1,4 @@
--- `reader::body_turn`: in each arm the key is known by its number, so the turn of the line that is called is the turn
+-- `text::reader::body_turn`: in each arm the key is known by its number, so the turn of the line that is called is the turn
 -- at the body of that key; and what the line requires of its place follows, since the key may stand here.
 use Rattle.text.proofs.reader.body_turn.Tie as tie
 use Prim.Native.Nat.{ℕ, _-_, _≤_}

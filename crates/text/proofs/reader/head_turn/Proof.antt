@@ -1,4 +1,4 @@
--- `reader::head_turn`: in each arm the key is known by its number, so the turn of the line that is called is the turn
+-- `text::reader::head_turn`: in each arm the key is known by its number, so the turn of the line that is called is the turn
 -- at the body of that key.
 use Rattle.text.proofs.reader.head_turn.Tie as tie
 use Prim.Native.Nat.{_-_}

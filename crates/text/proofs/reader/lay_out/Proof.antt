@@ -1,4 +1,4 @@
--- `reader::lay_out`: the rows, the zeros behind them and the counts are written one after the other. Each write leaves
+-- `text::reader::lay_out`: the rows, the zeros behind them and the counts are written one after the other. Each write leaves
 -- what stands outside its place, so in the end the words are those of the task.
 use Rattle.text.proofs.reader.lay_out.Tie as tie
 use Prim.Native.Nat.{_-_}

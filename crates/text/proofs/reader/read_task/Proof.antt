@@ -1,4 +1,4 @@
--- `reader::read_task`: what is read so far is what the definitions read (`SoFar`), and the line at the cursor is one
+-- `text::reader::read_task`: what is read so far is what the definitions read (`SoFar`), and the line at the cursor is one
 -- turn of both. Each arm says what the turn was; the measure is the bytes left, since a line has one at least.
 use Rattle.text.proofs.reader.read_task.Tie as tie
 use Prim.Native.Nat.{_-_, ℕ, _≤_}

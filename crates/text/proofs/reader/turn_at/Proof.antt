@@ -1,4 +1,4 @@
--- `reader::turn_at`: where no key stands, or one that the order doesn't allow here, there is no line, which is 3; else
+-- `text::reader::turn_at`: where no key stands, or one that the order doesn't allow here, there is no line, which is 3; else
 -- the turn at the body of the key is the turn at the line.
 use Rattle.text.proofs.reader.turn_at.Tie as tie
 use Prim.Native.Nat.{_-_}

@@ -1,25 +1,28 @@
 -- `text::rows::repeated` meets its contract.
--- The invariant: none of the rows before i has the same atom. One that has makes the whole test true (`some-up-to`),
--- and where none has, it is false (`none-up-to`). The measure is n - i. The rows lie in the table, so no place wraps.
+-- The invariant: the whole search is what is left of it from row i on. The measure is how many are left.
 use Rattle.task.specs.Limits.{atomSize}
-use Prim.Native.Nat.{ℕ, _+_, _-_, _*_, _≤_, _<_}
-use mathlib.Core.Path.{_≡_, sym, _∙_}
+use Prim.Native.Nat.{ℕ, _+_, _-_, _*_}
+use mathlib.Core.Path.{refl}
+use mathlib.Core.Bool.{Bool}
+use mathlib.Core.List.{List}
 use native.Mathlib.Omega.{arith}
-use mathlib.Core.Bool.{false}
-use borrow.Author.Count.{below-more}
+use Rattle.words.specs.Lists.{any, upTo}
 use Rattle.text.specs.ReadCode.{rowSame}
-use Rattle.words.proofs.Searches.{some-up-to, none-up-to}
+use Rattle.words.proofs.Loops.{AnyLeft, any-up-to, any-no, any-yes, any-ends}
 use Rattle.text.proofs.rows.repeated.Statement.{statement}
 use Rattle.text.proofs.rows.repeated.Tie as tie
 
+abbrev same : List ℕ → ℕ → ℕ → ℕ → Bool
+same table row first i = rowSame table row (first + atomSize * i)
+
 abbrev Inv-loop : tie.InvT-loop
-Inv-loop table row first n i₀ i = (i ≤ n) × ((j : ℕ) → j < i → rowSame table row (first + atomSize * j) ≡ false)
+Inv-loop table row first n i₀ i = AnyLeft (same table row first) n (any (same table row first) (upTo n)) i
 
 abbrev μ-loop : tie.MeasureT-loop
 μ-loop table row first n i₀ i = n - i
 
 loop-holds : tie.Need-loop-holds Inv-loop μ-loop
-loop-holds c = (omega arith, λ j l. absurd (omega arith))
+loop-holds c = any-up-to refl
 
 mul-same-atom : tie.Need-mul-same-atom Inv-loop μ-loop
 mul-same-atom c = omega arith
@@ -31,11 +34,7 @@ same-atom-requires : tie.Need-same-atom-requires Inv-loop μ-loop
 same-atom-requires c κs = omega arith
 
 returns : tie.Need-returns Inv-loop μ-loop
-returns c =
-    let start = c .before .before .before .before .before in
-    sym (some-up-to (λ i. rowSame (start .args .table .now) (start .args .row) (start .args .first + atomSize * i))
-    (start .args .n) (c .before .before .before .loop .i) (c .before .before .loop-test .taken)
-    (sym (c .before .same-atom .ensures) ∙ c .if1 .taken))
+returns c = search any-yes
 
 add-i : tie.Need-add-i Inv-loop μ-loop
 add-i c = omega arith
@@ -44,16 +43,10 @@ loop-less : tie.Need-loop-less Inv-loop μ-loop
 loop-less c = omega arith
 
 loop-again : tie.Need-loop-again Inv-loop μ-loop
-loop-again c = (
-  omega arith,
-  below-more _ _ (c .before .before .before .loop .inv .1) (sym (c .before .same-atom .ensures) ∙ c .if1 .left),
-)
+loop-again c = search any-no
 
 returns-2 : tie.Need-returns-2 Inv-loop μ-loop
-returns-2 c =
-    let start = c .before .before .before in
-    sym (none-up-to (λ i. rowSame (start .args .table .now) (start .args .row) (start .args .first + atomSize * i))
-    (start .args .n) (λ i l. c .before .loop .inv .1 i (omega arith)))
+returns-2 c = search any-ends
 
 pub repeated-spec : {M : Type 1} → statement M
 repeated-spec =

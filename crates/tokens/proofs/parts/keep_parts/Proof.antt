@@ -26,12 +26,13 @@ use Rattle.task.specs.Limits.{mostParts, mostSchemas}
 use Rattle.task.specs.Task.{Task}
 use Rattle.task.specs.Turns.{firstAtom}
 use Rattle.arcs.specs.Order.{orderOf}
-use Rattle.tokens.specs.Kept.{keptWords, countPlace, partsBefore, PartsKept}
+use Rattle.tokens.specs.Split.{firstOf}
+use Rattle.tokens.specs.Kept.{keptWords, countPlace, PartsKept}
 use Rattle.tokens.proofs.KeptRows.{field-long}
 
 abbrev Inv-loop : tie.InvT-loop
 Inv-loop table kept₀ schemas from₀ first₀ s₀ kept from first s =
-    (s ≤ schemas) × (from ≡ firstAtom (taskOf table) s) × (first ≡ partsBefore (taskOf table) s) ×
+    (s ≤ schemas) × (from ≡ firstAtom (taskOf table) s) × (first ≡ firstOf (taskOf table) s) ×
     (first ≤ mostParts * s) × PartsKept (taskOf table) s kept
 
 abbrev μ-loop : tie.MeasureT-loop
@@ -121,7 +122,7 @@ keep-begin-requires : tie.Need-keep-begin-requires Inv-loop μ-loop
 keep-begin-requires c κs = (omega arith, (omega arith, omega arith))
 
 loop-holds : tie.Need-loop-holds Inv-loop μ-loop
-unfolding sum partsBefore upTo upFrom
+unfolding sum firstOf upTo upFrom
 loop-holds c =
     let s = c .before .before .before .before in
     let a = s .args in

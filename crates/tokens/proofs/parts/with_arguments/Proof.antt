@@ -1,18 +1,21 @@
--- `tokens::parts::with_arguments` meets its contract. The invariant: the set has the first k arguments besides.
--- The measure is the arguments left.
-use Prim.Native.Nat.{ℕ, _-_, _≤_, _<_}
-use mathlib.Core.Path.{_≡_, _∙_}
+-- `tokens::parts::with_arguments` meets its contract.
+-- The invariant: the set asked for is the set so far with the arguments left. The measure is how many are left.
+use Prim.Native.Nat.{_-_}
+use mathlib.Core.Path.{sym}
+use mathlib.Core.Bool.{_||_}
 use native.Mathlib.Omega.{arith}
-use lib.ListN.{length}
+use lib.ListN.{getD}
+use lib.Dec.{eqb}
+use Rattle.task.specs.Task.{names}
 use Rattle.task.specs.Table.{atomIn}
 use Rattle.words.specs.Sets.{member}
-use Rattle.tokens.proofs.PartParameters.{namedIn, named-none, named-more, named-all}
+use Rattle.words.proofs.Loops.{SetLeft, set-joins, set-more, set-ends, with-number}
 use Rattle.tokens.proofs.parts.with_arguments.Statement.{statement}
 use Rattle.tokens.proofs.parts.with_arguments.Tie as tie
 
 abbrev Inv-loop : tie.InvT-loop
 Inv-loop table i set n named₀ k₀ named k =
-    (k ≤ n) × ((x : ℕ) → member named x ≡ namedIn set (atomIn table i .args) k x)
+    SetLeft (λ x j. eqb x (getD (atomIn table i .args) j 0)) n (λ x. member set x || names x (atomIn table i)) named k
 
 abbrev μ-loop : tie.MeasureT-loop
 μ-loop table i set n named₀ k₀ named k = n - k
@@ -21,9 +24,10 @@ argument-count-requires : tie.Need-argument-count-requires Inv-loop μ-loop
 argument-count-requires c κs = c .before .pre
 
 loop-holds : tie.Need-loop-holds Inv-loop μ-loop
+unfolding names
 loop-holds c =
-    let s = c .before .before in
-    (omega arith, named-none (s .args .set) (atomIn (s .args .table .now) (s .args .i) .args))
+    let given = c .before .before .args in
+    set-joins (given .set) (atomIn (given .table .now) (given .i) .args) (sym (c .argument-count .ensures .0))
 
 argument-requires : tie.Need-argument-requires Inv-loop μ-loop
 argument-requires c κs =
@@ -44,28 +48,12 @@ loop-less c = omega arith
 
 loop-again : tie.Need-loop-again Inv-loop μ-loop
 loop-again c =
-    let s = c .before .before .before .before .before .before .before in
-    let h = c .before .before .before .before .loop in
-    let args = atomIn (s .args .table .now) (s .args .i) .args in
-    let l : h .k < length args =
-    omega (
-      arith,
-      c .before .before .before .before .before .argument-count .ensures .0,
-      c .before .before .before .loop-test .taken,
-    ) in
-    let y = c .before .before .argument in (
-      omega arith,
-      named-more (s .args .set) (h .named) (c .with .result) args (h .k) (y .result .0) l (y .ensures .0)
-          (h .inv .1) (c .with .ensures),
-    )
+    let turn = c .before .before .before in
+    set-more (turn .before .loop .inv) (turn .loop-test .taken)
+    (with-number _ _ _ (c .with .ensures) (c .before .before .argument .ensures .0))
 
 returns : tie.Need-returns Inv-loop μ-loop
-returns c = λ x.
-    let s = c .before .before .before .before in
-    let h = c .before .loop in
-    let n : h .k ≡ length (atomIn (s .args .table .now) (s .args .i) .args) =
-    omega (arith, c .before .before .argument-count .ensures .0) in
-    h .inv .1 x ∙ named-all (s .args .set) (atomIn (s .args .table .now) (s .args .i)) (h .k) x n
+returns c = set-ends (c .before .loop .inv) (c .loop-test .left)
 
 pub with-arguments-spec : {M : Type 1} → statement M
 with-arguments-spec =

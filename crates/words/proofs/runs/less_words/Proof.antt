@@ -1,29 +1,22 @@
 -- `words::runs::less_words` meets its contract.
 -- The invariant: the whole comparison is that of the words from k on, since those before are equal. The measure is
 -- how many are left.
-use Prim.Native.Nat.{_+_, _-_}
-use mathlib.Core.Path.{_≡_, sym, _∙_, ap₂}
+use Prim.Native.Nat.{_-_}
+use mathlib.Core.Path.{sym, _∙_, ap₂}
 use native.Mathlib.Omega.{arith}
 use lib.Dec.{ltb}
-use Rattle.words.specs.Lists.{lessList}
-use Rattle.words.specs.Words.{wordsAt}
-use Rattle.words.proofs.Comparing.{words-start, less-more, less-decides, less-ends}
+use Rattle.words.proofs.Comparing.{LessLeft, less-start, less-more, less-decides, less-ends}
 use Rattle.words.proofs.runs.less_words.Statement.{statement}
 use Rattle.words.proofs.runs.less_words.Tie as tie
 
 abbrev Inv-loop : tie.InvT-loop
-Inv-loop table left right n k₀ k =
-    lessList (wordsAt table left n) (wordsAt table right n) ≡
-    lessList (wordsAt table (left + k) (n - k)) (wordsAt table (right + k) (n - k))
+Inv-loop table left right n k₀ k = LessLeft table left right n k
 
 abbrev μ-loop : tie.MeasureT-loop
 μ-loop table left right n k₀ k = n - k
 
 loop-holds : tie.Need-loop-holds Inv-loop μ-loop
-loop-holds c =
-    let given = c .before .args in
-    ap₂ lessList (words-start (given .table .now) (given .left) (given .n))
-    (words-start (given .table .now) (given .right) (given .n))
+loop-holds c = less-start
 
 add-word : tie.Need-add-word Inv-loop μ-loop
 add-word c = omega arith
@@ -39,12 +32,10 @@ word-requires-2 c κs = omega arith
 
 returns : tie.Need-returns Inv-loop μ-loop
 returns c =
-    let at = c .before .before .before .before in
-    let given = at .before .before .args in
-    ap₂ ltb (c .before .before .word .ensures .0) (c .before .word2 .ensures .0) ∙
-    less-decides (given .table .now) (given .left) (given .right) (given .n) (at .loop .k) (at .loop .inv)
-    (c .before .before .before .loop-test .taken)
-    (λ e. c .if1 .taken (c .before .before .word .ensures .0 ∙ (e ∙ sym (c .before .word2 .ensures .0))))
+    let turn = c .before .before .before in
+    let x = c .before .before .word .ensures .0 in
+    let y = c .before .word2 .ensures .0 in
+    ap₂ ltb x y ∙ less-decides (turn .before .loop .inv) (turn .loop-test .taken) (λ e. c .if1 .taken (x ∙ (e ∙ sym y)))
 
 add-k : tie.Need-add-k Inv-loop μ-loop
 add-k c = omega arith
@@ -54,17 +45,12 @@ loop-less c = omega arith
 
 loop-again : tie.Need-loop-again Inv-loop μ-loop
 loop-again c =
-    let at = c .before .before .before .before in
-    let given = at .before .before .args in
-    less-more (given .table .now) (given .left) (given .right) (given .n) (at .loop .k) (at .loop .inv)
-    (c .before .before .before .loop-test .taken)
+    let turn = c .before .before .before in
+    less-more (turn .before .loop .inv) (turn .loop-test .taken)
     (sym (c .before .before .word .ensures .0) ∙ (c .if1 .left ∙ c .before .word2 .ensures .0))
 
 returns-2 : tie.Need-returns-2 Inv-loop μ-loop
-returns-2 c =
-    let given = c .before .before .before .args in
-    less-ends (given .table .now) (given .left) (given .right) (given .n) (c .before .loop .k) (c .before .loop .inv)
-    (c .loop-test .left)
+returns-2 c = less-ends (c .before .loop .inv) (c .loop-test .left)
 
 pub less-words-spec : {M : Type 1} → statement M
 less-words-spec =

@@ -1,22 +1,30 @@
 -- `task::table::facts::facts_ascend` meets its contract.
--- The invariant: the whole test is what is left of it from i on. The measure is how many atoms are left.
-use Prim.Native.Nat.{_-_, _≤_}
-use mathlib.Core.Path.{_≡_, refl, sym, _∙_}
+-- The invariant: the whole test is what is left of it, from i to the last but one. The measure is how many atoms are
+-- left.
+use Prim.Native.Nat.{_+_, _-_, _≤_}
+use mathlib.Core.Path.{sym, _∙_}
 use native.Mathlib.Omega.{arith}
 use borrow.Author.Tests.{not-true, not-false}
-use Rattle.words.proofs.Ranges.{and-more, and-fails}
-use Rattle.task.proofs.AtomRuns.{ascendLeft, ascend-step, ascend-ends}
+use Rattle.task.specs.Task.{factLess, ascending}
+use Rattle.task.specs.Table.{factIn}
+use Rattle.task.specs.WordTests.{factsIn}
+use Rattle.words.proofs.Loops.{AllLeft, all-more, all-fails, all-ends}
+use Rattle.task.proofs.AtomRuns.{ascend-start}
 use Rattle.task.proofs.table.facts.facts_ascend.Statement.{statement}
 use Rattle.task.proofs.table.facts.facts_ascend.Tie as tie
 
 abbrev Inv-loop : tie.InvT-loop
-Inv-loop table first end i₀ i = (first ≤ i) × (i ≤ end) × (ascendLeft table first end first ≡ ascendLeft table i end i)
+Inv-loop table first end i₀ i =
+    (first ≤ i) × (i ≤ end) × AllLeft (λ k. factLess (factIn table k) (factIn table (k + 1))) (end - 1)
+    (ascending (factsIn table first (end - first))) i
 
 abbrev μ-loop : tie.MeasureT-loop
 μ-loop table first end i₀ i = end - i
 
 loop-holds : tie.Need-loop-holds Inv-loop μ-loop
-loop-holds c = (omega arith, omega arith, refl)
+loop-holds c =
+    let given = c .before .args in
+    (omega arith, omega arith, ascend-start (given .table .now) (given .first) (given .end))
 
 add-loop : tie.Need-add-loop Inv-loop μ-loop
 add-loop c = omega arith
@@ -31,12 +39,8 @@ fact-less-requires c κs =
     (start .pre .0, ((omega arith, omega arith), start .pre .1 .1 (at .loop .i) (omega arith) (omega arith)))
 
 returns : tie.Need-returns Inv-loop μ-loop
-returns c =
-    let at = c .before .before .before in
-    let given = at .before .before .args in
-    let step = at .loop .inv .2 ∙ ascend-step (given .table .now) (at .loop .i) (given .end)
-    (c .before .before .loop-test .taken) in
-    and-fails _ step (sym (c .before .fact-less .ensures) ∙ not-true _ (c .if1 .taken))
+returns c = all-fails (c .before .before .before .loop .inv .2) (omega arith)
+    (sym (c .before .fact-less .ensures) ∙ not-true _ (c .if1 .taken))
 
 add-i : tie.Need-add-i Inv-loop μ-loop
 add-i c = omega arith
@@ -45,18 +49,15 @@ loop-less : tie.Need-loop-less Inv-loop μ-loop
 loop-less c = omega arith
 
 loop-again : tie.Need-loop-again Inv-loop μ-loop
-loop-again c =
-    let at = c .before .before .before in
-    let given = at .before .before .args in
-    let step = at .loop .inv .2 ∙ ascend-step (given .table .now) (at .loop .i) (given .end)
-    (c .before .before .loop-test .taken) in
-    (omega arith, omega arith, and-more step (sym (c .before .fact-less .ensures) ∙ not-false _ (c .if1 .left)))
+loop-again c = (
+  omega arith,
+  omega arith,
+  all-more (c .before .before .before .loop .inv .2) (omega arith)
+      (sym (c .before .fact-less .ensures) ∙ not-false _ (c .if1 .left)),
+)
 
 returns-2 : tie.Need-returns-2 Inv-loop μ-loop
-returns-2 c =
-    let at = c .before in
-    let given = at .before .before .args in
-    sym (at .loop .inv .2 ∙ ascend-ends (given .table .now) (at .loop .i) (given .end) (c .loop-test .left))
+returns-2 c = all-ends (c .before .loop .inv .2) (omega arith)
 
 pub facts-ascend-spec : {M : Type 1} → statement M
 facts-ascend-spec =

@@ -1,22 +1,26 @@
 -- `task::table::schemas::atoms_differ` meets its contract.
 -- The invariant: the whole test is what is left of it from i on. The measure is how many atoms are left.
 use Prim.Native.Nat.{_-_, _≤_}
-use mathlib.Core.Path.{_≡_, refl, sym, _∙_, ap}
+use mathlib.Core.Path.{sym, _∙_, ap}
 use mathlib.Core.Bool.{not}
 use native.Mathlib.Omega.{arith}
-use Rattle.words.proofs.Ranges.{and-more, and-fails}
-use Rattle.task.proofs.AtomRuns.{distinctLeft, distinct-step, distinct-none}
+use Rattle.task.specs.Task.{distinct}
+use Rattle.task.specs.WordTests.{atomsIn, standsAgain}
+use Rattle.words.proofs.Loops.{AllLeft, all-more, all-fails, all-ends}
+use Rattle.task.proofs.AtomRuns.{distinct-start}
 use Rattle.task.proofs.table.schemas.atoms_differ.Statement.{statement}
 use Rattle.task.proofs.table.schemas.atoms_differ.Tie as tie
 
 abbrev Inv-loop : tie.InvT-loop
-Inv-loop table first end i₀ i = (first ≤ i) × (distinctLeft table first end first ≡ distinctLeft table i end i)
+Inv-loop table first end i₀ i = (first ≤ i) ×
+    AllLeft (λ k. not (standsAgain table k end)) end (distinct (atomsIn table first (end - first))) i
 
 abbrev μ-loop : tie.MeasureT-loop
 μ-loop table first end i₀ i = end - i
 
 loop-holds : tie.Need-loop-holds Inv-loop μ-loop
-loop-holds c = (omega arith, refl)
+loop-holds c =
+    let given = c .before .args in (omega arith, distinct-start (given .table .now) (given .first) (given .end))
 
 stands-again-requires : tie.Need-stands-again-requires Inv-loop μ-loop
 stands-again-requires c κs =
@@ -33,12 +37,8 @@ stands-again-requires c κs =
     )
 
 returns : tie.Need-returns Inv-loop μ-loop
-returns c =
-    let at = c .before .before .before in
-    let given = at .before .before .args in
-    let step = at .loop .inv .1 ∙ distinct-step (given .table .now) (at .loop .i) (given .end)
-    (c .before .before .loop-test .taken) in
-    and-fails _ step (ap not (sym (c .before .stands-again .ensures) ∙ c .if1 .taken))
+returns c = all-fails (c .before .before .before .loop .inv .1) (c .before .before .loop-test .taken)
+    (ap not (sym (c .before .stands-again .ensures) ∙ c .if1 .taken))
 
 add-i : tie.Need-add-i Inv-loop μ-loop
 add-i c = omega arith
@@ -47,18 +47,14 @@ loop-less : tie.Need-loop-less Inv-loop μ-loop
 loop-less c = omega arith
 
 loop-again : tie.Need-loop-again Inv-loop μ-loop
-loop-again c =
-    let at = c .before .before .before in
-    let given = at .before .before .args in
-    let step = at .loop .inv .1 ∙ distinct-step (given .table .now) (at .loop .i) (given .end)
-    (c .before .before .loop-test .taken) in
-    (omega arith, and-more step (ap not (sym (c .before .stands-again .ensures) ∙ c .if1 .left)))
+loop-again c = (
+  omega arith,
+  all-more (c .before .before .before .loop .inv .1) (c .before .before .loop-test .taken)
+      (ap not (sym (c .before .stands-again .ensures) ∙ c .if1 .left)),
+)
 
 returns-2 : tie.Need-returns-2 Inv-loop μ-loop
-returns-2 c =
-    let at = c .before in
-    let given = at .before .before .args in
-    sym (at .loop .inv .1 ∙ distinct-none (given .table .now) (at .loop .i) (given .end) (c .loop-test .left))
+returns-2 c = all-ends (c .before .loop .inv .1) (c .loop-test .left)
 
 pub atoms-differ-spec : {M : Type 1} → statement M
 atoms-differ-spec =

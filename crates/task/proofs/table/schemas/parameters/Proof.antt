@@ -1,32 +1,29 @@
 -- `task::table::schemas::parameters` meets its contract.
--- The invariant, for every number: it stands in an atom if it is in the set so far or stands in one of the atoms left.
--- The measure is how many atoms are left.
+-- The invariant: the parameters are the set so far with those that stand in the atoms left. The measure is how many
+-- atoms are left.
 use Prim.Native.Nat.{ℕ, _+_, _-_, _≤_}
-use mathlib.Core.Path.{_≡_, sym, _∙_, ap, ap₂}
-use mathlib.Core.Bool.{Bool, true, _||_}
+use mathlib.Core.Path.{_≡_, _∙_, ap, ap₂}
+use mathlib.Core.Bool.{true, _||_}
 use mathlib.Core.List.{List}
 use native.Mathlib.Omega.{arith}
 use lib.Dec.{eqb}
-use Rattle.words.specs.Lists.{any, upFrom}
+use Rattle.words.specs.Lists.{any}
 use Rattle.task.specs.Layout.{arityIn}
 use Rattle.task.specs.Task.{names}
 use Rattle.words.specs.Words.{wordsAt}
 use Rattle.task.specs.Table.{atomIn}
 use Rattle.words.specs.Sets.{member}
 use Rattle.task.specs.WordTests.{argWordsFit, atomsIn}
-use Rattle.words.proofs.BitSets.{member-zero}
-use Rattle.words.proofs.Ranges.{any-map, any-joins, any-joined, all-from}
+use Rattle.words.proofs.Ranges.{all-from}
+use Rattle.words.proofs.Loops.{SetLeft, set-mapped, set-more, set-ends}
 use Rattle.task.proofs.AtomWords.{args-fit-known, args-below}
 use Rattle.task.proofs.table.schemas.parameters.Statement.{statement}
 use Rattle.task.proofs.table.schemas.parameters.Tie as tie
 
-abbrev named : List ℕ → ℕ → ℕ → Bool
-named w x i = names x (atomIn w i)
-
 abbrev Inv-loop : tie.InvT-loop
 Inv-loop table bound first end set₀ i₀ set i =
-    (first ≤ i) × ((x : ℕ) → any (names x) (atomsIn table first (end - first)) ≡ member set x ||
-    any (named table x) (upFrom i (end - i)))
+    (first ≤ i) × SetLeft (λ x k. names x (atomIn table k)) end
+    (λ x. any (names x) (atomsIn table first (end - first))) set i
 
 abbrev μ-loop : tie.MeasureT-loop
 μ-loop table bound first end set₀ i₀ set i = end - i
@@ -56,12 +53,8 @@ many c = c .arity .ensures .0 ∙ ap (arityIn (words (c .before .before .before)
 
 loop-holds : tie.Need-loop-holds Inv-loop μ-loop
 loop-holds c =
-    let given = c .before .args in (
-      omega arith,
-      λ x. any-map (names x) (atomIn (given .table .now)) (upFrom (given .first) (given .end - given .first)) ∙
-          ap (λ (b : Bool). b || any (named (given .table .now) x)
-          (upFrom (given .first) (given .end - given .first))) (sym (member-zero x)),
-    )
+    let given = c .before .args in
+    (omega arith, set-mapped names (atomIn (given .table .now)) (given .first) (given .end))
 
 arguments-requires : tie.Need-arguments-requires Inv-loop μ-loop
 arguments-requires c κs = let start = c .before .before .before in (start .pre .0, omega arith)
@@ -96,24 +89,19 @@ loop-again : tie.Need-loop-again Inv-loop μ-loop
 unfolding names atomIn
 loop-again c =
     let k = c .before in
-    let at = k .before .before .before .before in
-    let given = at .before .before .args in
-    let w = given .table .now in
+    let turn = k .before .before .before in
+    let at = turn .before in
+    let w = at .before .before .args .table .now in
     let from = k .before .before .arguments .result in
     let n : from + k .arity .result - from ≡ k .arity .result = omega arith in (
       omega arith,
-      λ x. any-joins (named w x) (at .loop .i) (given .end) (member (at .loop .set) x) (at .loop .inv .1 x)
-          (k .before .before .before .loop-test .taken) (c .joined-words .ensures x ∙
+      set-more (at .loop .inv .1) (turn .loop-test .taken) (λ x. c .joined-words .ensures x ∙
           ap (λ (ys : List ℕ). member (at .loop .set) x || any (λ y. eqb x y) ys)
           (ap₂ (wordsAt w) (k .before .before .arguments .ensures .0) (n ∙ many k))),
     )
 
 returns : tie.Need-returns Inv-loop μ-loop
-returns c =
-    let at = c .before in
-    let given = at .before .before .args in
-    λ x. any-joined (named (given .table .now) x) (at .loop .i) (given .end) (member (at .loop .set) x)
-    (at .loop .inv .1 x) (c .loop-test .left)
+returns c = set-ends (c .before .loop .inv .1) (c .loop-test .left)
 
 pub parameters-spec : {M : Type 1} → statement M
 parameters-spec =

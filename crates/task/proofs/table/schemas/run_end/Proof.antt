@@ -3,8 +3,8 @@
 use Prim.Native.Nat.{ℕ, _-_, _≤_, _<_}
 use mathlib.Core.Path.{_≡_, sym, _∙_}
 use native.Mathlib.Omega.{arith}
-use borrow.Author.Count.{below-more}
 use Rattle.task.specs.Table.{schemaNumberIn}
+use Rattle.words.proofs.Loops.{run-more}
 use Rattle.task.proofs.table.schemas.run_end.Statement.{statement}
 use Rattle.task.proofs.table.schemas.run_end.Tie as tie
 
@@ -49,8 +49,7 @@ loop-again c =
     let given = at .before .before .before .args in (
       omega arith,
       omega arith,
-      λ k a l. below-more (λ j. given .start ≤ j → schemaNumberIn (given .table .now) j ≡ given .s) (at .loop .i)
-          (λ j m b. at .loop .inv .2 j b m) (λ _. here) k l a,
+      run-more (λ k. schemaNumberIn (given .table .now) k ≡ given .s) (at .loop .inv .2) here,
     )
 
 returns-2 : tie.Need-returns-2 Inv-loop μ-loop

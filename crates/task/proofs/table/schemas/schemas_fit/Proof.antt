@@ -7,10 +7,8 @@ use mathlib.Core.Bool.{Bool}
 use mathlib.Core.List.{List}
 use native.Mathlib.Omega.{arith}
 use borrow.Author.Tests.{not-true, not-false}
-use Rattle.words.specs.Lists.{all, upTo, upFrom}
-use Rattle.task.specs.Layout.{headIn}
 use Rattle.task.specs.WordTests.{schemaWordsFit, indicesOf, schemasFit}
-use Rattle.words.proofs.Ranges.{all-more, all-fails, all-ends}
+use Rattle.words.proofs.Loops.{AllLeft, all-up-to, all-more, all-fails, all-ends}
 use Rattle.task.proofs.SchemaWords.{Cut, cut-start, cut-next, cut-indices}
 use Rattle.task.proofs.table.schemas.schemas_fit.Statement.{statement}
 use Rattle.task.proofs.table.schemas.schemas_fit.Tie as tie
@@ -20,7 +18,7 @@ fitsAt w s = schemaWordsFit w s (indicesOf w s)
 
 abbrev Inv-loop : tie.InvT-loop
 Inv-loop table schemas first₀ s₀ first s =
-    Cut table first s × (schemasFit table ≡ all (fitsAt table) (upFrom s (schemas - s)))
+    Cut table first s × AllLeft (fitsAt table) schemas (schemasFit table) s
 
 abbrev μ-loop : tie.MeasureT-loop
 μ-loop table schemas first₀ s₀ first s = schemas - s
@@ -45,12 +43,8 @@ word-requires : tie.Need-word-requires Inv-loop μ-loop
 word-requires c κs = let r = c .before .pre .0 in omega arith
 
 loop-holds : tie.Need-loop-holds Inv-loop μ-loop
-unfolding schemasFit upTo
-loop-holds c =
-    let w = c .before .before .args .table .now in
-    let e = c .word .ensures .0 in
-    let n : headIn w .schemas ≡ c .word .result - 0 = omega arith in
-    (cut-start w, ap (λ (n : ℕ). all (fitsAt w) (upFrom 0 n)) n)
+unfolding schemasFit
+loop-holds c = (cut-start (c .before .before .args .table .now), all-up-to (sym (c .word .ensures .0)))
 
 run-end-requires : tie.Need-run-end-requires Inv-loop μ-loop
 run-end-requires c κs = let at = c .before in (at .before .before .before .pre .0, at .loop .inv .0 .inside)
@@ -65,9 +59,7 @@ schema-fits-requires c κs =
 returns : tie.Need-returns Inv-loop μ-loop
 returns c =
     let turn = c .before .before .before in
-    let at = turn .before in
-    all-fails (fitsAt (words at)) (at .loop .s) (at .before .word .result) (at .loop .inv .1) (turn .loop-test .taken)
-    (fit (c .before) ∙ not-true _ (c .if1 .taken))
+    all-fails (turn .before .loop .inv .1) (turn .loop-test .taken) (fit (c .before) ∙ not-true _ (c .if1 .taken))
 
 add-s : tie.Need-add-s Inv-loop μ-loop
 add-s c = omega arith
@@ -78,19 +70,14 @@ loop-less c = omega arith
 loop-again : tie.Need-loop-again Inv-loop μ-loop
 loop-again c =
     let k = c .before .before in
-    let turn = k .before in
-    let at = turn .before in
-    let next = cut-next (words at) (start at .pre .1) (at .loop .first) (at .loop .s) (k .run-end .result) in
-    let more = all-more (fitsAt (words at)) (at .loop .s) (at .before .word .result) (at .loop .inv .1) in (
+    let at = k .before .before in
+    let next = cut-next (words at) (start at .pre .1) (at .loop .first) (at .loop .s) (k .run-end .result) in (
       next (at .loop .inv .0) (k .run-end .ensures),
-      more (turn .loop-test .taken)
-          (fit (c .before) ∙ not-false _ (c .if1 .left)),
+      all-more (at .loop .inv .1) (k .before .loop-test .taken) (fit (c .before) ∙ not-false _ (c .if1 .left)),
     )
 
 returns-2 : tie.Need-returns-2 Inv-loop μ-loop
-returns-2 c =
-    let at = c .before in
-    all-ends (fitsAt (words at)) (at .loop .s) (at .before .word .result) (at .loop .inv .1) (c .loop-test .left)
+returns-2 c = all-ends (c .before .loop .inv .1) (c .loop-test .left)
 
 pub schemas-fit-spec : {M : Type 1} → statement M
 schemas-fit-spec =

@@ -1,25 +1,20 @@
 -- `task::table::schemas::stands_again` meets its contract.
 -- The invariant: the whole test is what is left of it from j on. At an atom of another role nothing is left to find,
 -- since roles rise. The measure is how many atoms are left.
-use Prim.Native.Nat.{ℕ, _-_, _<_}
-use mathlib.Core.Path.{_≡_, refl, sym, _∙_}
-use mathlib.Core.Bool.{Bool}
-use mathlib.Core.List.{List}
+use Prim.Native.Nat.{_-_, _<_}
+use mathlib.Core.Path.{sym, _∙_}
 use native.Mathlib.Omega.{arith}
-use Rattle.words.specs.Lists.{any, upFrom}
 use Rattle.task.specs.Task.{sameAtom}
 use Rattle.task.specs.Table.{atomIn}
 use Rattle.task.specs.WordTests.{standsAgain}
-use Rattle.words.proofs.Ranges.{any-more, any-found, any-ends, none-left}
+use Rattle.words.proofs.Loops.{AnyLeft, any-start, any-more, any-found, any-none, any-ends}
 use Rattle.task.proofs.AtomWords.{other-role}
 use Rattle.task.proofs.table.schemas.stands_again.Statement.{statement}
 use Rattle.task.proofs.table.schemas.stands_again.Tie as tie
 
-abbrev sameAs : List ℕ → ℕ → ℕ → Bool
-sameAs w i j = sameAtom (atomIn w i) (atomIn w j)
-
 abbrev Inv-loop : tie.InvT-loop
-Inv-loop table i end j₀ j = (i < j) × (standsAgain table i end ≡ any (sameAs table i) (upFrom j (end - j)))
+Inv-loop table i end j₀ j =
+    (i < j) × AnyLeft (λ k. sameAtom (atomIn table i) (atomIn table k)) end (standsAgain table i end) j
 
 abbrev μ-loop : tie.MeasureT-loop
 μ-loop table i end j₀ j = end - j
@@ -29,7 +24,7 @@ add-j c = omega arith
 
 loop-holds : tie.Need-loop-holds Inv-loop μ-loop
 unfolding standsAgain
-loop-holds c = (omega arith, refl)
+loop-holds c = (omega arith, any-start)
 
 role-requires : tie.Need-role-requires Inv-loop μ-loop
 role-requires c κs = let start = c .before .before .before in (start .pre .0, omega arith)
@@ -43,14 +38,12 @@ returns c =
     let at = k .before .before in
     let start = at .before .before in
     let given = start .args in
-    let w = given .table .now in
     let j = at .loop .j in
     let rise = start .pre .1 .1 .1 in
-    sym (at .loop .inv .1 ∙ none-left (sameAs w (given .i)) j (given .end)
-    (λ m a b. sym (other-role w (given .i) m (λ e.
+    any-none (at .loop .inv .1) (λ m a b. sym (other-role (given .table .now) (given .i) m (λ e.
     let up = rise (given .i) j (omega arith) (omega arith) (k .before .loop-test .taken) in
     let on = rise j m (omega arith) a b in
-    c .if1 .taken (omega (arith, k .role .ensures, c .before .role2 .ensures))))))
+    c .if1 .taken (omega (arith, k .role .ensures, c .before .role2 .ensures)))))
 
 same-atom-requires : tie.Need-same-atom-requires Inv-loop μ-loop
 same-atom-requires c κs =
@@ -59,11 +52,8 @@ same-atom-requires c κs =
 
 returns-2 : tie.Need-returns-2 Inv-loop μ-loop
 returns-2 c =
-    let k = c .before .before .before .before in
-    let at = k .before .before in
-    let given = at .before .before .args in
-    any-found (sameAs (given .table .now) (given .i)) (at .loop .j) (given .end) (at .loop .inv .1)
-    (k .before .loop-test .taken)
+    let turn = c .before .before .before .before .before in
+    any-found (turn .before .loop .inv .1) (turn .loop-test .taken)
     (sym (c .before .same-atom .ensures) ∙ c .if2 .taken)
 
 add-j-2 : tie.Need-add-j-2 Inv-loop μ-loop
@@ -74,20 +64,14 @@ loop-less c = omega arith
 
 loop-again : tie.Need-loop-again Inv-loop μ-loop
 loop-again c =
-    let k = c .before .before .before .before in
-    let at = k .before .before in
-    let given = at .before .before .args in (
+    let turn = c .before .before .before .before .before in (
       omega arith,
-      any-more (sameAs (given .table .now) (given .i)) (at .loop .j) (given .end) (at .loop .inv .1)
-          (k .before .loop-test .taken)
+      any-more (turn .before .loop .inv .1) (turn .loop-test .taken)
           (sym (c .before .same-atom .ensures) ∙ c .if2 .left),
     )
 
 returns-3 : tie.Need-returns-3 Inv-loop μ-loop
-returns-3 c =
-    let at = c .before in
-    let given = at .before .before .args in
-    any-ends (sameAs (given .table .now) (given .i)) (at .loop .j) (given .end) (at .loop .inv .1) (c .loop-test .left)
+returns-3 c = any-ends (c .before .loop .inv .1) (c .loop-test .left)
 
 pub stands-again-spec : {M : Type 1} → statement M
 stands-again-spec =

@@ -1,4 +1,4 @@
--- `lines::atom::add_atom` refuses as the line's turn does: 4 where the schema or the table is full, 5 where `fits` says
+-- `text::lines::atom::add_atom` refuses as the line's turn does: 4 where the schema or the table is full, 5 where `fits` says
 -- so, and 6 where the search among the schema's rows finds the new one. The row is written before 6 is tested, and
 -- touches nothing of the table but its own eight words.
 use Rattle.text.proofs.lines.atom.add_atom.Tie as tie

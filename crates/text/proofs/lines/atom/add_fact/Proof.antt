@@ -1,4 +1,4 @@
--- `lines::atom::add_fact` refuses as the line's turn does: 4 where the kind is full, 5 where `fits` says so, and 6
+-- `text::lines::atom::add_fact` refuses as the line's turn does: 4 where the kind is full, 5 where `fits` says so, and 6
 -- where the words of the new row don't come behind those of the row before. The row is written before 6 is tested, and
 -- touches nothing of the table but its own eight words.
 use Rattle.text.proofs.lines.atom.add_fact.Tie as tie

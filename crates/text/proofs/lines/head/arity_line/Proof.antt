@@ -1,4 +1,4 @@
--- `lines::head::arity_line`: the line has no list, or it has too many arities or one too high, or they are put behind
+-- `text::lines::head::arity_line`: the line has no list, or it has too many arities or one too high, or they are put behind
 -- the counts, and the code holds the draft behind the line.
 use Rattle.text.proofs.lines.head.arity_line.Tie as tie
 use mathlib.Core.Path.{_≡_, sym, _∙_, ap, subst}
@@ -11,7 +11,7 @@ use Rattle.words.specs.Lists.{all}
 use Rattle.task.proofs.Tables.{tableWords-is}
 use Rattle.text.specs.Text.{arityLine}
 use Rattle.text.specs.ReadCode.{ListLineAt, rest, ListLine}
-use Rattle.words.proofs.Searches.{each-first}
+use Rattle.words.proofs.Words.{each-first}
 use Rattle.text.proofs.RowTests.{listed-take}
 use Rattle.text.proofs.HeldAtoms.{untouched, inside-touched}
 use Rattle.text.proofs.WholeLines.{list-placed}

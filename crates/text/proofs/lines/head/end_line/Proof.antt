@@ -1,4 +1,4 @@
--- `lines::head::end_line`: there is no number, or it isn't 1 and the line is refused with 3, or reading has come to its
+-- `text::lines::head::end_line`: there is no number, or it isn't 1 and the line is refused with 3, or reading has come to its
 -- end with the draft's task.
 use Rattle.text.proofs.lines.head.end_line.Tie as tie
 use Prim.Native.Nat.{_-_}

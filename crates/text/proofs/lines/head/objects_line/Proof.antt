@@ -1,4 +1,4 @@
--- `lines::head::objects_line`: there is no number, or it is outside its limits, which is 4, or the draft has so many
+-- `text::lines::head::objects_line`: there is no number, or it is outside its limits, which is 4, or the draft has so many
 -- objects behind the line.
 use Rattle.text.proofs.lines.head.objects_line.Tie as tie
 use Prim.Native.Nat.{_-_}

@@ -1,4 +1,4 @@
--- `lines::head::schema_line`: there is no number, or the table has all the schemas that it may have, or the schema has
+-- `text::lines::head::schema_line`: there is no number, or the table has all the schemas that it may have, or the schema has
 -- too many parameters, which is 4; else a schema without atoms is open behind the line.
 use Rattle.text.proofs.lines.head.schema_line.Tie as tie
 use Prim.Native.Nat.{_-_}

@@ -1,4 +1,4 @@
--- `lines::head::task_line`: there is no number, or it isn't 1 and the line is refused with 3, or the code holds the
+-- `text::lines::head::task_line`: there is no number, or it isn't 1 and the line is refused with 3, or the code holds the
 -- draft behind it, before the `objects` line.
 use Rattle.text.proofs.lines.head.task_line.Tie as tie
 use Prim.Native.Nat.{_-_}

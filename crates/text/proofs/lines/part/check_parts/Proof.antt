@@ -1,4 +1,4 @@
--- `lines::part::check_parts` refuses as `closeSchema` does, test by test: what each test found is said of the draft
+-- `text::lines::part::check_parts` refuses as `closeSchema` does, test by test: what each test found is said of the draft
 -- below, and the answers cite it.
 use Rattle.text.proofs.lines.part.check_parts.Tie as tie
 use Prim.Native.Nat.{ℕ, _≤_}

@@ -1,4 +1,4 @@
--- `lines::part::part_line`: the line has no list, or its parts don't close the schema, or they do. Then the parts go
+-- `text::lines::part::part_line`: the line has no list, or its parts don't close the schema, or they do. Then the parts go
 -- into the schema's rows, its parameter count behind those of the schemas before, and the code holds the draft behind
 -- it.
 use Rattle.text.proofs.lines.part.part_line.Tie as tie
@@ -14,7 +14,7 @@ use Rattle.task.proofs.Tables.{tableWords-is}
 use Rattle.text.specs.Text.{partLine, takeLine, Draft}
 use Rattle.text.specs.ReadCode.{ListLineAt, rest, ListLine}
 use Rattle.text.specs.Holding.{PartsTurn, Holds, Drafted}
-use Rattle.words.proofs.Searches.{each-first}
+use Rattle.words.proofs.Words.{each-first}
 use Rattle.text.proofs.RowTests.{listed-take, parts-all}
 use Rattle.text.proofs.HeldAtoms.{untouched}
 use Rattle.text.proofs.HeldSchemas.{schema-closed, closing-touched, schema-room}

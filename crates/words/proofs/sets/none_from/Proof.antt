@@ -1,6 +1,4 @@
--- `blocks::folding::none_from` meets its contract.
--- A shift by p divides by 2 ^ p. Where it leaves 0 the set is below 2 ^ p (`below-power`), and has no number from p on
--- (`member-beyond`).
+-- `words::sets::none_from` meets its contract: where nothing is left of the shift, the set is below 2 to the p.
 use Prim.Native.Nat.{ℕ, _+_, _*_, _/_, _%_, _^_, _<_}
 use mathlib.Core.Path.{_≡_, ap}
 use native.Mathlib.Omega.{arith}
@@ -8,9 +6,9 @@ use native.Mathlib.Nat.{div-add-mod', mod-lt, zero-mul}
 use lib.Pow.{pow-pos}
 use borrow.Author.Needs.{needs}
 use borrow.Author.Tests.{eqb-true}
 use Rattle.words.proofs.BitSets.{member-beyond}
-use Rattle.blocks.proofs.folding.none_from.Statement.{statement}
-use Rattle.blocks.proofs.folding.none_from.Tie as tie
+use Rattle.words.proofs.sets.none_from.Statement.{statement}
+use Rattle.words.proofs.sets.none_from.Tie as tie
 
 -- what a power divides to 0 is below it
 below-power : (x p : ℕ) → x / 2 ^ p ≡ 0 → x < 2 ^ p
