@@ -1,5 +1,6 @@
 -- A plan read, unfolded and written: its steps are those of the task and few, so their blocks fit the words lent, and
 -- are steps of the split, whose plan fits the bytes lent.
+use Rattle.tokens.proofs.SplitOutcome.{split-refused as outcome-refused}
 use Prim.Native.Nat.{ℕ, _*_, _≤_}
 use mathlib.Core.Path.{_≡_, sym, _∙_, ap}
 use mathlib.Core.Bool.{true}

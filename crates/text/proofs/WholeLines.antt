@@ -1,4 +1,5 @@
 -- Bodies as the code reads them, step after step: a list that may be empty, an atom, and a body with its line's end.
+use Rattle.text.specs.declared.lists.List.{List as Listing}
 use Prim.Native.Nat.{ℕ, _≤_}
 use mathlib.Core.Path.{_≡_, refl, sym, _∙_, ap, subst}
 use mathlib.Core.Bool.{Bool, true, false}

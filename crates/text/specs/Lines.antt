@@ -2,7 +2,7 @@
 -- "Each line is a key, =, a body and byte 10"; a body is a number, a list of numbers, or an atom.
 use Prim.Native.Nat.{ℕ, zero, suc, _+_, _-_, _*_, _/_, _%_}
 use Prim.Native.Char.{code}
-use Prim.Native.String.{String, [] as noText}
+use Prim.Native.String.{String, [] as noText, _∷_ as _then_}
 use mathlib.Core.Bool.{Bool, true, false, not, _&&_}
 use mathlib.Core.List.{List, [], _∷_, _++_}
 use mathlib.Core.Option.{Option, none, some}

@@ -1,5 +1,7 @@
 -- What the inner functions of the reader answer, by the readers of `Lines` at a cursor: a cursor at an offset `at` of a
 -- text has `drop at text` before it.
+use Rattle.text.specs.declared.lists.Atom.{Atom as AtomRead}
+use Rattle.text.specs.declared.lists.List.{List as Listing}
 use Rattle.text.specs.declared.cursor.Digit.the-variants as digit
 use Rattle.text.specs.declared.cursor.Number.the-variants as found
 use Rattle.text.specs.declared.cursor.Behind.the-variants as behind

@@ -3,6 +3,7 @@
 use crate::cursor::Behind;
 use crate::cursor::Cursor;
 use crate::cursor::Number;
+ghost use mathlib.Core.List.{List as Many};
 ghost use mathlib.Core.Path.{_≡_};
 ghost use lib.ListN.{set};
 ghost use Rattle.text.specs.Lines.{numbers as numberList, listing as anyList, Taken};

@@ -17,6 +17,7 @@ use task::limits;
 use task::limits::HEAD_WORDS;
 use task::limits::MOST_PREDICATES;
 use task::limits::MOST_SCHEMAS;
+ghost use mathlib.Core.List.{List as Many};
 ghost use Prim.Native.Nat.{ℕ, _≤_};
 ghost use Rattle.text.specs.Lines.{ended, number, numbers};
 ghost use Rattle.text.specs.Text.{Draft, taskLine, objectsLine, arityLine, schemaLine, endLine, task, objects};

@@ -15,6 +15,7 @@ use crate::rows::put_parts;
 use task::limits;
 use task::limits::HEAD_WORDS;
 use task::limits::MOST_ATOMS;
+ghost use mathlib.Core.List.{List as Many};
 ghost use mathlib.Core.Path.{_≡_};
 ghost use Prim.Native.Nat.{ℕ};
 ghost use lib.ListN.{length};
