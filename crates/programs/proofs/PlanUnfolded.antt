@@ -2,7 +2,7 @@
 -- are steps of the split, whose plan fits the bytes lent.
 use Rattle.tokens.proofs.SplitOutcome.{split-refused as outcome-refused}
 use Prim.Native.Nat.{ℕ, _*_, _≤_}
-use mathlib.Core.Path.{_≡_, sym, _∙_, ap}
+use mathlib.Core.Path.{_≡_, refl, sym, _∙_, ap}
 use mathlib.Core.Bool.{true}
 use mathlib.Core.List.{List, [], _∷_}
 use mathlib.Core.Option.{none}
@@ -36,7 +36,7 @@ use Rattle.text.proofs.PlanAnswers.{answer-read, answer-refused}
 use Rattle.text.proofs.PlanWritten.{plan-fits}
 use Rattle.programs.specs.Programs.{taken, refusal, printReading, printSplitting, unfoldProgram}
 use Rattle.programs.specs.Code.{PlanSteps}
-use Rattle.programs.proofs.Answered.{TableRead, split-refused}
+use Rattle.programs.proofs.Answered.{split-refused}
 use Rattle.programs.proofs.Printed.{printed-within}
 use Rattle.blocks.proofs.SplitSteps.{the-given, unfolded-steps, unfolded-between}
 use Rattle.tokens.specs.Code.{RefusedAs}
@@ -152,12 +152,7 @@ pub plan-printed : (uses : List Step → List ℕ) (t : Task) (text : List ℕ) 
 unfolding printReading
 plan-printed uses t text e = sym (ap (printReading uses) e)
 
-pub texts-unfold : (task plan words : List ℕ) → TableRead (taken task) words →
-    printsPlan plan (taskOf words) ≡ unfoldProgram task plan
-unfolding unfoldProgram printReading
-texts-unfold task plan words r = sym (ap (printReading (printsPlan plan)) (r .reads))
-
-pub texts-refused : (task plan bytes : List ℕ) → bytes ≡ printReading (printsPlan plan) (readText (taken task)) →
-    bytes ≡ unfoldProgram task plan
+pub unfold-is : (task plan : List ℕ) →
+    unfoldProgram task plan ≡ printReading (printsPlan plan) (readText (taken task))
 unfolding unfoldProgram
-texts-refused task plan bytes h = h
+unfold-is task plan = refl
