@@ -27,9 +27,9 @@ use Rattle.blocks.specs.Blocks.{unfoldSteps, listWords}
 use Rattle.blocks.proofs.BlockAnswers.{length-list, list-good, list-read, unfoldingOf}
 use Rattle.text.specs.Reading.{read}
 use Rattle.text.specs.Text.{readText}
-use Rattle.text.specs.Plan.{readPlan, writePlan}
+use Rattle.text.specs.Plan.{mostPlanSteps, readPlan, writePlan}
 use Rattle.text.specs.Outcomes.{planOutcome}
-use Rattle.text.specs.PlanCode.{longestPlan}
+use Rattle.text.specs.PlanCode.{mostSplitSteps, longestPlan}
 use Rattle.text.specs.Code.{longestText}
 use Rattle.text.proofs.PlanSteps.{planWords-is}
 use Rattle.text.proofs.PlanAnswers.{answer-read, answer-refused}
@@ -59,7 +59,7 @@ plan-refused table text lent {k} {at} told uses =
 pub record StepsRead (table text words : List ℕ) (n : ℕ) : Type 0 where
   pub reads : readPlan (taskOf table) text ≡ read (stepsIn (taskOf table) (take (stepSize * n) words))
   pub plan : PlanSteps table (take (stepSize * n) words)
-  pub few : n ≤ 100
+  pub few : n ≤ mostPlanSteps
   pub inside : stepSize * n ≤ length words
 
 pub plan-read : (table text lent : List ℕ) {words : List ℕ} {n : ℕ} → isTable table ≡ true →
@@ -115,7 +115,7 @@ module _ (table words steps : List ℕ) (s : AcceptedSplit table words) (p : Pla
   split-steps = unfolded-steps (the-given s) xs (steps-whole t steps (p .good) .1)
 
   -- sixteen parts of each of 100 steps
-  pub few-steps : length ys ≤ 1600
+  pub few-steps : length ys ≤ mostSplitSteps
   few-steps =
       let most = unfolded-between s xs (steps-whole t steps (p .good) .1) .1 in
       let n = length-stepsIn t steps in
