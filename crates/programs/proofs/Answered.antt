@@ -1,6 +1,8 @@
 -- What the entry points answer, as the programs use it: a text that was read lies as a table, a split that was given
 -- too, and a refusal is the one that is printed.
 use Rattle.task.specs.declared.Place.the-variants as place
+use Rattle.text.specs.declared.ReadAnswer.the-variants as answer
+use Rattle.text.specs.declared.ReadAnswer.{ReadAnswer}
 use Prim.Native.Nat.{ℕ, _≤_}
 use mathlib.Core.Path.{_≡_, refl, sym, _∙_, ap, ap₂, subst}
 use mathlib.Core.Bool.{true}
@@ -11,7 +13,7 @@ use borrow.Author.Tests.{le-leb}
 use Rattle.task.specs.declared.Place.{Place}
 use Rattle.words.specs.Lists.{over}
 use Rattle.task.specs.Limits.{tableWords, tableLength}
-use Rattle.task.specs.Answers.{placeNumber, result, refused, Outcome}
+use Rattle.task.specs.Answers.{placeNumber, refused, Outcome}
 use Rattle.task.specs.Task.{Task}
 use Rattle.task.specs.Table.{wordsOf, taskOf, longEnough, isTable}
 use Rattle.words.proofs.Puts.{take-over}
@@ -20,7 +22,7 @@ use Rattle.task.proofs.Tables.{words-length, of-table}
 use Rattle.task.proofs.TablesByIndex.{table-of, table-long}
 use Rattle.text.specs.Reading.{Reading, read, refusedAt}
 use Rattle.text.specs.Text.{write, readText}
-use Rattle.text.specs.Outcomes.{readDone, readOutcome, writeOutcome}
+use Rattle.text.specs.Outcomes.{readDone, readOutcome, readAnswerTold, writeOutcome}
 use Rattle.text.specs.Code.{longestText}
 use Rattle.text.proofs.Outcomes.{read-result, result-read, write-result, writtenOver}
 use Rattle.text.proofs.TaskRead.{read-fits}
@@ -29,7 +31,9 @@ use Rattle.text.proofs.LongestText.{text-most}
 use Rattle.tokens.specs.Split.{Splitting, circular, tooLarge, splitAs, split, splitOutcome}
 use Rattle.tokens.proofs.SplitOutcome.{refused-nine, refused-ten, split-refused as outcome-refused, split-done}
 use Rattle.programs.specs.Programs.{taken, refusal, printReading, printSplitting, splitProgram}
-use Rattle.task.proofs.Answers.{told-by, left-by}
+use Rattle.task.proofs.Answers.{told-by, left-by, tells}
+use Rattle.programs.specs.Code.{Prints}
+use Rattle.programs.proofs.Printed.{prints-same}
 
 -- ---- words of zeros, as a function has them before they are written
 pub zeros-long : (n : ℕ) → n ≤ length {A = ℕ} (replicate n 0)
@@ -44,10 +48,11 @@ pub record TableRead (text words : List ℕ) : Type 0 where
   pub is-table : isTable words ≡ true
   pub reads : readText text ≡ read (taskOf words)
 
-pub table-read : (text table : List ℕ) {words : List ℕ} → result [] ≡ readOutcome text table .told →
-    words ≡ readOutcome text table .buffer → TableRead text words
-table-read text table h e =
-    let r = result-read text table [] (sym h) in
+pub table-read : (text table : List ℕ) {words : List ℕ} {a : ReadAnswer} → a ≡ answer.Read →
+    (readAnswerTold a ≡ readOutcome text table .told) × (words ≡ readOutcome text table .buffer) → TableRead text words
+unfolding readAnswerTold
+table-read text table is-read (h, e) =
+    let r = result-read text table [] (sym (tells readAnswerTold h is-read)) in
     let t = r .task in
     let fits = read-fits text t (r .was-read) in
     let w = over (wordsOf t) table in
@@ -71,6 +76,29 @@ read-refused text table long {k} {at} h uses =
         let number : k ≡ n = cc in
         let line : at ≡ place.Line l = cc in
         ap₂ refusal number (ap placeNumber line)
+
+-- ---- a program that reads a task: it prints what it makes of the task, or the refusal
+-- the two clauses of its contract
+abbrev pub Printed : List ℕ → List ℕ → List ℕ → ℕ → Type 0
+Printed lent text after n = (after ≡ over text lent) × (n ≡ length text)
+
+module _ (uses : Task → List ℕ) {program : List ℕ} (text : List ℕ) (is : program ≡ printReading uses (readText text))
+    {lent after : List ℕ} {n : ℕ} where
+  pub task-printed : {words : List ℕ} → TableRead text words → Prints lent (uses (taskOf words)) after n →
+      Printed lent program after n
+  unfolding printReading
+  task-printed r p =
+      let q = prints-same (sym (is ∙ ap (printReading uses) (r .reads))) p in
+      (q .bytes, q .count)
+
+  pub refusal-printed : (table : List ℕ) → tableWords ≤ length table → {a : ReadAnswer} {k : ℕ} {at : Place} →
+      a ≡ answer.Refused k at → readAnswerTold a ≡ readOutcome text table .told →
+      Prints lent (refusal k (placeNumber at)) after n → Printed lent program after n
+  unfolding readAnswerTold
+  refusal-printed table long is-refused told p =
+      let same = read-refused text table long (tells readAnswerTold told is-refused) uses in
+      let q = prints-same (same ∙ sym is) p in
+      (q .bytes, q .count)
 
 -- ---- splitting
 -- a split that is given is printed
@@ -125,11 +153,6 @@ task-written table out is-table room =
 abbrev pub printsSplit : Task → List ℕ
 printsSplit t = printSplitting write (split t)
 
-pub text-split : (text words : List ℕ) → TableRead (taken text) words → printsSplit (taskOf words) ≡ splitProgram text
-unfolding splitProgram printReading
-text-split text words r = sym (ap (printReading printsSplit) (r .reads))
-
-pub text-refused : (text bytes : List ℕ) → bytes ≡ printReading printsSplit (readText (taken text)) →
-    bytes ≡ splitProgram text
+pub split-is : (text : List ℕ) → splitProgram text ≡ printReading printsSplit (readText (taken text))
 unfolding splitProgram
-text-refused text bytes h = h
+split-is text = refl

@@ -2,7 +2,7 @@
 -- are steps of the split, whose plan fits the bytes lent.
 use Rattle.tokens.proofs.SplitOutcome.{split-refused as outcome-refused}
 use Prim.Native.Nat.{ℕ, _*_, _≤_}
-use mathlib.Core.Path.{_≡_, sym, _∙_, ap}
+use mathlib.Core.Path.{_≡_, refl, sym, _∙_, ap}
 use mathlib.Core.Bool.{true}
 use mathlib.Core.List.{List, [], _∷_}
 use mathlib.Core.Option.{none}
@@ -27,16 +27,16 @@ use Rattle.blocks.specs.Blocks.{unfoldSteps, listWords}
 use Rattle.blocks.proofs.BlockAnswers.{length-list, list-good, list-read, unfoldingOf}
 use Rattle.text.specs.Reading.{read}
 use Rattle.text.specs.Text.{readText}
-use Rattle.text.specs.Plan.{readPlan, writePlan}
+use Rattle.text.specs.Plan.{mostPlanSteps, readPlan, writePlan}
 use Rattle.text.specs.Outcomes.{planOutcome}
-use Rattle.text.specs.PlanCode.{longestPlan}
+use Rattle.text.specs.PlanCode.{mostSplitSteps, longestPlan}
 use Rattle.text.specs.Code.{longestText}
 use Rattle.text.proofs.PlanSteps.{planWords-is}
 use Rattle.text.proofs.PlanAnswers.{answer-read, answer-refused}
 use Rattle.text.proofs.PlanWritten.{plan-fits}
 use Rattle.programs.specs.Programs.{taken, refusal, printReading, printSplitting, unfoldProgram}
 use Rattle.programs.specs.Code.{PlanSteps}
-use Rattle.programs.proofs.Answered.{TableRead, split-refused}
+use Rattle.programs.proofs.Answered.{split-refused}
 use Rattle.programs.proofs.Printed.{printed-within}
 use Rattle.blocks.proofs.SplitSteps.{the-given, unfolded-steps, unfolded-between}
 use Rattle.tokens.specs.Code.{RefusedAs}
@@ -59,7 +59,7 @@ plan-refused table text lent {k} {at} told uses =
 pub record StepsRead (table text words : List ℕ) (n : ℕ) : Type 0 where
   pub reads : readPlan (taskOf table) text ≡ read (stepsIn (taskOf table) (take (stepSize * n) words))
   pub plan : PlanSteps table (take (stepSize * n) words)
-  pub few : n ≤ 100
+  pub few : n ≤ mostPlanSteps
   pub inside : stepSize * n ≤ length words
 
 pub plan-read : (table text lent : List ℕ) {words : List ℕ} {n : ℕ} → isTable table ≡ true →
@@ -115,7 +115,7 @@ module _ (table words steps : List ℕ) (s : AcceptedSplit table words) (p : Pla
   split-steps = unfolded-steps (the-given s) xs (steps-whole t steps (p .good) .1)
 
   -- sixteen parts of each of 100 steps
-  pub few-steps : length ys ≤ 1600
+  pub few-steps : length ys ≤ mostSplitSteps
   few-steps =
       let most = unfolded-between s xs (steps-whole t steps (p .good) .1) .1 in
       let n = length-stepsIn t steps in
@@ -152,12 +152,7 @@ pub plan-printed : (uses : List Step → List ℕ) (t : Task) (text : List ℕ) 
 unfolding printReading
 plan-printed uses t text e = sym (ap (printReading uses) e)
 
-pub texts-unfold : (task plan words : List ℕ) → TableRead (taken task) words →
-    printsPlan plan (taskOf words) ≡ unfoldProgram task plan
-unfolding unfoldProgram printReading
-texts-unfold task plan words r = sym (ap (printReading (printsPlan plan)) (r .reads))
-
-pub texts-refused : (task plan bytes : List ℕ) → bytes ≡ printReading (printsPlan plan) (readText (taken task)) →
-    bytes ≡ unfoldProgram task plan
+pub unfold-is : (task plan : List ℕ) →
+    unfoldProgram task plan ≡ printReading (printsPlan plan) (readText (taken task))
 unfolding unfoldProgram
-texts-refused task plan bytes h = h
+unfold-is task plan = refl

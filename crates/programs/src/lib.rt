@@ -14,12 +14,13 @@ use printing::put_split;
 use task::limits::TABLE_WORDS;
 use text::LONGEST_TEXT;
 use text::ReadAnswer;
+use text::plan::LONGEST_PLAN;
 
 // No text of a task is longer, so this much holds whatever `split` prints.
 pub const TEXT_BYTES: usize = LONGEST_TEXT;
 
 // No unfolding of 100 steps is longer, nor is a refusal: this much holds whatever `unfold` prints.
-pub const PLAN_BYTES: usize = 134406;
+pub const PLAN_BYTES: usize = LONGEST_PLAN;
 
 // "The program `split` prints the split of the task on standard input, or `refused=` number, colon, place": from the
 // text to the bytes printed, and their number.

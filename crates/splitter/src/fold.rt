@@ -1,4 +1,6 @@
 // `fold` for a C host.
+use crate::telling::refusal;
+use crate::telling::result;
 use blocks::FoldAnswer;
 ghost use mathlib.Core.Path.{_≡_};
 ghost use Rattle.task.specs.Answers.{toldNumber, toldPlace, toldValue};
@@ -25,22 +27,17 @@ pub extern "C" fn splitter_fold(
     ensures { λ r. ⌜ now (steps .exit) ≡
         toldValue 1 (foldOutcome (now (table .entry)) (now (split .entry)) (now (out .entry)) .told) ⌝ }
 {
-    *place = 0;
     *split_steps = 0;
     *steps = 0;
-    let answer = blocks::fold(table, split, out);
-    match answer {
+    match blocks::fold(table, split, out) {
         FoldAnswer::Folded {
             split_steps: read,
             steps: found,
         } => {
             *split_steps = read;
             *steps = found;
-            0
+            result(place)
         }
-        FoldAnswer::Refused(number, at) => {
-            *place = at.number();
-            number
-        }
+        FoldAnswer::Refused(number, at) => refusal(number, at, place),
     }
 }

@@ -4,5 +4,6 @@ pub mod fold;
 pub mod read;
 pub mod run;
 pub mod split;
+mod telling;
 pub mod unfold;
 pub mod write;

@@ -1,4 +1,6 @@
 // `read` for a C host.
+use crate::telling::refusal;
+use crate::telling::result;
 use text::ReadAnswer;
 ghost use mathlib.Core.Path.{_≡_};
 ghost use Rattle.task.specs.Answers.{toldNumber, toldPlace};
@@ -11,13 +13,8 @@ pub extern "C" fn splitter_read(text: &[u8], table: &mut [u16], place: &mut u64)
     ensures { λ r. ⌜ now (table .exit) ≡ readOutcome (now (text .entry)) (now (table .entry)) .buffer ⌝ }
     ensures { λ r. ⌜ now (place .exit) ≡ toldPlace (readOutcome (now (text .entry)) (now (table .entry)) .told) ⌝ }
 {
-    *place = 0;
-    let answer = text::read(text, table);
-    match answer {
-        ReadAnswer::Read => 0,
-        ReadAnswer::Refused(number, at) => {
-            *place = at.number();
-            number
-        }
+    match text::read(text, table) {
+        ReadAnswer::Read => result(place),
+        ReadAnswer::Refused(number, at) => refusal(number, at, place),
     }
 }

@@ -1,4 +1,6 @@
 // `run` for a C host.
+use crate::telling::refusal;
+use crate::telling::result;
 use task::RunAnswer;
 ghost use mathlib.Core.Path.{_≡_};
 ghost use Rattle.task.specs.Answers.{toldNumber, toldPlace, toldValue};
@@ -26,11 +28,9 @@ pub extern "C" fn splitter_run(
     ensures { λ r. ⌜ now (goal .exit) ≡
         toldValue 1 (runOutcome (now (table .entry)) (now (steps .entry)) (now (state .entry)) records .told) ⌝ }
 {
-    *place = 0;
     *left = 0;
     *goal = 0;
-    let answer = task::run(table, steps, state, records);
-    match answer {
+    match task::run(table, steps, state, records) {
         RunAnswer::Ran {
             left: kept,
             goal: met,
@@ -39,20 +39,16 @@ pub extern "C" fn splitter_run(
             if met {
                 *goal = 1;
             }
-            0
+            result(place)
         }
-        RunAnswer::Refused(number, at) => {
-            *place = at.number();
-            number
-        }
+        RunAnswer::Refused(number, at) => refusal(number, at, place),
         RunAnswer::Stopped {
             number,
             place: at,
             left: kept,
         } => {
-            *place = at.number();
             *left = kept;
-            number
+            refusal(number, at, place)
         }
     }
 }

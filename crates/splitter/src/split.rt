@@ -1,4 +1,6 @@
 // `split` for a C host.
+use crate::telling::refusal;
+use crate::telling::result;
 use tokens::SplitAnswer;
 ghost use mathlib.Core.Path.{_≡_};
 ghost use Rattle.task.specs.Answers.{toldNumber, toldPlace};
@@ -11,13 +13,8 @@ pub extern "C" fn splitter_split(table: &[u16], split: &mut [u16], place: &mut u
     ensures { λ r. ⌜ now (split .exit) ≡ splitOutcome (now (table .entry)) (now (split .entry)) .buffer ⌝ }
     ensures { λ r. ⌜ now (place .exit) ≡ toldPlace (splitOutcome (now (table .entry)) (now (split .entry)) .told) ⌝ }
 {
-    *place = 0;
-    let answer = tokens::split(table, split);
-    match answer {
-        SplitAnswer::Split => 0,
-        SplitAnswer::Refused(number, at) => {
-            *place = at.number();
-            number
-        }
+    match tokens::split(table, split) {
+        SplitAnswer::Split => result(place),
+        SplitAnswer::Refused(number, at) => refusal(number, at, place),
     }
 }

@@ -1,4 +1,6 @@
 // `unfold` for a C host.
+use crate::telling::refusal;
+use crate::telling::result;
 use blocks::UnfoldAnswer;
 ghost use mathlib.Core.Path.{_≡_};
 ghost use Rattle.task.specs.Answers.{toldNumber, toldPlace, toldValue};
@@ -22,17 +24,12 @@ pub extern "C" fn splitter_unfold(
     ensures { λ r. ⌜ now («split_steps» .exit) ≡
         toldValue 0 (unfoldOutcome (now (table .entry)) (now (steps .entry)) (now (out .entry)) .told) ⌝ }
 {
-    *place = 0;
     *split_steps = 0;
-    let answer = blocks::unfold(table, steps, out);
-    match answer {
+    match blocks::unfold(table, steps, out) {
         UnfoldAnswer::Unfolded(count) => {
             *split_steps = count;
-            0
+            result(place)
         }
-        UnfoldAnswer::Refused(number, at) => {
-            *place = at.number();
-            number
-        }
+        UnfoldAnswer::Refused(number, at) => refusal(number, at, place),
     }
 }

@@ -1,4 +1,6 @@
 // `write` for a C host.
+use crate::telling::refusal;
+use crate::telling::result;
 use text::WriteAnswer;
 ghost use mathlib.Core.Path.{_≡_};
 ghost use Rattle.task.specs.Answers.{toldNumber, toldPlace, toldValue};
@@ -17,17 +19,12 @@ pub extern "C" fn splitter_write(
     ensures { λ r. ⌜ now (place .exit) ≡ toldPlace (writeOutcome (now (table .entry)) (now (text .entry)) .told) ⌝ }
     ensures { λ r. ⌜ now (bytes .exit) ≡ toldValue 0 (writeOutcome (now (table .entry)) (now (text .entry)) .told) ⌝ }
 {
-    *place = 0;
     *bytes = 0;
-    let answer = text::write(table, text);
-    match answer {
+    match text::write(table, text) {
         WriteAnswer::Written(count) => {
             *bytes = count;
-            0
+            result(place)
         }
-        WriteAnswer::Refused(number, at) => {
-            *place = at.number();
-            number
-        }
+        WriteAnswer::Refused(number, at) => refusal(number, at, place),
     }
 }

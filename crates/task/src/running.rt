@@ -16,7 +16,8 @@ ghost use mathlib.Core.Path.{_≡_};
 ghost use mathlib.Core.Bool.{true};
 ghost use mathlib.Core.Option.{none};
 ghost use Prim.Native.Nat.{suc, _+_, _*_, _≤_, _<_};
-ghost use lib.ListN.{length, getD};
+ghost use lib.ListN.{length, getD, take};
+ghost use Rattle.words.specs.Lists.{padded};
 ghost use Rattle.task.specs.Layout.{headIn};
 ghost use Rattle.task.specs.Table.{taskOf, isTable};
 ghost use Rattle.task.specs.Run.{
@@ -32,7 +33,7 @@ ghost use Rattle.task.specs.Run.{
   runDone,
   runAnswerTold,
 };
-ghost use Rattle.task.specs.Limits.{mostSchemas, stepSize};
+ghost use Rattle.task.specs.Limits.{mostSchemas, stepSize, recordSize};
 ghost use Rattle.task.specs.Turns.{firstAtom, Starts, RoleEnds, Turned, endedAs, recordsLeft};
 
 // What a step does: it runs and leaves so many records, a precondition is missing, or the next state is outgrown.
@@ -163,6 +164,21 @@ fn run_list(table: &[u16], starts: &[u16], steps: &[u16], state: &mut [u16], n: 
     Ended::Ran(left)
 }
 
+// A list that stopped at step i: the refusal with its place and the records left, and zeros behind these.
+fn stopped(state: &mut [u16], number: u32, i: usize, left: usize) -> RunAnswer
+    requires { ⌜ recordSize * left ≤ length (now state) ⌝ }
+    ensures { λ r. ⌜ r ≡ RunAnswer.Stopped number (Place.Step i) left ⌝ }
+    ensures { λ _. ⌜ now (state .exit) ≡ padded (length (now (state .entry)))
+        (take (recordSize * left) (now (state .entry))) ⌝ }
+{
+    clear_from(state, RECORD_SIZE * left);
+    RunAnswer::Stopped {
+        number,
+        place: Place::Step(i as u64),
+        left: left as u64,
+    }
+}
+
 // Runs a checked step list over a checked state in place, and puts zeros behind the records left.
 pub(crate) fn run_steps(table: &[u16], steps: &[u16], state: &mut [u16], records: u64) -> RunAnswer
     requires { ⌜ isTable (now table) ≡ true ⌝ }
@@ -189,21 +205,7 @@ pub(crate) fn run_steps(table: &[u16], steps: &[u16], state: &mut [u16], records
                 goal,
             }
         }
-        Ended::Missing(i, left) => {
-            clear_from(state, RECORD_SIZE * left);
-            RunAnswer::Stopped {
-                number: 16,
-                place: Place::Step(i as u64),
-                left: left as u64,
-            }
-        }
-        Ended::Outgrown(i, left) => {
-            clear_from(state, RECORD_SIZE * left);
-            RunAnswer::Stopped {
-                number: 17,
-                place: Place::Step(i as u64),
-                left: left as u64,
-            }
-        }
+        Ended::Missing(i, left) => stopped(state, 16, i, left),
+        Ended::Outgrown(i, left) => stopped(state, 17, i, left),
     }
 }

@@ -6,6 +6,7 @@ use mathlib.Core.Path.{_≡_, refl, _∙_, ap, sym, subst}
 use mathlib.Core.Bool.{Bool, false}
 use mathlib.Core.List.{List, [], _∷_}
 use mathlib.Core.Option.{Option, none, some}
+use native.Mathlib.Omega.{arith}
 use Rattle.task.specs.Task.{Task}
 use Rattle.text.specs.Lines.{newline, Taken, taken, andThen, after, ended, Entry, entry}
 use Rattle.text.specs.Reading.{Turn, goOn, finish, refuse, need, Reading, atEnd, turnAt, lineAt, refusedAt}
@@ -57,6 +58,34 @@ module _ {A L : Type 0} (says : A → L) (o : Option (Taken A)) where
       pub turn-ends : (r : R) → takes (says a) ≡ finish r → lineAt n takes (ended says o) next ≡ atEnd r (suc n) left
       unfolding turnAt
       turn-ends r e = turn-is ∙ ap (λ (t : Turn D R). turnAt n t left next) e
+
+-- what is no body, or another one, is not this one; what is the same is
+pub none-taken : {A : Type 0} {o : Option (Taken A)} {a : A} → o ≡ none → (left : List ℕ) → o ≡ taken a left → ⊥
+none-taken e left h = let z : _≡_ {A = ℕ} 0 1 = cc in omega arith
+
+pub other-taken : {A : Type 0} {o : Option (Taken A)} {a b : A} {rest : List ℕ} → o ≡ taken b rest → (b ≡ a → ⊥) →
+    (left : List ℕ) → o ≡ taken a left → ⊥
+other-taken {A} {b = b} e other left h = other (ap value (sym e ∙ h))
+  where
+    value : Option (Taken A) → A
+    value none = b
+    value (some x) = x .value
+
+pub same-taken : {A : Type 0} {o : Option (Taken A)} {a b : A} {left : List ℕ} → o ≡ taken b left → b ≡ a →
+    o ≡ taken a left
+same-taken {A} {left = left} e q = e ∙ ap (λ (b : A). taken b left) q
+
+-- a body that must be 1, and isn't
+pub not-one : {L D R : Type 0} (says : ℕ → L) (o : Option (Taken ℕ)) (takes : L → Turn D R) →
+    ((left : List ℕ) → whole o ≡ taken 1 left → ⊥) → ((a : ℕ) → (a ≡ 1 → ⊥) → takes (says a) ≡ refuse 3) → (n : ℕ)
+    (next : D → List ℕ → Reading R) → lineAt n takes (ended says o) next ≡ refusedAt 3 n
+not-one says o takes h refuses n next = go (whole o) refl
+  where
+    go : (w : Option (Taken ℕ)) → whole o ≡ w → lineAt n takes (ended says o) next ≡ refusedAt 3 n
+    go none e = no-turn says o takes e n next
+    go (some a) e =
+        turn-refused says o takes (a .value) (a .rest) e n next 3
+        (refuses (a .value) (λ q. h (a .rest) (e ∙ ap (λ (v : ℕ). taken v (a .rest)) q)))
 
 -- ---- lines of a task
 module _ {A : Type 0} (says : A → Line) (d : Draft) (o : Option (Taken A)) where

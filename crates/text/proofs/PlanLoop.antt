@@ -21,7 +21,7 @@ use Rattle.text.specs.declared.plan.PlanTurn.{PlanTurn}
 use Rattle.text.specs.Lines.{Taken, after, number, entry, ended}
 use Rattle.text.specs.Reading.{goOn, finish, refuse, Reading, read, refusedAt, atEnd, lineAt, readLines}
 use Rattle.text.specs.Plan.{PlanKey, step, end, planKeyName, PlanLine, stepLine, endLine, readPlanBody, planWords}
-use Rattle.text.specs.Plan.{takePlanLine, nextPlanLine, readPlan}
+use Rattle.text.specs.Plan.{mostPlanSteps, takePlanLine, nextPlanLine, readPlan}
 use Rattle.text.specs.ReadCode.{rest, Placed, startCursor, Moved, WordHere, Wrote}
 use Rattle.text.specs.PlanCode.{stepOf, PlanRefuses, PlanFinishes, PlanGoesOn, PlanTurned}
 use Rattle.text.proofs.Taken.{after-read}
@@ -74,22 +74,22 @@ module _ (xs : List Step) (bs : List ℕ) where
 
 -- ---- what a line does
 module _ (t : Task) (xs : List Step) where
-  pub step-taken : (s : ℕ) (os : List ℕ) → length xs < 100 → isStep t (stepOf s os) ≡ true →
+  pub step-taken : (s : ℕ) (os : List ℕ) → length xs < mostPlanSteps → isStep t (stepOf s os) ≡ true →
       takePlanLine t xs (stepLine (record { head = s; list = os })) ≡ goOn (xs ++ (stepOf s os ∷ []))
   unfolding takePlanLine
-  step-taken s os l h = need-met 4 (lt-ltb (length xs) 100 l) (need-met 5 h refl)
+  step-taken s os l h = need-met 4 (lt-ltb (length xs) mostPlanSteps l) (need-met 5 h refl)
 
   -- "a 101st step 4"
-  pub one-too-many : (s : ℕ) (os : List ℕ) → 100 ≤ length xs →
+  pub one-too-many : (s : ℕ) (os : List ℕ) → mostPlanSteps ≤ length xs →
       takePlanLine t xs (stepLine (record { head = s; list = os })) ≡ refuse 4
   unfolding takePlanLine
-  one-too-many s os l = need-fails 4 _ (le-ltb (length xs) 100 l)
+  one-too-many s os l = need-fails 4 _ (le-ltb (length xs) mostPlanSteps l)
 
   -- "a wrong schema, object or number of objects 5"
-  pub step-wrong : (s : ℕ) (os : List ℕ) → length xs < 100 → isStep t (stepOf s os) ≡ false →
+  pub step-wrong : (s : ℕ) (os : List ℕ) → length xs < mostPlanSteps → isStep t (stepOf s os) ≡ false →
       takePlanLine t xs (stepLine (record { head = s; list = os })) ≡ refuse 5
   unfolding takePlanLine
-  step-wrong s os l h = need-met 4 (lt-ltb (length xs) 100 l) (need-fails 5 _ h)
+  step-wrong s os l h = need-met 4 (lt-ltb (length xs) mostPlanSteps l) (need-fails 5 _ h)
 
   pub end-taken : (n : ℕ) → n ≡ 1 → takePlanLine t xs (endLine n) ≡ finish xs
   unfolding takePlanLine
@@ -126,7 +126,7 @@ module _ (t : Task) (text lent : List ℕ) where
     pub placed : Placed text at
     pub steps : List Step
     pub count : length steps ≡ n
-    pub few : n ≤ 100
+    pub few : n ≤ mostPlanSteps
     pub good : all (isStep t) steps ≡ true
     pub words : Wrote lent 0 (stepSize * n) (λ k. getD (concatMap stepWords steps) k 0) w
     pub so-far : readPlan t text ≡ readLines nextPlanLine (takePlanLine t) (at .line) steps (rest text at)

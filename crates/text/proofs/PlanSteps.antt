@@ -27,7 +27,7 @@ use Rattle.words.proofs.Words.{and-false}
 use Rattle.task.proofs.StepWords.{StepSized, length-steps, params-few, step-sized}
 use Rattle.task.proofs.BadSteps.{written-steps, steps-written}
 use Rattle.text.specs.Reading.{read}
-use Rattle.text.specs.Plan.{planWords, readPlan}
+use Rattle.text.specs.Plan.{mostPlanSteps, planWords, readPlan}
 use Rattle.text.specs.ReadCode.{Listed, Wrote}
 use Rattle.text.specs.PlanCode.{stepOf}
 use Rattle.text.proofs.PlanText.{plan-read-steps}
@@ -99,7 +99,7 @@ step-kept w table s count kept ns size listed h =
     }
 
 -- ---- a step's words are put
-pub planWords-is : planWords ≡ stepSize * 100
+pub planWords-is : planWords ≡ stepSize * mostPlanSteps
 unfolding planWords
 planWords-is = refl
 
@@ -202,7 +202,7 @@ module _ (t : Task) (well : wellFormed t ≡ true) (xs : List Step) (steps : all
 -- ---- a plan that was read
 -- its words are good steps of the task, the plan's steps
 pub record GoodPlan (t : Task) (xs : List Step) (w : List ℕ) : Type 0 where
-  pub few : length xs ≤ 100
+  pub few : length xs ≤ mostPlanSteps
   pub are : w ≡ concatMap stepWords xs
   pub good : badStep t w ≡ none
   pub steps : stepsIn t w ≡ xs

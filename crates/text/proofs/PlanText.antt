@@ -17,8 +17,9 @@ use Rattle.task.proofs.Tests.{TaskTests, task-tests}
 use Rattle.task.proofs.States.{isStep-is}
 use Rattle.text.specs.Lines.{newline, digits, Entry, entryBytes, Taken, taken}
 use Rattle.text.specs.Reading.{goOn, finish, read}
-use Rattle.text.specs.Plan.{PlanKey, step, end, planKeyName, PlanLine, stepLine, endLine, writePlanLine}
-use Rattle.text.specs.Plan.{readPlanBody, stepEntry, planLines, writePlan, takePlanLine, nextPlanLine, readPlan}
+use Rattle.text.specs.Plan.{mostPlanSteps, PlanKey, step, end, planKeyName, PlanLine, stepLine, endLine}
+use Rattle.text.specs.Plan.{writePlanLine, readPlanBody, stepEntry, planLines, writePlan, takePlanLine, nextPlanLine}
+use Rattle.text.specs.Plan.{readPlan}
 use Rattle.text.proofs.NumberLists.{SmallEntry, entry-written}
 use Rattle.text.proofs.Reading.{need-went, need-finished, need-met, Leads, comes-last, goes-on, Exact}
 use Rattle.text.proofs.Reading.{lines-read, read-lines}
@@ -78,25 +79,25 @@ small-step t c x h =
     let objects = leb-true (t .objects) 1000 (c .objects) in
     (let k = s .known in omega arith, λ o i. let k = s .small o i in omega arith)
 
-pub plan-leads : (t : Task) → TaskTests t → (xs ys : List Step) → length (xs ++ ys) ≤ 100 → all (isStep t) ys ≡ true →
-    PlanLeads t xs (planLines ys) (xs ++ ys)
+pub plan-leads : (t : Task) → TaskTests t → (xs ys : List Step) → length (xs ++ ys) ≤ mostPlanSteps →
+    all (isStep t) ys ≡ true → PlanLeads t xs (planLines ys) (xs ++ ys)
 unfolding takePlanLine planLines all stepEntry
 plan-leads t c xs [] few h =
     comes-last (record { key = end; listed = there (here refl); says = says-end {n = 1} (omega arith) })
     (ap finish (sym (append-nil xs)))
 plan-leads t c xs (y ∷ ys) few h =
     let is-step = and-left (isStep t y) (all (isStep t) ys) h in
-    let room : length xs < 100 = omega (arith, length-append xs (y ∷ ys)) in
+    let room : length xs < mostPlanSteps = omega (arith, length-append xs (y ∷ ys)) in
     let e : (xs ++ (y ∷ [])) ++ ys ≡ xs ++ (y ∷ ys) = append-assoc xs (y ∷ []) ys in
-    let few′ : length ((xs ++ (y ∷ [])) ++ ys) ≤ 100 = rw e few in
+    let few′ : length ((xs ++ (y ∷ [])) ++ ys) ≤ mostPlanSteps = rw e few in
     goes-on (record { key = step; listed = here refl; says = says-step (small-step t c y is-step) })
-    (need-met 4 (lt-ltb (length xs) 100 room) (need-met 5 is-step refl))
+    (need-met 4 (lt-ltb (length xs) mostPlanSteps room) (need-met 5 is-step refl))
     (subst (λ (zs : List Step). PlanLeads t (xs ++ (y ∷ [])) (planLines ys) zs) e
     (plan-leads t c (xs ++ (y ∷ [])) ys few′ (and-right (isStep t y) (all (isStep t) ys) h)))
 
 -- reading a written plan gives its steps
 pub plan-read-written : (t : Task) → wellFormed t ≡ true → (xs : List Step) → all (isStep t) xs ≡ true →
-    length xs ≤ 100 → readPlan t (writePlan xs) ≡ read xs
+    length xs ≤ mostPlanSteps → readPlan t (writePlan xs) ≡ read xs
 unfolding readPlan writePlan
 plan-read-written t w xs h few =
     let lead = plan-leads t (task-tests t w) [] xs few h in
@@ -108,7 +109,7 @@ stepLines xs = map (λ x. stepLine (stepEntry x)) xs
 
 pub record PlanFound (t : Task) (xs : List Step) (lines : List PlanLine) : Type 0 where
   pub steps : all (isStep t) xs ≡ true
-  pub few : length xs ≤ 100
+  pub few : length xs ≤ mostPlanSteps
   pub are : planLines xs ≡ lines
 
 module _ (t : Task) where
@@ -117,7 +118,7 @@ module _ (t : Task) where
   unfolding takePlanLine
   last-line xs (stepLine a) ys h =
       let x : Step = record { schema = a .head; objects = a .list } in
-      let (k₁, h₁) = need-finished (ltb (length xs) 100) 4 _ ys h in
+      let (k₁, h₁) = need-finished (ltb (length xs) mostPlanSteps) 4 _ ys h in
       let (k₂, h₂) = need-finished (isStep t x) 5 (goOn (xs ++ (x ∷ []))) ys h₁ in
       absurd (let z : _≡_ {A = ℕ} 0 1 = cc in omega arith)
   last-line xs (endLine n) ys h =
@@ -127,7 +128,7 @@ module _ (t : Task) where
   pub record StepTaken (xs : List Step) (l : PlanLine) (ys : List Step) : Type 0 where
     pub taken-step : Step
     pub line-is : l ≡ stepLine (stepEntry taken-step)
-    pub room : length xs < 100
+    pub room : length xs < mostPlanSteps
     pub is-step : isStep t taken-step ≡ true
     pub grown : xs ++ (taken-step ∷ []) ≡ ys
 
@@ -135,15 +136,15 @@ module _ (t : Task) where
   unfolding takePlanLine stepEntry
   step-line xs (stepLine a) ys h =
       let x : Step = record { schema = a .head; objects = a .list } in
-      let (k₁, h₁) = need-went (ltb (length xs) 100) 4 _ ys h in
+      let (k₁, h₁) = need-went (ltb (length xs) mostPlanSteps) 4 _ ys h in
       let (k₂, h₂) = need-went (isStep t x) 5 (goOn (xs ++ (x ∷ []))) ys h₁ in
-      record { taken-step = x; line-is = refl; room = ltb-true (length xs) 100 k₁; is-step = k₂; grown = cc }
+      record { taken-step = x; line-is = refl; room = ltb-true (length xs) mostPlanSteps k₁; is-step = k₂; grown = cc }
   step-line xs (endLine n) ys h =
       let (k, h₁) = need-went (eqb n 1) 3 (finish xs) ys h in
       absurd (let z : _≡_ {A = ℕ} 0 1 = cc in omega arith)
 
   pub plan-found : {xs : List Step} {ls : List PlanLine} {ys : List Step} → PlanLeads t xs ls ys →
-      all (isStep t) xs ≡ true → length xs ≤ 100 → PlanFound t ys (stepLines xs ++ ls)
+      all (isStep t) xs ≡ true → length xs ≤ mostPlanSteps → PlanFound t ys (stepLines xs ++ ls)
   unfolding planLines
   plan-found {ys = ys} (comes-last {d = xs} {l = l} m h) all-steps few =
       let (e, q) = last-line xs l ys h in
@@ -153,7 +154,7 @@ module _ (t : Task) where
       let s = step-line xs l zs h in
       let x = s .taken-step in
       let steps : all (isStep t) zs ≡ true = rw (← (s .grown)) (all-snoc (isStep t) xs x all-steps (s .is-step)) in
-      let count : length zs ≤ 100 =
+      let count : length zs ≤ mostPlanSteps =
       let room = s .room in let g = ap length (s .grown) in omega (arith, length-append xs (x ∷ [])) in
       let f = plan-found w steps count in
       let lines : stepLines zs ≡ stepLines xs ++ (l ∷ []) =
@@ -166,7 +167,7 @@ module _ (t : Task) where
       }
 
   pub plan-text-found : (bs : List ℕ) (xs : List Step) → readPlan t bs ≡ read xs →
-      (all (isStep t) xs ≡ true) × (length xs ≤ 100) × (writePlan xs ≡ bs)
+      (all (isStep t) xs ≡ true) × (length xs ≤ mostPlanSteps) × (writePlan xs ≡ bs)
   unfolding readPlan writePlan all
   plan-text-found bs xs h =
       let r = read-lines nextPlanLine (takePlanLine t) PlanMay writePlanLine plan-exact 1 [] bs xs h in
@@ -179,5 +180,5 @@ module _ (t : Task) where
 
   -- what is read are steps of the task, at most 100
   pub plan-read-steps : (bs : List ℕ) (xs : List Step) → readPlan t bs ≡ read xs →
-      (all (isStep t) xs ≡ true) × (length xs ≤ 100)
+      (all (isStep t) xs ≡ true) × (length xs ≤ mostPlanSteps)
   plan-read-steps bs xs h = let f = plan-text-found bs xs h in (f .0, f .1)

@@ -7,12 +7,14 @@ use mathlib.Core.List.{List, [], _∷_, _++_, map, append-assoc}
 use mathlib.Core.Option.{none}
 use native.Mathlib.Omega.{arith}
 use lib.ListN.{length, getD, length-append}
+use borrow.Author.Tests.{leb-true}
 use Rattle.words.specs.Lists.{upTo, concatMap}
-use Rattle.task.specs.Limits.{stepSize}
+use Rattle.task.specs.Limits.{mostSchemas, mostObjects, mostParameters, stepSize}
 use Rattle.task.specs.Task.{Task, wellFormed}
 use Rattle.words.specs.Words.{wordsAt}
-use Rattle.task.specs.Run.{Step, stepIn, paramCount, stepAt, stepsIn, badStep}
-use Rattle.words.proofs.Lists.{In, append-concatMap}
+use Rattle.task.specs.Run.{Step, isStep, stepIn, paramCount, stepAt, stepsIn, badStep}
+use Rattle.words.proofs.Lists.{append-concatMap}
+use Rattle.task.proofs.Tests.{task-tests}
 use Rattle.task.proofs.States.{isStep-is}
 use Rattle.task.proofs.StepWords.{length-stepsIn, params-few, step-here}
 use Rattle.task.proofs.BadSteps.{good-steps, steps-good}
@@ -20,9 +22,9 @@ use Rattle.text.specs.Lines.{bytes, equals, colon, newline, digits, comm
 use Rattle.text.specs.Plan.{step, planKeyName, PlanLine, stepLine, endLine, writePlanLine, stepEntry, planLines}
 use Rattle.text.specs.Plan.{writePlan}
 use Rattle.text.specs.Code.{spaced}
-use Rattle.text.specs.PlanCode.{stepText, longestPlan}
-use Rattle.text.proofs.DigitSteps.{at-most-five}
-use Rattle.text.proofs.AtomLines.{spaced-words, commaed-most}
+use Rattle.text.specs.PlanCode.{stepText, mostSplitSteps, longestPlan}
+use Rattle.text.proofs.DigitSteps.{digits-most}
+use Rattle.text.proofs.AtomLines.{spaced-words, Within, commaed-within}
 use Rattle.text.proofs.Onwards.{onwards, onwards-all}
 use Rattle.text.proofs.Pieces.{pieces-map, pieces-same, pieces-most}
 use Rattle.text.proofs.WholeText.{endBytes}
@@ -75,7 +77,7 @@ module _ (t : Task) (w : List ℕ) where
   pub record StepThere (i : ℕ) : Type 0 where
     pub inside : stepSize * i + stepSize ≤ length w
     pub known : getD w (stepSize * i) 0 < length (t .schemas)
-    pub few : paramCount t (getD w (stepSize * i) 0) ≤ 12
+    pub few : paramCount t (getD w (stepSize * i) 0) ≤ mostParameters
 
   pub step-there : wellFormed t ≡ true → badStep t w ≡ none → (i : ℕ) → i < length w / stepSize → StepThere i
   unfolding stepAt stepIn
@@ -88,32 +90,34 @@ module _ (t : Task) (w : List ℕ) where
       }
 
 -- ---- how long it can be
-step-most : (x : Step) → length (x .objects) ≤ 12 → length (stepPiece x) ≤ 84
-unfolding writePlanLine stepEntry line entryBytes
-step-most x h =
+-- a schema below 200 has three digits, and so has each of at most 12 objects below 1,000
+step-most : (t : Task) → wellFormed t ≡ true → (x : Step) → isStep t x ≡ true → length (stepPiece x) ≤ 57
+unfolding writePlanLine stepEntry line entryBytes paramCount
+step-most t well x h =
+    let c = task-tests t well in
+    let schemas = leb-true (length (t .schemas)) mostSchemas (c .schemas) in
+    let objects = leb-true (t .objects) mostObjects (c .objects) in
+    let is = isStep-is t x h in
+    let known = is .known in
+    let count = is .count in
+    let few = params-few t well (x .schema) in
     let ds = digits (x .schema) in
     let cs = commaed (x .objects) in
-    let d = at-most-five (x .schema) in
-    let l = commaed-most (x .objects) in
+    let d = digits-most 3 (omega arith) (x .schema) (omega arith) in
+    let each : Within 3 (x .objects) = λ o i. let l = is .small o i in digits-most 3 (omega arith) o (omega arith) in
+    let l = commaed-within 3 mostParameters (x .objects) (omega arith) each in
     let a = length-append (ds ++ (colon ∷ cs)) (newline ∷ []) in
     omega (arith, length-append ds (colon ∷ cs))
 
-pub plan-most : (xs : List Step) → length xs ≤ 1600 → ((x : Step) → In x xs → length (x .objects) ≤ 12) →
-    length (writePlan xs) ≤ longestPlan
+-- of good steps of a task, no more than a plan unfolds to
+pub plan-fits : (t : Task) → wellFormed t ≡ true → (w : List ℕ) → badStep t w ≡ none →
+    length w ≤ stepSize * mostSplitSteps → length (writePlan (stepsIn t w)) ≤ longestPlan
 unfolding longestPlan
-plan-most xs l h =
+plan-fits t well w good l =
+    let xs = stepsIn t w in
+    let n = length-stepsIn t w in
+    let few : length xs ≤ mostSplitSteps = omega arith in
     let e = ap length (plan-pieces xs) in
     let a = length-append (concatMap stepPiece xs) endBytes in
-    let m = pieces-most stepPiece 84 xs (λ x i. step-most x (h x i)) in
+    let m = pieces-most stepPiece 57 xs (λ x i. step-most t well x (steps-good t w good x i)) in
     omega arith
-
--- of good steps of a task, no more than a plan of 100 unfolds to
-pub plan-fits : (t : Task) → wellFormed t ≡ true → (w : List ℕ) → badStep t w ≡ none → length w ≤ 20800 →
-    length (writePlan (stepsIn t w)) ≤ longestPlan
-unfolding paramCount
-plan-fits t well w good l =
-    let n = length-stepsIn t w in
-    plan-most (stepsIn t w) (omega arith) (λ x i.
-    let c = isStep-is t x (steps-good t w good x i) .count in
-    let f = params-few t well (x .schema) in
-    omega arith)

@@ -16,7 +16,7 @@ use Rattle.text.specs.Reading.{Reading, refusedAt, atEnd, lineAt}
 use Rattle.text.specs.Plan.{PlanLine, step, planKeyName, takePlanLine, mostPlanSteps}
 use Rattle.text.specs.Code.{spaced}
 use Rattle.text.specs.ReadCode.{rest, Wrote, NextLine}
-use Rattle.task.specs.Limits.{stepSize}
+use Rattle.task.specs.Limits.{mostParts, stepSize}
 
 -- a step as it is read: "schema, colon, objects"
 abbrev pub stepOf : ℕ → List ℕ → Step
@@ -60,7 +60,12 @@ stepText w b params =
     bytes (planKeyName step) ++ (equals ∷ (digits (getD w b 0) ++ (colon ∷ (commaed (spaced w (b + 1) 1 params) ++
     (newline ∷ [])))))
 
--- no unfolding of a plan is longer, with five digits for each number: 84 bytes for each of 1,600 steps of 12 objects, 6
--- for `end`; shut, since a list function would count a numeral down
+-- a plan unfolds to no more steps: "1 to 16 parts" of each
+abbrev pub mostSplitSteps : ℕ
+mostSplitSteps = mostParts * mostPlanSteps
+
+-- no unfolding of a plan is longer: each of 1,600 steps takes 57 bytes, 5 for the key and its =, 3 for one of 200
+-- schemas, 47 for 12 of 1,000 objects with commas between, 2 for the colon and the line's end; 6 for `end`; shut, since
+-- a list function would count a numeral down
 unfoldable pub longestPlan : ℕ
-longestPlan = 134406
+longestPlan = 91206

@@ -149,6 +149,15 @@ abbrev pub NumberLineAt : List ℕ → Cursor → Number → Type 0
 NumberLineAt text c (found.Of n next) = NumberLine text c n next
 NumberLineAt text c found.Missing = whole (number (rest text c)) ≡ none
 
+-- a body that must be 1, and is: otherwise nothing stands behind it
+pub record OneLine (text : List ℕ) (c next : Cursor) : Type 0 where
+  pub is : whole (number (rest text c)) ≡ taken 1 (rest text next)
+  pub line : NextLine text c next
+
+abbrev pub OneLineAt : List ℕ → Cursor → Behind → Type 0
+OneLineAt text c (behind.At next) = OneLine text c next
+OneLineAt text c behind.Missing = (left : List ℕ) → whole (number (rest text c)) ≡ taken 1 left → ⊥
+
 pub record ListLine (text : List ℕ) (c : Cursor) (found : Option (Taken (List ℕ))) (count : ℕ) (kept : List ℕ)
     (next : Cursor) : Type 0 where
   pub ns : List ℕ

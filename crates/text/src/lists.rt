@@ -8,7 +8,7 @@ ghost use mathlib.Core.Path.{_≡_};
 ghost use lib.ListN.{set};
 ghost use Rattle.text.specs.Lines.{numbers as numberList, listing as anyList, Taken};
 ghost use Rattle.text.specs.ReadCode.{rest, Placed, ListAt, ListLineAt, EntryAt, EntryLineAt, NumberLineAt};
-ghost use Rattle.text.specs.ReadCode.{ListPlaced};
+ghost use Rattle.text.specs.ReadCode.{ListPlaced, OneLineAt};
 ghost use mathlib.Core.Option.{Option};
 ghost use Prim.Native.Nat.{ℕ};
 
@@ -97,6 +97,20 @@ pub fn number_line(text: &[u8], from: Cursor) -> Number
         return Number::Missing;
     };
     Number::Of(n, next)
+}
+
+// A line whose body must be 1, and the cursor behind it.
+pub fn one_line(text: &[u8], from: Cursor) -> Behind
+    requires { ⌜ Placed (now text) from ⌝ }
+    ensures { λ r. ⌜ OneLineAt (now (text .entry)) from r ⌝ }
+{
+    let Number::Of(n, next) = number_line(text, from) else {
+        return Behind::Missing;
+    };
+    if n != 1 {
+        return Behind::Missing;
+    }
+    Behind::At(next)
 }
 
 // A line whose body is a list, of one number or more or one that may be empty, as it was found.

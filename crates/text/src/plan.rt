@@ -56,8 +56,9 @@ const MOST_STEPS: usize = 100;
 // The words of so many steps.
 pub const PLAN_WORDS: usize = STEP_SIZE * MOST_STEPS;
 
-// No text of 1,600 steps of at most 12 objects is longer, and the plan of 100 steps unfolds to no more.
-pub const LONGEST_PLAN: usize = 134406;
+// No plan unfolds to a longer text: 1,600 steps of a schema below 200 and at most 12 objects below 1,000 take 57 bytes
+// each, `end` takes 6.
+pub const LONGEST_PLAN: usize = 91206;
 
 // How many parameters a schema of the task has.
 fn param_count(table: &[u16], schema: usize) -> usize

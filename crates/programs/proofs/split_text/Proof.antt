@@ -1,15 +1,12 @@
 -- `programs::split_text` meets its contract: a text that is read lies as a table, whose split is printed; a refusal is
 -- the one that is printed.
 use Rattle.programs.proofs.split_text.Tie as tie
-use mathlib.Core.Path.{sym, _∙_, ap}
 use native.Mathlib.Omega.{arith}
 use borrow.Author.Needs.{needs}
-use Rattle.text.specs.Outcomes.{readAnswerTold}
 use Rattle.text.specs.Code.{longestText}
 use Rattle.programs.specs.Programs.{taken}
-use Rattle.programs.proofs.Answered.{TableRead, table-zeros, table-read, read-refused, printsSplit, text-split}
-use Rattle.programs.proofs.Answered.{text-refused}
-use Rattle.programs.proofs.Printed.{prints-same}
+use Rattle.programs.proofs.Answered.{TableRead, table-zeros, table-read, task-printed, refusal-printed}
+use Rattle.programs.proofs.Answered.{printsSplit, split-is}
 use Rattle.programs.proofs.split_text.Statement.{statement}
 
 abbrev start : tie.After-read-table → tie.Start
@@ -17,10 +14,7 @@ start c = c .before .before .before
 
 table : (c : tie.After-enum-told) → let k = c .before .before .before in
     TableRead (taken (start k .args .text .now)) (k .read-table .last .1 .0)
-unfolding readAnswerTold
-table c =
-    let r = c .before .before .before .read-table in
-    table-read _ _ (sym (ap readAnswerTold (c .enum-told .given .1)) ∙ r .ensures .0) (r .ensures .1)
+table c = table-read _ _ (c .enum-told .given .1) (c .before .before .before .read-table .ensures)
 
 slice-aggregate-read-table : tie.Need-slice-aggregate-read-table
 slice-aggregate-read-table c = search needs
@@ -48,20 +42,13 @@ put-refusal-requires c κs = omega arith
 returns : tie.Need-returns
 returns c =
     let g = c .before .before .before in
-    let k = g .before .before .before in
-    let same = text-split (start k .args .text .now) (k .read-table .last .1 .0) (table g) in
-    let p = prints-same same (c .put-split .ensures) in
-    (p .bytes, p .count)
+    task-printed printsSplit _ (split-is _) (table g) (c .put-split .ensures)
 
 returns-2 : tie.Need-returns-2
-unfolding readAnswerTold
 returns-2 c =
     let n = c .before .before .before in
-    let k = n .before .before .before in
-    let told = sym (ap readAnswerTold (n .number .given .1)) ∙ k .read-table .ensures .0 in
-    let refused = read-refused _ _ table-zeros told printsSplit in
-    let p = prints-same (text-refused (start k .args .text .now) _ refused) (c .put-refusal .ensures) in
-    (p .bytes, p .count)
+    refusal-printed printsSplit _ (split-is _) _ table-zeros (n .number .given .1)
+    (n .before .before .before .read-table .ensures .0) (c .put-refusal .ensures)
 
 pub split-text-spec : {M : Type 1} → statement M
 split-text-spec =

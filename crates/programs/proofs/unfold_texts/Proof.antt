@@ -1,15 +1,12 @@
 -- `programs::unfold_texts` meets its contract: a task that is read lies as a table, of which the plan is read and
 -- printed; a refusal is the one that is printed.
 use Rattle.programs.proofs.unfold_texts.Tie as tie
-use mathlib.Core.Path.{sym, _∙_, ap}
 use native.Mathlib.Omega.{arith}
-use Rattle.text.specs.Outcomes.{readAnswerTold}
 use Rattle.text.specs.Code.{longestText}
 use Rattle.text.specs.PlanCode.{longestPlan}
 use Rattle.programs.specs.Programs.{taken}
-use Rattle.programs.proofs.Answered.{TableRead, table-zeros, table-read, read-refused}
-use Rattle.programs.proofs.Printed.{prints-same}
-use Rattle.programs.proofs.PlanUnfolded.{printsPlan, texts-unfold, texts-refused}
+use Rattle.programs.proofs.Answered.{TableRead, table-zeros, table-read, task-printed, refusal-printed}
+use Rattle.programs.proofs.PlanUnfolded.{printsPlan, unfold-is}
 use borrow.Author.Needs.{needs}
 use Rattle.programs.proofs.unfold_texts.Statement.{statement}
 
@@ -18,10 +15,7 @@ start c = c .before .before .before .before
 
 table : (c : tie.After-enum-told) → let k = c .before .before .before in
     TableRead (taken (start k .args .task .now)) (k .read-table .last .1 .0)
-unfolding readAnswerTold
-table c =
-    let r = c .before .before .before .read-table in
-    table-read _ _ (sym (ap readAnswerTold (c .enum-told .given .1)) ∙ r .ensures .0) (r .ensures .1)
+table c = table-read _ _ (c .enum-told .given .1) (c .before .before .before .read-table .ensures)
 
 slice-aggregate-read-table : tie.Need-slice-aggregate-read-table
 slice-aggregate-read-table c = search needs
@@ -49,22 +43,16 @@ put-refusal-requires c κs = omega arith
 returns : tie.Need-returns
 returns c =
     let g = c .before .before .before in
-    let k = g .before .before .before in
-    let a = start k .args in
-    let same = texts-unfold (a .task .now) (a .plan .now) (k .read-table .last .1 .0) (table g) in
-    let p = prints-same same (c .put-plan .ensures) in
-    (p .bytes, p .count)
+    let plan = start (g .before .before .before) .args .plan .now in
+    task-printed (printsPlan plan) _ (unfold-is _ plan) (table g) (c .put-plan .ensures)
 
 returns-2 : tie.Need-returns-2
-unfolding readAnswerTold
 returns-2 c =
     let n = c .before .before .before in
     let k = n .before .before .before in
-    let a = start k .args in
-    let told = sym (ap readAnswerTold (n .number .given .1)) ∙ k .read-table .ensures .0 in
-    let refused = read-refused _ _ table-zeros told (printsPlan (a .plan .now)) in
-    let p = prints-same (texts-refused (a .task .now) (a .plan .now) _ refused) (c .put-refusal .ensures) in
-    (p .bytes, p .count)
+    let plan = start k .args .plan .now in
+    refusal-printed (printsPlan plan) _ (unfold-is _ plan) _ table-zeros (n .number .given .1)
+    (k .read-table .ensures .0) (c .put-refusal .ensures)
 
 pub unfold-texts-spec : {M : Type 1} → statement M
 unfold-texts-spec =

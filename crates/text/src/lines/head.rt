@@ -1,5 +1,6 @@
 // The lines that have no atom: `task`, `objects`, `arity`, `schema` and `end`.
 use crate::checks::all_below;
+use crate::cursor::Behind;
 use crate::cursor::Cursor;
 use crate::cursor::Number;
 use crate::draft::Counts;
@@ -12,6 +13,7 @@ use crate::lists::List;
 use crate::lists::list_line;
 use crate::lists::number_line;
 use crate::lists::numbers;
+use crate::lists::one_line;
 use crate::storing::put_words;
 use task::limits;
 use task::limits::HEAD_WORDS;
@@ -41,12 +43,9 @@ pub fn task_line(text: &[u8], from: Cursor, counts: Counts) -> Turn
       ⌜ ((d : Draft) (w : Many ℕ) → Holds d w counts →
           Turned bs from d (ended taskLine (number (rest bs from))) w r w) ⌝ }
 {
-    let Number::Of(n, next) = number_line(text, from) else {
+    let Behind::At(next) = one_line(text, from) else {
         return Turn::Refuse(3);
     };
-    if n != 1 {
-        return Turn::Refuse(3);
-    }
     let mut read = counts;
     read.phase = OBJECTS;
     Turn::GoOn(read, next)
@@ -108,12 +107,9 @@ pub fn end_line(text: &[u8], from: Cursor) -> Turn
       ⌜ ((d : Draft) (w : Many ℕ) → phaseNumber between ≤ phaseNumber (d .phase) →
           Turned bs from d (ended endLine (number (rest bs from))) w r w) ⌝ }
 {
-    let Number::Of(n, next) = number_line(text, from) else {
+    let Behind::At(next) = one_line(text, from) else {
         return Turn::Refuse(3);
     };
-    if n != 1 {
-        return Turn::Refuse(3);
-    }
     Turn::Finish(next)
 }
 

@@ -2,15 +2,8 @@
 -- with zeros behind them and tells what the outcome tells.
 use mathlib.Core.Path.{sym}
 use native.Mathlib.Omega.{arith}
-use Rattle.task.proofs.EndLaws.{
-  state-fills,
-  ended-ran,
-  ended-missing,
-  ended-outgrown,
-  done-ran,
-  done-stopped,
-  done-outgrown,
-}
+use Rattle.task.specs.Turns.{endedAs, recordsLeft}
+use Rattle.task.proofs.EndLaws.{state-fills, ended-so, done-ran, done-stopped, done-outgrown}
 use borrow.Author.Needs.{needs}
 use Rattle.task.proofs.running.run_steps.Statement.{statement}
 use Rattle.task.proofs.running.run_steps.Tie as tie
@@ -39,113 +32,91 @@ enum-known-ended : tie.Need-enum-known-ended
 enum-known-ended c = search needs
 
 goal-met-requires : tie.Need-goal-met-requires
+unfolding recordsLeft
 goal-met-requires c κs =
     let at-ended = c .before .before in
     let at-run-list = at-ended .before .before .before .before in
-    let start = at-run-list .before .before .before .before .before .before .before .before in (
-      start .pre .0,
-      (ended-ran _ _ (at-ended .ended .given .0 .0) (at-ended .ended .given .1)
-          (at-run-list .run-list .ensures .0)
-          (at-run-list .run-list .ensures .1)) .0,
-    )
+    let start = at-run-list .before .before .before .before .before .before .before .before in
+    (start .pre .0, ended-so _ _ (at-ended .ended .given .1) (at-run-list .run-list .ensures) .0)
 
 mul-clear-from : tie.Need-mul-clear-from
+unfolding recordsLeft
 mul-clear-from c =
     let at-ended = c .before .before .before .before in
     let at-run-list = at-ended .before .before .before .before in
     let start = at-run-list .before .before .before .before .before .before .before .before in
-    let l = state-fills _ _ _ ((ended-ran _ _ (at-ended .ended .given .0 .0) (at-ended .ended .given .1)
-    (at-run-list .run-list .ensures .0) (at-run-list .run-list .ensures .1)) .0) in
-    let z = at-run-list .run-list .kept .1 .1 .1 .0 in omega (arith, start .good)
+    let l = state-fills _ _ _ (ended-so _ _ (at-ended .ended .given .1) (at-run-list .run-list .ensures) .0) in
+    let z = at-run-list .run-list .kept .1 .1 .1 .0 in
+    omega (arith, start .good)
 
 clear-from-requires : tie.Need-clear-from-requires
+unfolding recordsLeft
 clear-from-requires c κs =
     let at-ended = c .before .before .before .before in
-    let at-run-list = at-ended .before .before .before .before in
-    state-fills _ _ _ ((ended-ran _ _ (at-ended .ended .given .0 .0) (at-ended .ended .given .1)
-    (at-run-list .run-list .ensures .0) (at-run-list .run-list .ensures .1)) .0)
+    let list = at-ended .before .before .before .before .run-list in
+    state-fills _ _ _ (ended-so _ _ (at-ended .ended .given .1) (list .ensures) .0)
 
 enum-known-ended-2 : tie.Need-enum-known-ended-2
 enum-known-ended-2 c = search needs
 
-mul-clear-from-2 : tie.Need-mul-clear-from-2
-mul-clear-from-2 c =
+stopped-requires : tie.Need-stopped-requires
+unfolding recordsLeft
+stopped-requires c κs =
     let at-ended2 = c .before .before in
-    let at-run-list = at-ended2 .before .before .before .before in
-    let start = at-run-list .before .before .before .before .before .before .before .before in
-    let l = state-fills _ _ _ ((ended-missing _ _ _ (at-ended2 .ended2 .given .0 .1 .0) (at-ended2 .ended2 .given .1)
-    (at-run-list .run-list .ensures .0) (at-run-list .run-list .ensures .1)) .0) in
-    let z = at-run-list .run-list .kept .1 .1 .1 .0 in omega (arith, start .good)
-
-clear-from-requires-2 : tie.Need-clear-from-requires-2
-clear-from-requires-2 c κs =
-    let at-ended2 = c .before .before in
-    let at-run-list = at-ended2 .before .before .before .before in
-    state-fills _ _ _ ((ended-missing _ _ _ (at-ended2 .ended2 .given .0 .1 .0) (at-ended2 .ended2 .given .1)
-    (at-run-list .run-list .ensures .0) (at-run-list .run-list .ensures .1)) .0)
+    let list = at-ended2 .before .before .before .before .run-list in
+    state-fills _ _ _ (ended-so _ _ (at-ended2 .ended2 .given .1) (list .ensures) .0)
 
 enum-known-ended-3 : tie.Need-enum-known-ended-3
 enum-known-ended-3 c = search needs
 
-mul-clear-from-3 : tie.Need-mul-clear-from-3
-mul-clear-from-3 c =
+stopped-requires-2 : tie.Need-stopped-requires-2
+unfolding recordsLeft
+stopped-requires-2 c κs =
     let at-ended3 = c .before .before in
-    let at-run-list = at-ended3 .before .before .before .before in
-    let start = at-run-list .before .before .before .before .before .before .before .before in
-    let l = state-fills _ _ _ ((ended-outgrown _ _ _ (at-ended3 .ended3 .given .0 .1 .0) (at-ended3 .ended3 .given .1)
-    (at-run-list .run-list .ensures .0) (at-run-list .run-list .ensures .1)) .0) in
-    let z = at-run-list .run-list .kept .1 .1 .1 .0 in omega (arith, start .good)
-
-clear-from-requires-3 : tie.Need-clear-from-requires-3
-clear-from-requires-3 c κs =
-    let at-ended3 = c .before .before in
-    let at-run-list = at-ended3 .before .before .before .before in
-    state-fills _ _ _ ((ended-outgrown _ _ _ (at-ended3 .ended3 .given .0 .1 .0) (at-ended3 .ended3 .given .1)
-    (at-run-list .run-list .ensures .0) (at-run-list .run-list .ensures .1)) .0)
+    let list = at-ended3 .before .before .before .before .run-list in
+    state-fills _ _ _ (ended-so _ _ (at-ended3 .ended3 .given .1) (list .ensures) .0)
 
 same-length : tie.Need-same-length
 same-length c = search needs
 
 returns : tie.Need-returns
+unfolding recordsLeft endedAs
 returns c =
     let at-clear-from = c .before .before in
     let at-goal-met = at-clear-from .before .before in
     let at-ended = at-goal-met .before .before .before in
-    let at-run-list = at-ended .before .before .before .before in
-    let ended = (ended-ran _ _ (at-ended .ended .given .0 .0) (at-ended .ended .given .1)
-    (at-run-list .run-list .ensures .0) (at-run-list .run-list .ensures .1)) in
-    done-ran _ _ _ _ _ (ended .0) (at-run-list .run-list .kept .1 .1 .1 .0) (at-clear-from .clear-from .ensures)
-    (ended .1) (at-goal-met .goal-met .ensures)
+    let list = at-ended .before .before .before .before .run-list in
+    let ended = ended-so _ _ (at-ended .ended .given .1) (list .ensures) in
+    done-ran _ _ _ _ _ (ended .0) (list .kept .1 .1 .1 .0) (at-clear-from .clear-from .ensures) (ended .1)
+    (at-goal-met .goal-met .ensures)
 
 same-length-2 : tie.Need-same-length-2
 same-length-2 c = search needs
 
 returns-2 : tie.Need-returns-2
+unfolding recordsLeft endedAs
 returns-2 c =
-    let at-clear-from2 = c .before .before in
-    let at-ended2 = at-clear-from2 .before .before .before in
-    let at-run-list = at-ended2 .before .before .before .before in
-    let ended = (ended-missing _ _ _ (at-ended2 .ended2 .given .0 .1 .0) (at-ended2 .ended2 .given .1)
-    (at-run-list .run-list .ensures .0) (at-run-list .run-list .ensures .1)) in
-    done-stopped _ _ _ _ _ (ended .0) (at-run-list .run-list .kept .1 .1 .1 .0)
-    (at-clear-from2 .clear-from2 .ensures) _ (ended .1)
+    let at-ended2 = c .before .before .before .before .before in
+    let list = at-ended2 .before .before .before .before .run-list in
+    let ended = ended-so _ _ (at-ended2 .ended2 .given .1) (list .ensures) in
+    let stop = c .before .before .stopped .ensures in
+    done-stopped _ _ _ _ _ (ended .0) (list .kept .1 .1 .1 .0) (stop .1) _ (stop .0) (ended .1)
 
 same-length-3 : tie.Need-same-length-3
 same-length-3 c = search needs
 
 returns-3 : tie.Need-returns-3
+unfolding recordsLeft endedAs
 returns-3 c =
-    let at-clear-from3 = c .before .before in
-    let at-ended3 = at-clear-from3 .before .before .before in
-    let at-run-list = at-ended3 .before .before .before .before in
-    let ended = (ended-outgrown _ _ _ (at-ended3 .ended3 .given .0 .1 .0) (at-ended3 .ended3 .given .1)
-    (at-run-list .run-list .ensures .0) (at-run-list .run-list .ensures .1)) in
-    done-outgrown _ _ _ _ _ (ended .0) (at-run-list .run-list .kept .1 .1 .1 .0)
-    (at-clear-from3 .clear-from3 .ensures) _ (ended .1)
+    let at-ended3 = c .before .before .before .before .before in
+    let list = at-ended3 .before .before .before .before .run-list in
+    let ended = ended-so _ _ (at-ended3 .ended3 .given .1) (list .ensures) in
+    let stop = c .before .before .stopped2 .ensures in
+    done-outgrown _ _ _ _ _ (ended .0) (list .kept .1 .1 .1 .0) (stop .1) _ (stop .0) (ended .1)
 
 pub run-steps-spec : {M : Type 1} → statement M
 run-steps-spec =
     tie.close
     (tie.spec schema-starts-requires slice-aggregate-run-list run-list-requires enum-known-ended goal-met-requires
-    mul-clear-from clear-from-requires enum-known-ended-2 mul-clear-from-2 clear-from-requires-2 enum-known-ended-3
-    mul-clear-from-3 clear-from-requires-3 same-length returns same-length-2 returns-2 same-length-3 returns-3)
+    mul-clear-from clear-from-requires enum-known-ended-2 stopped-requires enum-known-ended-3 stopped-requires-2
+    same-length returns same-length-2 returns-2 same-length-3 returns-3)

@@ -1,41 +1,35 @@
--- `text::lines::head::end_line`: there is no number, or it isn't 1 and the line is refused with 3, or reading has come to its
--- end with the draft's task.
+-- `lines::head::end_line`: the body isn't 1 and the line is refused with 3, or reading has come to its end with the
+-- draft's task.
 use Rattle.text.proofs.lines.head.end_line.Tie as tie
-use Prim.Native.Nat.{_-_}
 use mathlib.Core.Path.{refl, subst}
 use borrow.Author.Needs.{needs}
-use Rattle.text.specs.Text.{endLine}
-use Rattle.text.specs.ReadCode.{NumberLineAt}
+use Rattle.text.specs.Text.{endLine, takeLine}
+use Rattle.text.specs.ReadCode.{OneLineAt}
 use Rattle.text.proofs.HeldHeads.{end-refused, end-taken}
-use Rattle.text.proofs.LineTurns.{no-line, line-refused, line-ends}
+use Rattle.text.proofs.LineTurns.{not-one, line-ends}
 use Rattle.text.proofs.lines.head.end_line.Statement.{statement}
 
-number-line-requires : tie.Need-number-line-requires
-number-line-requires c κs = search needs
+one-line-requires : tie.Need-one-line-requires
+one-line-requires c κs = search needs
 
-enum-known-n : tie.Need-enum-known-n
-enum-known-n c = search needs
+enum-known-next : tie.Need-enum-known-next
+enum-known-next c = search needs
 
 enum-told : tie.Need-enum-told
 enum-told c = search needs
 
 returns : tie.Need-returns
 returns c = λ d w closed.
-    no-line endLine d _ (subst (NumberLineAt _ _) (c .enum-told .given .1) (c .before .before .number-line .ensures))
+    not-one endLine _ (takeLine d)
+    (subst (OneLineAt _ _) (c .enum-told .given .1) (c .before .before .one-line .ensures)) (end-refused d)
 
 returns-2 : tie.Need-returns-2
 returns-2 c =
-    let n = c .before .before in
-    let read = subst (NumberLineAt _ _) (n .n .given .1) (n .before .before .number-line .ensures) in
-    λ d w closed. line-refused endLine d _ _ _ (read .is) 3 (end-refused d _ (c .if1 .taken))
-
-returns-3 : tie.Need-returns-3
-returns-3 c =
-    let n = c .before .before in
-    let read = subst (NumberLineAt _ _) (n .n .given .1) (n .before .before .number-line .ensures) in
+    let line = c .before .before .before .one-line in
+    let read = subst (OneLineAt _ _) (c .before .next .given .1) (line .ensures) in
     λ d w closed. (
       record {
-        is = line-ends endLine d _ _ _ (read .is) _ (end-taken d _ (c .if1 .left));
+        is = line-ends endLine d _ _ _ (read .is) _ (end-taken d _ refl);
         line = read .line;
         closed = closed;
       },
@@ -43,4 +37,4 @@ returns-3 c =
     )
 
 pub end-line-spec : {M : Type 1} → statement M
-end-line-spec = tie.close (tie.spec number-line-requires enum-known-n enum-told returns returns-2 returns-3)
+end-line-spec = tie.close (tie.spec one-line-requires enum-known-next enum-told returns returns-2)

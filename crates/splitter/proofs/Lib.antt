@@ -1,0 +1,2 @@
+-- Laws of the numbers that a C host is given.
+pub mod Numbers
