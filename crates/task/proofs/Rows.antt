@@ -19,7 +19,7 @@ use Rattle.words.proofs.Lists.{eqList-refl, eqList-eq, Less, tabulate, length-p
 use Rattle.task.proofs.Tests.{fits, tests-fact}
 use Rattle.task.proofs.States.{key, Asc, asc-cons, asc-ascending, fitting-argsFit, Fits, State, factsFit-state}
 use Rattle.words.proofs.Words.{At, wordsAt-at, at-join, at-wordsAt, length-rows, at-row}
-use Rattle.task.proofs.Tables.{noFact}
+use Rattle.task.proofs.AtomsStand.{noFact}
 use Rattle.task.proofs.RecordWords.{length-recordWords}
 use Rattle.task.proofs.Numbers.{Slight, slight, less-number}
 
@@ -108,7 +108,7 @@ module _ (t : Task) (wf : wellFormed t ≡ true) where
             let e : 0 + 5 * k + j ≡ 5 * k + j = omega arith in
             let q = five t wf s st f (in-getD s k noFact l) in
             ap (λ (x : ℕ). getD w x 0) (sym e) ∙
-            at-row recordWords 5 (λ k. 5 * k) (omega arith) (λ k. omega arith) w 0 s noFact (five t wf s st) whole k l
+            at-row recordWords 5 w 0 s noFact (five t wf s st) whole k l
             j (omega arith);
         count = len;
         room = room-words w n (c .room);
@@ -153,7 +153,7 @@ module _ (t : Task) (wf : wellFormed t ≡ true) where
   kept-keeps w n s c =
       let e = kept-facts w n s c in
       let h = five t wf s (c .state) in
-      let len = length-rows recordWords 5 (λ k. 5 * k) (omega arith) (λ k. omega arith) s h in
+      let len = length-rows recordWords 5 s h in
       let a : At w 0 (stateWords s) = rows-at w 0 s h (λ k j l m.
       (let z : 0 + (5 * k + j) ≡ 5 * k + j = omega arith in ap (λ (x : ℕ). getD w x 0) z ∙ c .rows k j l m)) in
       let q : 5 * n ≡ length (stateWords s) = sym (len ∙ ap (λ (m : ℕ). 5 * m) (c .count)) in

@@ -13,7 +13,9 @@ use Rattle.task.specs.Task.{Atom, Fact, argsFit, sameAtom, schemaAtoms}
 use Rattle.task.specs.Table.{atomWords, factWords, schemasFrom}
 use Rattle.words.proofs.Lists.{In, all-in, in-getD, append-concatMap}
 use Rattle.words.proofs.Words.{at-left, at-right, at-move, at-join}
-use Rattle.task.proofs.Tables.{at-block, Sized, sized, length-atomWords, length-blocks, length-facts, tableWords-is}
+use Rattle.words.proofs.Words.{at-row, length-rows}
+use Rattle.task.proofs.AtomsStand.{Sized, sized, length-atomWords, length-facts}
+use Rattle.task.proofs.Tables.{tableWords-is}
 use Rattle.text.specs.Reading.{goOn, refuse}
 use Rattle.text.specs.Text.{Draft, rolePhase, addAtom, Line, atomLine, takeLine}
 use Rattle.text.specs.ReadCode.{Standing, Wrote, Listed, Fitting, bareAtom, rowSame, phaseNumber}
@@ -106,20 +108,20 @@ module _ {d : Draft} {w : List ℕ} {c : Counts} (h : Holds d w c) where
   pub atoms-length : length atomRows ≡ atomSize * c .atoms
   atoms-length =
       let e = h .atoms in
-      let l = length-blocks (atomWords (length (d .task .schemas))) (d .current .atoms)
+      let l = length-rows (atomWords (length (d .task .schemas))) atomSize (d .current .atoms)
       (λ a i. length-atomWords (length (d .task .schemas)) a (atom-sized a i .short)) in
       omega arith
 
   pub inits-length : length initRows ≡ atomSize * c .initial
   inits-length =
       let e = h .initial in
-      let l = length-blocks (factWords 3) (d .task .init) (length-facts (d .task) 3 (d .task .init) init-sized) in
+      let l = length-rows (factWords 3) atomSize (d .task .init) (length-facts (d .task) 3 (d .task .init) init-sized) in
       omega arith
 
   pub goals-length : length goalRows ≡ atomSize * c .goal
   goals-length =
       let e = h .goal in
-      let l = length-blocks (factWords 4) (d .task .goal) (length-facts (d .task) 4 (d .task .goal) goal-sized) in
+      let l = length-rows (factWords 4) atomSize (d .task .goal) (length-facts (d .task) 4 (d .task .goal) goal-sized) in
       omega arith
 
   pub schemas-length : length schemaRows ≡ atomSize * c .closed
@@ -150,7 +152,7 @@ module _ {d : Draft} {w : List ℕ} {c : Counts} (h : Holds d w c) where
       Standing w (rowsAt (c .predicates) + atomSize * c .closed + atomSize * i)
       (atomWords (length (d .task .schemas)) (getD (d .current .atoms) i a₀))
   atom-stands i a₀ l =
-      at-block (atomWords (length (d .task .schemas))) w (rowsAt (c .predicates) + atomSize * c .closed)
+      at-row (atomWords (length (d .task .schemas))) atomSize w (rowsAt (c .predicates) + atomSize * c .closed)
       (d .current .atoms) a₀
       (λ a j. length-atomWords (length (d .task .schemas)) a (atom-sized a j .short)) atoms-stand i l
 

@@ -15,7 +15,8 @@ use Rattle.task.specs.Table.{atomWords, factWords, schemasFrom}
 use Rattle.words.specs.Words.{wordsAt}
 use Rattle.words.proofs.Lists.{In, all-in, in-getD, append-concatMap}
 use Rattle.words.proofs.Words.{At, at-left, at-right, at-move}
-use Rattle.task.proofs.Tables.{at-block, Sized, sized, length-atomWords, length-facts, factAtom, factWords-is}
+use Rattle.words.proofs.Words.{at-row}
+use Rattle.task.proofs.AtomsStand.{Sized, sized, length-atomWords, length-facts, factAtom, factWords-is}
 use Rattle.text.specs.Reading.{goOn, refuse}
 use Rattle.text.specs.Text.{Draft, inInit, inGoal, atPhase, withInit, withGoal, follows, addFact, init}
 use Rattle.text.specs.Text.{Phase, Line, takeLine}
@@ -155,7 +156,7 @@ module _ {d : Draft} {w after : List ℕ} {c : Counts} (h : Holds d w c) (facts 
       let old = at-move w ((rowsAt (c .predicates) + atomSize * (total - facts .read)) + atomSize * k)
       (rowAt c - atomSize)
       (factWords (facts .role) g) place
-      (at-block (factWords (facts .role)) w (rowsAt (c .predicates) + atomSize * (total - facts .read)) fs f
+      (at-row (factWords (facts .role)) atomSize w (rowsAt (c .predicates) + atomSize * (total - facts .read)) fs f
       (length-facts (d .task) (facts .role) fs fs-sized) (known .stand) k (omega arith)) in
       let eight = length-facts (d .task) (facts .role) fs fs-sized g (in-getD fs k f (omega arith)) in
       let z : rowAt c - 6 ≡ (rowAt c - atomSize) + 2 = omega arith in

@@ -12,8 +12,10 @@ use Rattle.task.specs.Task.{Atom, Schema, schemaAtoms, withAtoms}
 use Rattle.task.specs.Table.{atomWords, schemasFrom}
 use Rattle.words.proofs.Lists.{In, in-getD, getD-in, map-append, length-padded}
 use Rattle.words.proofs.Words.{At, at-left, at-move, at-join}
-use Rattle.task.proofs.Tables.{Sized, length-atomWords, length-blocks, tableWords-is}
-use Rattle.task.proofs.TablesByWords.{join-blocks}
+use Rattle.task.proofs.AtomsStand.{Sized, length-atomWords}
+use Rattle.words.proofs.Words.{length-rows}
+use Rattle.task.proofs.Tables.{tableWords-is}
+use Rattle.words.proofs.Words.{join-rows}
 use Rattle.text.specs.Text.{Draft, atPhase, withSchemas, withParts, part}
 use Rattle.text.specs.ReadCode.{Standing, PartsPut, mayStand}
 use Rattle.text.specs.Holding.{rowsOf, Holds, Touched, withClosed, Allows, rowsAt}
@@ -129,7 +131,7 @@ module _ {d : Draft} {w mid : List ℕ} {c : Counts} (h : Holds d w c) (ps kept 
 
   closed-rows : At last first (concatMap (atomWords S) closedAtoms)
   closed-rows =
-      join-blocks (atomWords S) last first closedAtoms noAtom closed-size (λ i l.
+      join-rows (atomWords S) atomSize last first closedAtoms noAtom closed-size (λ i l.
       let n = length-closed (d .task) (d .current) ps same in
       let m : i < length (d .current .atoms) = omega arith in
       let a = getD (d .current .atoms) i noAtom in
@@ -149,7 +151,7 @@ module _ {d : Draft} {w mid : List ℕ} {c : Counts} (h : Holds d w c) (ps kept 
   closed-length =
       let n = length-closed (d .task) (d .current) ps same in
       let m = h .atoms in
-      let l = length-blocks (atomWords S) closedAtoms closed-size in
+      let l = length-rows (atomWords S) atomSize closedAtoms closed-size in
       omega arith
 
   schemaRows : List ℕ

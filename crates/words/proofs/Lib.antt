@@ -7,5 +7,6 @@ pub mod Words
 pub mod Searches
 pub mod Comparing
 pub mod Puts
+pub mod JoinedWords
 pub mod BitSets
 pub mod SetMembers
