@@ -3,7 +3,7 @@
 use Prim.Native.Nat.{ℕ, _+_, _-_, _*_, _≤_, _<_}
 use mathlib.Core.Path.{_≡_, refl, sym, _∙_, ap, subst}
 use mathlib.Core.Bool.{Bool, true, false}
-use mathlib.Core.List.{List, [], _∷_, _++_, map, append-nil}
+use mathlib.Core.List.{List, [], _∷_, _++_, map}
 use native.Mathlib.Omega.{arith}
 use lib.ListN.{length, getD, drop, replicate, length-append, length-map, length-drop, length-replicate, getD-replicate}
 use lib.ListN.{List·getD-append}
@@ -20,7 +20,7 @@ use Rattle.words.proofs.JoinedWords.{length-joined, at-place, stands-concat, co
 use Rattle.task.proofs.Tables.{content, words-are, words-length, tableWords-is}
 use Rattle.text.specs.Text.{Draft}
 use Rattle.text.specs.ReadCode.{Wrote}
-use Rattle.text.specs.Holding.{rowsOf, Holds, Touched, rowsAt}
+use Rattle.text.specs.Holding.{rowBlocks, rowsOf, Holds, Touched, rowsAt}
 use Rattle.text.proofs.WroteWords.{stands, stays-before, stays-behind}
 use Rattle.text.specs.declared.draft.Counts.{Counts}
 
@@ -101,8 +101,8 @@ module _ {d : Draft} {w : List ℕ} {c : Counts} (h : Holds d w c) (closed : 7 �
   rows = joined atomBlocks
 
   rows-are : rowsOf d ≡ rows
-  unfolding rowsOf joined concatMap
-  rows-are = rw (h .order .closed closed, append-nil (concatMap (factWords goalRole) (d .task .goal))) refl
+  unfolding rowBlocks joined concatMap
+  rows-are = rw (h .order .closed closed) refl
 
   head-is : head ≡ headBlock (headOf (d .task))
   head-is = rw (h .objects, h .predicates, h .schemas, h .closed, h .initial, h .goal) refl

@@ -13,15 +13,13 @@ length-joined [] = refl
 length-joined (xs ∷ bs) = let e = length-joined bs in omega (arith, length-append xs (joined bs))
 
 -- block k stands behind the blocks before it
-pub concat-stands : (w : List ℕ) (b : ℕ) (bs : List (List ℕ)) → At w b (joined bs) → (k : ℕ) → k < length bs →
-    At w (b + sum (take k (map length bs))) (getD bs k [])
+pub concat-stands : (w : List ℕ) (b : ℕ) (bs : List (List ℕ)) → At w b (joined bs) → (k place : ℕ) → k < length bs →
+    b + sum (take k (map length bs)) ≡ place → At w place (getD bs k [])
 unfolding joined sum
-concat-stands w b [] h k l = absurd (omega arith)
-concat-stands w b (xs ∷ bs) h zero l = at-move w b (b + 0) xs (omega arith) (at-left w b xs (joined bs) h)
-concat-stands w b (xs ∷ bs) h (suc k) l =
-    at-move w (b + length xs + sum (take k (map length bs))) (b + (length xs + sum (take k (map length bs))))
-    (getD bs k []) (omega arith)
-    (concat-stands w (b + length xs) bs (at-right w b xs (joined bs) h) k (omega arith))
+concat-stands w b [] h k place l e = absurd (omega arith)
+concat-stands w b (xs ∷ bs) h zero place l e = at-move w b place xs (omega arith) (at-left w b xs (joined bs) h)
+concat-stands w b (xs ∷ bs) h (suc k) place l e =
+    concat-stands w (b + length xs) bs (at-right w b xs (joined bs) h) k place (omega arith) (omega arith)
 
 -- ---- blocks in a row: each stands at a place that has a name of its own, which is where the one before it ends
 pub data InRow (w : List ℕ) : ℕ → List (List ℕ) → Type 0 where
