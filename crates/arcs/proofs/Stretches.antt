@@ -17,7 +17,8 @@ use Rattle.task.specs.Table.{atomIn, schemaNumberIn, taskOf, isTable}
 use Rattle.words.proofs.Lists.{all-in, in-getD, getD-map, map-append, upFrom-last, length-upFrom}
 use Rattle.words.proofs.Lists.{getD-upFrom}
 use Rattle.task.proofs.Tests.{schema-tests, task-tests}
-use Rattle.task.proofs.Tables.{noAtom, counts, startOf, of-table}
+use Rattle.task.proofs.AtomsStand.{noAtom, counts}
+use Rattle.task.proofs.Tables.{startOf, of-table}
 use Rattle.task.proofs.TablesByIndex.{table-frame, table-long, schemas-word, atom-inside, atom-at, atom-lies, start-suc}
 use Rattle.task.proofs.TablesByIndex.{start-end}
 use Rattle.task.proofs.SchemaWords.{part-small}

@@ -23,7 +23,7 @@ use Rattle.words.proofs.Lists.{map-append, upTo-suc, append-same-length, Less, 
 use Rattle.task.proofs.Tests.{tests-fact}
 use Rattle.task.proofs.States.{key, Asc, asc-nil, asc-cons, asc-ascending, Fits, State, factsFit-state, fitting-argsFit}
 use Rattle.task.proofs.States.{holds-in, in-holds}
-use Rattle.task.proofs.Tables.{noFact}
+use Rattle.task.proofs.AtomsStand.{noFact}
 use Rattle.words.proofs.Words.{wordsAt-is, length-wordsAt}
 use Rattle.task.proofs.RecordWords.{arity-few, length-recordWords}
 use Rattle.task.proofs.StateWords.{Short, length-state, at-record, state-words, words-read, words-state}

@@ -22,7 +22,7 @@ use Rattle.task.proofs.States.{
   insertAll-old,
   insertAll-new,
 }
-use Rattle.task.proofs.Tables.{noFact}
+use Rattle.task.proofs.AtomsStand.{noFact}
 use Rattle.task.proofs.RowsChanged.{remove-absent, remove-place, insert-present, length-without}
 
 -- ---- one after another

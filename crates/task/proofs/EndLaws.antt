@@ -32,7 +32,8 @@ use Rattle.task.specs.Run.{
 use Rattle.task.specs.Turns.{endedAs, recordsLeft}
 use Rattle.words.proofs.Words.{length-wordsAt}
 use Rattle.words.proofs.Lists.{getD-mapped}
-use Rattle.task.proofs.Rows.{state-tests, length-stateIn, room-words}
+use Rattle.task.proofs.Rows.{room-words}
+use Rattle.task.proofs.StateWords.{state-here, length-stateIn}
 
 -- ---- words
 words-taken : (w : List ℕ) (m : ℕ) → m ≤ length w → wordsAt w 0 m ≡ take m w
@@ -46,10 +47,10 @@ words-taken w m l =
     getD-mapped (λ k. getD w k 0) 0 m k 0 y ∙ (ap (λ (j : ℕ). getD w j 0) z ∙ sym (getD-take m w k 0 y)))
 
 pub state-fills : (t : Task) (w : List ℕ) (n : ℕ) → isState t w n ≡ true → 5 * n ≤ length w
-state-fills t w n h = room-words w n (state-tests t w n h .room)
+state-fills t w n h = room-words w n (state-here t w n h .room)
 
 pub state-taken : (t : Task) (w : List ℕ) (n : ℕ) → isState t w n ≡ true → take (5 * n) w ≡ stateWords (stateIn t w n)
-state-taken t w n h = sym (words-taken w (5 * n) (state-fills t w n h)) ∙ state-tests t w n h .words
+state-taken t w n h = sym (words-taken w (5 * n) (state-fills t w n h)) ∙ state-here t w n h .words
 
 -- ---- how a list ended, once its case is known
 pub ended-so : (t : Task) (out : List ℕ) {e known : Ended} {r : Running} → e ≡ known →

@@ -15,7 +15,8 @@ use Rattle.words.proofs.Lists.{In, in-eq, in-getD}
 use Rattle.words.proofs.Ranges.{all-map}
 use Rattle.words.proofs.Loops.{AllLeft}
 use Rattle.task.proofs.States.{fitting-argsFit, wellFormed-is}
-use Rattle.task.proofs.Tables.{noFact, of-table}
+use Rattle.task.proofs.AtomsStand.{noFact}
+use Rattle.task.proofs.Tables.{of-table}
 use Rattle.task.proofs.TablesByIndex.{table-frame, goal-word, goal-at}
 
 pub goal-known : (w state : List ℕ) (n k number : ℕ) → isTable w ≡ true → isState (taskOf w) state n ≡ true →

@@ -21,9 +21,10 @@ use Rattle.task.specs.Spans.{groundAt, argumentIn, AtomOf, SpanOf}
 use Rattle.words.proofs.Lists.{and-left, and-right, In, all-in, in-eq, in-getD, getD-map, getD-mapped}
 use Rattle.task.proofs.Tests.{schema-tests, task-tests}
 use Rattle.task.proofs.States.{Fits, fitting-argsFit, IsStep, isStep-is, WellFormed, wellFormed-is, ground-fits}
-use Rattle.task.proofs.Tables.{noAtom, startOf, tableWords-is, of-table}
+use Rattle.task.proofs.AtomsStand.{noAtom}
+use Rattle.task.proofs.Tables.{startOf, tableWords-is, of-table}
 use Rattle.task.proofs.TablesByIndex.{table-frame, table-long, atom-inside, start-suc, atom-at, atom-lies}
-use Rattle.task.proofs.TablesByWords.{table-words}
+use Rattle.task.proofs.TablesPass.{table-words}
 use Rattle.words.proofs.Words.{length-wordsAt}
 
 -- ---- where words lie

@@ -6,21 +6,21 @@ use mathlib.Core.Bool.{true}
 use mathlib.Core.List.{List, [], _∷_, map}
 use native.Mathlib.Omega.{arith}
 use native.Mathlib.Decide.{decLt}
-use lib.ListN.{length, getD, replicate, length-map, List·getD-append}
-use lib.Dec.{leb}
-use borrow.Author.Tests.{leb-true, le-leb}
-use Rattle.words.specs.Lists.{upTo, upFrom, concatMap, eqList, padded}
+use lib.ListN.{length, getD, replicate, List·getD-append}
+use Rattle.words.specs.Lists.{upTo, upFrom, padded}
 use Rattle.task.specs.Task.{Fact, Task, factsFit, wellFormed}
 use Rattle.words.specs.Words.{wordsAt}
 use Rattle.task.specs.Run.{recordWords, stateWords, recordAt, stateIn, roomIn, isState}
 use Rattle.task.specs.Records.{recordNumber, numberAt, rowNumber, RowsAscend, Keeps}
-use Rattle.words.proofs.Lists.{and-left, and-right, and-both, In, here, there, in-all, in-getD, length-upTo}
-use Rattle.words.proofs.Lists.{eqList-refl, eqList-eq, Less, tabulate, length-padded}
+use Rattle.words.proofs.Lists.{in-all, in-getD}
+use Rattle.words.proofs.Lists.{Less, tabulate, length-padded}
 use Rattle.task.proofs.Tests.{fits, tests-fact}
 use Rattle.task.proofs.States.{key, Asc, asc-cons, asc-ascending, fitting-argsFit, Fits, State, factsFit-state}
-use Rattle.words.proofs.Words.{At, wordsAt-at, at-join, at-wordsAt, length-rows, at-row}
-use Rattle.task.proofs.Tables.{noFact}
+use Rattle.words.proofs.Words.{At, wordsAt-at, at-wordsAt}
+use Rattle.task.proofs.AtomsStand.{noFact}
 use Rattle.task.proofs.RecordWords.{length-recordWords}
+use Rattle.task.proofs.StateWords.{Short, state-here, here-state, length-stateIn, length-state, at-record}
+use Rattle.task.proofs.StateWords.{join-records}
 use Rattle.task.proofs.Numbers.{Slight, slight, less-number}
 
 abbrev pub Rows : List ℕ → List Fact → Type 0
@@ -33,57 +33,6 @@ pub record Kept (t : Task) (w : List ℕ) (n : ℕ) (s : List Fact) : Type 0 whe
   pub count : length s ≡ n
   pub room : 5 * n ≤ length w
 
-abbrev Five : List Fact → Type 0
-Five s = (f : Fact) → In f s → length (recordWords f) ≡ 5
-
-rows-at : (w : List ℕ) (b : ℕ) (s : List Fact) → Five s →
-    ((k j : ℕ) → k < length s → j < 5 → getD w (b + (5 * k + j)) 0 ≡ getD (recordWords (getD s k noFact)) j 0) →
-    At w b (stateWords s)
-unfolding stateWords concatMap
-rows-at w b [] h r = λ k l. absurd (omega arith)
-rows-at w b (f ∷ s) h r =
-    let five = h f (here refl) in
-    at-join w b (recordWords f) (stateWords s)
-    (λ j l. let e : b + j ≡ b + (5 * 0 + j) = omega arith in ap (λ (x : ℕ). getD w x 0) e ∙
-    r 0 j (omega arith) (omega arith))
-    (rows-at w (b + length (recordWords f)) s (λ g i. h g (there i)) (λ k j l m.
-    let e : b + length (recordWords f) + (5 * k + j) ≡ b + (5 * suc k + j) = omega arith in
-    ap (λ (x : ℕ). getD w x 0) e ∙ r (suc k) j (omega arith) m))
-
-five : (t : Task) → wellFormed t ≡ true → (s : List Fact) → State t s → Five s
-five t h s c f i = length-recordWords f (slight t h f (c .fit f i) .short)
-
--- ---- what the test says
-pub record StateTests (t : Task) (w : List ℕ) (n : ℕ) : Type 0 where
-  pub room : n ≤ roomIn w
-  pub fit : factsFit (t .objects) (t .arities) (stateIn t w n) ≡ true
-  pub words : wordsAt w 0 (5 * n) ≡ stateWords (stateIn t w n)
-
-pub state-tests : (t : Task) (w : List ℕ) (n : ℕ) → isState t w n ≡ true → StateTests t w n
-unfolding isState
-state-tests t w n h =
-    let a = leb n (roomIn w) in
-    let b = factsFit (t .objects) (t .arities) (stateIn t w n) in
-    let d = eqList (wordsAt w 0 (5 * n)) (stateWords (stateIn t w n)) in
-    record {
-      room = leb-true n (roomIn w) (and-left a _ h);
-      fit = and-left b d (and-right a _ h);
-      words = eqList-eq (wordsAt w 0 (5 * n)) (stateWords (stateIn t w n)) (and-right b d (and-right a _ h));
-    }
-
-pub tests-state : (t : Task) (w : List ℕ) (n : ℕ) → StateTests t w n → isState t w n ≡ true
-unfolding isState
-tests-state t w n c =
-    and-both _ _ (le-leb n (roomIn w) (c .room))
-    (and-both _ _ (c .fit) (go (wordsAt w 0 (5 * n)) (stateWords (stateIn t w n)) (c .words)))
-  where
-    go : (xs ys : List ℕ) → xs ≡ ys → eqList xs ys ≡ true
-    go xs ys e = subst (λ (zs : List ℕ). eqList xs zs ≡ true) e (eqList-refl xs)
-
-pub length-stateIn : (t : Task) (w : List ℕ) (n : ℕ) → length (stateIn t w n) ≡ n
-unfolding stateIn
-length-stateIn t w n = length-map (upTo n) (recordAt t w) ∙ length-upTo n
-
 pub room-words : (w : List ℕ) (n : ℕ) → n ≤ roomIn w → 5 * n ≤ length w
 unfolding roomIn
 room-words w n h = omega arith
@@ -93,23 +42,23 @@ unfolding roomIn
 words-room w n h = omega arith
 
 module _ (t : Task) (wf : wellFormed t ≡ true) where
+  short : (s : List Fact) → State t s → Short s
+  short s c f i = slight t wf f (c .fit f i) .short
+
   pub state-kept : (w : List ℕ) (n : ℕ) → isState t w n ≡ true → Kept t w n (stateIn t w n)
   unfolding stateWords
   state-kept w n h =
-      let c = state-tests t w n h in
+      let c = state-here t w n h in
       let s = stateIn t w n in
-      let st = factsFit-state t s (c .fit) in
+      let st = factsFit-state t s (c .facts) in
       let len = length-stateIn t w n in
       let whole : At w 0 (stateWords s) = subst (λ (xs : List ℕ). At w 0 xs) (c .words) (at-wordsAt w 0 (5 * n)) in
       record {
         state = st;
         rows = λ k j l m.
             let f = getD s k noFact in
-            let e : 0 + 5 * k + j ≡ 5 * k + j = omega arith in
-            let q = five t wf s st f (in-getD s k noFact l) in
-            ap (λ (x : ℕ). getD w x 0) (sym e) ∙
-            at-row recordWords 5 (λ k. 5 * k) (omega arith) (λ k. omega arith) w 0 s noFact (five t wf s st) whole k l
-            j (omega arith);
+            let q = length-recordWords f (short s st f (in-getD s k noFact l)) in
+            at-record w s (short s st) whole k l j (omega arith);
         count = len;
         room = room-words w n (c .room);
       }
@@ -152,15 +101,18 @@ module _ (t : Task) (wf : wellFormed t ≡ true) where
   unfolding stateWords
   kept-keeps w n s c =
       let e = kept-facts w n s c in
-      let h = five t wf s (c .state) in
-      let len = length-rows recordWords 5 (λ k. 5 * k) (omega arith) (λ k. omega arith) s h in
-      let a : At w 0 (stateWords s) = rows-at w 0 s h (λ k j l m.
-      (let z : 0 + (5 * k + j) ≡ 5 * k + j = omega arith in ap (λ (x : ℕ). getD w x 0) z ∙ c .rows k j l m)) in
+      let few = short s (c .state) in
+      let len = length-state s few in
+      let a : At w 0 (stateWords s) = join-records w s few (λ k l j m.
+      let f = getD s k noFact in
+      let five = length-recordWords f (few f (in-getD s k noFact l)) in
+      let z : 0 + 5 * k + j ≡ 5 * k + j = omega arith in
+      ap (λ (x : ℕ). getD w x 0) z ∙ c .rows k j l (omega arith)) in
       let q : 5 * n ≡ length (stateWords s) = sym (len ∙ ap (λ (m : ℕ). 5 * m) (c .count)) in
       record {
-        state = tests-state t w n (record {
+        state = here-state t w n (record {
           room = words-room w n (c .room);
-          fit = subst (λ (x : List Fact). factsFit (t .objects) (t .arities) x ≡ true) (sym e) (state-fit s (c .state));
+          facts = subst (λ (x : List Fact). factsFit (t .objects) (t .arities) x ≡ true) (sym e) (state-fit s (c .state));
           words = ap (wordsAt w 0) q ∙ (wordsAt-at w 0 (stateWords s) a ∙ ap stateWords (sym e));
         });
         facts = e;

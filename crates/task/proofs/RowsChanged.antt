@@ -27,7 +27,7 @@ use Rattle.task.proofs.States.{
   Fits,
   State,
 }
-use Rattle.task.proofs.Tables.{noFact}
+use Rattle.task.proofs.AtomsStand.{noFact}
 
 -- ---- lists without an element, and with one more
 abbrev pub without : ℕ → List Fact → List Fact

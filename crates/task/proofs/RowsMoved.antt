@@ -13,7 +13,7 @@ use Rattle.task.specs.Run.{insert, removeAll, recordWords}
 use Rattle.task.specs.Records.{inBase, recordNumber, rowNumber, LowerBound, MovedDown, MovedUp, Written}
 use Rattle.words.proofs.Lists.{In, in-eq, in-getD, getD-in, length-padded}
 use Rattle.task.proofs.States.{Fits}
-use Rattle.task.proofs.Tables.{noFact}
+use Rattle.task.proofs.AtomsStand.{noFact}
 use Rattle.task.proofs.Numbers.{Small, small-padded, Slight, slight, number-fact, number-before}
 use Rattle.task.proofs.Rows.{Rows, Kept, fact-fits, number-row, number-before-number}
 use Rattle.task.proofs.RowsChanged.{

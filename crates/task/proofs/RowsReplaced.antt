@@ -25,7 +25,7 @@ use Rattle.task.specs.Records.{
 }
 use Rattle.words.proofs.Lists.{both-ft, Less, length-padded}
 use Rattle.task.proofs.States.{key, in-holds}
-use Rattle.task.proofs.Tables.{noFact}
+use Rattle.task.proofs.AtomsStand.{noFact}
 use Rattle.task.proofs.Numbers.{small-padded, Slight, slight, number-before}
 use Rattle.task.proofs.Rows.{Rows, Kept, fact-fits, number-row, kept-keeps}
 use Rattle.task.proofs.RowsChanged.{

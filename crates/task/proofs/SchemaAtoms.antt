@@ -15,7 +15,8 @@ use Rattle.task.specs.Table.{atomIn, schemaNumberIn, taskOf, isTable}
 use Rattle.task.specs.Run.{schemaAt}
 use Rattle.words.proofs.Lists.{and-left, and-right, all-in, in-getD, tabulate}
 use Rattle.task.proofs.Tests.{schema-tests, task-tests}
-use Rattle.task.proofs.Tables.{noAtom, startOf, of-table}
+use Rattle.task.proofs.AtomsStand.{noAtom}
+use Rattle.task.proofs.Tables.{startOf, of-table}
 use Rattle.task.proofs.TablesByIndex.{table-frame, schemas-word, start-suc, start-end, atom-at, schema-of-atom}
 use Rattle.task.proofs.StartLaws.{start-rises}
 

@@ -19,7 +19,8 @@ use Rattle.words.proofs.Lists.{length-upFrom}
 use Rattle.task.proofs.States.{factEq-eq, eq-factEq, in-holds, Asc, asc-insertAll, asc-filter, Fits}
 use Rattle.task.proofs.Tables.{of-table}
 use Rattle.task.proofs.Numbers.{number-fact}
-use Rattle.task.proofs.Rows.{state-tests, state-kept, length-stateIn}
+use Rattle.task.proofs.Rows.{state-kept}
+use Rattle.task.proofs.StateWords.{state-here, length-stateIn}
 use Rattle.task.proofs.RowsFound.{known-fits}
 use Rattle.task.proofs.Changes.{
   remove-last,
@@ -202,7 +203,7 @@ few-inserted fs gs {s} a =
 
 pub state-room : (w state : List ℕ) (n : ℕ) → isState (taskOf w) state n ≡ true → n ≤ length state / 5
 unfolding roomIn
-state-room w state n e = state-tests (taskOf w) state n e .room
+state-room w state n e = state-here (taskOf w) state n e .room
 
 -- every atom that comes in fits
 pub all-fit : (w steps : List ℕ) (i a b : ℕ) (gs : List Fact) (state : List ℕ) (n : ℕ) → isTable w ≡ true →

@@ -19,7 +19,8 @@ use Rattle.task.specs.Turns.{Starts, RoleEnds}
 use Rattle.words.proofs.Lists.{all-in, in-getD, sum-take-rises}
 use Rattle.words.proofs.Loops.{run-more}
 use Rattle.task.proofs.Tests.{schema-tests, task-tests}
-use Rattle.task.proofs.Tables.{counts, startOf, of-table}
+use Rattle.task.proofs.AtomsStand.{counts}
+use Rattle.task.proofs.Tables.{startOf, of-table}
 use Rattle.task.proofs.TablesByIndex.{table-frame, schemas-word, start-suc, start-end, atom-lies}
 
 -- ---- starts

@@ -25,7 +25,8 @@ use Rattle.task.proofs.Counts.{Counted, counted, roomy}
 use Rattle.task.proofs.Tests.{TaskTests, schema-tests, fact-tests, tests-fact, task-tests, tests-task}
 use Rattle.task.proofs.Tables.{of-table}
 use Rattle.words.proofs.Words.{length-wordsAt}
-use Rattle.task.proofs.TablesByWords.{FactWord, WordsFit, table-words, words-table, arities-count}
+use Rattle.task.proofs.TablesByWords.{FactWord, WordsFit, words-table, arities-count}
+use Rattle.task.proofs.TablesPass.{table-words}
 use Rattle.task.proofs.TablesByWords.{schemas-count, atoms-count, inits-count, goals-count}
 
 -- ---- the tests by name

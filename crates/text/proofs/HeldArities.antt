@@ -8,7 +8,7 @@ use native.Mathlib.Omega.{arith}
 use lib.ListN.{length, getD}
 use lib.Dec.{ltb, leb, leb·suc-suc}
 use borrow.Author.Tests.{le-leb, lt-leb}
-use Rattle.words.specs.Lists.{all, concatMap}
+use Rattle.words.specs.Lists.{all, concatMap, joined}
 use Rattle.task.specs.Limits.{headWords}
 use Rattle.task.specs.Table.{schemasFrom}
 use Rattle.task.specs.Task.{Schema, argsFit, noSchema}
@@ -17,7 +17,7 @@ use Rattle.words.proofs.Words.{and-false}
 use Rattle.text.specs.Reading.{goOn, refuse}
 use Rattle.text.specs.Text.{between, Draft, atPhase, withArities, arityLine, takeLine, arity}
 use Rattle.text.specs.ReadCode.{Wrote, Listed}
-use Rattle.text.specs.Holding.{Holds, rowsOf, Allows}
+use Rattle.text.specs.Holding.{Holds, rowBlocks, rowsOf, Allows}
 use Rattle.text.proofs.Reading.{need-met}
 use Rattle.text.proofs.LineTurns.{need-fails}
 use Rattle.text.proofs.WroteWords.{stands}
@@ -50,7 +50,7 @@ module _ (d : Draft) (ns : List ℕ) where
 
 -- no atom is read before the arities
 no-rows : {d : Draft} {w : List ℕ} {c : Counts} → Holds d w c → c .phase ≤ 2 → rowsOf d ≡ []
-unfolding rowsOf concatMap schemasFrom
+unfolding rowBlocks joined concatMap schemasFrom
 no-rows {d = d} h l =
     let o = h .order in
     rw (o .no-schema l, o .not-open l, o .no-init (omega arith), o .no-goal (omega arith)) refl
@@ -72,7 +72,7 @@ module _ {d : Draft} {w after : List ℕ} {c : Counts} (h : Holds d w c) (ns kep
   pub arities-held : Allows c arity → n ≤ 400 → all (λ n. leb n 4) ns ≡ true → n ≤ length kept →
       Listed ns n kept → Wrote w headWords n (λ k. getD kept k 0) after →
       Holds (atPhase between (withArities (d .task) ns)) after (counted c n)
-  unfolding atPhase withArities all rowsOf concatMap schemasFrom
+  unfolding atPhase withArities all rowBlocks joined concatMap schemasFrom
   arities-held allowed l low room listed wrote =
       let z = head-place (c .phase) arity (omega arith) allowed in
       let o = h .order in

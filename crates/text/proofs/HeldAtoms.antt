@@ -8,16 +8,18 @@ use native.Mathlib.Omega.{arith}
 use lib.ListN.{length, getD, length-append, length-map, take}
 use borrow.Author.Tests.{le-ltb, lt-ltb}
 use Rattle.task.specs.Limits.{tableWords, headWords, atomSize, tableLength}
-use Rattle.words.specs.Lists.{any, concatMap, upTo}
+use Rattle.words.specs.Lists.{any, concatMap, joined, sum, upTo}
 use Rattle.task.specs.Task.{Atom, Fact, argsFit, sameAtom, schemaAtoms}
 use Rattle.task.specs.Table.{atomWords, factWords, schemasFrom}
 use Rattle.words.proofs.Lists.{In, all-in, in-getD, append-concatMap}
-use Rattle.words.proofs.Words.{at-left, at-right, at-move, at-join}
-use Rattle.task.proofs.Tables.{at-block, Sized, sized, length-atomWords, length-blocks, length-facts, tableWords-is}
+use Rattle.words.proofs.Words.{at-move, at-join, at-row, length-rows}
+use Rattle.words.proofs.JoinedWords.{length-joined, concat-stands}
+use Rattle.task.proofs.AtomsStand.{Sized, sized, length-atomWords, length-facts}
+use Rattle.task.proofs.Tables.{tableWords-is}
 use Rattle.text.specs.Reading.{goOn, refuse}
 use Rattle.text.specs.Text.{Draft, rolePhase, addAtom, Line, atomLine, takeLine}
 use Rattle.text.specs.ReadCode.{Standing, Wrote, Listed, Fitting, bareAtom, rowSame, phaseNumber}
-use Rattle.text.specs.Holding.{Few, rowAt, rowsOf, Holds, Touched, InSchema, withAtom, oneAtomMore, entryOf}
+use Rattle.text.specs.Holding.{Few, rowAt, rowBlocks, rowsOf, Holds, Touched, InSchema, withAtom, oneAtomMore, entryOf}
 use Rattle.text.specs.Holding.{Grows, firstRow, rowsAt}
 use Rattle.text.proofs.Reading.{need-met}
 use Rattle.text.proofs.Growing.{all-snoc}
@@ -106,51 +108,40 @@ module _ {d : Draft} {w : List ℕ} {c : Counts} (h : Holds d w c) where
   pub atoms-length : length atomRows ≡ atomSize * c .atoms
   atoms-length =
       let e = h .atoms in
-      let l = length-blocks (atomWords (length (d .task .schemas))) (d .current .atoms)
+      let l = length-rows (atomWords (length (d .task .schemas))) atomSize (d .current .atoms)
       (λ a i. length-atomWords (length (d .task .schemas)) a (atom-sized a i .short)) in
       omega arith
 
   pub inits-length : length initRows ≡ atomSize * c .initial
   inits-length =
       let e = h .initial in
-      let l = length-blocks (factWords 3) (d .task .init) (length-facts (d .task) 3 (d .task .init) init-sized) in
+      let l = length-rows (factWords 3) atomSize (d .task .init) (length-facts (d .task) 3 (d .task .init) init-sized) in
       omega arith
 
   pub goals-length : length goalRows ≡ atomSize * c .goal
   goals-length =
       let e = h .goal in
-      let l = length-blocks (factWords 4) (d .task .goal) (length-facts (d .task) 4 (d .task .goal) goal-sized) in
+      let l = length-rows (factWords 4) atomSize (d .task .goal) (length-facts (d .task) 4 (d .task .goal) goal-sized) in
       omega arith
 
   pub schemas-length : length schemaRows ≡ atomSize * c .closed
-  unfolding rowsOf
+  unfolding rowBlocks sum
   schemas-length =
-      let total = h .rows-length in
-      let a = atoms-length in
-      let b = inits-length in
-      let g = goals-length in
-      let x = length-append schemaRows (atomRows ++ (initRows ++ goalRows)) in
-      let y = length-append atomRows (initRows ++ goalRows) in
-      let z = length-append initRows goalRows in
-      omega arith
+      omega (arith, h .rows-length, length-joined (rowBlocks d), atoms-length, inits-length, goals-length)
 
   -- the rows of the schema that is being read
   pub atoms-stand : Standing w (rowsAt (c .predicates) + atomSize * c .closed) atomRows
-  unfolding rowsOf
+  unfolding rowBlocks sum
   atoms-stand =
-      let p = h .predicates in
-      let l = schemas-length in
-      at-left w (rowsAt (c .predicates) + atomSize * c .closed) atomRows (initRows ++ goalRows)
-      (at-move w ((rowsAt (length A)) + length schemaRows) (rowsAt (c .predicates) + atomSize * c .closed)
-      (atomRows ++ (initRows ++ goalRows)) (omega arith)
-      (at-right w (rowsAt (length A)) schemaRows (atomRows ++ (initRows ++ goalRows)) (h .rows-stand)))
+      concat-stands w (rowsAt (length A)) (rowBlocks d) (h .rows-stand) 1
+      (rowsAt (c .predicates) + atomSize * c .closed) (omega arith) (omega (arith, h .predicates, schemas-length))
 
   -- one row of them
   pub atom-stands : (i : ℕ) (a₀ : Atom) → i < length (d .current .atoms) →
       Standing w (rowsAt (c .predicates) + atomSize * c .closed + atomSize * i)
       (atomWords (length (d .task .schemas)) (getD (d .current .atoms) i a₀))
   atom-stands i a₀ l =
-      at-block (atomWords (length (d .task .schemas))) w (rowsAt (c .predicates) + atomSize * c .closed)
+      at-row (atomWords (length (d .task .schemas))) atomSize w (rowsAt (c .predicates) + atomSize * c .closed)
       (d .current .atoms) a₀
       (λ a j. length-atomWords (length (d .task .schemas)) a (atom-sized a j .short)) atoms-stand i l
 
@@ -202,7 +193,7 @@ module _ {d : Draft} {w : List ℕ} {c : Counts} (h : Holds d w c) (r p : ℕ) (
       (atom-stands h i new l)))
 
   rows-more : d .task .init ≡ [] → d .task .goal ≡ [] → rowsOf (withAtom d r p ns) ≡ rowsOf d ++ atomWords S new
-  unfolding rowsOf withAtom concatMap
+  unfolding rowBlocks joined withAtom concatMap
   rows-more i g =
       rw (i, g, append-concatMap (atomWords S) (d .current .atoms) (new ∷ []))
       (regroup (schemasFrom 0 (d .task .schemas)) (concatMap (atomWords S) (d .current .atoms)) (atomWords S new))

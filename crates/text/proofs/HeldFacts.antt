@@ -8,20 +8,21 @@ use mathlib.Core.List.{List, [], _∷_, _++_, append-assoc, append-nil}
 use native.Mathlib.Omega.{arith}
 use lib.ListN.{length, getD, length-append, take}
 use borrow.Author.Tests.{le-ltb, lt-ltb}
-use Rattle.words.specs.Lists.{all, concatMap, lastOr, lessList}
+use Rattle.words.specs.Lists.{all, concatMap, joined, sum, lastOr, lessList}
 use Rattle.task.specs.Limits.{atomSize, tableLength}
 use Rattle.task.specs.Task.{Fact, Schema, argsFit, factLess, noSchema}
 use Rattle.task.specs.Table.{atomWords, factWords, schemasFrom}
 use Rattle.words.specs.Words.{wordsAt}
 use Rattle.words.proofs.Lists.{In, all-in, in-getD, append-concatMap}
-use Rattle.words.proofs.Words.{At, at-left, at-right, at-move}
-use Rattle.task.proofs.Tables.{at-block, Sized, sized, length-atomWords, length-facts, factAtom, factWords-is}
+use Rattle.words.proofs.Words.{at-move, at-row}
+use Rattle.words.proofs.JoinedWords.{concat-stands}
+use Rattle.task.proofs.AtomsStand.{Sized, sized, length-atomWords, length-facts, factAtom, factWords-is}
 use Rattle.text.specs.Reading.{goOn, refuse}
 use Rattle.text.specs.Text.{Draft, inInit, inGoal, atPhase, withInit, withGoal, follows, addFact, init}
 use Rattle.text.specs.Text.{Phase, Line, takeLine}
 use Rattle.text.specs.ReadCode.{Standing, Wrote, Listed, Fitting, bareAtom, phaseNumber}
-use Rattle.text.specs.Holding.{Few, rowAt, rowsOf, Holds, Allows, factKey, factLine, factsOf, withFacts, soFar}
-use Rattle.text.specs.Holding.{withCounted, oneFactMore, Grows, entryOf, rowsAt}
+use Rattle.text.specs.Holding.{Few, rowAt, rowBlocks, rowsOf, Holds, Allows, factKey, factLine, factsOf, withFacts}
+use Rattle.text.specs.Holding.{soFar, withCounted, oneFactMore, Grows, entryOf, rowsAt}
 use Rattle.text.proofs.Reading.{need-met}
 use Rattle.text.proofs.Growing.{all-snoc}
 use Rattle.text.proofs.LineTurns.{need-fails}
@@ -155,7 +156,7 @@ module _ {d : Draft} {w after : List ℕ} {c : Counts} (h : Holds d w c) (facts 
       let old = at-move w ((rowsAt (c .predicates) + atomSize * (total - facts .read)) + atomSize * k)
       (rowAt c - atomSize)
       (factWords (facts .role) g) place
-      (at-block (factWords (facts .role)) w (rowsAt (c .predicates) + atomSize * (total - facts .read)) fs f
+      (at-row (factWords (facts .role)) atomSize w (rowsAt (c .predicates) + atomSize * (total - facts .read)) fs f
       (length-facts (d .task) (facts .role) fs fs-sized) (known .stand) k (omega arith)) in
       let eight = length-facts (d .task) (facts .role) fs fs-sized g (in-getD fs k f (omega arith)) in
       let z : rowAt c - 6 ≡ (rowAt c - atomSize) + 2 = omega arith in
@@ -181,52 +182,25 @@ module _ {d : Draft} {w after : List ℕ} {c : Counts} (h : Holds d w c) (facts 
 
 -- ---- the facts of each kind are the last ones in the table
 module _ {d : Draft} {w : List ℕ} {c : Counts} (h : Holds d w c) where
-  abbrev schemaRows : List ℕ
-  schemaRows = schemasFrom 0 (d .task .schemas)
-
-  abbrev atomRows : List ℕ
-  atomRows = concatMap (atomWords (length (d .task .schemas))) (d .current .atoms)
-
-  abbrev initRows : List ℕ
-  initRows = concatMap (factWords 3) (d .task .init)
-
-  abbrev goalRows : List ℕ
-  goalRows = concatMap (factWords 4) (d .task .goal)
-
-  abbrev base : ℕ
-  base = rowsAt (length (d .task .arities))
-
-  facts-stand : At w ((base + length schemaRows) + length atomRows) (initRows ++ goalRows)
-  unfolding rowsOf
-  facts-stand =
-      at-right w (base + length schemaRows) atomRows (initRows ++ goalRows)
-      (at-right w base schemaRows (atomRows ++ (initRows ++ goalRows)) (h .rows-stand))
-
   inits-read : d .task .goal ≡ [] → FactsRead d w c (soFar c kind.Initial) (d .task .init)
+  unfolding rowBlocks sum
   inits-read g =
-      let p = h .predicates in
-      let a = schemas-length h in
-      let b = atoms-length h in
       let n = h .goal ∙ ap length g in
       record {
         count = h .initial;
         fit = h .init-fit;
-        stand = at-move w ((base + length schemaRows) + length atomRows) _ initRows (omega arith)
-            (at-left w ((base + length schemaRows) + length atomRows) initRows goalRows facts-stand);
+        stand = concat-stands w (rowsAt (length (d .task .arities))) (rowBlocks d) (h .rows-stand) 2 _ (omega arith)
+            (omega (arith, h .predicates, schemas-length h, atoms-length h));
       }
 
   goals-read : FactsRead d w c (soFar c kind.Goal) (d .task .goal)
-  goals-read =
-      let p = h .predicates in
-      let a = schemas-length h in
-      let b = atoms-length h in
-      let i = inits-length h in
-      record {
-        count = h .goal;
-        fit = h .goal-fit;
-        stand = at-move w (((base + length schemaRows) + length atomRows) + length initRows) _ goalRows (omega arith)
-            (at-right w ((base + length schemaRows) + length atomRows) initRows goalRows facts-stand);
-      }
+  unfolding rowBlocks sum
+  goals-read = record {
+    count = h .goal;
+    fit = h .goal-fit;
+    stand = concat-stands w (rowsAt (length (d .task .arities))) (rowBlocks d) (h .rows-stand) 3 _ (omega arith)
+        (omega (arith, h .predicates, schemas-length h, atoms-length h, inits-length h));
+  }
 
   -- before an `init` line there is no goal atom yet
   init-allowed : Allows c init → (7 ≤ c .phase) × (d .task .goal ≡ [])
@@ -261,7 +235,7 @@ module _ {d : Draft} {w : List ℕ} {c : Counts} (h : Holds d w c) (p : ℕ) (ns
 
   init-rows : d .current ≡ noSchema → d .task .goal ≡ [] →
       rowsOf (atPhase inInit (withInit (d .task) (d .task .init ++ (new ∷ [])))) ≡ rowsOf d ++ factWords 3 new
-  unfolding rowsOf atPhase withInit concatMap
+  unfolding rowBlocks joined atPhase withInit concatMap
   init-rows s g =
       rw (s, g, append-concatMap (factWords 3) (d .task .init) (new ∷ []))
       (regroup (schemasFrom 0 (d .task .schemas)) (concatMap (factWords 3) (d .task .init)) (factWords 3 new))
@@ -271,13 +245,14 @@ module _ {d : Draft} {w : List ℕ} {c : Counts} (h : Holds d w c) (p : ℕ) (ns
 
   goal-rows : d .current ≡ noSchema →
       rowsOf (atPhase inGoal (withGoal (d .task) (d .task .goal ++ (new ∷ [])))) ≡ rowsOf d ++ factWords 4 new
-  unfolding rowsOf atPhase withGoal concatMap
+  unfolding rowBlocks joined atPhase withGoal concatMap
   goal-rows s =
       rw (s, append-concatMap (factWords 4) (d .task .goal) (new ∷ []))
       (regroup (schemasFrom 0 (d .task .schemas)) (concatMap (factWords 3) (d .task .init))
       (concatMap (factWords 4) (d .task .goal)) (factWords 4 new))
     where
-      regroup : (x y z v : List ℕ) → x ++ ([] ++ (y ++ (z ++ (v ++ [])))) ≡ (x ++ ([] ++ (y ++ z))) ++ v
+      regroup : (x y z v : List ℕ) →
+          x ++ ([] ++ (y ++ ((z ++ (v ++ [])) ++ []))) ≡ (x ++ ([] ++ (y ++ (z ++ [])))) ++ v
       regroup x y z v = simp (append-assoc, append-nil)
 
   fact-length : (r : ℕ) → argsFit (d .task .arities) (d .task .objects) p ns ≡ true →

@@ -16,7 +16,7 @@ use Rattle.text.specs.Reading.{goOn, finish, refuse}
 use Rattle.text.specs.Text.{Phase, atObjects, atArity, inPre, Draft, atPhase, withObjects, taskLine}
 use Rattle.text.specs.Text.{objectsLine, schemaLine, endLine, takeLine, task, objects, schema}
 use Rattle.text.specs.ReadCode.{phaseNumber, Standing}
-use Rattle.text.specs.Holding.{Order, Holds, rowsOf, Allows, rowsAt}
+use Rattle.text.specs.Holding.{Order, Holds, rowBlocks, rowsOf, Allows, rowsAt}
 use Rattle.text.proofs.Reading.{need-met}
 use Rattle.text.proofs.LineTurns.{need-fails}
 use Rattle.text.specs.declared.draft.Counts.{Counts}
@@ -39,7 +39,7 @@ atPlace c n = record {
 -- the words of atoms do not depend on the place in the order
 pub rows-at : (d : Draft) (p : Phase) (s : Schema) → d .current ≡ s →
     rowsOf d ≡ rowsOf (record { phase = p; task = d .task; current = s })
-unfolding rowsOf
+unfolding rowBlocks
 rows-at d p s e = ap (λ (x : Schema). rowsOf (record { phase = p; task = d .task; current = x })) e
 
 module _ {d : Draft} {w : List ℕ} {c : Counts} (h : Holds d w c) where
@@ -115,7 +115,7 @@ module _ {d : Draft} {w : List ℕ} {c : Counts} (h : Holds d w c) where
 
   pub objects-held : (n : ℕ) → Allows c objects → n ≤ 1000 →
       Holds (atPhase atArity (withObjects (d .task) n)) w (withMany n)
-  unfolding atPhase withObjects rowsOf all
+  unfolding atPhase withObjects rowBlocks all
   objects-held n allowed l =
       let z = head-place (c .phase) objects (omega arith) allowed in
       let o = h .order in
@@ -182,7 +182,7 @@ module _ {d : Draft} {w : List ℕ} {c : Counts} (h : Holds d w c) where
 
   pub schema-held : (n : ℕ) → Allows c schema → n ≤ 12 → length (d .task .schemas) < 200 →
       Holds (record { phase = inPre; task = d .task; current = bareSchema n }) w (opening n)
-  unfolding rowsOf all
+  unfolding rowBlocks all
   schema-held n allowed l r =
       let z = schema-place (c .phase) allowed in
       let o = h .order in

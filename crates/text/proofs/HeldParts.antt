@@ -12,7 +12,7 @@ use Rattle.words.specs.Lists.{all, any, upTo}
 use Rattle.task.specs.Limits.{headWords, atomSize, tableLength}
 use Rattle.task.specs.Task.{Atom, names, partCount, noGap, allNamed}
 use Rattle.words.proofs.Lists.{In, here, there, in-getD}
-use Rattle.task.proofs.Tables.{Sized}
+use Rattle.task.proofs.AtomsStand.{Sized}
 use Rattle.text.specs.Reading.{goOn, refuse}
 use Rattle.text.specs.Text.{Draft, withParts, closeSchema}
 use Rattle.text.specs.ReadCode.{RowIn, rowNames, oneAbove, noGapIn}

@@ -6,17 +6,18 @@ use mathlib.Core.List.{List, [], _∷_, _++_, map, append-assoc, append-nil}
 use native.Mathlib.Omega.{arith}
 use lib.ListN.{length, getD, set, length-append, length-map, length-set}
 use lib.Seq.{getD-set-same, getD-set-other}
-use Rattle.words.specs.Lists.{all, concatMap, sum}
+use Rattle.words.specs.Lists.{all, concatMap, joined, sum}
 use Rattle.task.specs.Limits.{headWords, atomSize, tableLength}
 use Rattle.task.specs.Task.{Atom, Schema, schemaAtoms, withAtoms}
 use Rattle.task.specs.Table.{atomWords, schemasFrom}
 use Rattle.words.proofs.Lists.{In, in-getD, getD-in, map-append, length-padded}
-use Rattle.words.proofs.Words.{At, at-left, at-move, at-join}
-use Rattle.task.proofs.Tables.{Sized, length-atomWords, length-blocks, tableWords-is}
-use Rattle.task.proofs.TablesByWords.{join-blocks}
+use Rattle.words.proofs.Words.{At, at-move, at-join, length-rows, join-rows}
+use Rattle.words.proofs.JoinedWords.{concat-stands}
+use Rattle.task.proofs.AtomsStand.{Sized, length-atomWords}
+use Rattle.task.proofs.Tables.{tableWords-is}
 use Rattle.text.specs.Text.{Draft, atPhase, withSchemas, withParts, part}
 use Rattle.text.specs.ReadCode.{Standing, PartsPut, mayStand}
-use Rattle.text.specs.Holding.{rowsOf, Holds, Touched, withClosed, Allows, rowsAt}
+use Rattle.text.specs.Holding.{rowBlocks, rowsOf, Holds, Touched, withClosed, Allows, rowsAt}
 use Rattle.text.proofs.TaskWritten.{schemaAtoms-part}
 use Rattle.text.proofs.TaskGrows.{length-closed}
 use Rattle.text.proofs.HeldAtoms.{atom-sized, atom-stands, schemas-length}
@@ -129,7 +130,7 @@ module _ {d : Draft} {w mid : List ℕ} {c : Counts} (h : Holds d w c) (ps kept 
 
   closed-rows : At last first (concatMap (atomWords S) closedAtoms)
   closed-rows =
-      join-blocks (atomWords S) last first closedAtoms noAtom closed-size (λ i l.
+      join-rows (atomWords S) atomSize last first closedAtoms noAtom closed-size (λ i l.
       let n = length-closed (d .task) (d .current) ps same in
       let m : i < length (d .current .atoms) = omega arith in
       let a = getD (d .current .atoms) i noAtom in
@@ -149,7 +150,7 @@ module _ {d : Draft} {w mid : List ℕ} {c : Counts} (h : Holds d w c) (ps kept 
   closed-length =
       let n = length-closed (d .task) (d .current) ps same in
       let m = h .atoms in
-      let l = length-blocks (atomWords S) closedAtoms closed-size in
+      let l = length-rows (atomWords S) atomSize closedAtoms closed-size in
       omega arith
 
   schemaRows : List ℕ
@@ -157,20 +158,21 @@ module _ {d : Draft} {w mid : List ℕ} {c : Counts} (h : Holds d w c) (ps kept 
 
   rows-closed : d .task .init ≡ [] → d .task .goal ≡ [] →
       rowsOf (withClosed d ps) ≡ schemaRows ++ concatMap (atomWords S) closedAtoms
-  unfolding rowsOf withClosed atPhase withSchemas concatMap schemaRows
+  unfolding rowBlocks joined withClosed atPhase withSchemas concatMap schemaRows
   rows-closed i g =
       let z : 0 + S ≡ S = omega arith in
       rw (i, g, schemasFrom-last 0 (d .task .schemas) (withAtoms (d .current) closedAtoms), z)
       (append-nil _)
 
   early-rows : At last (rowsAt (length (d .task .arities))) schemaRows
-  unfolding rowsOf schemaRows
+  unfolding rowBlocks sum schemaRows
   early-rows k l =
       let p = h .predicates in
       let n = schemas-length h in
       late (rowsAt (length (d .task .arities)) + k) (omega arith) ∙
       (put .other (rowsAt (length (d .task .arities)) + k) (λ j m q. omega arith) ∙
-      at-left w (rowsAt (length (d .task .arities))) schemaRows _ (h .rows-stand) k l)
+      concat-stands w (rowsAt (length (d .task .arities))) (rowBlocks d) (h .rows-stand) 0
+      (rowsAt (length (d .task .arities))) (omega arith) (omega arith) k l)
 
   rows-again : At last (rowsAt (length (d .task .arities))) (schemaRows ++ concatMap (atomWords S) closedAtoms)
   unfolding schemaRows

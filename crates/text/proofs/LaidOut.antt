@@ -11,15 +11,16 @@ use lib.Seq.{ext-getD, getD-append-add, getD-drop}
 use lib.Dec.{ltb}
 use borrow.Author.Tests.{ltb-true, ltb-false}
 use Rattle.task.specs.Limits.{tableWords, headWords, atomSize, tableLength}
-use Rattle.words.specs.Lists.{concatMap, over}
-use Rattle.task.specs.Task.{wellFormed}
-use Rattle.task.specs.Table.{factWords, schemasFrom, wordsOf}
-use Rattle.words.proofs.Words.{At, at-move, at-join}
-use Rattle.task.proofs.Tables.{sixWords, content, wordsOf-is, words-length, tableWords-is}
-use Rattle.task.proofs.TablesByWords.{zero-behind}
+use Rattle.task.specs.Layout.{headBlock}
+use Rattle.words.specs.Lists.{concatMap, joined, over, sum}
+use Rattle.task.specs.Task.{wellFormed, initial, goalRole}
+use Rattle.task.specs.Table.{factWords, schemasFrom, headOf, blocksOf, wordsOf}
+use Rattle.words.proofs.Words.{At, at-move}
+use Rattle.words.proofs.JoinedWords.{length-joined, at-place, stands-concat, concat-row}
+use Rattle.task.proofs.Tables.{content, words-are, words-length, tableWords-is}
 use Rattle.text.specs.Text.{Draft}
 use Rattle.text.specs.ReadCode.{Wrote}
-use Rattle.text.specs.Holding.{rowsOf, Holds, Touched, rowsAt}
+use Rattle.text.specs.Holding.{rowBlocks, rowsOf, Holds, Touched, rowsAt}
 use Rattle.text.proofs.WroteWords.{stands, stays-before, stays-behind}
 use Rattle.text.specs.declared.draft.Counts.{Counts}
 
@@ -89,17 +90,21 @@ module _ {d : Draft} {w : List ℕ} {c : Counts} (h : Holds d w c) (closed : 7 �
   abbrev head : List ℕ
   head = c .objects ∷ c .predicates ∷ c .schemas ∷ c .closed ∷ c .initial ∷ c .goal ∷ []
 
+  -- the blocks behind the parameter counts
+  abbrev atomBlocks : List (List ℕ)
+  atomBlocks =
+      schemasFrom 0 (d .task .schemas) ∷
+      concatMap (factWords initial) (d .task .init) ∷
+      concatMap (factWords goalRole) (d .task .goal) ∷ []
+
   abbrev rows : List ℕ
-  rows =
-      schemasFrom 0 (d .task .schemas) ++
-      (concatMap (factWords 3) (d .task .init) ++ concatMap (factWords 4) (d .task .goal))
+  rows = joined atomBlocks
 
   rows-are : rowsOf d ≡ rows
-  unfolding rowsOf concatMap
+  unfolding rowBlocks joined concatMap
   rows-are = rw (h .order .closed closed) refl
 
-  head-is : head ≡ sixWords (d .task)
-  unfolding sixWords
+  head-is : head ≡ headBlock (headOf (d .task))
   head-is = rw (h .objects, h .predicates, h .schemas, h .closed, h .initial, h .goal) refl
 
   module _ {moved zeroed after : List ℕ} (down : Wrote w to many (λ k. getD w (rowsAt (c .predicates) + k) 0) moved)
@@ -136,35 +141,25 @@ module _ {d : Draft} {w : List ℕ} {c : Counts} (h : Holds d w c) (closed : 7 �
         subst (At w (rowsAt (length (d .task .arities)))) rows-are (h .rows-stand) k l)))
 
     content-laid : At after 0 (content (d .task))
-    unfolding content
+    unfolding blocksOf
     content-laid =
         let p = h .predicates in
         let s = h .schemas in
         let m = length-map (d .task .schemas) (λ s. s .params) in
-        let params = map (λ s. s .params) (d .task .schemas) in
-        let six = sixWords (d .task) in
-        let e : length six ≡ headWords = ap length (sym head-is) in
-        at-join after 0 six (d .task .arities ++ (params ++ rows))
-        (subst (At after 0) head-is (stands heads head refl (λ k l. refl)))
-        (at-move after headWords (0 + length six) (d .task .arities ++ (params ++ rows)) (omega arith)
-        (at-join after headWords (d .task .arities) (params ++ rows) arities-laid
-        (at-join after (headWords + length (d .task .arities)) params rows params-laid
-        (at-move after to (headWords + length (d .task .arities) + length params) rows (omega arith) rows-laid))))
+        let behind : ℕ = headWords + length (d .task .arities) + length (map (λ s. s .params) (d .task .schemas)) in
+        stands-concat after 0 (blocksOf (d .task))
+        (at-place 0 refl (subst (At after 0) head-is (stands heads head refl (λ k l. refl)))
+        (at-place headWords (omega arith) arities-laid
+        (at-place (headWords + length (d .task .arities)) refl params-laid
+        (concat-row after behind atomBlocks (at-move after to behind rows (omega arith) rows-laid)))))
 
     content-long : length (content (d .task)) ≡ to + many
-    unfolding content
+    unfolding blocksOf sum
     content-long =
         let p = h .predicates in
         let s = h .schemas in
         let m = length-map (d .task .schemas) (λ s. s .params) in
-        let n = rows-long in
-        let params = map (λ s. s .params) (d .task .schemas) in
-        let six = sixWords (d .task) in
-        let e : length six ≡ headWords = ap length (sym head-is) in
-        let x = length-append six (d .task .arities ++ (params ++ rows)) in
-        let y = length-append (d .task .arities) (params ++ rows) in
-        let z = length-append params rows in
-        omega arith
+        omega (arith, rows-long, length-joined atomBlocks, length-joined (blocksOf (d .task)))
 
     pub laid-out : to + many ≤ tableLength → wellFormed (d .task) ≡ true → after ≡ over (wordsOf (d .task)) w
     laid-out room well =
@@ -175,23 +170,13 @@ module _ {d : Draft} {w : List ℕ} {c : Counts} (h : Holds d w c) (closed : 7 �
         let s₂ = zeros .size in
         let s₃ = heads .size in
         over-is (wordsOf (d .task)) w after (omega arith) (omega arith)
-        (λ k l. go k (omega arith) (ltb k (to + many)) refl)
+        (λ k l. words-are after (d .task) content-laid zeros-laid k (omega arith))
         (λ k l. heads .behind k (omega arith) ∙ (zeros .behind k (omega arith) ∙ down .behind k (omega arith)))
       where
-        go : (k : ℕ) → k < tableLength → (b : Bool) → ltb k (to + many) ≡ b →
-            getD after k 0 ≡ getD (wordsOf (d .task)) k 0
-        go k l true e =
-            let m = ltb-true k (to + many) e in
-            let n = content-long in
-            let z : 0 + k ≡ k = omega arith in
-            ap (λ (i : ℕ). getD after i 0) (sym z) ∙ (content-laid k (omega arith) ∙
-            (sym (List·getD-append (content (d .task)) (replicate (tableWords - length (content (d .task))) 0) 0 k
-            (omega arith)) ∙
-            ap (λ (xs : List ℕ). getD xs k 0) (sym (wordsOf-is (d .task)))))
-        go k l false e =
-            let m = ltb-false k (to + many) e in
+        zeros-laid : (k : ℕ) → length (content (d .task)) ≤ k → k < tableWords → getD after k 0 ≡ 0
+        zeros-laid k l m =
             let n = content-long in
             let t = tableWords-is in
             let z : (to + many) + (k - (to + many)) ≡ k = omega arith in
             heads .behind k (omega arith) ∙ (ap (λ (i : ℕ). getD zeroed i 0) (sym z) ∙
-            (zeros .put (k - (to + many)) (omega arith) ∙ sym (zero-behind (d .task) k (omega arith) (omega arith))))
+            zeros .put (k - (to + many)) (omega arith))

@@ -17,7 +17,7 @@ use Rattle.task.specs.Task.{Atom, Fact, Schema, Task, argsFit, factsFit, schema
 use Rattle.words.proofs.Lists.{In, here, there, all-in, append-concatMap}
 use Rattle.task.proofs.Tests.{SchemaTests, schema-tests, fits, fact-tests, TaskTests, task-tests}
 use Rattle.task.proofs.States.{argsFit-fitting}
-use Rattle.task.proofs.Tables.{sized}
+use Rattle.task.proofs.AtomsStand.{sized}
 use Rattle.text.specs.Lines.{Entry, newline, colon, digits, commaed, entryBytes, bytes}
 use Rattle.text.specs.Text.{roleKey, Line, taskLine, objectsLine, schemaLine, endLine, arityLine, partLine}
 use Rattle.text.specs.Text.{atomLine, writeLine, factEntry, atomEntry, schemaLines, write}

@@ -11,7 +11,7 @@ use lib.ListN.{length, drop-of-length-le, replicate}
 use lib.Seq.{drop-cons}
 use borrow.Author.Tests.{le-leb, lt-leb}
 use Rattle.task.specs.Limits.{tableWords}
-use Rattle.words.specs.Lists.{over, all, sum, concatMap}
+use Rattle.words.specs.Lists.{over, all, sum, concatMap, joined}
 use Rattle.task.specs.Task.{Task, wellFormed}
 use Rattle.task.specs.Table.{wordsOf, schemasFrom, longEnough}
 use Rattle.text.specs.declared.cursor.Cursor.{Cursor}
@@ -21,7 +21,7 @@ use Rattle.text.specs.Outcomes.{readDone, readOutcome, readAnswerTold}
 use Rattle.text.specs.Reading.{Reading, read, refusedAt, atEnd, readLines}
 use Rattle.text.specs.Text.{Draft, started, atPhase, takeLine, nextLine, readText}
 use Rattle.text.specs.ReadCode.{rest, Placed, startCursor}
-use Rattle.text.specs.Holding.{noCounts, rowsOf, Holds, Touched, Refuses, GoesOn, Finishes}
+use Rattle.text.specs.Holding.{noCounts, rowBlocks, Holds, Touched, Refuses, GoesOn, Finishes}
 use Rattle.text.proofs.ReadersAt.{readText-lines, text-line}
 use Rattle.text.proofs.TaskRead.{read-fits}
 use Rattle.text.proofs.WholeLines.{next-placed}
@@ -36,7 +36,7 @@ pub record SoFar (text lent : List ℕ) (at : Cursor) (c : Counts) (w : List ℕ
   pub so-far : readText text ≡ readLines nextLine takeLine (at .line) draft (rest text at)
 
 pub begins : (text lent : List ℕ) → tableWords ≤ length lent → SoFar text lent startCursor noCounts lent
-unfolding started atPhase all sum rowsOf schemasFrom concatMap
+unfolding started atPhase all sum rowBlocks joined schemasFrom concatMap
 begins text lent long = record {
   placed = record { inside = omega arith; line = omega arith };
   touched = untouched lent;

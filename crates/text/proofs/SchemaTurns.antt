@@ -8,11 +8,11 @@ use native.Mathlib.Omega.{arith}
 use lib.ListN.{length, getD}
 use Rattle.words.specs.Lists.{sum}
 use Rattle.task.specs.Limits.{headWords, atomSize}
-use Rattle.task.specs.Layout.{headIn, atomTotal, paramsBase, rowsBase, atomBase}
+use Rattle.task.specs.Layout.{headIn, paramsBase, atomBase}
 use Rattle.task.specs.Run.{schemaAt}
 use Rattle.task.specs.Table.{taskOf, isTable}
-use Rattle.task.proofs.Tables.{startOf, length-content, tableWords-is}
-use Rattle.task.proofs.TablesByIndex.{table-long, arities-word, schemas-word, atoms-word, init-word, goal-word}
+use Rattle.task.proofs.Tables.{startOf, tableWords-is}
+use Rattle.task.proofs.TablesByIndex.{table-long, table-inside}
 use Rattle.task.proofs.TablesByIndex.{start-suc}
 use Rattle.text.specs.Code.{AtomInside, SchemaRun, schemaText}
 use Rattle.text.proofs.TableAtoms.{frame, each-inside, start-most, run-long}
@@ -21,21 +21,6 @@ use Rattle.text.proofs.TableText.{schemaLinesIn, schema-lines}
 -- the head of a table: six counts
 pub head-inside : (w : List ℕ) → isTable w ≡ true → headWords ≤ length w
 head-inside w table = let l = table-long w table in let e = tableWords-is in omega arith
-
--- the arities, the parameter counts and the atoms lie in the table
-pub content-inside : (w : List ℕ) → isTable w ≡ true →
-    rowsBase w + atomSize * (atomTotal w) ≤ length w
-content-inside w table =
-    let f = frame w table in
-    let b = length-content (taskOf w) (f .sizes) in
-    let c = f .inside in
-    let l = table-long w table in
-    let e₁ = arities-word w f in
-    let e₂ = schemas-word w f in
-    let e₃ = atoms-word w f in
-    let e₄ = init-word w f in
-    let e₅ = goal-word w f in
-    omega arith
 
 -- a turn at schema s: its atoms begin at `at`, and `left` atoms of schemas are from there on
 pub record Turn (w : List ℕ) (schemas counts at left s : ℕ) : Type 0 where
@@ -60,7 +45,7 @@ module _ {w : List ℕ} (table : isTable w ≡ true) where
     pub begin-inside : at + atomSize * left ≤ length w
     unfolding atomBase
     begin-inside =
-        let c = content-inside w table in
+        let c = table-inside w table in
         let b = turn .atoms-begin in
         let l = turn .atoms-left in
         omega arith
@@ -70,7 +55,7 @@ module _ {w : List ℕ} (table : isTable w ≡ true) where
 
     pub count-inside : s < schemas → counts + s < length w
     count-inside h =
-        let c = content-inside w table in
+        let c = table-inside w table in
         let e = turn .schemas-are in
         let f = turn .counts-begin in
         omega arith

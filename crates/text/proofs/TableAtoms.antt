@@ -17,7 +17,8 @@ use Rattle.task.specs.Run.{schemaAt}
 use Rattle.task.specs.Table.{atomIn, factIn, schemaNumberIn, taskOf, isTable}
 use Rattle.words.proofs.Lists.{and-left, and-right, In, here, there, all-in, in-getD}
 use Rattle.task.proofs.Tests.{schema-tests, task-tests}
-use Rattle.task.proofs.Tables.{Sized, noAtom, noFact, counts, startOf, of-table, init-stands, goal-stands}
+use Rattle.task.proofs.AtomsStand.{Sized, noAtom, noFact, counts}
+use Rattle.task.proofs.Tables.{startOf, of-table, init-stands, goal-stands}
 use Rattle.task.proofs.TablesByIndex.{Frame, table-frame, table-long, arities-word, schemas-word, atoms-word, init-word}
 use Rattle.task.proofs.TablesByIndex.{goal-word, arity-at, atom-inside, start-suc, atom-at, schema-of-atom, atom-lies}
 use Rattle.task.proofs.TablesByIndex.{init-at, goal-at}

@@ -15,7 +15,6 @@ use Rattle.task.specs.Limits.{tableWords, headWords, atomSize}
 use Rattle.task.specs.Answers.{result, refused, refuseUnless, inOrder}
 use Rattle.task.specs.Table.{taskOf, longEnough, isTable}
 use Rattle.task.proofs.Tables.{of-table}
-use Rattle.task.proofs.TablesByIndex.{table-long}
 use Rattle.text.specs.Lines.{bytes, newline, digits, commaed, line}
 use Rattle.text.specs.Text.{endLine, writeLine, write}
 use Rattle.text.specs.Outcomes.{writeOutcome}
@@ -23,7 +22,7 @@ use Rattle.text.specs.Code.{spaced, AtomInside, atomsText, headText, sch
 use Rattle.text.specs.Code.{longestText}
 use Rattle.text.proofs.TableAtoms.{each-inside}
 use Rattle.text.proofs.TableText.{write-table}
-use Rattle.text.proofs.SchemaTurns.{content-inside}
+use Rattle.task.proofs.TablesByIndex.{table-long, table-inside}
 use Rattle.text.proofs.LongestText.{text-most}
 
 -- ---- the head
@@ -49,7 +48,7 @@ unfolding headText
 head-parts w = refl
 
 pub arities-inside : (w : List ℕ) → isTable w ≡ true → (k : ℕ) → k < headIn w .predicates → headWords + 1 * k < length w
-arities-inside w table k h = let c = content-inside w table in omega arith
+arities-inside w table k h = let c = table-inside w table in omega arith
 
 -- ---- the whole
 abbrev pub endBytes : List ℕ

@@ -12,7 +12,7 @@ use lib.ListN.{length, getD}
 use lib.Dec.{ltb, leb}
 use Rattle.task.specs.Limits.{tableWords, mostInitial, mostGoal, mostObjects, mostPredicates, mostSchemas}
 use Rattle.task.specs.Limits.{mostSchemaAtoms, mostArity, mostParameters, mostAtoms, mostParts, headWords, atomSize}
-use Rattle.words.specs.Lists.{all, concatMap}
+use Rattle.words.specs.Lists.{all, concatMap, joined}
 use Rattle.task.specs.Task.{Task, Fact, argsFit, schemaAtoms, initial, goalRole, deletion, noSchema, withAtoms}
 use Rattle.task.specs.Table.{atomWords, factWords, schemasFrom}
 use Rattle.text.specs.declared.cursor.Cursor.{Cursor}
@@ -66,13 +66,18 @@ abbrev pub rowAt : Counts → ℕ
 rowAt c = rowsAt (c .predicates) + atomSize * (((c .closed + c .atoms) + c .initial) + c .goal)
 
 -- ---- a draft in counts and words
--- the words of the atoms that are read
-unfoldable pub rowsOf : Draft → List ℕ
+-- the words of the atoms that are read: of the schemas before, of the one that is being read, the initial ones, the
+-- goal's
+unfoldable pub rowBlocks : Draft → List (List ℕ)
 unfolding schemasFrom concatMap atomWords factWords
-rowsOf d =
-    schemasFrom 0 (d .task .schemas) ++
-    (concatMap (atomWords (length (d .task .schemas))) (d .current .atoms) ++
-    (concatMap (factWords initial) (d .task .init) ++ concatMap (factWords goalRole) (d .task .goal)))
+rowBlocks d =
+    schemasFrom 0 (d .task .schemas) ∷
+    concatMap (atomWords (length (d .task .schemas))) (d .current .atoms) ∷
+    concatMap (factWords initial) (d .task .init) ∷
+    concatMap (factWords goalRole) (d .task .goal) ∷ []
+
+abbrev pub rowsOf : Draft → List ℕ
+rowsOf d = joined (rowBlocks d)
 
 -- "Fixed order": what cannot have come yet, by the number of the place in the order
 pub record Order (d : Draft) (phase : ℕ) : Type 0 where

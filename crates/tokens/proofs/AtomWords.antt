@@ -15,7 +15,8 @@ use Rattle.words.specs.Words.{wordsAt}
 use Rattle.task.specs.Table.{atomIn, schemaNumberIn, taskOf, isTable}
 use Rattle.words.proofs.Lists.{In, all-in, in-getD, length-upFrom, getD-map, getD-upFrom}
 use Rattle.task.proofs.Tests.{schema-tests, task-tests}
-use Rattle.task.proofs.Tables.{noAtom, of-table}
+use Rattle.task.proofs.AtomsStand.{noAtom}
+use Rattle.task.proofs.Tables.{of-table}
 use Rattle.task.proofs.TablesByIndex.{table-frame, schemas-word, arities-word, arity-at, atom-at, atom-lies, start-suc}
 use Rattle.task.proofs.States.{Fitting, schemaFits-fits}
 use Rattle.arcs.specs.Code.{IsSchemaAtom}

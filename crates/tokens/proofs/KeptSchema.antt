@@ -13,7 +13,7 @@ use Rattle.task.specs.Task.{schemaFits, Task}
 use Rattle.task.specs.Run.{schemaAt}
 use Rattle.task.specs.Table.{taskOf}
 use Rattle.words.proofs.Lists.{in-getD}
-use Rattle.task.proofs.Tables.{noAtom}
+use Rattle.task.proofs.AtomsStand.{noAtom}
 use Rattle.task.proofs.Tests.{SchemaTests, schema-tests}
 use Rattle.task.proofs.TablesByIndex.{table-frame, start-suc}
 use Rattle.arcs.specs.Code.{IsStretch, atomsIn}

@@ -10,19 +10,20 @@ use lib.ListN.{length, getD, replicate, length-map}
 use borrow.Author.Tests.{leb-true}
 use Rattle.words.specs.Lists.{concatMap, upTo}
 use Rattle.task.specs.Limits.{headWords}
-use Rattle.task.specs.Layout.{headIn, atomTotal, rowsBase, factsBase}
+use Rattle.task.specs.Layout.{headBlock, headIn, factsBase, atomBase}
 use Rattle.task.specs.Limits.{tableWords, atomSize, mostPredicates, mostSchemas, mostSchemaAtoms, mostInitial, mostGoal}
 use Rattle.task.specs.Task.{Fact, Schema, Task, schemaAtoms, wellFormed}
 use Rattle.task.specs.Run.{schemaAt}
 use Rattle.words.specs.Words.{wordsAt}
-use Rattle.task.specs.Table.{atomWords, factWords, schemasFrom, taskOf, isTable, aritiesIn}
+use Rattle.task.specs.Table.{atomWords, factWords, schemasFrom, headOf, taskOf, isTable, aritiesIn}
 use Rattle.words.proofs.Lists.{map-same, append-concatMap, upTo-in, map-map, map-concatMap, concatMap-same}
 use Rattle.words.proofs.Words.{at-move, wordsAt-at, At}
-use Rattle.task.proofs.Tables.{length-blocks, length-facts, sixWords, content, places, factWords-is, lengths}
-use Rattle.task.proofs.Tables.{length-content, length-schemasFrom, content-fits}
+use Rattle.words.proofs.Words.{length-rows}
+use Rattle.task.proofs.AtomsStand.{length-facts, factWords-is, lengths, length-schemasFrom}
+use Rattle.task.proofs.Tables.{content, content-fits, places}
 use Rattle.task.proofs.Tests.{task-tests}
-use Rattle.task.proofs.TablesByIndex.{Frame, table-frame, objects-word, arities-word, schemas-word, atoms-word}
-use Rattle.task.proofs.TablesByIndex.{init-word, goal-word, table-long}
+use Rattle.task.proofs.TablesByIndex.{Frame, table-frame, objects-word, arities-word}
+use Rattle.task.proofs.TablesByIndex.{init-word, goal-word}
 use Rattle.words.specs.Sets.{member, members, wordBits}
 use Rattle.tokens.specs.Split.{has, procnone, token, orders, free, splitSchema, splitTask}
 use Rattle.tokens.specs.Writing.{setSize, countWords, arityWords, setSizes}
@@ -46,8 +47,8 @@ module _ {w : List ℕ} {sizes : Sizes} {kept : List ℕ} (S : AcceptedKept w si
   frame = table-frame w (S .table)
 
   -- ---- counts
-  pub counts-written : sixWords (splitTask t) ≡ countWords w sizes
-  unfolding sixWords splitTask
+  pub counts-written : headBlock (headOf (splitTask t)) ≡ countWords w sizes
+  unfolding splitTask
   counts-written =
       let z = S .sized in
       let o = objects-word w frame in
@@ -66,7 +67,7 @@ module _ {w : List ℕ} {sizes : Sizes} {kept : List ℕ} (S : AcceptedKept w si
       let later = sizes .later in
       let old : t .arities ≡ aritiesIn w =
       sym (ap (wordsAt w 6) (sym (arities-word w frame)) ∙
-      wordsAt-at w headWords (t .arities) (places w t (frame .sizes) (frame .tabled) .0)) in
+      wordsAt-at w headWords (t .arities) (places w t (frame .sizes) (frame .tabled) .arities)) in
       let e = sym (S .sized .later) in
       let f = sym (S .sized .pars) in
       ap₂ (λ (xs ys : List ℕ). xs ++ ys) old
@@ -137,37 +138,22 @@ module _ (w : List ℕ) (table : isTable w ≡ true) where
   pub init-written : (from n : ℕ) → from ≡ factsBase w → n ≡ headIn w .initialAtoms →
       concatMap (factWords 3) (splitTask task .init) ≡
       wordsAt w from (atomSize * n) ++ atomWords 0 (token 3 (headIn w .predicates) [])
-  unfolding splitTask
+  unfolding splitTask atomBase
   init-written from n e f =
-      facts-written 3 (task .init) _ from n (places w task (fr .sizes) (fr .tabled) .3)
-      (omega (arith, arities-word w fr, schemas-word w fr, atoms-word w fr))
-      (length-blocks (factWords 3) (task .init) (length-facts task 3 (task .init) (fr .sizes .init)) ∙
+      facts-written 3 (task .init) _ from n (places w task (fr .sizes) (fr .tabled) .init)
+      (omega arith)
+      (length-rows (factWords 3) atomSize (task .init) (length-facts task 3 (task .init) (fr .sizes .init)) ∙
       ap (λ (k : ℕ). atomSize * k) (init-word w fr ∙ sym f))
 
   pub goal-written : (from n : ℕ) → from ≡ factsBase w + atomSize * headIn w .initialAtoms → n ≡ headIn w .goalAtoms →
       concatMap (factWords 4) (splitTask task .goal) ≡
       wordsAt w from (atomSize * n) ++ atomWords 0 (token 4 (headIn w .predicates) [])
-  unfolding splitTask
+  unfolding splitTask atomBase
   goal-written from n e f =
-      facts-written 4 (task .goal) _ from n (places w task (fr .sizes) (fr .tabled) .4)
-      (omega (arith, arities-word w fr, schemas-word w fr, atoms-word w fr, init-word w fr))
-      (length-blocks (factWords 4) (task .goal) (length-facts task 4 (task .goal) (fr .sizes .goal)) ∙
+      facts-written 4 (task .goal) _ from n (places w task (fr .sizes) (fr .tabled) .goal)
+      (omega arith)
+      (length-rows (factWords 4) atomSize (task .goal) (length-facts task 4 (task .goal) (fr .sizes .goal)) ∙
       ap (λ (k : ℕ). atomSize * k) (goal-word w fr ∙ sym f))
-
-  -- all atoms lie in the table
-  pub facts-inside : rowsBase w + atomSize * (atomTotal w) ≤ length w
-  facts-inside =
-      omega (
-        arith,
-        length-content task (fr .sizes),
-        fr .inside,
-        table-long w table,
-        arities-word w fr,
-        schemas-word w fr,
-        atoms-word w fr,
-        init-word w fr,
-        goal-word w fr,
-      )
 
 -- ---- how long each piece is
 pub record Room (t : Task) : Type 0 where

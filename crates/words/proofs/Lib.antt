@@ -5,6 +5,7 @@ pub mod Ascending
 pub mod Sums
 pub mod Words
 pub mod Puts
+pub mod JoinedWords
 pub mod BitSets
 pub mod SetMembers
 pub mod Loops

@@ -1,10 +1,11 @@
 -- Rows of words: lists that stand one after another in words, each of one length, and a row that is a head,
 -- its arguments and zeros, as a step and a record are. Read back by `At`, and tested word by word.
-use Prim.Native.Nat.{ℕ, zero, suc, _+_, _-_, _≤_, _<_}
+use Prim.Native.Nat.{ℕ, zero, suc, _+_, _-_, _*_, _≤_, _<_}
 use mathlib.Core.Path.{_≡_, refl, sym, _∙_, ap, ap₂, subst}
 use mathlib.Core.Bool.{Bool, true, false, _&&_}
 use mathlib.Core.List.{List, [], _∷_, _++_, map}
 use native.Mathlib.Omega.{arith}
+use native.Mathlib.Nat.{mul-zero, mul-suc}
 use native.Mathlib.Numerals.{add-one}
 use lib.ListN.{length, getD, take, replicate, length-append, length-map, List·getD-append}
 use lib.Seq.{ext-getD, getD-take, length-take-le, getD-append-add}
@@ -101,40 +102,39 @@ each-first p xs n l h k m =
     let e = length-take-le n xs l in
     ap p (sym (getD-take n xs k 0 m)) ∙ all-in p h (in-getD (take n xs) k 0 (omega arith))
 
--- ---- rows of one length: `pos k` is where row k begins
-module _ {A : Type 0} (g : A → List ℕ) (size : ℕ) (pos : ℕ → ℕ) (none : pos 0 ≡ 0)
-    (more : (k : ℕ) → pos (suc k) ≡ size + pos k) where
+-- ---- rows of one length
+module _ {A : Type 0} (g : A → List ℕ) (size : ℕ) where
   pub length-rows : (xs : List A) → ((x : A) → In x xs → length (g x) ≡ size) →
-      length (concatMap g xs) ≡ pos (length xs)
+      length (concatMap g xs) ≡ size * length xs
   unfolding concatMap
-  length-rows [] h = sym none
+  length-rows [] h = sym (mul-zero size)
   length-rows (x ∷ xs) h =
       let a = h x (here refl) in
       let b = length-rows xs (λ y i. h y (there i)) in
-      let c = more (length xs) in
-      omega (arith, length-append (g x) (concatMap g xs))
+      omega (arith, length-append (g x) (concatMap g xs), mul-suc size (length xs))
 
   pub at-row : (w : List ℕ) (b : ℕ) (xs : List A) (d : A) → ((x : A) → In x xs → length (g x) ≡ size) →
-      At w b (concatMap g xs) → (k : ℕ) → k < length xs → At w (b + pos k) (g (getD xs k d))
+      At w b (concatMap g xs) → (k : ℕ) → k < length xs → At w (b + size * k) (g (getD xs k d))
   unfolding concatMap
   at-row w b [] d h a k l = absurd (omega arith)
-  at-row w b (x ∷ xs) d h a zero l = at-move w b (b + pos 0) (g x) (omega arith) (at-left w b (g x) (concatMap g xs) a)
+  at-row w b (x ∷ xs) d h a zero l =
+      at-move w b (b + size * 0) (g x) (omega (arith, mul-zero size)) (at-left w b (g x) (concatMap g xs) a)
   at-row w b (x ∷ xs) d h a (suc k) l =
       let e = h x (here refl) in
-      let c = more k in
-      at-move w ((b + length (g x)) + pos k) (b + pos (suc k)) (g (getD xs k d)) (omega arith)
+      at-move w ((b + length (g x)) + size * k) (b + size * suc k) (g (getD xs k d)) (omega (arith, mul-suc size k))
       (at-row w (b + length (g x)) xs d (λ y i. h y (there i)) (at-right w b (g x) (concatMap g xs) a) k (omega arith))
 
   pub join-rows : (w : List ℕ) (b : ℕ) (xs : List A) (d : A) → ((x : A) → In x xs → length (g x) ≡ size) →
-      ((k : ℕ) → k < length xs → At w (b + pos k) (g (getD xs k d))) → At w b (concatMap g xs)
+      ((k : ℕ) → k < length xs → At w (b + size * k) (g (getD xs k d))) → At w b (concatMap g xs)
   unfolding concatMap
   join-rows w b [] d e h = λ k l. absurd (omega arith)
   join-rows w b (x ∷ xs) d e h =
       let n = e x (here refl) in
-      at-join w b (g x) (concatMap g xs) (at-move w (b + pos 0) b (g x) (omega arith) (h 0 (omega arith)))
+      at-join w b (g x) (concatMap g xs)
+      (at-move w (b + size * 0) b (g x) (omega (arith, mul-zero size)) (h 0 (omega arith)))
       (join-rows w (b + length (g x)) xs d (λ y i. e y (there i)) (λ k l.
-      let c = more k in
-      at-move w (b + pos (suc k)) (b + length (g x) + pos k) (g (getD xs k d)) (omega arith) (h (suc k) (omega arith))))
+      at-move w (b + size * suc k) (b + length (g x) + size * k) (g (getD xs k d)) (omega (arith, mul-suc size k))
+      (h (suc k) (omega arith))))
 
 -- ---- a row: a head, its arguments, zeros
 -- what stands as a row is read as its head and its arguments

@@ -52,6 +52,11 @@ unfoldable pub concatMap : {A B : Type 0} → (A → List B) → List A → List
 concatMap f [] = []
 concatMap f (x ∷ xs) = f x ++ concatMap f xs
 
+-- the lists of a list, one behind another
+unfoldable pub joined : {A : Type 0} → List (List A) → List A
+joined [] = []
+joined (xs ∷ xss) = xs ++ joined xss
+
 unfoldable pub sum : List ℕ → ℕ
 sum [] = 0
 sum (x ∷ xs) = x + sum xs

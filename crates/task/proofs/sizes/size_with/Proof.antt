@@ -9,7 +9,7 @@ use borrow.Author.Tests.{not-true, not-false}
 use Rattle.task.specs.Table.{taskOf}
 use Rattle.task.specs.Run.{insertAll, removeAll, stateIn}
 use Rattle.task.specs.Spans.{groundSpan}
-use Rattle.task.proofs.Rows.{length-stateIn}
+use Rattle.task.proofs.StateWords.{length-stateIn}
 use Rattle.task.proofs.GroundWords.{span-atom}
 use Rattle.task.proofs.SpanLaws.{state-long, atom-known, insert-nothing}
 use Rattle.task.proofs.SizeLaws.{

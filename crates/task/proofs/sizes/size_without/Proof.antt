@@ -7,7 +7,7 @@ use native.Mathlib.Omega.{arith}
 use lib.ListN.{length}
 use Rattle.task.specs.Table.{taskOf}
 use Rattle.task.specs.Run.{removeAll, stateIn}
-use Rattle.task.proofs.Rows.{length-stateIn}
+use Rattle.task.proofs.StateWords.{length-stateIn}
 use Rattle.task.proofs.Changes.{remove-nothing}
 use Rattle.task.proofs.GroundWords.{span-atom}
 use Rattle.task.proofs.SpanLaws.{atom-known}

@@ -1,7 +1,7 @@
 -- `text::writer::fact_count` meets its contract: the atoms lie in the table, so there are few.
 use native.Mathlib.Omega.{arith}
 use Rattle.text.specs.Code.{factCount}
-use Rattle.text.proofs.SchemaTurns.{content-inside}
+use Rattle.task.proofs.TablesByIndex.{table-inside}
 use borrow.Author.Needs.{needs}
 use Rattle.text.proofs.writer.fact_count.Statement.{statement}
 use Rattle.text.proofs.writer.fact_count.Tie as tie
@@ -14,7 +14,7 @@ count-requires-2 c κs = search needs
 
 add-result : tie.Need-add-result
 add-result c =
-    let l = content-inside (c .before .before .before .args .table .now) (c .before .before .before .pre) in
+    let l = table-inside (c .before .before .before .args .table .now) (c .before .before .before .pre) in
     let e = c .before .count .ensures in
     let f = c .count2 .ensures in
     omega arith

@@ -1,6 +1,6 @@
 -- `text::writer::facts_base` meets its contract: head, arities, parameter counts and schema atoms lie in the table.
 use native.Mathlib.Omega.{arith}
-use Rattle.text.proofs.SchemaTurns.{content-inside}
+use Rattle.task.proofs.TablesByIndex.{table-inside}
 use borrow.Author.Needs.{needs}
 use Rattle.text.proofs.writer.facts_base.Statement.{statement}
 use Rattle.text.proofs.writer.facts_base.Tie as tie
@@ -10,7 +10,7 @@ count-requires c κs = search needs
 
 add-result : tie.Need-add-result
 add-result c =
-    let l = content-inside (c .before .before .args .table .now) (c .before .before .pre) in
+    let l = table-inside (c .before .before .args .table .now) (c .before .before .pre) in
     let e = c .count .ensures in
     omega arith
 
@@ -19,7 +19,7 @@ count-requires-2 c κs = search needs
 
 add-result-2 : tie.Need-add-result-2
 add-result-2 c =
-    let l = content-inside (c .before .before .before .args .table .now) (c .before .before .before .pre) in
+    let l = table-inside (c .before .before .before .args .table .now) (c .before .before .before .pre) in
     let e = c .before .count .ensures in
     let f = c .count2 .ensures in
     omega arith
@@ -29,14 +29,14 @@ count-requires-3 c κs = search needs
 
 mul-result : tie.Need-mul-result
 mul-result c =
-    let l = content-inside (c .before .before .before .before .args .table .now)
+    let l = table-inside (c .before .before .before .before .args .table .now)
     (c .before .before .before .before .pre) in
     let g = c .count3 .ensures in
     omega arith
 
 add-result-3 : tie.Need-add-result-3
 add-result-3 c =
-    let l = content-inside (c .before .before .before .before .args .table .now)
+    let l = table-inside (c .before .before .before .before .args .table .now)
     (c .before .before .before .before .pre) in
     let e = c .before .before .count .ensures in
     let f = c .before .count2 .ensures in

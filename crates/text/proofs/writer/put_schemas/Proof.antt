@@ -8,7 +8,8 @@ use mathlib.Core.List.{List, _++_}
 use lib.ListN.{getD}
 use Rattle.text.specs.Code.{schemaText, schemasText}
 use Rattle.text.proofs.TableText.{schemaLinesIn, schemas-onwards}
-use Rattle.text.proofs.SchemaTurns.{content-inside, Turn, turn-first, read-inside, count-inside, run-inside}
+use Rattle.task.proofs.TablesByIndex.{table-inside}
+use Rattle.text.proofs.SchemaTurns.{Turn, turn-first, read-inside, count-inside, run-inside}
 use Rattle.text.proofs.SchemaTurns.{atoms-inside, turn-lines, turn-next}
 use Rattle.words.proofs.Puts.{Going, going-start, going-long, going-left, going-room, going-on, going-end}
 use Rattle.text.proofs.Onwards.{onwards, onwards-next, onwards-none}
@@ -32,14 +33,14 @@ count-requires-2 c κs = (c .before .before .before .pre .0, omega arith)
 add-counts : tie.Need-add-counts Inv-loop μ-loop
 add-counts c =
     let start = c .before .before .before .before in
-    let l = content-inside (start .args .table .now) (start .pre .0) in
+    let l = table-inside (start .args .table .now) (start .pre .0) in
     let e = c .count2 .ensures in
     omega arith
 
 add-base : tie.Need-add-base Inv-loop μ-loop
 add-base c =
     let start = c .before .before .before .before in
-    let l = content-inside (start .args .table .now) (start .pre .0) in
+    let l = table-inside (start .args .table .now) (start .pre .0) in
     let e = c .count2 .ensures in
     let f = c .before .count .ensures in
     omega arith

@@ -3,23 +3,24 @@
 use Rattle.tokens.proofs.writing.write_split.Tie as tie
 use Prim.Native.Nat.{ℕ, _+_, _-_, _*_, _≤_, _<_}
 use mathlib.Core.Path.{_≡_, refl, sym, _∙_, ap}
-use mathlib.Core.List.{_++_, map, List}
+use mathlib.Core.List.{_++_, map, List, append-nil}
 use native.Mathlib.Omega.{arith}
 use lib.ListN.{length, replicate}
 use borrow.Author.Needs.{needs}
-use Rattle.task.specs.Layout.{headIn, factsBase}
+use Rattle.words.specs.Lists.{concatMap, joined}
+use Rattle.task.specs.Layout.{headBlock, headIn, factsBase}
 use Rattle.task.specs.Limits.{tableWords, atomSize, mostSchemas, headWords, tableLength}
-use Rattle.task.specs.Task.{Schema, Task}
-use Rattle.task.specs.Table.{taskOf, wordsOf}
-use Rattle.words.proofs.Puts.{put-over, puts-is, puts-then, puts-length}
-use Rattle.task.proofs.Tables.{sixWords, content, wordsOf-is, tableWords-is, words-length}
-use Rattle.task.proofs.TablesByIndex.{table-frame, schemas-word, init-word, goal-word}
+use Rattle.task.specs.Task.{Schema, Task, initial, goalRole}
+use Rattle.task.specs.Table.{factWords, taskOf, headOf, blocksOf, wordsOf}
+use Rattle.words.proofs.Puts.{put-over, puts-is, puts-then, puts-append, puts-same, puts-length}
+use Rattle.task.proofs.Tables.{content, wordsOf-is, tableWords-is, words-length}
+use Rattle.task.proofs.TablesByIndex.{table-frame, table-inside, schemas-word, init-word, goal-word}
 use Rattle.tokens.specs.Split.{splitTask}
 use Rattle.words.specs.Putting.{Puts}
 use Rattle.tokens.proofs.Predicates.{predicate-count}
 use Rattle.tokens.proofs.Sizes.{init-count, goal-count}
 use Rattle.tokens.proofs.Splitting.{split-well, few-schemas, few-parts, predicates-word}
-use Rattle.tokens.proofs.Written.{Room, room, facts-inside, counts-written, arities-written, params-written}
+use Rattle.tokens.proofs.Written.{Room, room, counts-written, arities-written, params-written}
 use Rattle.tokens.proofs.writing.write_split.Statement.{statement}
 
 -- the places, one from the next
@@ -77,7 +78,7 @@ known c =
       predicates = omega (arith, predicate-count t, predicates-word S);
       inits = omega (arith, init-count t, init-word w fr);
       goals = omega (arith, goal-count t, goal-word w fr);
-      inside = omega (arith, facts-inside w (S .table));
+      inside = omega (arith, table-inside w (S .table));
       long = omega (arith, c .pre .1, tableWords-is);
     }
 
@@ -92,11 +93,11 @@ named c = c .arities .last .1 .1 .0
 abbrev sized : tie.After-all-params → List ℕ
 sized c = c .all-params .last .1 .1 .0
 
-six-put : (c : tie.After-head) →
-    let s = begun c in Puts (s .args .out .now) 0 (sixWords (split s)) (headed c) (c .head .result)
-six-put c =
+head-put : (c : tie.After-head) →
+    let s = begun c in Puts (s .args .out .now) 0 (headBlock (headOf (split s))) (headed c) (c .head .result)
+head-put c =
     let s = begun c in
-    puts-is (c .head .ensures) refl refl (sixWords (split s)) (counts-written (s .pre .0))
+    puts-is (c .head .ensures) refl refl (headBlock (headOf (split s))) (counts-written (s .pre .0))
 
 names-put : (c : tie.After-arities) →
     let h = head c in
@@ -118,12 +119,14 @@ sizes-put c =
 content-put : (c : tie.After-all-facts) →
     let s = begun (head (names (sizes (atoms c)))) in
     Puts (s .args .out .now) 0 (content (split s)) (c .all-facts .last .1 .0) (c .all-facts .result)
-unfolding content
+unfolding joined blocksOf
 content-put c =
-    puts-then (six-put (head (names (sizes (atoms c))))) (puts-then (names-put (names (sizes (atoms c))))
-    (puts-then (sizes-put (sizes (atoms c)))
-    (puts-then (atoms c .all-parts .ensures) (c .all-facts .ensures) _ refl) _ refl) _ refl)
-    (content (split (begun (head (names (sizes (atoms c))))))) refl
+    let t = split (begun (head (names (sizes (atoms c))))) in
+    let last : List ℕ = concatMap (factWords goalRole) (t .goal) in
+    puts-append (head-put (head (names (sizes (atoms c))))) (puts-append (names-put (names (sizes (atoms c))))
+    (puts-append (sizes-put (sizes (atoms c))) (puts-append (atoms c .all-parts .ensures)
+    (puts-same (ap (λ (l : List ℕ). concatMap (factWords initial) (t .init) ++ l) (sym (append-nil last)))
+    (c .all-facts .ensures)))))
 
 -- ---- where each of them ends
 record Headed (c : tie.After-head) : Type 0 where
@@ -131,7 +134,7 @@ record Headed (c : tie.After-head) : Type 0 where
   long : length (headed c) ≡ length (begun c .args .out .now)
 
 head-ends : (c : tie.After-head) → Headed c
-head-ends c = record { ends = c .head .ensures .place; long = puts-length (six-put c) }
+head-ends c = record { ends = c .head .ensures .place; long = puts-length (head-put c) }
 
 record Named (c : tie.After-arities) : Type 0 where
   ends : c .arities .result ≡ headWords + length (split (begun (head c)) .arities)
