@@ -4,18 +4,15 @@ use Rattle.text.proofs.reader.body_turn.Tie as tie
 use Prim.Native.Nat.{ℕ, _-_, _≤_}
 use mathlib.Core.Path.{_≡_, sym, _∙_, ap}
 use mathlib.Core.List.{List}
-use mathlib.Core.Option.{Option}
 use native.Mathlib.Omega.{arith}
 use borrow.Author.Needs.{needs}
-use Rattle.text.specs.Lines.{Taken, entry, ended}
-use Rattle.text.specs.Text.{Line, Draft, Key, readBody, atomLine}
+use Rattle.text.specs.Lines.{entry, ended}
+use Rattle.text.specs.Text.{atomLine}
 use Rattle.text.specs.ReadCode.{rest, keyNumber}
-use Rattle.text.specs.Holding.{Turned}
 use Rattle.text.proofs.HeldAtoms.{untouched}
 use Rattle.text.proofs.Dispatch.{turned-of, Stands, may-stand, last-number, atom-body, part-body, schema-body}
 use Rattle.text.proofs.Dispatch.{fact-body, end-body, stands-as, role-number}
 use Rattle.text.proofs.reader.body_turn.Statement.{statement}
-use Rattle.text.specs.declared.draft.Turn.{Turn}
 
 -- ---- the function's entry, from the tests on the key
 abbrev start : tie.Else1 → tie.Start
@@ -32,12 +29,6 @@ table s = s .args .table .now
 
 abbrev behind : tie.Start → List ℕ
 behind s = rest (text s) (s .args .body)
-
--- a turn at the line that a key's body is
-turned : (s : tie.Start) (d : Draft) (k : Key) (l : Option (Taken Line)) (r : Turn) (after : List ℕ) →
-    readBody k (behind s) ≡ l → Turned (text s) (s .args .body) d l (table s) r after →
-    Turned (text s) (s .args .body) d (readBody k (behind s)) (table s) r after
-turned s d k l r after = turned-of (text s) (s .args .body) d (readBody k (behind s)) l (table s) r after
 
 -- ---- the answers
 head-turn-requires : tie.Need-head-turn-requires
@@ -75,7 +66,7 @@ returns-2 c =
       line .ensures .0,
       λ d k e h.
           let z : keyNumber k - 3 ≡ s .args .key - 3 = ap (λ (n : ℕ). n - 3) e in
-          turned s d k _ (line .result) (line .last .1 .0)
+          turned-of (text s) (s .args .body) d k (table s) (line .result) (line .last .1 .0)
           (atom-body k (behind s) (omega arith) (omega arith) ∙
           ap (λ (n : ℕ). ended (atomLine n) (entry (behind s))) z)
           (line .ensures .1 d h),
@@ -96,8 +87,8 @@ returns-3 c =
     let s = start (arm .before .before) in (
       line .ensures .0,
       λ d k e h.
-          turned s d k _ (line .result) (line .last .1 .0) (part-body k (behind s) (e ∙ arm .if3 .taken))
-          (line .ensures .1 d h),
+          turned-of (text s) (s .args .body) d k (table s) (line .result) (line .last .1 .0)
+          (part-body k (behind s) (e ∙ arm .if3 .taken)) (line .ensures .1 d h),
     )
 
 schema-line-requires : tie.Need-schema-line-requires
@@ -110,8 +101,8 @@ returns-4 c =
     let s = later (c .before .before) in (
       untouched _,
       λ d k e h.
-          turned s d k _ (c .schema-line .result) (table s) (schema-body k (behind s) (e ∙ c .before .if4 .taken))
-          (c .schema-line .ensures d (table s) h),
+          turned-of (text s) (s .args .body) d k (table s) (c .schema-line .result) (table s)
+          (schema-body k (behind s) (e ∙ c .before .if4 .taken)) (c .schema-line .ensures d (table s) h),
     )
 
 kind-of-requires : tie.Need-kind-of-requires
@@ -132,7 +123,7 @@ returns-5 c =
     let s = later (named .before .before .before .before) in (
       line .ensures .0,
       λ d k e h.
-          turned s d k _ (line .result) (line .last .1 .0)
+          turned-of (text s) (s .args .body) d k (table s) (line .result) (line .last .1 .0)
           (fact-body k (behind s) (named .kind-of .result) (e ∙ sym (named .kind-of .ensures)))
           (line .ensures .1 d h),
     )
@@ -150,8 +141,8 @@ returns-6 c =
       λ d k e h.
           let held = h .phase in
           let between = stands .between (omega arith) in
-          turned s d k _ (c .end-line .result) (table s) (end-body k (behind s) (last-number k (omega arith)))
-          (c .end-line .ensures d (table s) (omega arith)),
+          turned-of (text s) (s .args .body) d k (table s) (c .end-line .result) (table s)
+          (end-body k (behind s) (last-number k (omega arith))) (c .end-line .ensures d (table s) (omega arith)),
     )
 
 pub body-turn-spec : {M : Type 1} → statement M
