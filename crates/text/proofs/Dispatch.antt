@@ -17,7 +17,7 @@ use Rattle.text.specs.Text.{Key, task, objects, arity, schema, pre, add,
 use Rattle.text.specs.Text.{taskLine, objectsLine, arityLine, schemaLine, atomLine, partLine, initLine, goalLine}
 use Rattle.text.specs.Text.{endLine, Phase, atTask, atObjects, atArity, between, inPre, inAdd, inDel, inInit}
 use Rattle.text.specs.Text.{inGoal, Draft, readBody, roleKey}
-use Rattle.text.specs.ReadCode.{Moved, NextLine, keyNumber, phaseNumber, lastKey, mayStand}
+use Rattle.text.specs.ReadCode.{rest, Moved, NextLine, keyNumber, phaseNumber, lastKey, mayStand}
 use Rattle.text.specs.Holding.{Turned, factKey, factLine}
 use Rattle.text.proofs.KeyLines.{key-of-number}
 use Rattle.text.specs.declared.draft.Kind.{Kind}
@@ -208,6 +208,9 @@ turned-at text from body d l m w (turn.Finish at) after moved e (t, q) = (
 )
 turned-at text from body d l m w (turn.Refuse k) after moved e t = λ n next. rw e (t n next)
 
-pub turned-of : (text : List ℕ) (body : Cursor) (d : Draft) (l m : Option (Taken Line)) (w : List ℕ) (r : Turn)
-    (after : List ℕ) → l ≡ m → Turned text body d m w r after → Turned text body d l w r after
-turned-of text body d l m w r after e t = subst (λ (x : Option (Taken Line)). Turned text body d x w r after) (sym e) t
+-- a turn at a line is the turn at the body of a key that reads as the line
+pub turned-of : (text : List ℕ) (body : Cursor) (d : Draft) (k : Key) (w : List ℕ) (r : Turn) (after : List ℕ)
+    {l : Option (Taken Line)} → readBody k (rest text body) ≡ l → Turned text body d l w r after →
+    Turned text body d (readBody k (rest text body)) w r after
+turned-of text body d k w r after e t =
+    subst (λ (x : Option (Taken Line)). Turned text body d x w r after) (sym e) t

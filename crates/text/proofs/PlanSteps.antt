@@ -103,6 +103,10 @@ pub planWords-is : planWords ≡ stepSize * mostPlanSteps
 unfolding planWords
 planWords-is = refl
 
+-- each of 100 steps has room
+pub step-room : {n long : ℕ} → planWords ≤ long → n < 100 → stepSize * n + stepSize ≤ long
+step-room l few = let z = planWords-is in omega arith
+
 module _ (w : List ℕ) (at s count : ℕ) (objects v u : List ℕ) (room : at + stepSize ≤ length w) (few : count ≤ 12)
     (enough : count ≤ length objects) (put : Wrote (set w at s) (at + 1) count (λ k. getD objects k 0) v)
     (zeros : Wrote v (at + 1 + count) (12 - count) (λ k. 0) u) where

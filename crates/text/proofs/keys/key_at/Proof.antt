@@ -10,6 +10,29 @@ use Rattle.text.specs.ReadCode.{WordAt}
 use Rattle.text.proofs.KeyLines.{key-found, once-key}
 use Rattle.text.proofs.keys.key_at.Statement.{statement}
 
+-- ---- the keys that were looked for in vain, the last first
+abbrev init₁ : tie.After-enum-told7 → tie.After-enum-told6
+init₁ c = c .before .before .before .before
+
+abbrev schema₁ : tie.After-enum-told7 → tie.After-enum-told5
+schema₁ c = init₁ c .before .before .before .before
+
+abbrev part₁ : tie.After-enum-told7 → tie.After-enum-told4
+part₁ c = schema₁ c .before .before .before .before
+
+abbrev del₁ : tie.After-enum-told7 → tie.After-enum-told3
+del₁ c = part₁ c .before .before .before .before
+
+abbrev add₁ : tie.After-enum-told7 → tie.After-enum-told2
+add₁ c = del₁ c .before .before .before .before
+
+abbrev pre₁ : tie.After-enum-told7 → tie.After-enum-told
+pre₁ c = add₁ c .before .before .before .before
+
+abbrev start : tie.After-enum-told7 → tie.Start
+start c = pre₁ c .before .before .before .before .before
+
+-- ---- the answers
 slice-aggregate-word : tie.Need-slice-aggregate-word
 slice-aggregate-word c = search needs
 
@@ -123,31 +146,21 @@ enum-told-7 : tie.Need-enum-told-7
 enum-told-7 c = search needs
 
 head-key-at-requires : tie.Need-head-key-at-requires
-head-key-at-requires c κs =
-    let schema₁ = c .before .before .before .before .before .before .before .before .before in
-    let add₁ = schema₁ .before .before .before .before .before .before .before .before .before .before .before
-    .before in
-    add₁ .before .before .before .before .before .before .before .before .pre
+head-key-at-requires c κs = start c .pre
 
 returns-8 : tie.Need-returns-8
 unfolding bytes keyName
 returns-8 c =
-    let goal₁ = c .before in
-    let init₁ = goal₁ .before .before .before .before in
-    let schema₁ = init₁ .before .before .before .before in
-    let part₁ = schema₁ .before .before .before .before in
-    let del₁ = part₁ .before .before .before .before in
-    let add₁ = del₁ .before .before .before .before in
-    let pre₁ = add₁ .before .before .before .before in
-    let start = pre₁ .before .before .before .before .before in
-    once-key (start .args .text .now) (start .args .from) (c .head-key-at .result) (c .head-key-at .ensures) (record {
-      no-pre = subst (WordAt _ _ _) (pre₁ .enum-told .given .1) (pre₁ .before .before .word .ensures);
-      no-add = subst (WordAt _ _ _) (add₁ .enum-told2 .given .1) (add₁ .before .before .word2 .ensures);
-      no-del = subst (WordAt _ _ _) (del₁ .enum-told3 .given .1) (del₁ .before .before .word3 .ensures);
-      no-part = subst (WordAt _ _ _) (part₁ .enum-told4 .given .1) (part₁ .before .before .word4 .ensures);
-      no-schema = subst (WordAt _ _ _) (schema₁ .enum-told5 .given .1) (schema₁ .before .before .word5 .ensures);
-      no-init = subst (WordAt _ _ _) (init₁ .enum-told6 .given .1) (init₁ .before .before .word6 .ensures);
-      no-goal = subst (WordAt _ _ _) (goal₁ .enum-told7 .given .1) (goal₁ .before .before .word7 .ensures);
+    let t = c .before in
+    let args = start t .args in
+    once-key (args .text .now) (args .from) (c .head-key-at .result) (c .head-key-at .ensures) (record {
+      no-pre = subst (WordAt _ _ _) (pre₁ t .enum-told .given .1) (pre₁ t .before .before .word .ensures);
+      no-add = subst (WordAt _ _ _) (add₁ t .enum-told2 .given .1) (add₁ t .before .before .word2 .ensures);
+      no-del = subst (WordAt _ _ _) (del₁ t .enum-told3 .given .1) (del₁ t .before .before .word3 .ensures);
+      no-part = subst (WordAt _ _ _) (part₁ t .enum-told4 .given .1) (part₁ t .before .before .word4 .ensures);
+      no-schema = subst (WordAt _ _ _) (schema₁ t .enum-told5 .given .1) (schema₁ t .before .before .word5 .ensures);
+      no-init = subst (WordAt _ _ _) (init₁ t .enum-told6 .given .1) (init₁ t .before .before .word6 .ensures);
+      no-goal = subst (WordAt _ _ _) (t .enum-told7 .given .1) (t .before .before .word7 .ensures);
     })
 
 pub key-at-spec : {M : Type 1} → statement M

@@ -5,13 +5,41 @@
 use Rattle.text.proofs.lists.entry.Tie as tie
 use Prim.Native.Nat.{_-_}
 use mathlib.Core.Path.{subst}
+use mathlib.Core.List.{[], _∷_}
 use native.Mathlib.Omega.{arith}
 use borrow.Author.Needs.{needs}
-use Rattle.text.specs.ReadCode.{NumberAt, WordAt, ListAt}
+use Rattle.text.specs.Lines.{colon}
+use Rattle.text.specs.ReadCode.{Placed, NumberAt, NumberHere, WordAt, WordHere, ListAt}
 use Rattle.text.proofs.WholeLines.{no-head, no-colon, no-list, entry-made, moved-placed, word-placed}
 use Rattle.text.proofs.WholeLines.{onward-both}
 use Rattle.text.proofs.lists.entry.Statement.{statement}
 
+-- ---- the number at the head, and the colon behind it
+abbrev start : tie.After-head → tie.Start
+start h = h .before .before .before .before .before
+
+head : (h : tie.After-head) →
+    NumberHere (start h .args .text .now) (start h .args .from) (h .head .given .0 .0) (h .head .given .0 .1 .0)
+head h = subst (NumberAt _ _) (h .head .given .1) (h .before .before .number .ensures)
+
+placed : (h : tie.After-head) → Placed (start h .args .text .now) (h .head .given .0 .1 .0)
+placed h = moved-placed (start h .pre) (head h .moved)
+
+abbrev headed : tie.After-word → tie.After-head
+headed w = w .before .before .before
+
+abbrev before : tie.After-next → tie.After-head
+before w = headed (w .before .before)
+
+behind : (w : tie.After-next) →
+    let h = before w in
+    WordHere (start h .args .text .now) (h .head .given .0 .1 .0) (colon ∷ []) (w .next .given .0 .0)
+behind w = subst (WordAt _ _ _) (w .next .given .1) (w .before .before .word .ensures)
+
+abbrev parted : tie.After-listing → tie.After-next
+parted l = l .before .before .before
+
+-- ---- the answers
 number-requires : tie.Need-number-requires
 number-requires c κs = search needs
 
@@ -29,9 +57,7 @@ slice-aggregate-word c = search needs
 
 word-requires : tie.Need-word-requires
 word-requires c κs =
-    let n = c .before .before in
-    moved-placed (c .before .before .before .before .before .before .before .pre)
-    (subst (NumberAt _ _) (n .head .given .1) (n .before .before .number .ensures) .moved)
+    placed (c .before .before)
 
 enum-known-next : tie.Need-enum-known-next
 enum-known-next c = search needs
@@ -41,18 +67,13 @@ enum-told-2 c = search needs
 
 returns-2 : tie.Need-returns-2
 returns-2 c =
-    let n = c .before .before .before .before .before in
-    no-colon _ _ _ (subst (NumberAt _ _) (n .head .given .1) (n .before .before .number .ensures) .is)
-    (subst (WordAt _ _ _) (c .enum-told2 .given .1) (c .before .before .word .ensures))
+    let w = c .before .before in
+    no-colon _ _ _ (head (headed w) .is) (subst (WordAt _ _ _) (c .enum-told2 .given .1) (w .word .ensures))
 
 listing-requires : tie.Need-listing-requires
 listing-requires c κs =
-    let n = c .before .before .before .before .before .before .before in
     let w = c .before .before in
-    word-placed (moved-placed (c .before .before .before .before .before .before .before .before .before .before
-    .before .before .pre)
-    (subst (NumberAt _ _) (n .head .given .1) (n .before .before .number .ensures) .moved))
-    (subst (WordAt _ _ _) (w .next .given .1) (w .before .before .word .ensures))
+    word-placed (placed (before w)) (behind w)
 
 enum-known-count : tie.Need-enum-known-count
 enum-known-count c = search needs
@@ -65,30 +86,27 @@ same-length c = search needs
 
 returns-3 : tie.Need-returns-3
 returns-3 c =
-    let n = c .before .before .before .before .before .before .before .before .before .before .before .before in
-    let w = c .before .before .before .before .before .before .before in
-    no-list _ _ _ (subst (NumberAt _ _) (n .head .given .1) (n .before .before .number .ensures) .is)
-    _ (subst (WordAt _ _ _) (w .next .given .1) (w .before .before .word .ensures) .is)
-    (subst (ListAt _ _ _ _) (c .enum-told3 .given .1) (c .before .before .before .before .listing .ensures))
+    let l = c .before .before .before .before in
+    let w = parted l in
+    no-list _ _ _ (head (before w) .is) _ (behind w .is)
+    (subst (ListAt _ _ _ _) (c .enum-told3 .given .1) (l .listing .ensures))
 
 same-length-2 : tie.Need-same-length-2
 same-length-2 c = search needs
 
 returns-4 : tie.Need-returns-4
 returns-4 c =
-    let n = c .before .before .before .before .before .before .before .before .before .before .before .before .before in
-    let w = c .before .before .before .before .before .before .before .before in
-    let l = c .before in
-    let number = subst (NumberAt _ _) (n .head .given .1) (n .before .before .number .ensures) in
-    let colon = subst (WordAt _ _ _) (w .next .given .1) (w .before .before .word .ensures) in
-    let list = subst (ListAt _ _ _ _) (l .count .given .1) (l .before .before .before .before .listing .ensures) in
-    let on = number .moved .on in
-    let far = colon .far in
-    let line = number .moved .line in
-    let line₂ = colon .line in
+    let l = c .before .before .before .before .before in
+    let w = parted l in
+    let h = head (before w) in
+    let list = subst (ListAt _ _ _ _) (c .before .count .given .1) (l .listing .ensures) in
+    let on = h .moved .on in
+    let far = behind w .far in
+    let line = h .moved .line in
+    let line₂ = behind w .line in
     record {
       ns = list .ns;
-      is = entry-made _ _ _ (number .is) _ (colon .is) _ _ (list .is);
+      is = entry-made _ _ _ (h .is) _ (behind w .is) _ _ (list .is);
       listed = list .listed;
       onward = onward-both (omega arith) (omega arith) (list .onward);
     }

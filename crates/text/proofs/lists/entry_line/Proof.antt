@@ -6,10 +6,22 @@ use Rattle.text.proofs.lists.entry_line.Tie as tie
 use Prim.Native.Nat.{_-_}
 use mathlib.Core.Path.{subst}
 use borrow.Author.Needs.{needs}
-use Rattle.text.specs.ReadCode.{EntryAt, EndAt}
+use Rattle.text.specs.ReadCode.{EntryAt, EntryHere, EndAt}
 use Rattle.text.proofs.WholeLines.{no-body, no-end, line-whole, onward-placed, to-next}
 use Rattle.text.proofs.lists.entry_line.Statement.{statement}
 
+-- ---- the atom that was read
+abbrev read : tie.After-head → tie.After-entry
+read h = h .before .before .before .before
+
+abbrev start : tie.After-head → tie.Start
+start h = read h .before .before .before .before
+
+body : (h : tie.After-head) → EntryHere (start h .args .text .now) (start h .args .from) (h .head .given .0 .0)
+    (h .head .given .0 .1 .0) (read h .entry .last .1 .1 .0) (h .head .given .0 .1 .1 .0)
+body h = subst (EntryAt _ _ _) (h .head .given .1) (read h .entry .ensures)
+
+-- ---- the answers
 entry-requires : tie.Need-entry-requires
 entry-requires c κs = search needs
 
@@ -27,10 +39,7 @@ returns c = no-body _ (subst (EntryAt _ _ _) (c .enum-told .given .1)
     (c .before .before .before .before .entry .ensures))
 
 line-end-requires : tie.Need-line-end-requires
-line-end-requires c κs =
-    let body = c .before in
-    onward-placed (body .before .before .before .before .before .before .before .before .pre)
-    (subst (EntryAt _ _ _) (body .head .given .1) (body .before .before .before .before .entry .ensures) .onward)
+line-end-requires c κs = onward-placed (start (c .before) .pre) (body (c .before) .onward)
 
 enum-known-next : tie.Need-enum-known-next
 enum-known-next c = search needs
@@ -43,9 +52,7 @@ same-length-2 c = search needs
 
 returns-2 : tie.Need-returns-2
 returns-2 c =
-    let body = c .before .before .before .before in
-    no-end _ _ _ (subst (EntryAt _ _ _) (body .head .given .1)
-    (body .before .before .before .before .entry .ensures) .is)
+    no-end _ _ _ (body (c .before .before .before .before) .is)
     (subst (EndAt _ _) (c .enum-told2 .given .1) (c .before .before .line-end .ensures))
 
 same-length-3 : tie.Need-same-length-3
@@ -53,8 +60,7 @@ same-length-3 c = search needs
 
 returns-3 : tie.Need-returns-3
 returns-3 c =
-    let body = c .before .before .before .before .before in
-    let b = subst (EntryAt _ _ _) (body .head .given .1) (body .before .before .before .before .entry .ensures) in
+    let b = body (c .before .before .before .before .before) in
     let e = subst (EndAt _ _) (c .before .next .given .1) (c .before .before .before .line-end .ensures) in
     record {
       ns = b .ns;

@@ -1,12 +1,14 @@
 -- `text::lists::numbers`: what was kept and counted so far is a beginning of the list, and the rest of the list is read at
 -- the cursor. A turn reads one number and goes on behind a comma; the measure is the bytes left.
 use Rattle.text.proofs.lists.numbers.Tie as tie
-use Prim.Native.Nat.{_-_}
+use Prim.Native.Nat.{ℕ, _-_}
 use mathlib.Core.Path.{_≡_, refl, _∙_, subst}
+use mathlib.Core.List.{List, [], _∷_}
 use native.Mathlib.Omega.{arith}
 use borrow.Author.Needs.{needs}
 use lib.ListN.{length}
-use Rattle.text.specs.ReadCode.{NumberAt, WordAt}
+use Rattle.text.specs.Lines.{comma}
+use Rattle.text.specs.ReadCode.{NumberAt, NumberHere, WordAt, WordHere}
 use Rattle.text.proofs.ListLoop.{ListSoFar, list-begins, no-number, list-ends, list-goes-on}
 use Rattle.text.proofs.WholeLines.{moved-placed}
 use Rattle.text.proofs.lists.numbers.Statement.{statement}
@@ -18,6 +20,32 @@ Inv-loop text list₀ here₀ count₀ t9 list here count = (length list ≡ len
 abbrev μ-loop : tie.MeasureT-loop
 μ-loop text list₀ here₀ count₀ t9 list here count = length text - here .at
 
+-- ---- a turn of the loop: the number that is read, and the comma behind it
+abbrev turn : tie.After-n Inv-loop μ-loop → tie.At-loop Inv-loop μ-loop
+turn n = n .before .before .before
+
+abbrev text : tie.After-n Inv-loop μ-loop → List ℕ
+text n = turn n .before .before .before .args .text .now
+
+read : (n : tie.After-n Inv-loop μ-loop) →
+    NumberHere (text n) (turn n .loop .here) (n .n .given .0 .0) (n .n .given .0 .1 .0)
+read n = subst (NumberAt _ _) (n .n .given .1) (n .before .before .number .ensures)
+
+abbrev keeps : tie.After-word-arg Inv-loop μ-loop → tie.After-keep Inv-loop μ-loop
+keeps c = c .before .before .before
+
+abbrev given : tie.After-keep Inv-loop μ-loop → tie.After-n Inv-loop μ-loop
+given k = k .before .before .before
+
+abbrev kept : tie.After-next Inv-loop μ-loop → tie.After-keep Inv-loop μ-loop
+kept w = keeps (w .before .before .before)
+
+behind : (w : tie.After-next Inv-loop μ-loop) →
+    let n = given (kept w) in
+    WordHere (text n) (n .n .given .0 .1 .0) (comma ∷ []) (w .next .given .0 .0)
+behind w = subst (WordAt _ _ _) (w .next .given .1) (w .before .before .word .ensures)
+
+-- ---- the answers
 loop-holds : tie.Need-loop-holds Inv-loop μ-loop
 loop-holds c = (refl, list-begins _ _ _ (c .before .before .pre))
 
@@ -49,9 +77,8 @@ slice-aggregate-word c = search needs
 
 word-requires : tie.Need-word-requires Inv-loop μ-loop
 word-requires c κs =
-    let n = c .before .before .before .before .before .before in
-    moved-placed (n .before .before .before .loop .inv .1 .placed)
-    (subst (NumberAt _ _) (n .n .given .1) (n .before .before .number .ensures) .moved)
+    let n = given (keeps c) in
+    moved-placed (turn n .loop .inv .1 .placed) (read n .moved)
 
 enum-known-next : tie.Need-enum-known-next Inv-loop μ-loop
 enum-known-next c = search needs
@@ -61,40 +88,29 @@ enum-told-2 c = search needs
 
 same-length-2 : tie.Need-same-length-2 Inv-loop μ-loop
 same-length-2 c =
-    let keep = c .before .before .before .before .before .before in
-    keep .keep .kept .0 ∙ c .before .before .before .before .before .before .before .before .before .before .before
-    .before .loop .inv .0
+    let k = keeps (c .before .before .before) in
+    k .keep .kept .0 ∙ turn (given k) .loop .inv .0
 
 returns-2 : tie.Need-returns-2 Inv-loop μ-loop
 returns-2 c =
-    let keep = c .before .before .before .before .before .before in
-    let n = c .before .before .before .before .before .before .before .before .before in
-    rw (keep .keep .ensures)
-    (list-ends (n .before .before .before .loop .inv .1)
-    (subst (NumberAt _ _) (n .n .given .1) (n .before .before .number .ensures))
-    (subst (WordAt _ _ _) (c .enum-told2 .given .1) (c .before .before .word .ensures)))
+    let w = c .before .before in
+    let k = keeps (w .before) in
+    let none = subst (WordAt _ _ _) (c .enum-told2 .given .1) (w .word .ensures) in
+    rw (k .keep .ensures) (list-ends (turn (given k) .loop .inv .1) (read (given k)) none)
 
 loop-less : tie.Need-loop-less Inv-loop μ-loop
 loop-less c =
-    let n = c .before .before .before .before .before .before .before .before .before .before in
-    let w = subst (WordAt _ _ _) (c .before .next .given .1) (c .before .before .before .word .ensures) in
-    let h = subst (NumberAt _ _) (n .n .given .1) (n .before .before .number .ensures) in
-    let f = w .far in
-    let i = w .inside in
-    let m = h .moved .on in
+    let w = c .before in
+    let far = behind w .far in
+    let inside = behind w .inside in
+    let on = read (given (kept w)) .moved .on in
     omega arith
 
 loop-again : tie.Need-loop-again Inv-loop μ-loop
 loop-again c =
-    let keep = c .before .before .before .before .before .before .before in
-    let n = c .before .before .before .before .before .before .before .before .before .before in (
-      keep .keep .kept .0 ∙ c .before .before .before .before .before .before .before .before .before .before .before
-          .before .before .loop .inv .0,
-      rw (keep .keep .ensures)
-          (list-goes-on (n .before .before .before .loop .inv .1)
-          (subst (NumberAt _ _) (n .n .given .1) (n .before .before .number .ensures))
-          (subst (WordAt _ _ _) (c .before .next .given .1) (c .before .before .before .word .ensures))),
-    )
+    let k = kept (c .before) in
+    let (long, sofar) = turn (given k) .loop .inv in
+    (k .keep .kept .0 ∙ long, rw (k .keep .ensures) (list-goes-on sofar (read (given k)) (behind (c .before))))
 
 pub numbers-spec : {M : Type 1} → statement M
 numbers-spec =

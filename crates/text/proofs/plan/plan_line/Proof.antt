@@ -13,6 +13,17 @@ use borrow.Author.Needs.{needs}
 use Rattle.text.proofs.plan.plan_line.Statement.{statement}
 use Rattle.text.proofs.plan.plan_line.Tie as tie
 
+-- ---- the two keys that are tried
+abbrev start : tie.After-word → tie.Start
+start w = w .before .before .before .before .before
+
+abbrev stepped : tie.After-step-line-arg → tie.After-word
+stepped c = c .before .before .before .before
+
+abbrev step-tried : tie.After-word2 → tie.After-word
+step-tried w = w .before .before .before .before
+
+-- ---- the answers
 slice-aggregate-word : tie.Need-slice-aggregate-word
 slice-aggregate-word c = search needs
 
@@ -24,10 +35,9 @@ enum-known-body c = search needs
 
 step-line-requires : tie.Need-step-line-requires
 step-line-requires c κs =
-    let start = c .before .before .before .before .before .before .before .before .before in
-    let at-word = c .before .before .before .before in
-    let word = subst (WordAt _ _ _) (c .before .before .body .given .1) (at-word .word .ensures) in
-    (start .pre .0, (word-placed (start .pre .1 .0) word, start .pre .1 .1))
+    let word = subst (WordAt _ _ _) (c .before .before .body .given .1) (stepped c .word .ensures) in
+    let given = start (stepped c) .pre in
+    (given .0, (word-placed (given .1 .0) word, given .1 .1))
 
 same-length : tie.Need-same-length
 same-length c = search needs
@@ -35,15 +45,14 @@ same-length c = search needs
 returns : tie.Need-returns
 unfolding bytes planKeyName
 returns c =
-    let start = c .before .before .before .before .before .before .before .before .before .before .before .before in
-    let at-word = c .before .before .before .before .before .before .before in
-    let body = c .before .before .before .before .before .body .given .1 in
-    let word = subst (WordAt _ _ _) body (at-word .word .ensures) in
+    let at = c .before .before .before in
+    let args = start (stepped at) .args in
+    let word = subst (WordAt _ _ _) (at .before .before .body .given .1) (stepped at .word .ensures) in
     let done = c .before .before .step-line in
     λ xs e.
-    plan-turned-at (taskOf (start .args .table .now)) (start .args .text .now) (start .args .from) _ xs _ _
-    (start .args .steps .now) (done .result) (done .last .1 .1 .1 .0) (word-moved _ (omega arith) word)
-    (next-step xs _ _ (word .is)) (done .ensures xs e)
+    plan-turned-at (taskOf (args .table .now)) (args .text .now) (args .from) _ xs _ _ (args .steps .now)
+    (done .result) (done .last .1 .1 .1 .0) (word-moved _ (omega arith) word) (next-step xs _ _ (word .is))
+    (done .ensures xs e)
 
 enum-told : tie.Need-enum-told
 enum-told c = search needs
@@ -59,23 +68,21 @@ enum-known-body-2 c = search needs
 
 last-line-requires : tie.Need-last-line-requires
 last-line-requires c κs =
-    let start = c .before .before .before .before .before .before .before .before .before .before .before .before in
-    let word = subst (WordAt _ _ _) (c .before .body2 .given .1) (c .before .before .before .word2 .ensures) in
-    word-placed (start .pre .1 .0) word
+    let w = c .before .before .before in
+    word-placed (start (step-tried w) .pre .1 .0) (subst (WordAt _ _ _) (c .before .body2 .given .1) (w .word2 .ensures))
 
 returns-2 : tie.Need-returns-2
 unfolding bytes planKeyName
 returns-2 c =
-    let at-end = c .before .before .before .before in
-    let at-step = at-end .before .before .before .before in
-    let start = at-step .before .before .before .before .before in
-    let none = subst (WordAt _ _ _) (at-end .before .before .enum-told .given .1) (at-step .word .ensures) in
-    let word = subst (WordAt _ _ _) (c .before .before .body2 .given .1) (at-end .word2 .ensures) in
+    let w = c .before .before .before .before in
+    let args = start (step-tried w) .args in
+    let none = subst (WordAt _ _ _) (w .before .before .enum-told .given .1) (step-tried w .word .ensures) in
+    let word = subst (WordAt _ _ _) (c .before .before .body2 .given .1) (w .word2 .ensures) in
     λ xs e.
-    let t = taskOf (start .args .table .now) in
-    plan-turned-at t (start .args .text .now) (start .args .from) _ xs _ _
-    (start .args .steps .now) (c .last-line .result) (start .args .steps .now) (word-moved _ (omega arith) word)
-    (next-end xs _ _ none (word .is)) (c .last-line .ensures t xs (start .args .steps .now))
+    let t = taskOf (args .table .now) in
+    plan-turned-at t (args .text .now) (args .from) _ xs _ _ (args .steps .now) (c .last-line .result)
+    (args .steps .now) (word-moved _ (omega arith) word) (next-end xs _ _ none (word .is))
+    (c .last-line .ensures t xs (args .steps .now))
 
 enum-told-2 : tie.Need-enum-told-2
 enum-told-2 c = search needs
@@ -83,11 +90,11 @@ enum-told-2 c = search needs
 returns-3 : tie.Need-returns-3
 unfolding bytes planKeyName
 returns-3 c =
-    let start = c .before .before .before .before .before .before .before .before .before .before .before in
-    let at-step = c .before .before .before .before .before .before in
-    let none = subst (WordAt _ _ _) (c .before .before .before .before .enum-told .given .1) (at-step .word .ensures) in
-    let neither = subst (WordAt _ _ _) (c .enum-told2 .given .1) (c .before .before .word2 .ensures) in
-    λ xs e. (no-line-refused (takePlanLine (taskOf (start .args .table .now)) xs) _ (next-none xs _ none neither), refl)
+    let w = c .before .before in
+    let t = taskOf (start (step-tried w) .args .table .now) in
+    let none = subst (WordAt _ _ _) (w .before .before .enum-told .given .1) (step-tried w .word .ensures) in
+    let neither = subst (WordAt _ _ _) (c .enum-told2 .given .1) (w .word2 .ensures) in
+    λ xs e. (no-line-refused (takePlanLine t xs) _ (next-none xs _ none neither), refl)
 
 pub plan-line-spec : {M : Type 1} → statement M
 plan-line-spec =

@@ -96,21 +96,28 @@ module _ (c : tie.After-plan-line Inv-loop μ-loop) where
         plan-cleared _ _ _ sofar (entry head .pre .1) same cleared ∙ both outcome .1,
       )
 
+-- the turn whose line is refused, and the one that ends
+abbrev refusing : tie.After-refused-arg Inv-loop μ-loop → tie.After-plan-line Inv-loop μ-loop
+refusing c = c .before .before .before .before .before .before
+
+abbrev ending : tie.After-struct-known Inv-loop μ-loop → tie.After-plan-line Inv-loop μ-loop
+ending c = c .before .before .before .before .before .before
+
 enum-known-number : tie.Need-enum-known-number Inv-loop μ-loop
 enum-known-number c = search needs
 
 refused-requires : tie.Need-refused-requires Inv-loop μ-loop
-refused-requires c κs = still-room (c .before .before .before .before .before .before)
+refused-requires c κs = still-room (refusing c)
 
 same-length : tie.Need-same-length Inv-loop μ-loop
 same-length c =
     let done = c .before .before in
-    done .refused .kept .0 ∙ kept-long (done .before .before .before .before .before .before .before)
+    done .refused .kept .0 ∙ kept-long (refusing (done .before))
 
 returns : tie.Need-returns Inv-loop μ-loop
 returns c =
     let done = c .before .before in
-    let at-line = done .before .before .before .before .before .before .before in
+    let at-line = refusing (done .before) in
     let (refuses, same) = turned at-line _ (done .before .before .before .number .given .1) in
     turned-back at-line (plan-refuses _ _ _ (sofar at-line) _ refuses) same (done .refused .ensures .0)
     (done .refused .ensures .1)
@@ -119,28 +126,29 @@ enum-known-next : tie.Need-enum-known-next Inv-loop μ-loop
 enum-known-next c = search needs
 
 refused-requires-2 : tie.Need-refused-requires-2 Inv-loop μ-loop
-refused-requires-2 c κs = still-room (c .before .before .before .before .before .before .before .before)
+refused-requires-2 c κs = still-room (ending (c .before .before))
 
 same-length-2 : tie.Need-same-length-2 Inv-loop μ-loop
 same-length-2 c =
     let done = c .before .before in
-    done .refused2 .kept .0 ∙ kept-long (done .before .before .before .before .before .before .before .before .before)
+    done .refused2 .kept .0 ∙ kept-long (ending (done .before .before .before))
 
 returns-2 : tie.Need-returns-2 Inv-loop μ-loop
 returns-2 c =
     let done = c .before .before in
-    let at-line = done .before .before .before .before .before .before .before .before .before in
-    let (ends, same) = turned at-line _ (done .before .before .before .before .before .next .given .1) in
+    let e = done .before .before .before in
+    let at-line = ending e in
+    let (ends, same) = turned at-line _ (e .before .before .next .given .1) in
     turned-back at-line (plan-left-over _ _ _ (sofar at-line) ends (done .before .before .if1 .taken)) same
     (done .refused2 .ensures .0) (done .refused2 .ensures .1)
 
 same-length-3 : tie.Need-same-length-3 Inv-loop μ-loop
-same-length-3 c = kept-long (c .before .before .before .before .before .before .before)
+same-length-3 c = kept-long (ending (c .before))
 
 returns-3 : tie.Need-returns-3 Inv-loop μ-loop
 unfolding planAnswerTold
 returns-3 c =
-    let at-line = c .before .before .before .before .before .before .before in
+    let at-line = ending (c .before) in
     let start = entry (head at-line) in
     let args = start .args in
     let s = sofar at-line in

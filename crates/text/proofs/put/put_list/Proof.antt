@@ -22,6 +22,13 @@ Inv-loop text₀ at table from step n next₀ k₀ text next k =
 abbrev μ-loop : tie.MeasureT-loop
 μ-loop text₀ at table from step n next₀ k₀ text next k = n - k
 
+-- the list is not empty, before the loop; and the function's entry, from the loop's head
+abbrev some : tie.After-slice-known2 Inv-loop μ-loop → tie.Else1 Inv-loop μ-loop
+some c = c .before .before .before .before .before
+
+abbrev start : tie.At-loop Inv-loop μ-loop → tie.Start Inv-loop μ-loop
+start c = some (c .before) .before .before .before
+
 returns : tie.Need-returns Inv-loop μ-loop
 returns c =
     let args = c .before .before .before .args in
@@ -52,15 +59,10 @@ put-number-requires c κs =
 
 loop-holds : tie.Need-loop-holds Inv-loop μ-loop
 loop-holds c =
-    let start = c .before .before .before .before .before .before .before .before in
-    let l = first-long start (c .before .before .before .before .before .if1 .left) in
+    let l = first-long (some c .before .before .before) (some c .if1 .left) in
     let p = c .before .before .put-number .ensures in
     let same = puts-length p in
     (omega arith, (omega arith, going-start (omega arith)))
-
--- the function's entry, from the loop's head
-abbrev start : tie.At-loop Inv-loop μ-loop → tie.Start Inv-loop μ-loop
-start c = c .before .before .before .before .before .before .before .before .before
 
 number-inside : (c : tie.In-loop Inv-loop μ-loop) →
     let args = start (c .before) .args in

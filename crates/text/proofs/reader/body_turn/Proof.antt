@@ -3,17 +3,34 @@
 use Rattle.text.proofs.reader.body_turn.Tie as tie
 use Prim.Native.Nat.{ℕ, _-_, _≤_}
 use mathlib.Core.Path.{_≡_, sym, _∙_, ap}
+use mathlib.Core.List.{List}
 use native.Mathlib.Omega.{arith}
 use borrow.Author.Needs.{needs}
-use Rattle.text.specs.Lines.{number, listing, entry, ended}
-use Rattle.text.specs.Text.{readBody, schemaLine, atomLine, partLine, endLine}
+use Rattle.text.specs.Lines.{entry, ended}
+use Rattle.text.specs.Text.{atomLine}
 use Rattle.text.specs.ReadCode.{rest, keyNumber}
-use Rattle.text.specs.Holding.{factLine}
 use Rattle.text.proofs.HeldAtoms.{untouched}
 use Rattle.text.proofs.Dispatch.{turned-of, Stands, may-stand, last-number, atom-body, part-body, schema-body}
 use Rattle.text.proofs.Dispatch.{fact-body, end-body, stands-as, role-number}
 use Rattle.text.proofs.reader.body_turn.Statement.{statement}
 
+-- ---- the function's entry, from the tests on the key
+abbrev start : tie.Else1 → tie.Start
+start c = c .before .before .before
+
+abbrev later : tie.Else3 → tie.Start
+later c = start (c .before .before)
+
+abbrev text : tie.Start → List ℕ
+text s = s .args .text .now
+
+abbrev table : tie.Start → List ℕ
+table s = s .args .table .now
+
+abbrev behind : tie.Start → List ℕ
+behind s = rest (text s) (s .args .body)
+
+-- ---- the answers
 head-turn-requires : tie.Need-head-turn-requires
 head-turn-requires c κs =
     let start = c .before .before .before .before in
@@ -27,14 +44,13 @@ returns c = search needs
 
 atom-line-requires : tie.Need-atom-line-requires
 atom-line-requires c κs =
-    let start = c .before .before .before .before .before in
-    let known : start .args .key - 3 ≤ 2 = omega arith in
-    let z = role-number (start .args .key - 3) known in (
-      start .pre .0,
-      (
-        start .pre .1 .0,
-        record { known = known; allowed = stands-as (start .args .counts .phase) (omega arith) (start .pre .1 .1) },
-      ),
+    let s = start (c .before .before) in
+    let low = c .before .before .if1 .left in
+    let high = c .before .if2 .taken in
+    let known : s .args .key - 3 ≤ 2 = omega arith in
+    let z = role-number (s .args .key - 3) known in (
+      s .pre .0,
+      (s .pre .1 .0, record { known = known; allowed = stands-as (s .args .counts .phase) (omega arith) (s .pre .1 .1) }),
     )
 
 same-length-2 : tie.Need-same-length-2
@@ -42,64 +58,51 @@ same-length-2 c = search needs
 
 returns-2 : tie.Need-returns-2
 returns-2 c =
-    let start = c .before .before .before .before .before .before .before .before in
-    let line = c .before .before .atom-line in (
+    let line = c .before .before .atom-line in
+    let arm = c .before .before .before .before in
+    let s = start (arm .before) in
+    let low = arm .before .if1 .left in
+    let high = arm .if2 .taken in (
       line .ensures .0,
       λ d k e h.
-          let z : keyNumber k - 3 ≡ start .args .key - 3 = ap (λ (n : ℕ). n - 3) e in
-          turned-of (start .args .text .now) (start .args .body) d
-          (readBody k (rest (start .args .text .now) (start .args .body)))
-          (ended (atomLine (start .args .key - 3)) (entry (rest (start .args .text .now) (start .args .body))))
-          (start .args .table .now) (line .result) (line .last .1 .0)
-          (atom-body k (rest (start .args .text .now) (start .args .body)) (omega arith) (omega arith) ∙
-          ap (λ (n : ℕ). ended (atomLine n) (entry (rest (start .args .text .now) (start .args .body)))) z)
+          let z : keyNumber k - 3 ≡ s .args .key - 3 = ap (λ (n : ℕ). n - 3) e in
+          turned-of (text s) (s .args .body) d k (table s) (line .result) (line .last .1 .0)
+          (atom-body k (behind s) (omega arith) (omega arith) ∙
+          ap (λ (n : ℕ). ended (atomLine n) (entry (behind s))) z)
           (line .ensures .1 d h),
     )
 
 part-line-requires : tie.Need-part-line-requires
 part-line-requires c κs =
-    let start = c .before .before .before .before .before .before in (
-      start .pre .0,
-      (
-        start .pre .1 .0,
-        stands-as (start .args .counts .phase) (c .before .if3 .taken)
-            (start .pre .1 .1),
-      ),
-    )
+    let s = start (c .before .before .before) in
+    (s .pre .0, (s .pre .1 .0, stands-as (s .args .counts .phase) (c .before .if3 .taken) (s .pre .1 .1)))
 
 same-length-3 : tie.Need-same-length-3
 same-length-3 c = search needs
 
 returns-3 : tie.Need-returns-3
 returns-3 c =
-    let start = c .before .before .before .before .before .before .before .before .before in
-    let line = c .before .before .part-line in (
+    let line = c .before .before .part-line in
+    let arm = c .before .before .before .before in
+    let s = start (arm .before .before) in (
       line .ensures .0,
       λ d k e h.
-          turned-of (start .args .text .now) (start .args .body) d
-          (readBody k (rest (start .args .text .now) (start .args .body)))
-          (ended partLine (listing (rest (start .args .text .now) (start .args .body)))) (start .args .table .now)
-          (line .result) (line .last .1 .0)
-          (part-body k (rest (start .args .text .now) (start .args .body)) (omega arith))
-          (line .ensures .1 d h),
+          turned-of (text s) (s .args .body) d k (table s) (line .result) (line .last .1 .0)
+          (part-body k (behind s) (e ∙ arm .if3 .taken)) (line .ensures .1 d h),
     )
 
 schema-line-requires : tie.Need-schema-line-requires
 schema-line-requires c κs =
-    let start = c .before .before .before .before .before .before in
-    (start .pre .0, stands-as (start .args .counts .phase) (c .if4 .taken) (start .pre .1 .1))
+    let s = later (c .before) in
+    (s .pre .0, stands-as (s .args .counts .phase) (c .if4 .taken) (s .pre .1 .1))
 
 returns-4 : tie.Need-returns-4
 returns-4 c =
-    let start = c .before .before .before .before .before .before .before in (
+    let s = later (c .before .before) in (
       untouched _,
       λ d k e h.
-          turned-of (start .args .text .now) (start .args .body) d
-          (readBody k (rest (start .args .text .now) (start .args .body)))
-          (ended schemaLine (number (rest (start .args .text .now) (start .args .body)))) (start .args .table .now)
-          (c .schema-line .result) (start .args .table .now)
-          (schema-body k (rest (start .args .text .now) (start .args .body)) (omega arith))
-          (c .schema-line .ensures d (start .args .table .now) h),
+          turned-of (text s) (s .args .body) d k (table s) (c .schema-line .result) (table s)
+          (schema-body k (behind s) (e ∙ c .before .if4 .taken)) (c .schema-line .ensures d (table s) h),
     )
 
 kind-of-requires : tie.Need-kind-of-requires
@@ -107,26 +110,21 @@ kind-of-requires c κs = omega arith
 
 fact-line-requires : tie.Need-fact-line-requires
 fact-line-requires c κs =
-    let start = c .before .before .before .before .before .before .before .before .before in (
-      start .pre .0,
-      (start .pre .1 .0, stands-as (start .args .counts .phase) (sym (c .kind-of .ensures)) (start .pre .1 .1)),
-    )
+    let s = later (c .before .before .before .before) in
+    (s .pre .0, (s .pre .1 .0, stands-as (s .args .counts .phase) (sym (c .kind-of .ensures)) (s .pre .1 .1)))
 
 same-length-4 : tie.Need-same-length-4
 same-length-4 c = search needs
 
 returns-5 : tie.Need-returns-5
 returns-5 c =
-    let start = c .before .before .before .before .before .before .before .before .before .before .before .before in
-    let kind = c .before .before .before .kind-of in
-    let line = c .before .before .fact-line in (
+    let line = c .before .before .fact-line in
+    let named = c .before .before .before in
+    let s = later (named .before .before .before .before) in (
       line .ensures .0,
       λ d k e h.
-          turned-of (start .args .text .now) (start .args .body) d
-          (readBody k (rest (start .args .text .now) (start .args .body)))
-          (ended (factLine (kind .result)) (entry (rest (start .args .text .now) (start .args .body))))
-          (start .args .table .now) (line .result) (line .last .1 .0)
-          (fact-body k (rest (start .args .text .now) (start .args .body)) (kind .result) (e ∙ sym (kind .ensures)))
+          turned-of (text s) (s .args .body) d k (table s) (line .result) (line .last .1 .0)
+          (fact-body k (behind s) (named .kind-of .result) (e ∙ sym (named .kind-of .ensures)))
           (line .ensures .1 d h),
     )
 
@@ -135,20 +133,16 @@ end-line-requires c κs = search needs
 
 returns-6 : tie.Need-returns-6
 returns-6 c =
-    let start = c .before .before .before .before .before .before .before .before in
-    let stands : Stands (start .args .counts .phase) (start .args .key) = may-stand (start .args .counts .phase)
-    (start .args .key) (start .pre .1 .1) in (
+    let s = later (c .before .before .before) in
+    let phase = s .args .counts .phase in
+    let last = c .before .if5 .left in
+    let stands : Stands phase (s .args .key) = may-stand phase (s .args .key) (s .pre .1 .1) in (
       untouched _,
       λ d k e h.
-          let ten = last-number k (omega arith) in
-          let phase = h .phase in
-          let later = stands .between (omega arith) in
-          turned-of (start .args .text .now) (start .args .body) d
-          (readBody k (rest (start .args .text .now) (start .args .body)))
-          (ended endLine (number (rest (start .args .text .now) (start .args .body)))) (start .args .table .now)
-          (c .end-line .result) (start .args .table .now)
-          (end-body k (rest (start .args .text .now) (start .args .body)) ten)
-          (c .end-line .ensures d (start .args .table .now) (omega arith)),
+          let held = h .phase in
+          let between = stands .between (omega arith) in
+          turned-of (text s) (s .args .body) d k (table s) (c .end-line .result) (table s)
+          (end-body k (behind s) (last-number k (omega arith))) (c .end-line .ensures d (table s) (omega arith)),
     )
 
 pub body-turn-spec : {M : Type 1} → statement M

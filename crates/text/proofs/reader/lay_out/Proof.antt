@@ -5,11 +5,28 @@ use Prim.Native.Nat.{_-_}
 use mathlib.Core.Path.{_∙_}
 use native.Mathlib.Omega.{arith}
 use borrow.Author.Needs.{needs}
-use Rattle.task.proofs.Tables.{tableWords-is}
-use Rattle.text.proofs.RowTests.{six-words}
+use Rattle.text.proofs.TableRoom.{move-room, laid-room, zeros-room, head-room, head-words}
 use Rattle.text.proofs.LaidOut.{laid-out}
 use Rattle.text.proofs.reader.lay_out.Statement.{statement}
 
+-- ---- the three writes, from the last to the first
+abbrev start : tie.After-move-down-arg → tie.Start
+start c = c .before .before .before .before .before .before .before
+
+abbrev moved : tie.After-clear → tie.After-move-down
+moved z = z .before .before .before .before
+
+-- of the step at which the first count is read
+abbrev cleared : tie.After-struct-known7 → tie.After-clear
+cleared c = c .before .before .before
+
+abbrev entry : tie.After-struct-known7 → tie.Start
+entry c = start (moved (cleared c) .before .before)
+
+abbrev counted : tie.After-head → tie.After-struct-known7
+counted c = c .before .before .before .before .before .before .before
+
+-- ---- the answers
 add-to : tie.Need-add-to
 add-to c = search needs
 
@@ -32,17 +49,7 @@ add-move-down : tie.Need-add-move-down
 add-move-down c = search needs
 
 move-down-requires : tie.Need-move-down-requires
-move-down-requires c κs =
-    let h = c .before .before .before .before .before .before .before .before .pre .holds in
-    let few = h .few in
-    let predicates = few .predicates in
-    let schemas = few .schemas in
-    let total = few .total in
-    let initial = few .initial in
-    let goal = few .goal in
-    let objects = few .objects in
-    let long = h .long in
-    let z = tableWords-is in (omega arith, omega arith)
+move-down-requires c κs = move-room (start (c .before) .pre .holds)
 
 add-clear : tie.Need-add-clear
 add-clear c = search needs
@@ -55,136 +62,48 @@ sub-clear c = search needs
 
 clear-requires : tie.Need-clear-requires
 clear-requires c κs =
-    let h = c .before .before .before .before .before .before .before .before .before .before .before .before .pre
-    .holds in
-    let few = h .few in
-    let predicates = few .predicates in
-    let schemas = few .schemas in
-    let total = few .total in
-    let initial = few .initial in
-    let goal = few .goal in
-    let objects = few .objects in
-    let long = h .long in
-    let z = tableWords-is in
-    let size = c .before .before .before .move-down .kept .0 in
-    omega arith
+    let m = c .before .before .before in
+    zeros-room (start (m .before .before) .pre .holds) (m .move-down .kept .0)
 
 cast-t14 : tie.Need-cast-t14
 cast-t14 c = search needs
 
 cast-t15 : tie.Need-cast-t15
-cast-t15 c =
-    let h = c .before .before .before .before .before .before .before .before .before .before .before .before .before
-    .before .before .before .before .pre .holds in
-    let few = h .few in
-    let predicates = few .predicates in
-    let schemas = few .schemas in
-    let total = few .total in
-    let initial = few .initial in
-    let goal = few .goal in
-    let objects = few .objects in
-    let long = h .long in
-    let z = tableWords-is in omega arith
+cast-t15 c = omega (arith, entry (c .before) .pre .holds .few .predicates)
 
 cast-t16 : tie.Need-cast-t16
-cast-t16 c =
-    let h = c .before .before .before .before .before .before .before .before .before .before .before .before .before
-    .before .before .before .before .before .pre .holds in
-    let few = h .few in
-    let predicates = few .predicates in
-    let schemas = few .schemas in
-    let total = few .total in
-    let initial = few .initial in
-    let goal = few .goal in
-    let objects = few .objects in
-    let long = h .long in
-    let z = tableWords-is in omega arith
+cast-t16 c = omega (arith, entry (c .before .before) .pre .holds .few .schemas)
 
 cast-t17 : tie.Need-cast-t17
-cast-t17 c =
-    let h = c .before .before .before .before .before .before .before .before .before .before .before .before .before
-    .before .before .before .before .before .before .pre .holds in
-    let few = h .few in
-    let predicates = few .predicates in
-    let schemas = few .schemas in
-    let total = few .total in
-    let initial = few .initial in
-    let goal = few .goal in
-    let objects = few .objects in
-    let long = h .long in
-    let z = tableWords-is in omega arith
+cast-t17 c = omega (arith, entry (c .before .before .before) .pre .holds .few .total)
 
 cast-t18 : tie.Need-cast-t18
-cast-t18 c =
-    let h = c .before .before .before .before .before .before .before .before .before .before .before .before .before
-    .before .before .before .before .before .before .before .pre .holds in
-    let few = h .few in
-    let predicates = few .predicates in
-    let schemas = few .schemas in
-    let total = few .total in
-    let initial = few .initial in
-    let goal = few .goal in
-    let objects = few .objects in
-    let long = h .long in
-    let z = tableWords-is in omega arith
+cast-t18 c = omega (arith, entry (c .before .before .before .before) .pre .holds .few .initial)
 
 cast-t19 : tie.Need-cast-t19
-cast-t19 c =
-    let h = c .before .before .before .before .before .before .before .before .before .before .before .before .before
-    .before .before .before .before .before .before .before .before .pre .holds in
-    let few = h .few in
-    let predicates = few .predicates in
-    let schemas = few .schemas in
-    let total = few .total in
-    let initial = few .initial in
-    let goal = few .goal in
-    let objects = few .objects in
-    let long = h .long in
-    let z = tableWords-is in omega arith
+cast-t19 c = omega (arith, entry (c .before .before .before .before .before) .pre .holds .few .goal)
 
 slice-aggregate-put-words : tie.Need-slice-aggregate-put-words
 slice-aggregate-put-words c = search needs
 
 put-words-requires : tie.Need-put-words-requires
 put-words-requires c κs =
-    let h = c .before .before .before .before .before .before .before .before .before .before .before .before .before
-    .before .before .before .before .before .before .before .before .before .before .pre .holds in
-    let few = h .few in
-    let predicates = few .predicates in
-    let schemas = few .schemas in
-    let total = few .total in
-    let initial = few .initial in
-    let goal = few .goal in
-    let objects = few .objects in
-    let long = h .long in
-    let z = tableWords-is in
-    let size₁ = c .before .before .before .before .before .before .before .before .before .before .before .before
-    .before .before .move-down .kept .0 in
-    let size₂ = c .before .before .before .before .before .before .before .before .before .before .clear .kept .0 in
-    (omega arith, six-words (omega arith) (omega arith) (omega arith) (omega arith) (omega arith) (omega arith))
+    let z = cleared (counted c) in
+    let h = entry (counted c) .pre .holds in
+    (head-room h (z .clear .kept .0 ∙ moved z .move-down .kept .0), head-words h)
 
 same-length : tie.Need-same-length
-same-length c = c .before .before .put-words .kept .0 ∙
-    (c .before .before .before .before .before .before .before .before .before .before .before .before .before .clear
-    .kept .0 ∙ c .before .before .before .before .before .before .before .before .before .before .before .before
-    .before .before .before .before .before .move-down .kept .0)
+same-length c =
+    let p = c .before .before in
+    let z = cleared (counted (p .before)) in
+    p .put-words .kept .0 ∙ (z .clear .kept .0 ∙ moved z .move-down .kept .0)
 
 returns : tie.Need-returns
 returns c =
-    let few = c .before .before .before .before .before .before .before .before .before .before .before .before
-    .before .before .before .before .before .before .before .before .before .before .before .before .before
-    .before .pre .holds .few in
-    let predicates = few .predicates in
-    let schemas = few .schemas in
-    let total = few .total in
-    let initial = few .initial in
-    let goal = few .goal in
-    λ d h closed well. laid-out h closed
-    (c .before .before .before .before .before .before .before .before .before .before .before .before .before
-    .before .before .before .before .move-down .ensures)
-    (c .before .before .before .before .before .before .before .before .before .before .before .before .before
-    .clear .ensures) (c .before .before .put-words .ensures)
-    (omega arith) well
+    let p = c .before .before in
+    let z = cleared (counted (p .before)) in
+    λ d h closed well.
+    laid-out h closed (moved z .move-down .ensures) (z .clear .ensures) (p .put-words .ensures) (laid-room h) well
 
 pub lay-out-spec : {M : Type 1} → statement M
 lay-out-spec =

@@ -63,6 +63,13 @@ held t same =
     subst (λ (w : List ℕ). Holds (draft t) w (t .before .before .loop .counts)) (sym same)
     (t .before .before .loop .inv .holds)
 
+-- the turn whose line is refused, and the one that ends
+abbrev refusing : tie.After-refused-arg Inv-loop μ-loop → tie.After-turn-at Inv-loop μ-loop
+refusing c = c .before .before .before .before .before .before
+
+abbrev ending : tie.After-struct-known Inv-loop μ-loop → tie.After-turn-at Inv-loop μ-loop
+ending e = e .before .before .before .before .before .before
+
 -- ---- the answers
 start-requires : tie.Need-start-requires Inv-loop μ-loop
 start-requires c κs = tt
@@ -85,19 +92,20 @@ enum-known-number : tie.Need-enum-known-number Inv-loop μ-loop
 enum-known-number c = search needs
 
 refused-requires : tie.Need-refused-requires Inv-loop μ-loop
-refused-requires c κs = long (c .before .before .before .before .before .before)
+refused-requires c κs = long (refusing c)
 
 same-length : tie.Need-same-length Inv-loop μ-loop
 same-length c =
-    c .before .before .refused .kept .0 ∙ touched (c .before .before .before .before .before .before .before .before
-    .before) .size
+    let r = c .before .before in
+    r .refused .kept .0 ∙ touched (refusing (r .before)) .size
 
 returns : tie.Need-returns Inv-loop μ-loop
 returns c =
-    let t = c .before .before .before .before .before .before .before .before .before in
-    let refused = c .before .before .refused .ensures in
+    let r = c .before .before in
+    let t = refusing (r .before) in
+    let refused = r .refused .ensures in
     let is = line-refuses (t .before .before .loop .inv) _
-    (went t (c .before .before .before .before .before .number .given .1)) in (
+    (went t (r .before .before .before .number .given .1)) in (
       told-refused (lent t) (text t) _ _ _ is (refused .0),
       buffer-refused (lent t) (text t) _ _ _ is (cleared-is (lent t) _ _ (entry t .pre) (touched t) (refused .1)),
     )
@@ -106,42 +114,47 @@ enum-known-next : tie.Need-enum-known-next Inv-loop μ-loop
 enum-known-next c = search needs
 
 refused-requires-2 : tie.Need-refused-requires-2 Inv-loop μ-loop
-refused-requires-2 c κs = long (c .before .before .before .before .before .before .before .before)
+refused-requires-2 c κs = long (ending (c .before .before))
 
 same-length-2 : tie.Need-same-length-2 Inv-loop μ-loop
 same-length-2 c =
-    c .before .before .refused2 .kept .0 ∙ touched
-    (c .before .before .before .before .before .before .before .before .before .before .before) .size
+    let r = c .before .before in
+    r .refused2 .kept .0 ∙ touched (ending (r .before .before .before)) .size
 
 returns-2 : tie.Need-returns-2 Inv-loop μ-loop
 returns-2 c =
-    let t = c .before .before .before .before .before .before .before .before .before .before .before in
-    let ended = went t (c .before .before .before .before .before .before .before .next .given .1) .0 in
-    let refused = c .before .before .refused2 .ensures in
-    let is = left-over (t .before .before .loop .inv) ended (c .before .before .before .before .if1 .taken) in (
+    let r = c .before .before in
+    let e = r .before .before .before in
+    let t = ending e in
+    let ended = went t (e .before .before .next .given .1) .0 in
+    let refused = r .refused2 .ensures in
+    let is = left-over (t .before .before .loop .inv) ended (r .before .before .if1 .taken) in (
       told-refused (lent t) (text t) _ _ _ is (refused .0),
       buffer-refused (lent t) (text t) _ _ _ is (cleared-is (lent t) _ _ (entry t .pre) (touched t) (refused .1)),
     )
 
 lay-out-requires : tie.Need-lay-out-requires Inv-loop μ-loop
 lay-out-requires c κs =
-    let t = c .before .before .before .before .before .before .before .before in
-    record { draft = draft t; holds = held t (went t (c .before .before .before .before .next .given .1) .1) }
+    let e = c .before .before in
+    let t = ending e in
+    record { draft = draft t; holds = held t (went t (e .before .before .next .given .1) .1) }
 
 same-length-3 : tie.Need-same-length-3 Inv-loop μ-loop
 same-length-3 c =
-    c .before .before .lay-out .kept .0 ∙ touched (c .before .before .before .before .before .before .before .before
-    .before .before .before) .size
+    let l = c .before .before in
+    l .lay-out .kept .0 ∙ touched (ending (l .before .before .before)) .size
 
 returns-3 : tie.Need-returns-3 Inv-loop μ-loop
 returns-3 c =
-    let t = c .before .before .before .before .before .before .before .before .before .before .before in
+    let l = c .before .before in
+    let e = l .before .before .before in
+    let t = ending e in
     let s = t .before .before .loop .inv in
-    let (ended, same) = went t (c .before .before .before .before .before .before .before .next .given .1) in
-    let end = c .before .before .before .before .if1 .left in
+    let (ended, same) = went t (e .before .before .next .given .1) in
+    let end = l .before .before .if1 .left in
     let is = whole-text s ended end in
     let fits = well s ended end in
-    let laid = c .before .before .lay-out .ensures (s .draft) (held t same) (last-phase s ended) fits in (
+    let laid = l .lay-out .ensures (s .draft) (held t same) (last-phase s ended) fits in (
       told-read (lent t) (text t) _ is,
       buffer-read (lent t) (text t) _ _ is
           (laid ∙ over-touched (wordsOf (s .draft .task)) (lent t) _ (words-length (s .draft .task) fits) (entry t .pre)

@@ -6,7 +6,7 @@ use mathlib.Core.Path.{sym, _∙_, subst, ap₂}
 use borrow.Author.Needs.{needs}
 use borrow.Author.Tests.{not-true, not-false}
 use Rattle.text.specs.Text.{nextLine, readBody}
-use Rattle.text.specs.ReadCode.{rest, KeyAt, mayStand}
+use Rattle.text.specs.ReadCode.{rest, KeyAt, KeyHere, mayStand}
 use Rattle.text.proofs.HeldAtoms.{untouched}
 use Rattle.text.proofs.LineTurns.{none-refused}
 use Rattle.text.proofs.WholeLines.{moved-placed}
@@ -14,6 +14,15 @@ use Rattle.text.proofs.KeyLines.{next-missing, next-refused, next-allow
 use Rattle.text.proofs.Dispatch.{turned-at}
 use Rattle.text.proofs.reader.turn_at.Statement.{statement}
 
+abbrev start : tie.After-key → tie.Start
+start k = k .before .before .before .before .before
+
+-- the key that was found
+found : (k : tie.After-key) →
+    KeyHere (start k .args .text .now) (start k .args .from) (k .key .given .0 .0) (k .key .given .0 .1 .0)
+found k = subst (KeyAt _ _) (k .key .given .1) (k .before .before .key-at .ensures)
+
+-- ---- the answers
 key-at-requires : tie.Need-key-at-requires
 key-at-requires c κs = search needs
 
@@ -35,8 +44,7 @@ allowed-requires c κs = search needs
 
 returns-2 : tie.Need-returns-2
 returns-2 c =
-    let at = c .before .before .before in
-    let key = subst (KeyAt _ _) (at .key .given .1) (at .before .before .key-at .ensures) in (
+    let key = found (c .before .before .before) in (
       untouched _,
       λ d h. none-refused d _ (next-refused d _ (key .key) _ (key .is)
           (ap₂ mayStand (sym (h .phase)) (key .numbered) ∙ (sym (c .before .allowed .ensures) ∙ not-true _
@@ -45,14 +53,9 @@ returns-2 c =
 
 body-turn-requires : tie.Need-body-turn-requires
 body-turn-requires c κs =
-    let at = c .before .before .before .before in
-    let key = subst (KeyAt _ _) (at .key .given .1) (at .before .before .key-at .ensures) in
-    let start = c .before .before .before .before .before .before .before .before .before in (
-      moved-placed (start .pre .0) (key .moved),
-      (
-        start .pre .1,
-        sym (c .before .before .allowed .ensures) ∙ not-false _ (c .before .if1 .left),
-      ),
+    let k = c .before .before .before .before in (
+      moved-placed (start k .pre .0) (found k .moved),
+      (start k .pre .1, sym (c .before .before .allowed .ensures) ∙ not-false _ (c .before .if1 .left)),
     )
 
 same-length : tie.Need-same-length
@@ -60,21 +63,19 @@ same-length c = search needs
 
 returns-3 : tie.Need-returns-3
 returns-3 c =
-    let at = c .before .before .before .before .before .before .before in
-    let key = subst (KeyAt _ _) (at .key .given .1) (at .before .before .key-at .ensures) in
-    let start = c .before .before .before .before .before .before .before .before .before .before .before .before in
     let done = c .before .before .body-turn in
-    let bs = start .args .text .now in
-    let body = at .key .given .0 .1 .0 in (
+    let allows = c .before .before .before .before in
+    let k = allows .before .before .before in
+    let key = found k in
+    let args = start k .args in
+    let bs = args .text .now in
+    let body = k .key .given .0 .1 .0 in
+    let may = sym (allows .before .allowed .ensures) ∙ not-false _ (allows .if1 .left) in (
       done .ensures .0,
       λ d h.
-          turned-at bs (start .args .from) body d (nextLine d (rest bs (start .args .from)))
-          (readBody (key .key) (rest bs body))
-          (start .args .table .now) (done .result) (done .last .1 .0) (key .moved)
-          (next-allowed d _ (key .key) _ (key .is)
-          (ap₂ mayStand (sym (h .phase)) (key .numbered) ∙
-          (sym (c .before .before .before .before .before .allowed .ensures) ∙ not-false _
-          (c .before .before .before .before .if1 .left))))
+          turned-at bs (args .from) body d (nextLine d (rest bs (args .from))) (readBody (key .key) (rest bs body))
+          (args .table .now) (done .result) (done .last .1 .0) (key .moved)
+          (next-allowed d _ (key .key) _ (key .is) (ap₂ mayStand (sym (h .phase)) (key .numbered) ∙ may))
           (done .ensures .1 d (key .key) (key .numbered) h),
     )
 

@@ -13,6 +13,13 @@ use Rattle.text.proofs.RowTests.{small-taken, eight-words, row-words}
 use Rattle.text.proofs.rows.put_row.Statement.{statement}
 use Rattle.text.proofs.rows.put_row.Tie as tie
 
+abbrev start : tie.After-number-or-zero → tie.Start
+start n = n .before .before .before
+
+abbrev first : tie.After-row → tie.After-number-or-zero
+first r = r .before .before .before .before .before
+
+-- ---- the answers
 number-or-zero-requires : tie.Need-number-or-zero-requires
 number-or-zero-requires c κs = search needs
 
@@ -30,12 +37,12 @@ slice-aggregate-put-words c = search needs
 
 put-words-requires : tie.Need-put-words-requires
 put-words-requires c κs =
-    let start = c .before .before .before .before .before .before .before .before in
-    let (schema, role, predicate, enough, few) = start .pre .1 .0 in
-    let small = small-taken (start .args .args .now) (start .args .count) enough (start .pre .1 .1) in (
-      start .pre .0,
+    let s = start (first c) in
+    let (schema, role, predicate, enough, few) = s .pre .1 .0 in
+    let small = small-taken (s .args .args .now) (s .args .count) enough (s .pre .1 .1) in (
+      s .pre .0,
       eight-words schema role predicate (omega arith)
-          (rw (c .before .before .before .before .before .number-or-zero .ensures) (small 0))
+          (rw (first c .number-or-zero .ensures) (small 0))
           (rw (c .before .before .before .before .number-or-zero2 .ensures) (small 1))
           (rw (c .before .before .before .number-or-zero3 .ensures) (small 2))
           (rw (c .before .before .number-or-zero4 .ensures) (small 3)),
@@ -47,17 +54,16 @@ same-length c = search needs
 returns : tie.Need-returns
 returns c =
     let put = c .before .before in
-    let start = c .before .before .before .before .before .before .before .before .before .before .before in
-    let args = start .args in
+    let row = put .before in
+    let s = start (first row) in
+    let args = s .args in
     let ns = take (args .count) (args .args .now) in
-    let (schema, role, predicate, enough, few) = start .pre .1 .0 in
+    let (schema, role, predicate, enough, few) = s .pre .1 .0 in
     let l = length-take-le (args .count) (args .args .now) enough in
     subst (λ (xs : List ℕ). Wrote (args .table .now) (args .at) 8 (λ k. getD xs k 0) (put .put-words .last .0))
     (row-words (args .schema) (args .role) (args .predicate) ns (omega arith) _ _ _ _
-    (c .before .before .before .before .before .before .before .before .number-or-zero .ensures)
-    (c .before .before .before .before .before .before .before .number-or-zero2 .ensures)
-    (c .before .before .before .before .before .before .number-or-zero3 .ensures)
-    (c .before .before .before .before .before .number-or-zero4 .ensures))
+    (first row .number-or-zero .ensures) (row .before .before .before .before .number-or-zero2 .ensures)
+    (row .before .before .before .number-or-zero3 .ensures) (row .before .before .number-or-zero4 .ensures))
     (put .put-words .ensures)
 
 pub put-row-spec : {M : Type 1} → statement M

@@ -122,9 +122,8 @@ shared-slice-read-put-key c = search needs
 
 put-key-requires : tie.Need-put-key-requires
 put-key-requires c κs =
-    let start = c .before .before .before .before .before .before .before .before in
-    first-room (start .args .at) (key start) (predicate start ++ (colon ∷ (arguments start ++ (newline ∷ []))))
-    (room start)
+    let s = start (c .before .before) in
+    first-room (s .args .at) (key s) (predicate s ++ (colon ∷ (arguments s ++ (newline ∷ [])))) (room s)
 
 put-number-requires : tie.Need-put-number-requires
 put-number-requires c κs =

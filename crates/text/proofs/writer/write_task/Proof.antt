@@ -30,15 +30,15 @@ returns c =
     (sym (c .before .has-room .ensures) ∙ not-true _ (c .if1 .taken)) in
     both none
 
+abbrev start : tie.Else1 → tie.Start
+start c = c .before .before .before .before
+
 room : (c : tie.Else1) →
-    leb (length (write (taskOf (c .before .before .before .before .args .table .now))))
-    (length (c .before .before .before .before .args .text .now)) ≡ true
+    leb (length (write (taskOf (start c .args .table .now)))) (length (start c .args .text .now)) ≡ true
 room c = sym (c .before .has-room .ensures) ∙ not-false _ (c .if1 .left)
 
 put-text-requires : tie.Need-put-text-requires
-put-text-requires c κs =
-    let start = c .before .before .before .before .before in
-    (start .pre, leb-true _ _ (room (c .before)))
+put-text-requires c κs = (start (c .before) .pre, leb-true _ _ (room (c .before)))
 
 same-length : tie.Need-same-length
 same-length c = search needs
@@ -46,11 +46,11 @@ same-length c = search needs
 returns-2 : tie.Need-returns-2
 unfolding writeAnswerTold
 returns-2 c =
-    let start = c .before .before .before .before .before .before .before .before in
-    let w = start .args .table .now in
-    let text = start .args .text .now in
+    let s = start (c .before .before .before .before) in
+    let w = s .args .table .now in
+    let text = s .args .text .now in
     let fits = room (c .before .before .before .before) in
-    let o = outcome-room w text (start .pre) fits in
+    let o = outcome-room w text (s .pre) fits in
     let put = c .before .before .put-text .ensures in
     let long = put .place in
     let e : c .before .before .put-text .result ≡ length (write (taskOf w)) = omega arith in (

@@ -16,9 +16,19 @@ use Rattle.text.proofs.HeldAtoms.{few-words, inside-touched, untouched,
 use Rattle.text.proofs.HeldAtoms.{schema-full, table-full, atom-misfits, again}
 use Rattle.text.proofs.lines.atom.add_atom.Statement.{statement}
 
--- ---- what is known once the row is written
+-- ---- what is known once it is tested whether the atom fits
+abbrev few : tie.After-fits2 → tie.Else1
+few f = f .before .before .before .before
+
+abbrev entry : tie.After-fits2 → tie.Start
+entry f = few f .before .before .before .before
+
+-- ---- and once the row is written
+abbrev fitting : tie.After-put-row → tie.After-fits2
+fitting p = p .before .before .before .before .before
+
 abbrev start : tie.After-put-row → tie.Start
-start p = p .before .before .before .before .before .before .before .before .before .before .before .before .before
+start p = entry (fitting p)
 
 abbrev before : tie.After-put-row → List ℕ
 before p = start p .args .table .now
@@ -27,7 +37,7 @@ abbrev after : tie.After-put-row → List ℕ
 after p = p .put-row .last .0
 
 total : (p : tie.After-put-row) → start p .args .counts .closed + start p .args .counts .atoms < 1000
-total p = p .before .before .before .before .before .before .before .if2 .left
+total p = fitting p .before .before .if2 .left
 
 touched : (p : tie.After-put-row) → Touched (before p) (after p)
 touched p =
@@ -39,11 +49,9 @@ put : (p : tie.After-put-row) (d : Draft) (ns : List ℕ) → Holds d (before p)
     Listed ns (start p .args .count) (start p .args .args .now) →
     AtomPut d (start p .args .counts) (start p .args .role) (start p .args .predicate) ns (after p)
 put p d ns h s =
-    atom-put h (start p .pre .1 .0) (p .before .before .before .before .before .before .before .before
-    .before .if1 .left) (total p)
-    (p .before .before .before .before .before .fits2 .ensures) (not-false _
-    (p .before .before .before .before .if3 .left))
-    (start p .pre .1 .1) s (p .before .before .before .next-row .ensures) (p .put-row .ensures)
+    atom-put h (start p .pre .1 .0) (few (fitting p) .if1 .left) (total p) (fitting p .fits2 .ensures)
+    (not-false _ (p .before .before .before .before .if3 .left)) (start p .pre .1 .1) s
+    (p .before .before .before .next-row .ensures) (p .put-row .ensures)
 
 -- ---- and once it is looked for among the rows before
 abbrev written : tie.After-repeated → tie.After-put-row
@@ -83,12 +91,11 @@ same-length c = search needs
 
 returns-3 : tie.Need-returns-3
 returns-3 c =
-    let fits = c .before .fits2 in
-    let start = c .before .before .before .before .before .before .before .before .before in (
+    let f = c .before in (
       untouched _,
       λ d ns h s. atom-misfits d _ _ ns (let e = h .atoms in omega arith)
           (let e = h .atoms in let q = h .closed in omega arith)
-          (sym (atom-fits h (fits .ensures) (start .pre .1 .1) s) ∙ not-true _ (c .if3 .taken)),
+          (sym (atom-fits h (f .fits2 .ensures) (entry f .pre .1 .1) s) ∙ not-true _ (c .if3 .taken)),
     )
 
 next-row-requires : tie.Need-next-row-requires
@@ -99,26 +106,26 @@ cast-put-row c = search needs
 
 put-row-requires : tie.Need-put-row-requires
 put-row-requires c κs =
-    let start = c .before .before .before .before .before .before .before .before .before .before .before .before in
-    let h = start .pre .0 .holds in
-    let fits = c .before .before .before .before .fits2 in
+    let f = c .before .before .before .before in
+    let h = entry f .pre .0 .holds in
+    let fits = f .fits2 .ensures in
     let told = not-false _ (c .before .before .before .if3 .left) in
     let row = c .before .before .next-row .ensures in
-    let four = start .pre .1 .1 in
-    let enough = fits .ensures .enough told in
-    let known = fits .ensures .known told in
+    let four = entry f .pre .1 .1 in
+    let enough = fits .enough told in
+    let known = fits .known told in
     let few = h .few in
     let schemas = few .schemas in
     let predicates = few .predicates in
     let params = few .params in
-    let role = start .pre .1 .0 .known in
+    let role = entry f .pre .1 .0 .known in
     let long = h .long in
     let z = tableWords-is in
     let room = few-words few (omega arith) in (
       omega arith,
       (
         (omega arith, omega arith, omega arith, omega arith, omega arith),
-        λ k l. let low = fits .ensures .low told k l in omega arith,
+        λ k l. let low = fits .low told k l in omega arith,
       ),
     )
 

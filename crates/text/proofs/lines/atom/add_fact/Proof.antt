@@ -17,12 +17,22 @@ use Rattle.text.proofs.HeldFacts.{factOf, fact-room, fact-fits, fact-ro
 use Rattle.text.proofs.HeldFacts.{full-refused, misfit-refused}
 use Rattle.text.proofs.lines.atom.add_fact.Statement.{statement}
 
--- ---- what is known once the row is written
+-- ---- what is known once it is tested whether the atom fits
+abbrev facts : tie.After-fits2 → tie.After-facts
+facts f = f .before .before .before .before
+
+abbrev entry : tie.After-fits2 → tie.Start
+entry f = facts f .before .before .before
+
+-- ---- and once the row is written
+abbrev fitting : tie.After-put-row → tie.After-fits2
+fitting p = p .before .before .before .before
+
 abbrev start : tie.After-put-row → tie.Start
-start p = p .before .before .before .before .before .before .before .before .before .before .before
+start p = entry (fitting p)
 
 abbrev known : tie.After-put-row → tie.After-facts
-known p = p .before .before .before .before .before .before .before .before
+known p = facts (fitting p)
 
 abbrev before : tie.After-put-row → List ℕ
 before p = start p .args .table .now
@@ -36,7 +46,7 @@ Given p d ns =
     Holds d (before p) (start p .args .counts) × Listed ns (start p .args .count) (start p .args .args .now)
 
 below : (p : tie.After-put-row) → known p .facts .result .read < known p .facts .result .most
-below p = p .before .before .before .before .before .before .if1 .left
+below p = fitting p .before .before .if1 .left
 
 touched : (p : tie.After-put-row) → Touched (before p) (after p)
 touched p =
@@ -50,7 +60,7 @@ put : (p : tie.After-put-row) (d : Draft) (ns : List ℕ) → Given p d ns →
     (after p)
 put p d ns (h, s) =
     fact-put (start p .args .kind) h (start p .pre .1 .0) (known p .facts .ensures) (below p)
-    (p .before .before .before .before .fits2 .ensures) (not-false _ (p .before .before .before .if2 .left))
+    (fitting p .fits2 .ensures) (not-false _ (p .before .before .before .if2 .left))
     (start p .pre .1 .1) s (p .before .before .next-row .ensures) (p .put-row .ensures)
 
 -- ---- and once it is compared with the row before
@@ -90,13 +100,10 @@ same-length c = search needs
 
 returns-2 : tie.Need-returns-2
 returns-2 c =
-    let fits = c .before .fits2 in
-    let below = c .before .before .before .if1 .left in
-    let facts = c .before .before .before .before .before .facts in
-    let start = c .before .before .before .before .before .before .before .before in (
+    let f = c .before in (
       untouched _,
-      λ d ns h s. misfit-refused (start .args .kind) h (facts .ensures) _ ns below
-          (sym (fact-fits h (fits .ensures) (start .pre .1 .1) s) ∙ not-true _ (c .if2 .taken)),
+      λ d ns h s. misfit-refused (entry f .args .kind) h (facts f .facts .ensures) _ ns (f .before .before .if1 .left)
+          (sym (fact-fits h (f .fits2 .ensures) (entry f .pre .1 .1) s) ∙ not-true _ (c .if2 .taken)),
     )
 
 next-row-requires : tie.Need-next-row-requires
@@ -104,20 +111,19 @@ next-row-requires c κs = search needs
 
 put-row-requires : tie.Need-put-row-requires
 put-row-requires c κs =
-    let start = c .before .before .before .before .before .before .before .before .before .before in
-    let h = start .pre .0 .holds in
-    let fits = c .before .before .before .fits2 in
+    let f = c .before .before .before in
+    let h = entry f .pre .0 .holds in
+    let fits = f .fits2 .ensures in
     let told = not-false _ (c .before .before .if2 .left) in
-    let below = c .before .before .before .before .before .if1 .left in
+    let below = f .before .before .if1 .left in
     let row = c .before .next-row .ensures in
-    let four = start .pre .1 .1 in
-    let enough = fits .ensures .enough told in
-    let known = fits .ensures .known told in
+    let four = entry f .pre .1 .1 in
+    let enough = fits .enough told in
+    let known = fits .known told in
     let few = h .few in
     let predicates = few .predicates in
     let objects = few .objects in
-    let place = fact-place (start .args .kind) few
-    (c .before .before .before .before .before .before .before .facts .ensures) in
+    let place = fact-place (entry f .args .kind) few (facts f .facts .ensures) in
     let role = place .known in
     let long = h .long in
     let z = tableWords-is in
@@ -125,7 +131,7 @@ put-row-requires c κs =
       omega arith,
       (
         (omega arith, omega arith, omega arith, omega arith, omega arith),
-        λ k l. let low = fits .ensures .low told k l in omega arith,
+        λ k l. let low = fits .low told k l in omega arith,
       ),
     )
 

@@ -7,11 +7,30 @@ use mathlib.Core.Path.{refl, subst}
 use native.Mathlib.Omega.{arith}
 use borrow.Author.Needs.{needs}
 use Rattle.text.specs.Text.{atomLine}
-use Rattle.text.specs.ReadCode.{EntryLineAt}
+use Rattle.text.specs.ReadCode.{EntryLineAt, EntryLine}
 use Rattle.text.proofs.HeldAtoms.{untouched}
 use Rattle.text.proofs.LineTurns.{no-line, atom-refused, atom-goes-on}
 use Rattle.text.proofs.lines.atom.atom_line.Statement.{statement}
 
+-- ---- the atom that was read
+abbrev start : tie.After-entry-line → tie.Start
+start l = l .before .before .before .before
+
+abbrev line : tie.After-predicate → tie.After-entry-line
+line a = a .before .before .before
+
+abbrev atom : tie.After-add-atom → tie.After-predicate
+atom a = a .before .before .before .before
+
+abbrev begun : tie.After-add-atom → tie.Start
+begun a = start (line (atom a))
+
+read : (a : tie.After-add-atom) → EntryLine (begun a .args .text .now) (begun a .args .from)
+    (atom a .predicate .given .0 .0) (atom a .predicate .given .0 .1 .0)
+    (line (atom a) .entry-line .last .1 .1 .0) (atom a .predicate .given .0 .1 .1 .0)
+read a = subst (EntryLineAt _ _ _) (atom a .predicate .given .1) (line (atom a) .entry-line .ensures)
+
+-- ---- the answers
 slice-aggregate-entry-line : tie.Need-slice-aggregate-entry-line
 slice-aggregate-entry-line c = search needs
 
@@ -26,10 +45,10 @@ enum-told c = search needs
 
 returns : tie.Need-returns
 returns c =
-    let start = c .before .before .before .before .before .before .before in (
+    let l = c .before .before .before in (
       untouched _,
-      λ d h. no-line (atomLine (start .args .role)) d _
-          (subst (EntryLineAt _ _ _) (c .enum-told .given .1) (c .before .before .before .entry-line .ensures)),
+      λ d h. no-line (atomLine (start l .args .role)) d _
+          (subst (EntryLineAt _ _ _) (c .enum-told .given .1) (l .entry-line .ensures)),
     )
 
 slice-aggregate-add-atom : tie.Need-slice-aggregate-add-atom
@@ -46,13 +65,10 @@ same-length c = search needs
 
 returns-2 : tie.Need-returns-2
 returns-2 c =
-    let added = c .before .before .before .before .before .add-atom in
-    let atom = c .before .before .before .before .before .before .before .before .before in
-    let read = subst (EntryLineAt _ _ _) (atom .predicate .given .1)
-    (atom .before .before .before .entry-line .ensures) in (
-      added .ensures .0,
-      λ d h. atom-refused (atomLine _) d read _ _ _ (c .before .check .given .1)
-          (added .ensures .1 d (read .ns) h (read .listed)),
+    let a = c .before .before .before .before .before in (
+      a .add-atom .ensures .0,
+      λ d h. atom-refused (atomLine _) d (read a) _ _ _ (c .before .check .given .1)
+          (a .add-atom .ensures .1 d (read a .ns) h (read a .listed)),
     )
 
 enum-told-2 : tie.Need-enum-told-2
@@ -62,24 +78,17 @@ add-read : tie.Need-add-read
 add-read c = search needs
 
 add-read-2 : tie.Need-add-read-2
-add-read-2 c =
-    let start = c .before .before .before .before .before .before .before .before .before .before .before .before
-    .before .before .before .before in
-    let few = start .pre .1 .0 .holds .few .atoms in
-    omega arith
+add-read-2 c = omega (arith, begun (c .before .before .before .before .before) .pre .1 .0 .holds .few .atoms)
 
 same-length-2 : tie.Need-same-length-2
 same-length-2 c = search needs
 
 returns-3 : tie.Need-returns-3
 returns-3 c =
-    let added = c .before .before .before .before .before .add-atom in
-    let atom = c .before .before .before .before .before .before .before .before .before in
-    let read = subst (EntryLineAt _ _ _) (atom .predicate .given .1)
-    (atom .before .before .before .entry-line .ensures) in (
-      added .ensures .0,
-      λ d h. atom-goes-on (atomLine _) d read _ _ refl (c .before .enum-told2 .given .1)
-          (added .ensures .1 d (read .ns) h (read .listed)),
+    let a = c .before .before .before .before .before in (
+      a .add-atom .ensures .0,
+      λ d h. atom-goes-on (atomLine _) d (read a) _ _ refl (c .before .enum-told2 .given .1)
+          (a .add-atom .ensures .1 d (read a .ns) h (read a .listed)),
     )
 
 pub atom-line-spec : {M : Type 1} → statement M

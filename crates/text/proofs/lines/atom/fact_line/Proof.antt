@@ -13,17 +13,19 @@ use Rattle.text.proofs.lines.atom.fact_line.Statement.{statement}
 use Rattle.text.specs.declared.draft.Counts.{Counts}
 
 -- ---- the atom that was read
-abbrev start : tie.After-add-fact → tie.Start
-start a = a .before .before .before .before .before .before .before .before .before .before .before
-
 abbrev atom : tie.After-add-fact → tie.After-predicate
 atom a = a .before .before .before .before
 
+abbrev line : tie.After-add-fact → tie.After-entry-line
+line a = atom a .before .before .before
+
+abbrev start : tie.After-add-fact → tie.Start
+start a = line a .before .before .before .before
+
 read : (a : tie.After-add-fact) → EntryLine (start a .args .text .now) (start a .args .from)
     (atom a .predicate .given .0 .0) (atom a .predicate .given .0 .1 .0)
-    (atom a .before .before .before .entry-line .last .1 .1 .0) (atom a .predicate .given .0 .1 .1 .0)
-read a =
-    subst (EntryLineAt _ _ _) (atom a .predicate .given .1) (atom a .before .before .before .entry-line .ensures)
+    (line a .entry-line .last .1 .1 .0) (atom a .predicate .given .0 .1 .1 .0)
+read a = subst (EntryLineAt _ _ _) (atom a .predicate .given .1) (line a .entry-line .ensures)
 
 abbrev grown : tie.After-add-fact → Counts
 grown a = oneFactMore (start a .args .counts) (start a .args .kind)

@@ -22,13 +22,19 @@ use Rattle.text.proofs.lines.head.arity_line.Statement.{statement}
 use Rattle.text.specs.Lines.{numbers}
 
 -- ---- the list that was read
+abbrev heard : tie.After-count → tie.After-numbers
+heard l = l .before .before .before .before
+
+abbrev start : tie.After-count → tie.Start
+start l = heard l .before .before .before .before
+
 read : (l : tie.After-count) →
-    let s = l .before .before .before .before .before .before .before .before in
+    let s = start l in
     ListLine (s .args .text .now) (s .args .from) (numbers (rest (s .args .text .now) (s .args .from)))
-    (l .count .given .0 .0) (l .before .before .before .before .numbers .last .1 .1 .0) (l .count .given .0 .1 .0)
+    (l .count .given .0 .0) (heard l .numbers .last .1 .1 .0) (l .count .given .0 .1 .0)
 read l =
     subst (ListLineAt _ _ _ _) (l .count .given .1)
-    (l .before .before .list-line .ensures _ _ _ (l .before .before .before .before .numbers .ensures))
+    (l .before .before .list-line .ensures _ _ _ (heard l .numbers .ensures))
 
 -- what the test of the arities found, of those that were read
 abbrev lists : tie.After-all-below → tie.After-count
@@ -37,7 +43,7 @@ lists b = b .before .before .before .before
 low : (b : tie.After-all-below) → all (λ n. leb n 4) (read (lists b) .ns) ≡ b .all-below .result
 low b =
     let many = read (lists b) .listed .counted in
-    let size = lists b .before .before .before .before .numbers .kept .1 .1 .0 in
+    let size = heard (lists b) .numbers .kept .1 .1 .0 in
     let few = b .before .before .if1 .left in
     sym (low-arities (read (lists b) .ns)) ∙
     (ap (all (λ n. ltb n 5)) (sym (listed-take (read (lists b) .listed) (omega arith))) ∙ sym (b .all-below .ensures))
@@ -90,15 +96,15 @@ slice-aggregate-put-words c = search needs
 put-words-requires : tie.Need-put-words-requires
 put-words-requires c κs =
     let b = c .before .before .before in
-    let size = lists b .before .before .before .before .numbers .kept .1 .1 .0 in
+    let size = heard (lists b) .numbers .kept .1 .1 .0 in
     let few = b .before .before .if1 .left in
     let all-below = sym (b .all-below .ensures) ∙ not-false _ (c .before .before .if2 .left) in
-    let long = lists b .before .before .before .before .before .before .before .before .pre .1 .0 .holds .long in
+    let long = start (lists b) .pre .1 .0 .holds .long in
     let z = tableWords-is in (
       omega arith,
       record {
         enough = omega arith;
-        small = λ k l. let s = ltb-true (getD (lists b .before .before .before .before .numbers .last .1 .1 .0) k 0) 5
+        small = λ k l. let s = ltb-true (getD (heard (lists b) .numbers .last .1 .1 .0) k 0) 5
             (each-first (λ n. ltb n 5) _ _ (omega arith) all-below k l) in omega arith;
       },
     )
@@ -111,7 +117,7 @@ returns-4 c =
     let b = c .before .before .before .before .before .before in
     let list = read (lists b) in
     let many = list .listed .counted in
-    let size = lists b .before .before .before .before .numbers .kept .1 .1 .0 in
+    let size = heard (lists b) .numbers .kept .1 .1 .0 in
     let few = b .before .before .if1 .left in
     let fits = low b ∙ not-false _ (c .before .before .before .before .before .if2 .left) in
     let put = c .before .before .put-words .ensures in (
@@ -120,7 +126,7 @@ returns-4 c =
         draft = _;
         is = line-goes-on arityLine d _ _ _ (list .is) _ (arities-taken d (list .ns) (omega arith) fits);
         holds = arities-held h (list .ns) _ _
-            (lists b .before .before .before .before .before .before .before .before .pre .1 .1) (omega arith) fits
+            (start (lists b) .pre .1 .1) (omega arith) fits
             (omega arith)
             (list .listed) put;
         line = list .line;

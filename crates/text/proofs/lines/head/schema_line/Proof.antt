@@ -47,7 +47,7 @@ returns-4 c =
       draft = _;
       is = line-goes-on schemaLine d _ _ _ (read .is) _
           (schema-taken d _ (let e = h .schemas in omega arith) (c .if2 .left));
-      holds = schema-held h _ (c .before .before .before .before .before .before .before .before .pre .1) (c .if2 .left)
+      holds = schema-held h _ (n .before .before .before .before .pre .1) (c .if2 .left)
           (let e = h .schemas in omega arith);
       line = read .line;
     }

@@ -22,20 +22,21 @@ use Rattle.text.proofs.HeldParts.{parts-close}
 use Rattle.text.proofs.lines.part.check_parts.Statement.{statement}
 
 -- ---- what each test found, said of a draft that the code holds and the numbers that were read
-module _ (c : tie.After-all-named) (d : Draft)
-    (h : Holds d (c .before .before .before .before .before .before .args .table .now)
-    (c .before .before .before .before .before .before .args .counts)) where
+abbrev entry : tie.After-all-named → tie.Start
+entry c = c .before .before .before .before .before .before
+
+module _ (c : tie.After-all-named) (d : Draft) (h : Holds d (entry c .args .table .now) (entry c .args .counts)) where
   some : 1 ≤ length (d .current .atoms)
   some = let e = h .atoms in let n = c .before .before .if1 .left in omega arith
 
   named : allNamed (d .current) ≡ c .all-named .result
   named = sym (named-is h) ∙ sym (rw (c .before .first-row .ensures) at (c .all-named .ensures))
 
-abbrev start : tie.After-all-below → tie.Start
-start c = c .before .before .before .before .before .before .before .before .before .before
-
 abbrev tested : tie.After-all-below → tie.After-all-named
 tested c = c .before .before .before .before
+
+abbrev start : tie.After-all-below → tie.Start
+start c = entry (tested c)
 
 module _ (c : tie.After-all-below) (d : Draft) (ns : List ℕ)
     (h : Holds d (start c .args .table .now) (start c .args .counts))

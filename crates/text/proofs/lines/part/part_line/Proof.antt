@@ -26,11 +26,14 @@ use mathlib.Core.List.{List}
 use Rattle.text.specs.Lines.{listing}
 
 -- ---- the list that was read
+abbrev heard : tie.After-count → tie.After-listing
+heard l = l .before .before .before .before
+
 abbrev begun : tie.After-count → tie.Start
-begun l = l .before .before .before .before .before .before .before .before
+begun l = heard l .before .before .before .before
 
 abbrev kept : tie.After-count → List ℕ
-kept l = l .before .before .before .before .listing .last .1 .1 .0
+kept l = heard l .listing .last .1 .1 .0
 
 read : (l : tie.After-count) →
     let text = begun l .args .text .now in
@@ -38,7 +41,7 @@ read : (l : tie.After-count) →
     (l .count .given .0 .1 .0)
 read l =
     subst (ListLineAt _ _ _ _) (l .count .given .1)
-    (l .before .before .list-line .ensures _ _ _ (l .before .before .before .before .listing .ensures))
+    (l .before .before .list-line .ensures _ _ _ (heard l .listing .ensures))
 
 -- ---- the parts close the schema
 abbrev lists : tie.After-enum-told2 → tie.After-count
@@ -119,7 +122,7 @@ put-parts-requires c κs =
     let k = c .before .before .before in
     let list = read (lists k) in
     let many = list .listed .counted in
-    let size = lists k .before .before .before .before .listing .kept .1 .1 .0 in
+    let size = heard (lists k) .listing .kept .1 .1 .0 in
     let drafted = begun (lists k) .pre .1 .0 in
     let h = drafted .holds in
     let closes = went k (drafted .draft) h in
@@ -178,10 +181,11 @@ same-length-2 c = search needs
 returns-3 : tie.Need-returns-3
 unfolding takeLine
 returns-3 c =
-    let k = c .before .before .before .before .before .before .before .before .before .before in
+    let p = c .before .before .before .before .before .before in
+    let k = closed p in
     let list = read (lists k) in
     let many = list .listed .counted in
-    let size = lists k .before .before .before .before .listing .kept .1 .1 .0 in
+    let size = heard (lists k) .listing .kept .1 .1 .0 in
     let drafted = begun (lists k) .pre .1 .0 in
     let h₀ = drafted .holds in
     let same₀ = went k (drafted .draft) h₀ .1 in
@@ -191,8 +195,8 @@ returns-3 c =
     let total = few .total in
     let predicates = few .predicates in
     let schemas = few .schemas in
-    let first = c .before .before .before .before .before .before .before .before .first-row .ensures in
-    let put = rw first at (c .before .before .before .before .before .before .put-parts .ensures) in
+    let first = p .before .before .first-row .ensures in
+    let put = rw first at (p .put-parts .ensures) in
     let allowed = begun (lists k) .pre .1 .1 in (
       closing-touched _ _ put (omega arith) (omega arith),
       λ d h.

@@ -1,0 +1,66 @@
+-- Room in the table for a task that is read: what the counts keep to bounds the words that are moved, cleared and
+-- written when it is laid out.
+use Prim.Native.Nat.{ℕ, _+_, _-_, _*_, _≤_}
+use mathlib.Core.Path.{_≡_}
+use mathlib.Core.List.{List, [], _∷_}
+use native.Mathlib.Omega.{arith}
+use lib.ListN.{length}
+use Rattle.task.specs.Limits.{headWords, atomSize, tableLength, tableWords}
+use Rattle.task.proofs.Tables.{tableWords-is}
+use Rattle.text.specs.Text.{Draft}
+use Rattle.text.specs.ReadCode.{Words}
+use Rattle.text.specs.Holding.{Holds, rowsAt}
+use Rattle.text.proofs.RowTests.{six-words}
+use Rattle.text.specs.declared.draft.Counts.{Counts}
+
+-- what lies in a table lies in words that are long enough for one
+pub in-table : {n long : ℕ} → n ≤ tableLength → tableWords ≤ long → n ≤ long
+in-table l m = let z = tableWords-is in omega arith
+
+module _ {d : Draft} {w : List ℕ} {c : Counts} (h : Holds d w c) where
+  abbrev to : ℕ
+  to = headWords + c .predicates + c .schemas
+
+  abbrev many : ℕ
+  many = atomSize * (((c .closed + c .atoms) + c .initial) + c .goal)
+
+  rows-room : rowsAt (c .predicates) + many ≤ tableLength
+  rows-room =
+      let predicates = h .few .predicates in
+      let total = h .few .total in
+      let initial = h .few .initial in
+      let goal = h .few .goal in
+      omega arith
+
+  rows-down : to ≤ rowsAt (c .predicates)
+  rows-down = let schemas = h .few .schemas in omega arith
+
+  -- the rows move down, and inside the words
+  pub move-room : (to ≤ rowsAt (c .predicates)) × (rowsAt (c .predicates) + many ≤ length w)
+  move-room = (rows-down, in-table rows-room (h .long))
+
+  pub laid-room : to + many ≤ tableLength
+  laid-room = let down = rows-down in let room = rows-room in omega arith
+
+  -- zeros fill the table behind them
+  pub zeros-room : {long : ℕ} → long ≡ length w → to + many + (tableLength - (to + many)) ≤ long
+  zeros-room size =
+      let room = laid-room in
+      let whole : to + many + (tableLength - (to + many)) ≤ length w = in-table (omega arith) (h .long) in
+      omega arith
+
+  -- and the counts come first
+  pub head-room : {long : ℕ} → long ≡ length w → headWords ≤ long
+  head-room size = let z = tableWords-is in let long = h .long in omega arith
+
+  pub head-words : Words headWords
+      (c .objects ∷ c .predicates ∷ c .schemas ∷ c .closed ∷ c .initial ∷ c .goal ∷ [])
+  head-words =
+      let few = h .few in
+      let objects = few .objects in
+      let predicates = few .predicates in
+      let schemas = few .schemas in
+      let total = few .total in
+      let initial = few .initial in
+      let goal = few .goal in
+      six-words (omega arith) (omega arith) (omega arith) (omega arith) (omega arith) (omega arith)
