@@ -29,18 +29,14 @@ loop-holds c =
     let h : headIn w .predicates ≡ c .word .result - 0 = omega arith in
     ap (λ (n : ℕ). all (λ p. leb (arityIn w p) 4) (upFrom 0 n)) h
 
-add-word : tie.Need-add-word Inv-loop μ-loop
-add-word c = omega arith
-
-word-requires-2 : tie.Need-word-requires-2 Inv-loop μ-loop
-word-requires-2 c κs = omega arith
+arity-of-requires : tie.Need-arity-of-requires Inv-loop μ-loop
+arity-of-requires c κs = omega arith
 
 returns : tie.Need-returns Inv-loop μ-loop
-unfolding arityIn
 returns c =
     let at = c .before .before .before in
     let w = at .before .before .before .args .table .now in
-    let e = c .before .word2 .ensures .0 in
+    let e = c .before .arity-of .ensures in
     all-fails (λ p. leb (arityIn w p) 4) (at .loop .p) (at .before .word .result) (at .loop .inv)
     (c .before .before .loop-test .taken)
     (lt-leb (arityIn w (at .loop .p)) 4 (omega arith))
@@ -52,11 +48,10 @@ loop-less : tie.Need-loop-less Inv-loop μ-loop
 loop-less c = omega arith
 
 loop-again : tie.Need-loop-again Inv-loop μ-loop
-unfolding arityIn
 loop-again c =
     let at = c .before .before .before in
     let w = at .before .before .before .args .table .now in
-    let e = c .before .word2 .ensures .0 in
+    let e = c .before .arity-of .ensures in
     all-more (λ p. leb (arityIn w p) 4) (at .loop .p) (at .before .word .result) (at .loop .inv)
     (c .before .before .loop-test .taken)
     (le-leb (arityIn w (at .loop .p)) 4 (omega arith))
@@ -70,5 +65,4 @@ returns-2 c =
 pub arities-fit-spec : {M : Type 1} → statement M
 arities-fit-spec =
     tie.close
-    (tie.spec Inv-loop μ-loop word-requires loop-holds add-word word-requires-2 returns add-p loop-less loop-again
-    returns-2)
+    (tie.spec Inv-loop μ-loop word-requires loop-holds arity-of-requires returns add-p loop-less loop-again returns-2)
