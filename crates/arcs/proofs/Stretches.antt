@@ -9,17 +9,18 @@ use lib.ListN.{length, getD, take, replicate, length-map}
 use lib.Seq.{ext-getD}
 use borrow.Author.Tests.{leb-true}
 use Rattle.words.specs.Lists.{sum, upFrom}
-use Rattle.task.specs.Limits.{atomSize}
-use Rattle.task.specs.Layout.{headIn, atomBase}
+use Rattle.task.specs.Layout.{headIn, atomTotal}
 use Rattle.task.specs.Task.{Atom, partCount, schemaFits, noSchema}
 use Rattle.task.specs.Run.{schemaAt}
 use Rattle.task.specs.Table.{atomIn, schemaNumberIn, taskOf, isTable}
+use Rattle.task.specs.WordTests.{Roomy}
 use Rattle.words.proofs.Lists.{all-in, in-getD, getD-map, map-append, upFrom-last, length-upFrom}
 use Rattle.words.proofs.Lists.{getD-upFrom}
 use Rattle.task.proofs.Tests.{schema-tests, task-tests}
 use Rattle.task.proofs.AtomsStand.{noAtom, counts}
 use Rattle.task.proofs.Tables.{startOf, of-table}
-use Rattle.task.proofs.TablesByIndex.{table-frame, table-long, schemas-word, atom-inside, atom-at, atom-lies, start-suc}
+use Rattle.task.proofs.TableReads.{table-roomy}
+use Rattle.task.proofs.TablesByIndex.{table-frame, schemas-word, atom-at, atom-lies, start-suc}
 use Rattle.task.proofs.TablesByIndex.{start-end}
 use Rattle.task.proofs.SchemaWords.{part-small}
 use Rattle.arcs.specs.Code.{IsSchemaAtom, IsStretch, atomsIn}
@@ -31,12 +32,9 @@ zeros-at (suc n) zero = refl
 zeros-at (suc n) (suc i) = zeros-at n i
 
 -- ---- an atom of a table
--- its eight words lie in the table
-pub atom-words : (w : List ℕ) (i : ℕ) → IsSchemaAtom w i → atomBase w i + atomSize ≤ length w
-atom-words w i a =
-    let l = table-long w (a .table) in
-    let h = atom-inside w (table-frame w (a .table)) i (let k = a .known in omega arith) in
-    omega arith
+-- it has a row, and every row lies in the table
+pub atom-row : {w : List ℕ} {i : ℕ} → IsSchemaAtom w i → Roomy w × (i < atomTotal w)
+atom-row {w} a = (table-roomy w (a .table), let k = a .known in omega arith)
 
 -- "It has 1 to 16 parts"
 pub part-below : (w : List ℕ) (i : ℕ) → IsSchemaAtom w i → atomIn w i .part < 16

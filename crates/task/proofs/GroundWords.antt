@@ -1,5 +1,5 @@
--- Atoms of a table with the objects of a step, word by word: where their words lie, that a parameter's object is a
--- word of the step, and the number that four arguments give, unused ones as 0.
+-- Atoms of a table with the objects of a step, word by word: that a parameter's object is a word of the step, and the
+-- number that four arguments give, unused ones as 0.
 use Prim.Native.Nat.{ℕ, _+_, _-_, _*_, _≤_, _<_}
 use mathlib.Core.Path.{_≡_, refl, sym, _∙_, ap, subst}
 use mathlib.Core.Bool.{Bool, true, false, cond, _&&_}
@@ -10,8 +10,8 @@ use lib.ListN.{length, getD, length-map, List·getD-eq-default}
 use lib.Dec.{ltb, leb}
 use borrow.Author.Tests.{leb-true, ltb-true, lt-ltb, le-ltb}
 use Rattle.words.specs.Lists.{padded, eqList}
-use Rattle.task.specs.Limits.{headWords, atomSize, tableLength, stepSize}
-use Rattle.task.specs.Layout.{headIn, atomTotal, rowsBase, arityIn, atomBase}
+use Rattle.task.specs.Limits.{headWords, stepSize}
+use Rattle.task.specs.Layout.{headIn, atomTotal, arityIn, atomBase}
 use Rattle.task.specs.Task.{Fact, Task, argsFit, schemaFits, noSchema}
 use Rattle.words.specs.Words.{wordsAt}
 use Rattle.task.specs.Table.{atomIn, schemaNumberIn, factIn, taskOf, isTable}
@@ -22,23 +22,11 @@ use Rattle.words.proofs.Lists.{and-left, and-right, In, all-in, in-eq, in-getD,
 use Rattle.task.proofs.Tests.{schema-tests, task-tests}
 use Rattle.task.proofs.States.{Fits, fitting-argsFit, IsStep, isStep-is, WellFormed, wellFormed-is, ground-fits}
 use Rattle.task.proofs.AtomsStand.{noAtom}
-use Rattle.task.proofs.Tables.{startOf, tableWords-is, of-table}
-use Rattle.task.proofs.TablesByIndex.{table-frame, table-long, atom-inside, start-suc, atom-at, atom-lies}
+use Rattle.task.proofs.Tables.{startOf, of-table}
+use Rattle.task.proofs.TablesByIndex.{table-frame, start-suc, atom-at, atom-lies}
 use Rattle.task.proofs.TablesPass.{table-words}
+use Rattle.task.proofs.TableReads.{table-roomy}
 use Rattle.words.proofs.Words.{length-wordsAt}
-
--- ---- where words lie
-pub table-is-long : (w : List ℕ) → isTable w ≡ true → tableLength ≤ length w
-table-is-long w h = let l = table-long w h in let e = tableWords-is in omega arith
-
-pub atom-words-inside : (w : List ℕ) → isTable w ≡ true → (k : ℕ) → k < atomTotal w →
-    rowsBase w + atomSize * k + atomSize ≤ tableLength
-unfolding atomBase
-atom-words-inside w h k l = let a = atom-inside w (table-frame w h) k l in let e = tableWords-is in omega arith
-
-pub atomBase-is : (w : List ℕ) (k : ℕ) → atomBase w k ≡ rowsBase w + atomSize * k
-unfolding atomBase
-atomBase-is w k = refl
 
 -- the words of step i
 pub record StepWords (t : Task) (steps : List ℕ) (i : ℕ) : Type 0 where
@@ -153,8 +141,7 @@ module _ (w steps : List ℕ) (i k : ℕ) (o : AtomOf w steps i k) where
   unfolding atomIn
   pred-inside =
       let h = table-words w (o .tabled) .known k (let z = o .known in omega arith) in
-      let l = table-is-long w (o .tabled) in
-      let m = atom-words-inside w (o .tabled) k (let z = o .known in omega arith) in
+      let l = table-roomy w (o .tabled) .inside in
       omega arith
 
   arity-short : arity ≤ 4
@@ -207,8 +194,10 @@ module _ (w steps : List ℕ) (i k : ℕ) (o : AtomOf w steps i k) where
       go false h = refl
 
   pub ground-number : recordNumber (groundAt w steps i k) ≡ inBase (getD w (b + 2) 0)
-      (argumentIn (ltb 0 arity) steps i (getD w (b + 4) 0) ∷ argumentIn (ltb 1 arity) steps i (getD w (b + 5) 0) ∷
-      argumentIn (ltb 2 arity) steps i (getD w (b + 6) 0) ∷ argumentIn (ltb 3 arity) steps i (getD w (b + 7) 0) ∷ [])
+      (argumentIn (ltb 0 arity) steps i (getD w (b + 4) 0) ∷
+      argumentIn (ltb 1 arity) steps i (getD w (b + 4 + 1) 0) ∷
+      argumentIn (ltb 2 arity) steps i (getD w (b + 4 + 2) 0) ∷
+      argumentIn (ltb 3 arity) steps i (getD w (b + 4 + 3) 0) ∷ [])
   unfolding groundAt ground atomIn
   ground-number =
       let f : Fact = groundAt w steps i k in
@@ -216,9 +205,9 @@ module _ (w steps : List ℕ) (i k : ℕ) (o : AtomOf w steps i k) where
       let n = length-wordsAt w (b + 4) arity in
       let s = arity-short in
       let e₀ = argument-is 0 (b + 4) (omega arith) in
-      let e₁ = argument-is 1 (b + 5) (omega arith) in
-      let e₂ = argument-is 2 (b + 6) (omega arith) in
-      let e₃ = argument-is 3 (b + 7) (omega arith) in
+      let e₁ = argument-is 1 (b + 4 + 1) (omega arith) in
+      let e₂ = argument-is 2 (b + 4 + 2) (omega arith) in
+      let e₃ = argument-is 3 (b + 4 + 3) (omega arith) in
       let e = number-four f (omega arith) in
       cc
 
@@ -226,18 +215,17 @@ module _ (w steps : List ℕ) (i k : ℕ) (o : AtomOf w steps i k) where
   read-pred at p ea ep = let e : p ≡ getD w (b + 2) 0 = cc in let l = pred-inside in omega arith
 
   -- with names for what the code reads
-  module _ (at p ar : ℕ) (ea : at ≡ b) (ep : p ≡ getD w (at + 2) 0) (er : ar ≡ getD w (headWords + p) 0) where
+  module _ (at p ar : ℕ) (ea : at ≡ b) (ep : p ≡ getD w (at + 2) 0) (er : ar ≡ arityIn w p) where
     arity-read : ar ≡ arity
-    unfolding arityIn
     arity-read = cc
 
     pub read-inside : (j q : ℕ) → q ≡ at + 4 + j → ltb j ar ≡ true → stepSize * i + 1 + getD w q 0 < length steps
     read-inside j q e l = argument-inside j q (omega arith) (ap (ltb j) (sym arity-read) ∙ l)
 
     pub read-number : (a₀ a₁ a₂ a₃ r : ℕ) → a₀ ≡ argumentIn (ltb 0 ar) steps i (getD w (at + 4) 0) →
-        a₁ ≡ argumentIn (ltb 1 ar) steps i (getD w (at + 5) 0) →
-        a₂ ≡ argumentIn (ltb 2 ar) steps i (getD w (at + 6) 0) →
-        a₃ ≡ argumentIn (ltb 3 ar) steps i (getD w (at + 7) 0) → r ≡ inBase p (a₀ ∷ a₁ ∷ a₂ ∷ a₃ ∷ []) →
+        a₁ ≡ argumentIn (ltb 1 ar) steps i (getD w (at + 4 + 1) 0) →
+        a₂ ≡ argumentIn (ltb 2 ar) steps i (getD w (at + 4 + 2) 0) →
+        a₃ ≡ argumentIn (ltb 3 ar) steps i (getD w (at + 4 + 3) 0) → r ≡ inBase p (a₀ ∷ a₁ ∷ a₂ ∷ a₃ ∷ []) →
         r ≡ recordNumber (groundAt w steps i k)
     read-number a₀ a₁ a₂ a₃ r e₀ e₁ e₂ e₃ e = let z = arity-read in let n = ground-number in cc
 
@@ -262,7 +250,7 @@ fact-argument w h k l j m = elim (decLt j arity) [
 pub fact-read : (w : List ℕ) → isTable w ≡ true → (k : ℕ) → k < atomTotal w → (at : ℕ) →
     at ≡ atomBase w k →
     recordNumber (factIn w k) ≡ inBase (getD w (at + 2) 0)
-    (getD w (at + 4) 0 ∷ getD w (at + 5) 0 ∷ getD w (at + 6) 0 ∷ getD w (at + 7) 0 ∷ [])
+    (getD w (at + 4) 0 ∷ getD w (at + 4 + 1) 0 ∷ getD w (at + 4 + 2) 0 ∷ getD w (at + 4 + 3) 0 ∷ [])
 unfolding factIn atomIn
 fact-read w h k l at e =
     let c = table-words w h in
@@ -271,9 +259,9 @@ fact-read w h k l at e =
     let four = number-four (factIn w k) (omega arith) in
     let p = ap (λ (y : ℕ). getD w (y + 2) 0) (sym e) in
     let e₀ = fact-argument w h k l 0 (omega arith) ∙ place 0 (at + 4) (omega arith) in
-    let e₁ = fact-argument w h k l 1 (omega arith) ∙ place 1 (at + 5) (omega arith) in
-    let e₂ = fact-argument w h k l 2 (omega arith) ∙ place 2 (at + 6) (omega arith) in
-    let e₃ = fact-argument w h k l 3 (omega arith) ∙ place 3 (at + 7) (omega arith) in
+    let e₁ = fact-argument w h k l 1 (omega arith) ∙ place 1 (at + 4 + 1) (omega arith) in
+    let e₂ = fact-argument w h k l 2 (omega arith) ∙ place 2 (at + 4 + 2) (omega arith) in
+    let e₃ = fact-argument w h k l 3 (omega arith) ∙ place 3 (at + 4 + 3) (omega arith) in
     cc
   where
     place : (j q : ℕ) → atomBase w k + 4 + j ≡ q → getD w (atomBase w k + 4 + j) 0 ≡ getD w q 0

@@ -11,7 +11,7 @@ use lib.Seq.{getD-set-same, getD-set-other}
 use borrow.Author.Tests.{leb-true}
 use Rattle.words.specs.Lists.{sum}
 use Rattle.task.specs.Limits.{mostSchemas}
-use Rattle.task.specs.Layout.{headIn, atomBase}
+use Rattle.task.specs.Layout.{headIn}
 use Rattle.task.specs.Task.{Task, schemaFits, noSchema}
 use Rattle.task.specs.Table.{atomIn, schemaNumberIn, taskOf, isTable}
 use Rattle.task.specs.Run.{schemaAt}
@@ -121,14 +121,6 @@ pub record RoleSo (w : List ℕ) (a b role k : ℕ) : Type 0 where
   pub from : a ≤ k
   pub within : k ≤ b
   pub has : (j : ℕ) → a ≤ j → j < k → atomIn w j .role ≡ role
-
-pub role-at : (w : List ℕ) (k at : ℕ) → at ≡ atomBase w k → atomIn w k .role ≡ getD w (at + 1) 0
-unfolding atomIn
-role-at w k at e = ap (λ (b : ℕ). getD w (b + 1) 0) (sym e)
-
-pub schema-at : (w : List ℕ) (k at : ℕ) → at ≡ atomBase w k → getD w at 0 ≡ schemaNumberIn w k
-unfolding schemaNumberIn
-schema-at w k at e = ap (λ (b : ℕ). getD w b 0) e
 
 pub role-start : (w : List ℕ) (a b role : ℕ) → a ≤ b → RoleSo w a b role a
 role-start w a b role l = record { from = omega arith; within = l; has = λ j x y. absurd (omega arith) }

@@ -36,15 +36,15 @@ pub const STEP_SIZE: usize = 13;
 pub const RECORD_SIZE: usize = 5;
 
 // "role (0 precondition, 1 add, 2 delete, 3 initial, 4 goal)"
-pub const PRECONDITION: usize = 0;
+pub const PRECONDITION: u16 = 0;
 
-pub const ADDITION: usize = 1;
+pub const ADDITION: u16 = 1;
 
-pub const DELETION: usize = 2;
+pub const DELETION: u16 = 2;
 
-pub const INITIAL: usize = 3;
+pub const INITIAL: u16 = 3;
 
-pub const GOAL: usize = 4;
+pub const GOAL: u16 = 4;
 
 // The places of the six counts.
 pub const OBJECTS: usize = 0;
@@ -58,3 +58,13 @@ pub const SCHEMA_ATOMS: usize = 3;
 pub const INITIAL_ATOMS: usize = 4;
 
 pub const GOAL_ATOMS: usize = 5;
+
+// "8 words each: schema, role .., predicate, part, four arguments": the places of an atom's words in its row, the
+// schema's being the first.
+pub const ROLE: usize = 1;
+
+pub const PREDICATE: usize = 2;
+
+pub const PART: usize = 3;
+
+pub const ARGUMENTS: usize = 4;

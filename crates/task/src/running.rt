@@ -2,16 +2,23 @@
 use crate::Place;
 use crate::RunAnswer;
 use crate::exchange::exchange;
+use crate::layout::role_at;
+use crate::layout::row_of;
+use crate::layout::schema_number;
+use crate::limits::ADDITION;
+use crate::limits::GOAL_ATOMS;
+use crate::limits::INITIAL_ATOMS;
 use crate::limits::MOST_SCHEMAS;
+use crate::limits::PRECONDITION;
 use crate::limits::RECORD_SIZE;
+use crate::limits::SCHEMA_ATOMS;
 use crate::limits::STEP_SIZE;
 use crate::records::clear_from;
 use crate::records::held;
-use crate::records::word;
 use crate::sizes::has_room;
 use crate::spans::all_hold;
-use crate::spans::atom_at;
 use crate::spans::fact_number;
+use words::runs::word;
 ghost use mathlib.Core.Path.{_≡_};
 ghost use mathlib.Core.Bool.{true};
 ghost use mathlib.Core.Option.{none};
@@ -57,11 +64,10 @@ fn schema_starts(table: &[u16], starts: &mut [u16; MOST_SCHEMAS + 1])
     ensures { λ _. ⌜ (length (now (starts .exit)) ≡ mostSchemas + 1) ×
         Starts (taskOf (now (table .entry))) (now (starts .exit)) ⌝ }
 {
-    let count = word(table, 3) as usize;
+    let count = word(table, SCHEMA_ATOMS);
     let mut k = 0;
     while k < count {
-        let at = atom_at(table, k);
-        let schema = table[at] as usize;
+        let schema = schema_number(table, k);
         k += 1;
         starts[schema + 1] = k as u16;
     }
@@ -75,8 +81,7 @@ fn role_end(table: &[u16], from: usize, to: usize, role: u16) -> usize
 {
     let mut k = from;
     while k < to {
-        let at = atom_at(table, k);
-        if table[at + 1] != role {
+        if role_at(table, row_of(table, k)) != role {
             return k;
         }
         k += 1;
@@ -102,8 +107,8 @@ fn run_step(
     ensures { λ r. ⌜ Turned (taskOf (now (table .entry))) (stepAt (taskOf (now (table .entry))) (now (steps .entry)) i)
         (now (state .entry)) n r (now (state .exit)) ⌝ }
 {
-    let add = role_end(table, start, end, 0);
-    let del = role_end(table, add, end, 1);
+    let add = role_end(table, start, end, PRECONDITION);
+    let del = role_end(table, add, end, ADDITION);
     if !all_hold(table, start, add, steps, i, state, n) {
         return Turn::Missing;
     }
@@ -120,8 +125,8 @@ fn goal_met(table: &[u16], state: &[u16], n: usize) -> bool
     ensures { λ r. ⌜ r ≡ goalMet (taskOf (now (table .entry)))
         (stateIn (taskOf (now (table .entry))) (now (state .entry)) n) ⌝ }
 {
-    let from = word(table, 3) as usize + word(table, 4) as usize;
-    let to = from + word(table, 5) as usize;
+    let from = word(table, SCHEMA_ATOMS) + word(table, INITIAL_ATOMS);
+    let to = from + word(table, GOAL_ATOMS);
     let mut k = from;
     while k < to {
         if !held(state, n, fact_number(table, k)) {

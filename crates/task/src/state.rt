@@ -1,11 +1,12 @@
 // A state is "kept as ascending 5-word records (predicate, four arguments, unused 0)": whether words are one, by
 // refusal 15.
+use crate::layout::arity;
+use crate::layout::object_count;
+use crate::layout::predicate_count;
 use crate::limits::RECORD_SIZE;
-use crate::lookup::arity;
-use crate::lookup::object_count;
-use crate::lookup::predicate_count;
 use crate::objects::are_objects;
 use crate::objects::are_zero;
+use words::runs::wide;
 ghost use mathlib.Core.Path.{_≡_};
 ghost use mathlib.Core.Bool.{true, _&&_};
 ghost use Prim.Native.Nat.{_+_, _*_, _≤_};
@@ -32,7 +33,7 @@ pub fn is_record(table: &[u16], state: &[u16], i: usize) -> bool
     if predicate_count(table) <= predicate {
         return false;
     }
-    let args = arity(table, predicate);
+    let args = arity(table, wide(predicate));
     if !are_objects(state, at + 1, args, object_count(table)) {
         return false;
     }

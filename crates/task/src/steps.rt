@@ -2,11 +2,11 @@
 use crate::BadStep;
 use crate::Object;
 use crate::Parameter;
+use crate::layout::object_count;
+use crate::layout::param_count;
+use crate::layout::schema_count;
 use crate::limits::MOST_PARAMETERS;
 use crate::limits::STEP_SIZE;
-use crate::lookup::object_count;
-use crate::lookup::param_count;
-use crate::lookup::schema_count;
 use crate::objects::are_objects;
 use crate::objects::are_zero;
 use words::putting::copy;

@@ -11,9 +11,10 @@ ghost use Rattle.task.specs.Layout.{paramsBase};
 ghost use Rattle.task.specs.Limits.{tableWords};
 ghost use Rattle.task.specs.Table.{isTable};
 ghost use Rattle.task.specs.WordTests.{countTests, aritiesFit, numbersFit, Roomy};
+use crate::layout::arity_of;
+use crate::layout::atom_base;
+use crate::layout::schema_number;
 use crate::limits;
-use atoms::atom_base;
-use atoms::schema_number;
 use facts::facts_fit;
 use schemas::schemas_fit;
 use words::runs::word;
@@ -24,8 +25,8 @@ fn counts_fit(table: &[u16]) -> bool
     requires { ⌜ 5 < length (now table) ⌝ }
     ensures { λ r. ⌜ r ≡ every (countTests (now (table .entry))) ⌝ }
 {
-    let objects = word(table, 0);
-    let predicates = word(table, 1);
+    let objects = word(table, limits::OBJECTS);
+    let predicates = word(table, limits::PREDICATES);
     if objects < 1
         || limits::MOST_OBJECTS < objects
         || predicates < 1
@@ -33,10 +34,10 @@ fn counts_fit(table: &[u16]) -> bool
     {
         return false;
     }
-    let schemas = word(table, 2);
-    let atoms = word(table, 3);
-    let initial = word(table, 4);
-    let goal = word(table, 5);
+    let schemas = word(table, limits::SCHEMAS);
+    let atoms = word(table, limits::SCHEMA_ATOMS);
+    let initial = word(table, limits::INITIAL_ATOMS);
+    let goal = word(table, limits::GOAL_ATOMS);
     if limits::MOST_SCHEMAS < schemas
         || limits::MOST_SCHEMA_ATOMS < atoms
         || limits::MOST_INITIAL < initial
@@ -52,10 +53,10 @@ fn arities_fit(table: &[u16]) -> bool
     requires { ⌜ paramsBase (now table) ≤ length (now table) ⌝ }
     ensures { λ r. ⌜ r ≡ aritiesFit (now (table .entry)) ⌝ }
 {
-    let predicates = word(table, 1);
+    let predicates = word(table, limits::PREDICATES);
     let mut p = 0;
     while p < predicates {
-        if limits::MOST_ARITY < word(table, limits::HEAD_WORDS + p) {
+        if limits::MOST_ARITY < arity_of(table, p) {
             return false;
         }
         p += 1;
@@ -68,8 +69,8 @@ fn numbers_fit(table: &[u16]) -> bool
     requires { ⌜ Roomy (now table) ⌝ }
     ensures { λ r. ⌜ r ≡ numbersFit (now (table .entry)) ⌝ }
 {
-    let schemas = word(table, 2);
-    let atoms = word(table, 3);
+    let schemas = word(table, limits::SCHEMAS);
+    let atoms = word(table, limits::SCHEMA_ATOMS);
     let mut before = 0;
     let mut i = 0;
     while i < atoms {
@@ -103,13 +104,13 @@ pub fn is_table(table: &[u16]) -> bool
     if !schemas_fit(table) {
         return false;
     }
-    let atoms = word(table, 3);
-    let facts = atoms + word(table, 4);
-    if !facts_fit(table, limits::INITIAL, atoms, facts) {
+    let atoms = word(table, limits::SCHEMA_ATOMS);
+    let facts = atoms + word(table, limits::INITIAL_ATOMS);
+    if !facts_fit(table, limits::INITIAL as usize, atoms, facts) {
         return false;
     }
-    let end = facts + word(table, 5);
-    if !facts_fit(table, limits::GOAL, facts, end) {
+    let end = facts + word(table, limits::GOAL_ATOMS);
+    if !facts_fit(table, limits::GOAL as usize, facts, end) {
         return false;
     }
     zeros(table, atom_base(table, end), limits::TABLE_WORDS)

@@ -1,14 +1,17 @@
 // The atoms of one part's schema, role by role: the part's old atoms renumbered, then procnone or a do, then pars.
-use crate::atoms::PREDICATE;
-use crate::atoms::ROLE;
 use crate::atoms::argument;
 use crate::atoms::argument_count;
 use crate::pars::Pars;
 use arcs::atoms::part_of;
-use arcs::atoms::word_of;
 use task::Parameter;
 use task::Part;
+use task::layout::predicate_at;
+use task::layout::role_at;
+use task::layout::row_of;
+use task::limits::ADDITION;
+use task::limits::DELETION;
 use task::limits::MOST_ARITY;
+use task::limits::PRECONDITION;
 use words::putting::fill;
 use words::putting::four;
 use words::sets;
@@ -27,13 +30,6 @@ ghost use Rattle.tokens.specs.Writing.{newNumber, renumbered, parIn, old
 ghost use Rattle.tokens.specs.Writing.{parBound};
 ghost use Rattle.task.specs.Limits.{atomSize, mostArity, mostParameters};
 ghost use Rattle.words.specs.Sets.{wordBits};
-
-// "role (0 precondition, 1 add, 2 delete, 3 initial, 4 goal)"
-const PRECONDITION: u16 = 0;
-
-const ADDITION: u16 = 1;
-
-const DELETION: u16 = 2;
 
 // The part that is written: the atoms of its schema, `from` to `to - 1`, its number among the parts, the set of its
 // parameters, the parameters of its schema, its number among the schemas of the split, and the predicate of par 0.
@@ -105,7 +101,7 @@ fn old_atom(
         (now (out .exit)) r ⌝ }
     ensures { λ r. ⌜ r ≡ at + atomSize ⌝ }
 {
-    let predicate = word_of(table, i, PREDICATE);
+    let predicate = predicate_at(table, row_of(table, i));
     let next = four(out, at, number, role, predicate, 0);
     arguments(table, i, own, out, next)
 }
@@ -116,7 +112,7 @@ fn is_here(table: &[u16], i: usize, role: u16, part: Part) -> bool
     ensures { λ r. ⌜ r ≡
         eqb role (atomIn (now (table .entry)) i .role) && eqb (part .0) (atomIn (now (table .entry)) i .part) ⌝ }
 {
-    if role == word_of(table, i, ROLE) {
+    if role == role_at(table, row_of(table, i)) {
         part.0 == part_of(table, i).0
     } else {
         false

@@ -1,7 +1,6 @@
 // The parts of each schema: where its atoms begin, the order taken of its parts, and the parameters of each part.
 use crate::atoms::argument;
 use crate::atoms::argument_count;
-use crate::atoms::schema_of;
 use crate::kept::Kept;
 use crate::kept::keep_begin;
 use crate::kept::keep_count;
@@ -9,6 +8,7 @@ use crate::kept::keep_part;
 use arcs::Order;
 use arcs::atoms::part_of;
 use arcs::orders::order_of;
+use task::layout::schema_number;
 use task::limits::MOST_PARTS;
 use task::limits::SCHEMA_ATOMS;
 use task::limits::SCHEMAS;
@@ -81,7 +81,7 @@ pub fn schema_end(table: &[u16], s: usize, from: usize) -> usize
     let atoms = word(table, SCHEMA_ATOMS);
     let mut i = from;
     while i < atoms {
-        if schema_of(table, i) != s {
+        if schema_number(table, i) != s {
             return i;
         }
         i += 1;

@@ -11,7 +11,7 @@ use crate::pars::pars_at;
 use crate::part_atoms::PartPlace;
 use crate::part_atoms::PartTokens;
 use crate::part_atoms::part_atoms;
-use task::limits::HEAD_WORDS;
+use task::layout::params_of;
 use task::limits::PREDICATES;
 use task::limits::SCHEMAS;
 use words::runs::word;
@@ -93,7 +93,7 @@ fn place_of(table: &[u16], kept: &Kept, sizes: Sizes, s: usize, j: usize) -> Par
         to: end_of(kept, s),
         part: part_at(kept, s, j),
         own: own_at(kept, s, j),
-        params: word(table, HEAD_WORDS + procnone + s),
+        params: params_of(table, s),
         number: (first_of(kept, s) + j) as u16,
         par: (procnone + sizes.later + 1) as u16,
     }

@@ -4,6 +4,7 @@ use crate::measure::Sizes;
 use crate::part_atoms::bare_token;
 use crate::schemas::all_params;
 use crate::schemas::all_parts;
+use task::layout::facts_base;
 use task::limits::ATOM_SIZE;
 use task::limits::GOAL;
 use task::limits::GOAL_ATOMS;
@@ -12,7 +13,6 @@ use task::limits::INITIAL;
 use task::limits::INITIAL_ATOMS;
 use task::limits::OBJECTS;
 use task::limits::PREDICATES;
-use task::limits::SCHEMA_ATOMS;
 use task::limits::SCHEMAS;
 use task::limits::TABLE_WORDS;
 use words::putting::copy;
@@ -26,7 +26,7 @@ ghost use mathlib.Core.Bool.{true};
 ghost use mathlib.Core.List.{[], _++_};
 ghost use lib.ListN.{length};
 ghost use Rattle.words.specs.Lists.{concatMap, over};
-ghost use Rattle.task.specs.Layout.{headIn, paramsBase, factsBase};
+ghost use Rattle.task.specs.Layout.{headIn, paramsBase};
 ghost use Rattle.task.specs.Limits.{tableWords, headWords, atomSize};
 ghost use Rattle.task.specs.Task.{initial, goalRole};
 ghost use Rattle.task.specs.Table.{taskOf, isTable, atomWords, factWords, wordsOf};
@@ -86,15 +86,6 @@ fn facts(table: &[u16], from: usize, count: usize, role: u16, out: &mut [u16], a
     bare_token(0, role, word_at(table, PREDICATES), out, old)
 }
 
-// Where a table's initial atoms begin.
-fn facts_begin(table: &[u16]) -> usize
-    requires { ⌜ headWords ≤ length (now table) ⌝ }
-    ensures { λ r. ⌜ r ≡ factsBase (now (table .entry)) ⌝ }
-{
-    let schema_atoms = ATOM_SIZE * word(table, SCHEMA_ATOMS);
-    HEAD_WORDS + word(table, PREDICATES) + word(table, SCHEMAS) + schema_atoms
-}
-
 // The initial atoms, then the goal atoms.
 fn all_facts(table: &[u16], out: &mut [u16], at: usize) -> usize
     requires { ⌜ isTable (now table) ≡ true ⌝ }
@@ -106,16 +97,9 @@ fn all_facts(table: &[u16], out: &mut [u16], at: usize) -> usize
 {
     let inits = word(table, INITIAL_ATOMS);
     let goals = word(table, GOAL_ATOMS);
-    let from = facts_begin(table);
-    let started = facts(table, from, inits, INITIAL as u16, out, at);
-    facts(
-        table,
-        from + ATOM_SIZE * inits,
-        goals,
-        GOAL as u16,
-        out,
-        started,
-    )
+    let from = facts_base(table);
+    let started = facts(table, from, inits, INITIAL, out, at);
+    facts(table, from + ATOM_SIZE * inits, goals, GOAL, out, started)
 }
 
 // The split of a table whose split is accepted, with zeros up to a table's words.

@@ -1,4 +1,8 @@
-// An atom of a table: its words, whether its arguments fit, and two atoms compared.
+// An atom of a table: whether its arguments fit, and two atoms compared.
+use crate::layout::arguments;
+use crate::layout::arity;
+use crate::layout::predicate;
+use crate::layout::role;
 use crate::limits;
 use words::runs::all_below;
 use words::runs::less_words;
@@ -6,79 +10,11 @@ use words::runs::same_words;
 use words::runs::word;
 use words::runs::zeros;
 ghost use mathlib.Core.Path.{_≡_};
-ghost use Prim.Native.Nat.{_+_, _<_, _≤_};
-ghost use lib.ListN.{length};
-ghost use Rattle.task.specs.Layout.{headIn, atomTotal, arityIn, atomBase};
+ghost use Prim.Native.Nat.{_+_, _<_};
+ghost use Rattle.task.specs.Layout.{headIn, atomTotal};
 ghost use Rattle.task.specs.Task.{sameAtom, factLess};
-ghost use Rattle.task.specs.Table.{schemaNumberIn, atomIn, factIn};
-ghost use Rattle.words.specs.Words.{wordBound};
+ghost use Rattle.task.specs.Table.{atomIn, factIn};
 ghost use Rattle.task.specs.WordTests.{argWordsFit, Roomy};
-
-// Where atom i begins.
-pub(crate) fn atom_base(table: &[u16], i: usize) -> usize
-    requires { ⌜ 2 < length (now table) ⌝ }
-    requires { ⌜ i ≤ wordBound ⌝ }
-    ensures { λ r. ⌜ r ≡ atomBase (now (table .entry)) i ⌝ }
-{
-    limits::HEAD_WORDS + word(table, 1) + word(table, 2) + limits::ATOM_SIZE * i
-}
-
-// The schema number of atom i.
-pub(crate) fn schema_number(table: &[u16], i: usize) -> usize
-    requires { ⌜ Roomy (now table) ⌝ }
-    requires { ⌜ i < atomTotal (now table) ⌝ }
-    ensures { λ r. ⌜ r ≡ schemaNumberIn (now (table .entry)) i ⌝ }
-{
-    word(table, atom_base(table, i))
-}
-
-// The role of atom i.
-pub(crate) fn role(table: &[u16], i: usize) -> usize
-    requires { ⌜ Roomy (now table) ⌝ }
-    requires { ⌜ i < atomTotal (now table) ⌝ }
-    ensures { λ r. ⌜ r ≡ atomIn (now (table .entry)) i .role ⌝ }
-{
-    word(table, atom_base(table, i) + 1)
-}
-
-// The predicate of atom i.
-pub(crate) fn predicate(table: &[u16], i: usize) -> usize
-    requires { ⌜ Roomy (now table) ⌝ }
-    requires { ⌜ i < atomTotal (now table) ⌝ }
-    ensures { λ r. ⌜ r ≡ atomIn (now (table .entry)) i .pred ⌝ }
-{
-    word(table, atom_base(table, i) + 2)
-}
-
-// The part of atom i.
-pub(crate) fn part(table: &[u16], i: usize) -> usize
-    requires { ⌜ Roomy (now table) ⌝ }
-    requires { ⌜ i < atomTotal (now table) ⌝ }
-    ensures { λ r. ⌜ r ≡ atomIn (now (table .entry)) i .part ⌝ }
-    ensures { λ r. ⌜ r < wordBound ⌝ }
-{
-    word(table, atom_base(table, i) + 3)
-}
-
-// Where the arguments of atom i begin.
-pub(crate) fn arguments(table: &[u16], i: usize) -> usize
-    requires { ⌜ Roomy (now table) ⌝ }
-    requires { ⌜ i < atomTotal (now table) ⌝ }
-    ensures { λ r. ⌜ r ≡ atomBase (now (table .entry)) i + 4 ⌝ }
-    ensures { λ r. ⌜ r + 4 ≤ length (now (table .entry)) ⌝ }
-{
-    atom_base(table, i) + 4
-}
-
-// The arity of a predicate.
-pub(crate) fn arity(table: &[u16], p: usize) -> usize
-    requires { ⌜ Roomy (now table) ⌝ }
-    requires { ⌜ p < headIn (now table) .predicates ⌝ }
-    ensures { λ r. ⌜ r ≡ arityIn (now (table .entry)) p ⌝ }
-    ensures { λ r. ⌜ r ≤ 4 ⌝ }
-{
-    word(table, limits::HEAD_WORDS + p)
-}
 
 // Whether atom i has a known predicate, arguments below a bound, and unused words 0.
 pub(crate) fn atom_fits(table: &[u16], i: usize, bound: usize) -> bool
@@ -87,7 +23,7 @@ pub(crate) fn atom_fits(table: &[u16], i: usize, bound: usize) -> bool
     ensures { λ r. ⌜ r ≡ argWordsFit (now (table .entry)) bound i ⌝ }
 {
     let p = predicate(table, i);
-    if word(table, 1) <= p {
+    if word(table, limits::PREDICATES) <= p {
         return false;
     }
     let from = arguments(table, i);

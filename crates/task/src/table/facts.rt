@@ -1,9 +1,10 @@
 // The ground atoms of a table: "schema and part of roles 3 and 4, are 0", and they "ascend strictly".
 use super::atoms::atom_fits;
 use super::atoms::fact_less;
-use super::atoms::part;
-use super::atoms::role;
-use super::atoms::schema_number;
+use crate::layout::part;
+use crate::layout::role;
+use crate::layout::schema_number;
+use crate::limits::OBJECTS;
 use words::runs::word;
 ghost use mathlib.Core.Path.{_≡_};
 ghost use Prim.Native.Nat.{_-_, _<_, _≤_};
@@ -27,7 +28,7 @@ fn fact_fits(table: &[u16], wanted: usize, i: usize) -> bool
     if part(table, i) != 0 {
         return false;
     }
-    atom_fits(table, i, word(table, 0))
+    atom_fits(table, i, word(table, OBJECTS))
 }
 
 // Whether each atom from one index to another is a ground atom of a role.

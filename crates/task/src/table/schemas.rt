@@ -1,12 +1,13 @@
 // The schemas of a table: the atoms that name one follow one another, and together are what document 01 asks of it.
-use super::atoms::arguments;
-use super::atoms::arity;
 use super::atoms::atom_fits;
-use super::atoms::part;
-use super::atoms::predicate;
-use super::atoms::role;
 use super::atoms::same_atom;
-use super::atoms::schema_number;
+use crate::layout::arguments;
+use crate::layout::arity;
+use crate::layout::params_of;
+use crate::layout::part;
+use crate::layout::predicate;
+use crate::layout::role;
+use crate::layout::schema_number;
 use crate::limits;
 use words::runs::word;
 use words::sets::has_all;
@@ -37,7 +38,7 @@ fn roles_ascend(table: &[u16], first: usize, end: usize) -> bool
         }
         i += 1;
     }
-    role(table, i) <= limits::DELETION
+    role(table, i) <= limits::DELETION as usize
 }
 
 // Whether each atom from one index to another has a known predicate, arguments below a bound, and unused words 0.
@@ -177,7 +178,7 @@ fn schema_fits(table: &[u16], s: usize, first: usize, end: usize) -> bool
     requires { ⌜ (first ≤ end) × (end ≤ headIn (now table) .schemaAtoms) ⌝ }
     ensures { λ r. ⌜ r ≡ schemaWordsFit (now (table .entry)) s (upFrom first (end - first)) ⌝ }
 {
-    let params = word(table, limits::HEAD_WORDS + word(table, 1) + s);
+    let params = params_of(table, s);
     if limits::MOST_PARAMETERS < params {
         return false;
     }
@@ -208,7 +209,7 @@ fn run_end(table: &[u16], s: usize, start: usize) -> usize
     requires { ⌜ start ≤ headIn (now table) .schemaAtoms ⌝ }
     ensures { λ r. ⌜ RunOf (now (table .entry)) s start r ⌝ }
 {
-    let atoms = word(table, 3);
+    let atoms = word(table, limits::SCHEMA_ATOMS);
     let mut i = start;
     while i < atoms {
         if schema_number(table, i) != s {
@@ -225,7 +226,7 @@ pub(crate) fn schemas_fit(table: &[u16]) -> bool
     requires { ⌜ numbersFit (now table) ≡ true ⌝ }
     ensures { λ r. ⌜ r ≡ schemasFit (now (table .entry)) ⌝ }
 {
-    let schemas = word(table, 2);
+    let schemas = word(table, limits::SCHEMAS);
     let mut first = 0;
     let mut s = 0;
     while s < schemas {

@@ -8,6 +8,7 @@ use borrow.Author.Tests.{eq-eqb, ne-eqb}
 use Rattle.task.specs.Task.{Atom}
 use Rattle.task.specs.Table.{atomIn}
 use Rattle.arcs.specs.Order.{roleBefore, givesArc}
+use Rattle.arcs.proofs.Stretches.{atom-row}
 use Rattle.arcs.proofs.atoms.gives_arc.Statement.{statement}
 use Rattle.arcs.proofs.atoms.gives_arc.Tie as tie
 
@@ -20,17 +21,23 @@ by-predicate : (a b : Atom) → (a .pred ≡ b .pred → ⊥) → false ≡ give
 unfolding givesArc
 by-predicate a b e = rw (ne-eqb (a .pred) (b .pred) e) refl
 
-word-of-requires : tie.Need-word-of-requires
-word-of-requires c κs = search needs
+row-of-requires : tie.Need-row-of-requires
+row-of-requires c κs = atom-row (c .before .pre .0)
 
-word-of-requires-2 : tie.Need-word-of-requires-2
-word-of-requires-2 c κs = search needs
+row-of-requires-2 : tie.Need-row-of-requires-2
+row-of-requires-2 c κs = atom-row (c .before .before .pre .1)
 
-word-of-requires-3 : tie.Need-word-of-requires-3
-word-of-requires-3 c κs = search needs
+predicate-at-requires : tie.Need-predicate-at-requires
+predicate-at-requires c κs = c .before .row-of .ensures .1
 
-word-of-requires-4 : tie.Need-word-of-requires-4
-word-of-requires-4 c κs = search needs
+predicate-at-requires-2 : tie.Need-predicate-at-requires-2
+predicate-at-requires-2 c κs = c .before .row-of2 .ensures .1
+
+role-at-requires : tie.Need-role-at-requires
+role-at-requires c κs = c .before .before .before .before .row-of .ensures .1
+
+role-at-requires-2 : tie.Need-role-at-requires-2
+role-at-requires-2 c κs = c .before .before .before .before .row-of2 .ensures .1
 
 role-before-requires : tie.Need-role-before-requires
 role-before-requires c κs = search needs
@@ -42,28 +49,35 @@ first s = atomIn (s .args .table .now) (s .args .i)
 abbrev second : tie.Start → Atom
 second s = atomIn (s .args .table .now) (s .args .j)
 
+-- the predicates that were read are theirs
+predicates : (c : tie.After-predicate-at2) →
+    let s = c .before .before .before .before .before in
+    (c .before .predicate-at .result ≡ first s .pred) × (c .predicate-at2 .result ≡ second s .pred)
+predicates c =
+    let rows = c .before .before in (
+      c .before .predicate-at .ensures .1 _ (rows .before .row-of .ensures .0),
+      c .predicate-at2 .ensures .1 _ (rows .row-of2 .ensures .0),
+    )
+
 returns : tie.Need-returns
-unfolding atomIn
 returns c =
     let tested = c .before .before .before .before in
-    let s = tested .before .before .before in
-    let p : tested .before .word-of .result ≡ first s .pred = tested .before .word-of .ensures in
-    let q : tested .word-of2 .result ≡ second s .pred = tested .word-of2 .ensures in
+    let rows = tested .before .before in
+    let s = rows .before .before .before in
+    let e = predicates tested in
     c .role-before .ensures
-    ∙ (ap₂ roleBefore (c .before .before .word-of3 .ensures) (c .before .word-of4 .ensures)
-    ∙ by-roles (first s) (second s) (sym p ∙ (c .before .before .before .if1 .taken ∙ q)))
+    ∙ (ap₂ roleBefore (c .before .before .role-at .ensures .1 _ (rows .before .row-of .ensures .0))
+    (c .before .role-at2 .ensures .1 _ (rows .row-of2 .ensures .0))
+    ∙ by-roles (first s) (second s) (sym (e .0) ∙ (c .before .before .before .if1 .taken ∙ e .1)))
 
 returns-2 : tie.Need-returns-2
-unfolding atomIn
 returns-2 c =
-    let tested = c .before in
-    let s = tested .before .before .before in
-    let p : tested .before .word-of .result ≡ first s .pred = tested .before .word-of .ensures in
-    let q : tested .word-of2 .result ≡ second s .pred = tested .word-of2 .ensures in
-    by-predicate (first s) (second s) (λ e. c .if1 .left (p ∙ (e ∙ sym q)))
+    let s = c .before .before .before .before .before .before in
+    let e = predicates (c .before) in
+    by-predicate (first s) (second s) (λ h. c .if1 .left (e .0 ∙ (h ∙ sym (e .1))))
 
 pub gives-arc-spec : {M : Type 1} → statement M
 gives-arc-spec =
     tie.close
-    (tie.spec word-of-requires word-of-requires-2 word-of-requires-3 word-of-requires-4 role-before-requires returns
-    returns-2)
+    (tie.spec row-of-requires row-of-requires-2 predicate-at-requires predicate-at-requires-2 role-at-requires
+    role-at-requires-2 role-before-requires returns returns-2)

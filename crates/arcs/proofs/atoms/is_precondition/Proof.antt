@@ -1,18 +1,19 @@
--- `arcs::atoms::is_precondition` meets its contract: word 1 of an atom is its role.
+-- `arcs::atoms::is_precondition` meets its contract: the word of a row is the atom's role.
 use Prim.Native.Nat.{ℕ}
 use mathlib.Core.Path.{ap}
 use lib.Dec.{eqb}
-use borrow.Author.Needs.{needs}
-use Rattle.task.specs.Table.{atomIn}
+use Rattle.arcs.proofs.Stretches.{atom-row}
 use Rattle.arcs.proofs.atoms.is_precondition.Statement.{statement}
 use Rattle.arcs.proofs.atoms.is_precondition.Tie as tie
 
-word-of-requires : tie.Need-word-of-requires
-word-of-requires c κs = search needs
+row-of-requires : tie.Need-row-of-requires
+row-of-requires c κs = atom-row (c .before .pre)
+
+role-at-requires : tie.Need-role-at-requires
+role-at-requires c κs = c .row-of .ensures .1
 
 returns : tie.Need-returns
-unfolding atomIn
-returns c = ap (λ (x : ℕ). eqb x 0) (c .word-of .ensures)
+returns c = ap (λ (x : ℕ). eqb x 0) (c .role-at .ensures .1 _ (c .before .row-of .ensures .0))
 
 pub is-precondition-spec : {M : Type 1} → statement M
-is-precondition-spec = tie.close (tie.spec word-of-requires returns)
+is-precondition-spec = tie.close (tie.spec row-of-requires role-at-requires returns)

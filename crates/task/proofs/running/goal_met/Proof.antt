@@ -6,7 +6,7 @@ use native.Mathlib.Omega.{arith}
 use borrow.Author.Tests.{not-true, not-false}
 use Rattle.task.specs.Table.{factIn, taskOf}
 use Rattle.task.specs.Run.{holds, stateIn, goalMet}
-use Rattle.task.proofs.GroundWords.{table-is-long}
+use Rattle.task.proofs.TableReads.{counts-inside}
 use Rattle.words.proofs.Loops.{AllLeft, all-more, all-fails, all-ends}
 use Rattle.task.proofs.SpanLaws.{state-long, state-ascends}
 use Rattle.task.proofs.GoalLaws.{goal-known, goal-start}
@@ -24,12 +24,12 @@ abbrev μ-loop : tie.MeasureT-loop
 word-requires : tie.Need-word-requires Inv-loop μ-loop
 word-requires c κs =
     let start = c .before .before in
-    let l = table-is-long _ (start .pre .0) in omega arith
+    let l = counts-inside _ (start .pre .0) in omega arith
 
 word-requires-2 : tie.Need-word-requires-2 Inv-loop μ-loop
 word-requires-2 c κs =
     let start = c .before .before .before in
-    let l = table-is-long _ (start .pre .0) in omega arith
+    let l = counts-inside _ (start .pre .0) in omega arith
 
 add-from : tie.Need-add-from Inv-loop μ-loop
 add-from c = omega arith
@@ -37,7 +37,7 @@ add-from c = omega arith
 word-requires-3 : tie.Need-word-requires-3 Inv-loop μ-loop
 word-requires-3 c κs =
     let start = c .before .before .before .before in
-    let l = table-is-long _ (start .pre .0) in omega arith
+    let l = counts-inside _ (start .pre .0) in omega arith
 
 add-to : tie.Need-add-to Inv-loop μ-loop
 add-to c = omega arith

@@ -1,9 +1,11 @@
 -- `running::role_end` meets its contract. Between the turns the atoms from `from` to `k` have the role; the measure is
 -- how many are left up to `to`.
 use Prim.Native.Nat.{_-_}
-use mathlib.Core.Path.{sym, _∙_}
+use mathlib.Core.Path.{_≡_, sym, _∙_}
 use native.Mathlib.Omega.{arith}
-use Rattle.task.proofs.StartLaws.{RoleSo, role-at, role-start, role-turn, role-ends}
+use Rattle.task.specs.Table.{atomIn}
+use Rattle.task.proofs.TableReads.{table-roomy}
+use Rattle.task.proofs.StartLaws.{RoleSo, role-start, role-turn, role-ends}
 use Rattle.task.proofs.running.role_end.Statement.{statement}
 use Rattle.task.proofs.running.role_end.Tie as tie
 
@@ -16,25 +18,24 @@ abbrev μ-loop : tie.MeasureT-loop
 loop-holds : tie.Need-loop-holds Inv-loop μ-loop
 loop-holds c = role-start _ _ _ _ (c .before .pre .1 .0)
 
-atom-at-requires : tie.Need-atom-at-requires Inv-loop μ-loop
-atom-at-requires c κs =
+row-of-requires : tie.Need-row-of-requires Inv-loop μ-loop
+row-of-requires c κs =
     let start = c .before .before .before in
-    (start .pre .0, let t = c .loop-test .taken in omega arith)
+    (table-roomy _ (start .pre .0), let t = c .loop-test .taken in omega arith)
 
-add-if1 : tie.Need-add-if1 Inv-loop μ-loop
-add-if1 c = omega arith
+role-at-requires : tie.Need-role-at-requires Inv-loop μ-loop
+role-at-requires c κs = c .row-of .ensures .1
 
-mul-if1 : tie.Need-mul-if1 Inv-loop μ-loop
-mul-if1 c = omega arith
-
-shared-slice-read-if1 : tie.Need-shared-slice-read-if1 Inv-loop μ-loop
-shared-slice-read-if1 c = omega arith
+-- the role that was read is that of atom k
+role-is : (c : tie.After-role-at Inv-loop μ-loop) →
+    let at-loop = c .before .before .before in
+    c .role-at .result ≡ atomIn (at-loop .before .before .args .table .now) (at-loop .loop .k) .role
+role-is c = c .role-at .ensures .1 _ (c .before .row-of .ensures .0)
 
 returns : tie.Need-returns Inv-loop μ-loop
 returns c =
-    let at-atom-at = c .before .before in
-    let at-loop = at-atom-at .before .before in
-    role-ends (at-loop .loop .inv) (λ l e. c .if1 .taken (sym (role-at _ _ _ (at-atom-at .atom-at .ensures .0)) ∙ e))
+    let at-loop = c .before .before .before .before in
+    role-ends (at-loop .loop .inv) (λ l e. c .if1 .taken (role-is (c .before) ∙ e))
 
 add-k : tie.Need-add-k Inv-loop μ-loop
 add-k c = omega arith
@@ -44,10 +45,8 @@ loop-less c = omega arith
 
 loop-again : tie.Need-loop-again Inv-loop μ-loop
 loop-again c =
-    let at-atom-at = c .before .before in
-    let at-loop-test = at-atom-at .before in
-    let at-loop = at-loop-test .before in
-    role-turn (at-loop .loop .inv) (at-loop-test .loop-test .taken) (role-at _ _ _ (at-atom-at .atom-at .ensures .0) ∙
+    let at-loop-test = c .before .before .before in
+    role-turn (at-loop-test .before .loop .inv) (at-loop-test .loop-test .taken) (sym (role-is (c .before)) ∙
     c .if1 .left)
 
 returns-2 : tie.Need-returns-2 Inv-loop μ-loop
@@ -56,5 +55,4 @@ returns-2 c = role-ends (c .before .loop .inv) (λ l e. let z = c .loop-test .le
 pub role-end-spec : {M : Type 1} → statement M
 role-end-spec =
     tie.close
-    (tie.spec Inv-loop μ-loop loop-holds atom-at-requires add-if1 mul-if1 shared-slice-read-if1 returns add-k loop-less
-    loop-again returns-2)
+    (tie.spec Inv-loop μ-loop loop-holds row-of-requires role-at-requires returns add-k loop-less loop-again returns-2)

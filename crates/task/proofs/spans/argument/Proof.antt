@@ -12,11 +12,16 @@ use Rattle.task.proofs.spans.argument.Tie as tie
 abbrev argument : tie.Start → ℕ
 argument c = objectIn (c .args .steps .now) (c .args .i) (getD (c .args .table .now) (c .args .at) 0)
 
-mul-t9 : tie.Need-mul-t9
-mul-t9 c = search needs
+mul-object-of : tie.Need-mul-object-of
+mul-object-of c =
+    let start = c .before .before .before in
+    let l = start .pre .1 (c .if1 .taken) in omega arith
 
-shared-slice-read-t11 : tie.Need-shared-slice-read-t11
-shared-slice-read-t11 c = search needs
+mul-t10 : tie.Need-mul-t10
+mul-t10 c = search needs
+
+shared-slice-read-t12 : tie.Need-shared-slice-read-t12
+shared-slice-read-t12 c = search needs
 
 object-of-requires : tie.Need-object-of-requires
 object-of-requires c κs =
@@ -44,4 +49,6 @@ returns-2 c =
     (ap (λ (u : Bool). cond u (argument (start)) 0) (sym (c .if1 .left)), omega arith)
 
 pub argument-spec : {M : Type 1} → statement M
-argument-spec = tie.close (tie.spec mul-t9 shared-slice-read-t11 object-of-requires cast-result returns returns-2)
+argument-spec =
+    tie.close
+    (tie.spec mul-object-of mul-t10 shared-slice-read-t12 object-of-requires cast-result returns returns-2)

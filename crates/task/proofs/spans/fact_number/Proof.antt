@@ -1,11 +1,15 @@
 -- `spans::fact_number` meets its contract: an initial or goal atom's words are its record's, unused ones being 0.
 use Rattle.task.proofs.GroundWords.{fact-read}
+use Rattle.task.proofs.TableReads.{table-roomy}
 use borrow.Author.Needs.{needs}
 use Rattle.task.proofs.spans.fact_number.Statement.{statement}
 use Rattle.task.proofs.spans.fact_number.Tie as tie
 
-atom-at-requires : tie.Need-atom-at-requires
-atom-at-requires c κs = search needs
+row-of-requires : tie.Need-row-of-requires
+row-of-requires c κs = let start = c .before in (table-roomy _ (start .pre .0), start .pre .1)
+
+add-from : tie.Need-add-from
+add-from c = search needs
 
 add-word : tie.Need-add-word
 add-word c = search needs
@@ -31,9 +35,6 @@ add-word-4 c = search needs
 word-requires-4 : tie.Need-word-requires-4
 word-requires-4 c κs = search needs
 
-add-word-5 : tie.Need-add-word-5
-add-word-5 c = search needs
-
 word-requires-5 : tie.Need-word-requires-5
 word-requires-5 c κs = search needs
 
@@ -46,10 +47,10 @@ returns c =
     let at-word3 = at-word4 .before in
     let at-word2 = at-word3 .before in
     let at-word = at-word2 .before in
-    let at-atom-at = at-word .before in
-    let start = at-atom-at .before .before in
-    let e = fact-read _ (start .pre .0) _ (start .pre .1) (at-atom-at .atom-at .result)
-    (at-atom-at .atom-at .ensures .0) in
+    let at-row-of = at-word .before in
+    let start = at-row-of .before .before in
+    let e = fact-read _ (start .pre .0) _ (start .pre .1) (at-row-of .row-of .result)
+    (at-row-of .row-of .ensures .0) in
     let e₀ = at-word .word .ensures .0 in
     let e₁ = at-word2 .word2 .ensures .0 in
     let e₂ = at-word3 .word3 .ensures .0 in
@@ -60,5 +61,5 @@ returns c =
 pub fact-number-spec : {M : Type 1} → statement M
 fact-number-spec =
     tie.close
-    (tie.spec atom-at-requires add-word word-requires add-word-2 word-requires-2 add-word-3 word-requires-3 add-word-4
-    word-requires-4 add-word-5 word-requires-5 number-of-requires returns)
+    (tie.spec row-of-requires add-from add-word word-requires word-requires-2 add-word-2 word-requires-3 add-word-3
+    word-requires-4 add-word-4 word-requires-5 number-of-requires returns)

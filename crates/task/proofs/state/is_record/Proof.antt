@@ -2,17 +2,20 @@
 -- `record-zeros`), and the numbers of arguments and objects are the task's. A predicate has at most 4 arguments, so
 -- the words tested are there.
 use Prim.Native.Nat.{ℕ, _*_, _≤_, _<_}
-use mathlib.Core.Path.{_≡_, sym, _∙_}
+use mathlib.Core.Path.{_≡_, sym, _∙_, ap}
 use mathlib.Core.Bool.{true}
 use mathlib.Core.List.{List}
 use native.Mathlib.Omega.{arith}
 use lib.ListN.{length, getD}
 use borrow.Author.Needs.{needs}
 use borrow.Author.Tests.{not-true, not-false}
+use Rattle.task.specs.Layout.{arityIn}
 use Rattle.task.specs.Task.{Task, wellFormed}
 use Rattle.task.specs.Table.{taskOf}
 use Rattle.task.proofs.Tables.{of-table}
-use Rattle.task.proofs.RecordWords.{arity-few, record-unknown, record-objects, record-zeros}
+use Rattle.task.proofs.TablesByIndex.{table-frame, arities-word}
+use Rattle.task.proofs.TableReads.{table-roomy, arity-word}
+use Rattle.task.proofs.RecordWords.{record-unknown, record-objects, record-zeros}
 use Rattle.task.proofs.state.is_record.Statement.{statement}
 use Rattle.task.proofs.state.is_record.Tie as tie
 
@@ -33,16 +36,21 @@ start₁ c = c .before .before .before .before .before
 known : (c : tie.Else1) → getD (W (start₁ c)) (5 * start₁ c .args .i) 0 < length (T (start₁ c) .arities)
 known c = let e = c .before .predicate-count .ensures in omega arith
 
+counted : (c : tie.After-arity) →
+    let start = start₁ (c .before .before) in
+    c .arity .result ≡ getD (T start .arities) (getD (W start) (5 * start .args .i) 0) 0
+counted c =
+    let start = start₁ (c .before .before) in
+    let w = start .args .table .now in
+    c .arity .ensures .0 ∙ (ap (arityIn w) (c .before .wide .ensures) ∙
+    arity-word w (start .pre .0) (getD (W start) (5 * start .args .i) 0) (known (c .before .before)))
+
 few : (c : tie.After-arity) → c .arity .result ≤ 4
-few c =
-    let start = start₁ (c .before) in
-    let e = c .arity .ensures in
-    let l = arity-few (T start) (well start) (getD (W start) (5 * start .args .i) 0) in
-    omega arith
+few c = c .arity .ensures .1
 
 -- past the test of the objects
 abbrev else₁ : tie.Else2 → tie.Else1
-else₁ c = c .before .before .before .before
+else₁ c = c .before .before .before .before .before
 
 mul-at : tie.Need-mul-at
 mul-at c = search needs
@@ -62,8 +70,16 @@ returns c =
     let e = c .before .predicate-count .ensures in
     sym (record-unknown (T start) (well start) (W start) (start .args .i) (omega arith))
 
+wide-requires : tie.Need-wide-requires
+wide-requires c κs = search needs
+
 arity-requires : tie.Need-arity-requires
-arity-requires c κs = (start₁ c .pre .0, known c)
+arity-requires c κs =
+    let start = start₁ (c .before) in
+    let w = start .args .table .now in
+    let e = arities-word w (table-frame w (start .pre .0)) in
+    let l = known (c .before) in
+    (table-roomy w (start .pre .0), omega (arith, c .wide .ensures))
 
 add-are-objects : tie.Need-add-are-objects
 add-are-objects c = search needs
@@ -76,9 +92,9 @@ are-objects-requires c κs = let n = few (c .before) in omega arith
 
 returns-2 : tie.Need-returns-2
 returns-2 c =
-    let start = c .before .before .before .before .before .before .before .before .before in
+    let start = c .before .before .before .before .before .before .before .before .before .before in
     sym (record-objects (T start) (well start) (W start) (start .args .i) (c .before .before .before .arity .result)
-    (c .before .before .object-count .result) (c .before .before .before .arity .ensures)
+    (c .before .before .object-count .result) (counted (c .before .before .before))
     (c .before .before .object-count .ensures) (sym (c .before .are-objects .ensures) ∙ not-true _ (c .if2 .taken)))
 
 add-are-zero : tie.Need-add-are-zero
@@ -102,12 +118,12 @@ returns-3 c =
     let start = start₁ (else₁ after) in
     c .are-zero .ensures ∙ sym (record-zeros (T start) (well start) (W start) (start .args .i)
     (after .before .before .before .arity .result) (after .before .before .object-count .result)
-    (after .before .before .before .arity .ensures) (after .before .before .object-count .ensures)
+    (counted (after .before .before .before)) (after .before .before .object-count .ensures)
     (known (else₁ after)) (sym (after .before .are-objects .ensures) ∙ not-false _ (after .if2 .left)))
 
 pub is-record-spec : {M : Type 1} → statement M
 is-record-spec =
     tie.close
-    (tie.spec mul-at mul-predicate shared-slice-read-predicate predicate-count-requires returns arity-requires
-    add-are-objects object-count-requires are-objects-requires returns-2 add-are-zero add-are-zero-2 sub-are-zero
-    sub-are-zero-2 are-zero-requires returns-3)
+    (tie.spec mul-at mul-predicate shared-slice-read-predicate predicate-count-requires returns wide-requires
+    arity-requires add-are-objects object-count-requires are-objects-requires returns-2 add-are-zero add-are-zero-2
+    sub-are-zero sub-are-zero-2 are-zero-requires returns-3)

@@ -24,16 +24,12 @@ loop-holds : tie.Need-loop-holds Inv-loop μ-loop
 unfolding aritiesFit
 loop-holds c = all-up-to (sym (c .word .ensures .0))
 
-add-word : tie.Need-add-word Inv-loop μ-loop
-add-word c = omega arith
-
-word-requires-2 : tie.Need-word-requires-2 Inv-loop μ-loop
-word-requires-2 c κs = omega arith
+arity-of-requires : tie.Need-arity-of-requires Inv-loop μ-loop
+arity-of-requires c κs = omega arith
 
 returns : tie.Need-returns Inv-loop μ-loop
-unfolding arityIn
 returns c = all-fails (c .before .before .before .loop .inv) (c .before .before .loop-test .taken)
-    (rw (← c .before .word2 .ensures .0) (lt-leb _ _ (c .if1 .taken)))
+    (rw (← c .before .arity-of .ensures) (lt-leb _ _ (c .if1 .taken)))
 
 add-p : tie.Need-add-p Inv-loop μ-loop
 add-p c = omega arith
@@ -42,9 +38,8 @@ loop-less : tie.Need-loop-less Inv-loop μ-loop
 loop-less c = omega arith
 
 loop-again : tie.Need-loop-again Inv-loop μ-loop
-unfolding arityIn
 loop-again c = all-more (c .before .before .before .loop .inv) (c .before .before .loop-test .taken)
-    (rw (← c .before .word2 .ensures .0) (le-leb _ _ (c .if1 .left)))
+    (rw (← c .before .arity-of .ensures) (le-leb _ _ (c .if1 .left)))
 
 returns-2 : tie.Need-returns-2 Inv-loop μ-loop
 returns-2 c = all-ends (c .before .loop .inv) (c .loop-test .left)
@@ -52,5 +47,4 @@ returns-2 c = all-ends (c .before .loop .inv) (c .loop-test .left)
 pub arities-fit-spec : {M : Type 1} → statement M
 arities-fit-spec =
     tie.close
-    (tie.spec Inv-loop μ-loop word-requires loop-holds add-word word-requires-2 returns add-p loop-less loop-again
-    returns-2)
+    (tie.spec Inv-loop μ-loop word-requires loop-holds arity-of-requires returns add-p loop-less loop-again returns-2)

@@ -137,6 +137,9 @@ word-requires-2 c κs = let r = room₄ (c .before) in omega arith
 add-facts : tie.Need-add-facts
 add-facts c = search needs
 
+cast-facts-fit : tie.Need-cast-facts-fit
+cast-facts-fit c = search needs
+
 facts-fit-requires : tie.Need-facts-fit-requires
 facts-fit-requires c κs =
     let r = room₄ (c .before .before) in
@@ -154,6 +157,9 @@ add-end : tie.Need-add-end
 add-end c =
     let k = c .before .before .before in
     omega (arith, c .word3 .ensures .1, k .word2 .ensures .1, k .before .word .ensures .1)
+
+cast-facts-fit-2 : tie.Need-cast-facts-fit-2
+cast-facts-fit-2 c = search needs
 
 facts-fit-requires-2 : tie.Need-facts-fit-requires-2
 facts-fit-requires-2 c κs =
@@ -200,5 +206,5 @@ pub is-table-spec : {M : Type 1} → statement M
 is-table-spec =
     tie.close
     (tie.spec counts-fit-requires returns arities-fit-requires returns-2 numbers-fit-requires returns-3
-    schemas-fit-requires returns-4 word-requires word-requires-2 add-facts facts-fit-requires returns-5 word-requires-3
-    add-end facts-fit-requires-2 returns-6 atom-base-requires zeros-requires returns-7)
+    schemas-fit-requires returns-4 word-requires word-requires-2 add-facts cast-facts-fit facts-fit-requires returns-5
+    word-requires-3 add-end cast-facts-fit-2 facts-fit-requires-2 returns-6 atom-base-requires zeros-requires returns-7)

@@ -4,9 +4,9 @@ use Prim.Native.Nat.{ℕ, _+_, _<_}
 use mathlib.Core.Path.{_≡_, sym, _∙_, ap}
 use native.Mathlib.Omega.{arith}
 use lib.ListN.{length, getD}
-use Rattle.task.specs.Layout.{atomBase}
 use Rattle.task.specs.Table.{atomIn}
 use Rattle.words.proofs.Lists.{in-getD}
+use Rattle.arcs.proofs.Stretches.{atom-row}
 use Rattle.tokens.proofs.AtomWords.{few-arguments, argument-small, argument-at}
 use Rattle.tokens.proofs.atoms.argument.Statement.{statement}
 use Rattle.tokens.proofs.atoms.argument.Tie as tie
@@ -16,25 +16,26 @@ few c =
     let l : c .args .k < length (atomIn (c .args .table .now) (c .args .i) .args) = c .pre .1 in
     omega (arith, few-arguments (c .args .table .now) (c .args .i) (c .pre .0))
 
-add-word-of : tie.Need-add-word-of
-add-word-of c = omega (arith, few (c .before))
+arguments-requires : tie.Need-arguments-requires
+arguments-requires c κs = atom-row (c .before .pre .0)
 
-word-of-requires : tie.Need-word-of-requires
-word-of-requires c κs = (c .before .pre .0, omega (arith, few (c .before)))
+add-word-at : tie.Need-add-word-at
+add-word-at c = omega (arith, few (c .before .before), c .arguments .ensures .1)
+
+word-at-requires : tie.Need-word-at-requires
+word-at-requires c κs = omega (arith, few (c .before .before), c .arguments .ensures .1)
 
 returns : tie.Need-returns
 returns c =
-    let s = c .before .before in
+    let s = c .before .before .before in
     let w = s .args .table .now in
     let args = atomIn w (s .args .i) .args in
-    let b = atomBase w (s .args .i) in
-    let z : b + (4 + s .args .k) ≡ b + 4 + s .args .k = omega arith in
-    let e : c .word-of .result ≡ getD args (s .args .k) 0 =
-    c .word-of .ensures ∙ ap (λ (k : ℕ). getD w k 0) z ∙
+    let e : c .word-at .result ≡ getD args (s .args .k) 0 =
+    c .word-at .ensures ∙ ap (λ (b : ℕ). getD w (b + s .args .k) 0) (c .before .arguments .ensures .0) ∙
     sym (argument-at w (s .args .i) (s .pre .0) (s .args .k) (s .pre .1)) in
     let l = argument-small w (s .args .i) (s .pre .0) (getD args (s .args .k) 0)
     (in-getD args (s .args .k) 0 (s .pre .1)) in
     (e, omega arith)
 
 pub argument-spec : {M : Type 1} → statement M
-argument-spec = tie.close (tie.spec add-word-of word-of-requires returns)
+argument-spec = tie.close (tie.spec arguments-requires add-word-at word-at-requires returns)

@@ -9,6 +9,7 @@ use lib.Dec.{eqb}
 use borrow.Author.Needs.{needs}
 use borrow.Author.Tests.{eq-eqb, ne-eqb}
 use Rattle.task.specs.Table.{atomIn}
+use Rattle.arcs.proofs.Stretches.{atom-row}
 use Rattle.tokens.proofs.part_atoms.is_here.Statement.{statement}
 
 same-role : (r a p : ℕ) {q : ℕ} (b : ℕ) → r ≡ a → q ≡ b → eqb p q ≡ eqb r a && eqb p b
@@ -17,25 +18,31 @@ same-role r a p b e f = rw (eq-eqb r a e, f) refl
 other-role : (r a p b : ℕ) → (r ≡ a → ⊥) → false ≡ eqb r a && eqb p b
 other-role r a p b n = rw (ne-eqb r a n) refl
 
-word-of-requires : tie.Need-word-of-requires
-word-of-requires c κs = search needs
+row-of-requires : tie.Need-row-of-requires
+row-of-requires c κs = atom-row (c .before .pre)
+
+role-at-requires : tie.Need-role-at-requires
+role-at-requires c κs = c .row-of .ensures .1
+
+-- the role that was read is the atom's
+role-is : (c : tie.After-role-at) →
+    let a = c .before .before .before .args in c .role-at .result ≡ atomIn (a .table .now) (a .i) .role
+role-is c = c .role-at .ensures .1 _ (c .before .row-of .ensures .0)
 
 part-of-requires : tie.Need-part-of-requires
 part-of-requires c κs = search needs
 
 returns : tie.Need-returns
-unfolding atomIn
 returns c =
-    let s = c .before .before .before .before .before .before in
+    let s = c .before .before .before .before .before .before .before in
     let test = c .before .before .before in
-    same-role (s .args .role) _ (s .args .part .0) _ (test .if1 .taken ∙ test .before .word-of .ensures)
+    same-role (s .args .role) _ (s .args .part .0) _ (test .if1 .taken ∙ role-is (test .before))
     (c .before .before .part-of .ensures .0)
 
 returns-2 : tie.Need-returns-2
-unfolding atomIn
 returns-2 c =
-    let s = c .before .before .before in
-    other-role (s .args .role) _ (s .args .part .0) _ (λ e. c .if1 .left (e ∙ sym (c .before .word-of .ensures)))
+    let s = c .before .before .before .before in
+    other-role (s .args .role) _ (s .args .part .0) _ (λ e. c .if1 .left (e ∙ sym (role-is (c .before))))
 
 pub is-here-spec : {M : Type 1} → statement M
-is-here-spec = tie.close (tie.spec word-of-requires part-of-requires returns returns-2)
+is-here-spec = tie.close (tie.spec row-of-requires role-at-requires part-of-requires returns returns-2)

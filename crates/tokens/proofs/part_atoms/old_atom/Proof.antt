@@ -11,10 +11,14 @@ use Rattle.words.specs.Lists.{padded}
 use Rattle.task.specs.Table.{atomIn, atomWords}
 use Rattle.tokens.specs.Writing.{newNumber}
 use Rattle.words.proofs.Puts.{puts-then}
+use Rattle.arcs.proofs.Stretches.{atom-row}
 use Rattle.tokens.proofs.part_atoms.old_atom.Statement.{statement}
 
-word-of-requires : tie.Need-word-of-requires
-word-of-requires c κs = search needs
+row-of-requires : tie.Need-row-of-requires
+row-of-requires c κs = atom-row (c .before .before .pre .0)
+
+predicate-at-requires : tie.Need-predicate-at-requires
+predicate-at-requires c κs = c .row-of .ensures .1
 
 four-requires : tie.Need-four-requires
 four-requires c κs = search needs
@@ -26,16 +30,19 @@ same-length : tie.Need-same-length
 same-length c = search needs
 
 returns : tie.Need-returns
-unfolding atomIn atomWords
+unfolding atomWords
 returns c =
-    let a = c .before .before .before .before .before .before .before .before .before .before .before .args in
+    let read = c .before .before .before .before .before .before .before .before in
+    let a = read .before .before .before .before .args in
     let f = c .before .before .before .before .before .before .four .ensures in
     let g = c .before .before .arguments .ensures in
-    let p = c .before .before .before .before .before .before .before .before .word-of .ensures in (
+    let p = read .predicate-at .ensures .1 _ (read .before .row-of .ensures .0) in (
       puts-then f (g .0) _ (ap (λ (x : ℕ). a .number ∷ a .role ∷ x ∷ 0 ∷
           padded 4 (map (newNumber (a .own)) (atomIn (a .table .now) (a .i) .args))) (sym p)),
       omega (arith, f .place, g .1),
     )
 
 pub old-atom-spec : {M : Type 1} → statement M
-old-atom-spec = tie.close (tie.spec word-of-requires four-requires arguments-requires same-length returns)
+old-atom-spec =
+    tie.close
+    (tie.spec row-of-requires predicate-at-requires four-requires arguments-requires same-length returns)

@@ -9,7 +9,7 @@ use Rattle.task.specs.Table.{taskOf}
 use Rattle.task.proofs.Tables.{tableWords-is}
 use Rattle.task.proofs.TablesByIndex.{table-long}
 use Rattle.arcs.specs.Code.{IsStretch}
-use Rattle.arcs.proofs.Stretches.{schema-stretch}
+use Rattle.arcs.proofs.Stretches.{atom-row, schema-stretch}
 use Rattle.tokens.proofs.PartParameters.{schema-known, ends-here, goes-on}
 use Rattle.tokens.proofs.parts.schema_end.Statement.{statement}
 use Rattle.task.specs.Turns.{firstAtom}
@@ -25,7 +25,7 @@ abbrev μ-loop : tie.MeasureT-loop
 abbrev start : tie.At-loop Inv-loop μ-loop → tie.Start Inv-loop μ-loop
 start c = c .before .before .before
 
-abbrev turn : tie.After-schema-of Inv-loop μ-loop → tie.At-loop Inv-loop μ-loop
+abbrev turn : tie.After-schema-number Inv-loop μ-loop → tie.At-loop Inv-loop μ-loop
 turn c = c .before .before
 
 -- the atoms of schema s
@@ -53,15 +53,15 @@ loop-holds c =
     let e = s .pre .1 .1 in
     (omega arith, omega arith)
 
-schema-of-requires : tie.Need-schema-of-requires Inv-loop μ-loop
-schema-of-requires c κs = record { table = start (c .before) .pre .0; known = inside c }
+schema-number-requires : tie.Need-schema-number-requires Inv-loop μ-loop
+schema-number-requires c κs = atom-row (record { table = start (c .before) .pre .0; known = inside c })
 
 returns : tie.Need-returns Inv-loop μ-loop
 returns c =
     let s = start (turn (c .before)) in
     let h = turn (c .before) .loop in
     ends-here (s .args .table .now) (s .pre .0) (s .args .s) (s .pre .1 .0) (h .i) (h .inv .0) (h .inv .1)
-    (λ e. c .if1 .taken (c .before .schema-of .ensures ∙ e))
+    (λ e. c .if1 .taken (c .before .schema-number .ensures ∙ e))
 
 add-i : tie.Need-add-i Inv-loop μ-loop
 add-i c = omega (arith, c .before .before .loop-test .taken, turn (c .before) .before .word .ensures .1)
@@ -74,7 +74,7 @@ loop-again c =
     let s = start (turn (c .before)) in
     let h = turn (c .before) .loop in
     let l = goes-on (s .args .table .now) (s .pre .0) (s .args .s) (s .pre .1 .0) (h .i) (inside (c .before .before))
-    (sym (c .before .schema-of .ensures) ∙ c .if1 .left) in
+    (sym (c .before .schema-number .ensures) ∙ c .if1 .left) in
     (omega arith, omega arith)
 
 returns-2 : tie.Need-returns-2 Inv-loop μ-loop
@@ -85,4 +85,5 @@ returns-2 c =
 pub schema-end-spec : {M : Type 1} → statement M
 schema-end-spec =
     tie.close
-    (tie.spec Inv-loop μ-loop word-requires loop-holds schema-of-requires returns add-i loop-less loop-again returns-2)
+    (tie.spec Inv-loop μ-loop word-requires loop-holds schema-number-requires returns add-i loop-less loop-again
+    returns-2)

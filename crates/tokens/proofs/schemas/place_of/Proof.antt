@@ -2,11 +2,11 @@
 -- The numbers of a part of an accepted split are small (`Small`), so no sum and no cast is too large.
 use Rattle.tokens.proofs.schemas.place_of.Tie as tie
 use Prim.Native.Nat.{ℕ, _+_, _≤_, _<_}
-use mathlib.Core.Path.{_∙_, ap}
+use mathlib.Core.Path.{ap}
 use native.Mathlib.Omega.{arith}
-use lib.ListN.{length, getD}
+use lib.ListN.{length}
 use Rattle.task.specs.Layout.{headIn, paramsBase}
-use Rattle.task.specs.Limits.{headWords, mostSchemas, mostParts, mostPredicates}
+use Rattle.task.specs.Limits.{mostSchemas, mostParts, mostPredicates}
 use Rattle.tokens.specs.Kept.{keptFirst}
 use Rattle.tokens.proofs.Splitting.{few-schemas, few-predicates, predicates-word, few-parts, params-inside}
 use Rattle.tokens.proofs.Splitting.{place-is, kept-few}
@@ -59,44 +59,34 @@ part-at-requires c κs = let k = small (begun (c .before .before)) in (k .schema
 own-at-requires : tie.Need-own-at-requires
 own-at-requires c κs = let k = small (begun (c .before .before .before)) in (k .schema, k .position)
 
-add-word : tie.Need-add-word
-add-word c = omega (arith, counted c .word .ensures .1)
-
-add-word-2 : tie.Need-add-word-2
-add-word-2 c =
-    let k = small (begun (counted c)) .schema in
-    omega (arith, counted c .word .ensures .1)
-
-word-requires-2 : tie.Need-word-requires-2
-word-requires-2 c κs =
-    let k = small (begun (counted c)) .inside in
-    omega (arith, counted c .word .ensures .0)
+params-of-requires : tie.Need-params-of-requires
+params-of-requires c κs = small (begun (counted c)) .inside
 
 first-of-requires : tie.Need-first-of-requires
 first-of-requires c κs = omega (arith, small (begun (counted (c .before))) .schema)
 
+add-t13 : tie.Need-add-t13
+add-t13 c =
+    let k = small (begun (counted (read c))) in
+    omega (arith, c .first-of .ensures, k .number, k .position)
+
+cast-t14 : tie.Need-cast-t14
+cast-t14 c =
+    let k = small (begun (counted (read c))) in
+    omega (arith, c .first-of .ensures, k .number, k .position)
+
 add-t15 : tie.Need-add-t15
 add-t15 c =
-    let k = small (begun (counted (read c))) in
-    omega (arith, c .first-of .ensures, k .number, k .position)
-
-cast-t16 : tie.Need-cast-t16
-cast-t16 c =
-    let k = small (begun (counted (read c))) in
-    omega (arith, c .first-of .ensures, k .number, k .position)
-
-add-t17 : tie.Need-add-t17
-add-t17 c =
     let k = small (begun (counted (read (c .before)))) .tokens in
     omega (arith, counted (read (c .before)) .word .ensures .0)
 
-add-t18 : tie.Need-add-t18
-add-t18 c =
+add-t16 : tie.Need-add-t16
+add-t16 c =
     let k = small (begun (counted (read (c .before)))) .tokens in
     omega (arith, counted (read (c .before)) .word .ensures .0)
 
-cast-t19 : tie.Need-cast-t19
-cast-t19 c =
+cast-t17 : tie.Need-cast-t17
+cast-t17 c =
     let k = small (begun (counted (read (c .before)))) .tokens in
     omega (arith, counted (read (c .before)) .word .ensures .0)
 
@@ -112,8 +102,7 @@ returns c =
           (read (c .before) .before .before .end-of .ensures)
           (read (c .before) .before .part-at .ensures)
           (read (c .before) .own-at .ensures)
-          (c .before .before .word2 .ensures .0 ∙
-          ap (λ (n : ℕ). getD w (headWords + n + a .s) 0) p)
+          (c .before .before .params-of .ensures .0)
           (omega arith),
       ap (λ (n : ℕ). n + a .j) (c .before .first-of .ensures),
     )
@@ -121,5 +110,5 @@ returns c =
 pub place-of-spec : {M : Type 1} → statement M
 place-of-spec =
     tie.close
-    (tie.spec word-requires start-of-requires end-of-requires part-at-requires own-at-requires add-word add-word-2
-    word-requires-2 first-of-requires add-t15 cast-t16 add-t17 add-t18 cast-t19 returns)
+    (tie.spec word-requires start-of-requires end-of-requires part-at-requires own-at-requires params-of-requires
+    first-of-requires add-t13 cast-t14 add-t15 add-t16 cast-t17 returns)

@@ -20,10 +20,10 @@ use Rattle.task.specs.Limits.{atomSize}
 abbrev begun : tie.After-word → tie.Start
 begun c = c .before .before .before
 
-abbrev counted : tie.After-facts-begin → tie.After-word
+abbrev counted : tie.After-facts-base → tie.After-word
 counted c = c .before .before
 
-abbrev based : tie.After-facts → tie.After-facts-begin
+abbrev based : tie.After-facts → tie.After-facts-base
 based c = c .before .before
 
 abbrev started : tie.After-facts2 → tie.After-facts
@@ -40,18 +40,15 @@ word-requires c κs = omega (arith, inside (c .before .before))
 word-requires-2 : tie.Need-word-requires-2
 word-requires-2 c κs = omega (arith, inside (begun c))
 
-facts-begin-requires : tie.Need-facts-begin-requires
-facts-begin-requires c κs = omega (arith, inside (begun (c .before)))
-
-cast-facts : tie.Need-cast-facts
-cast-facts c = search needs
+facts-base-requires : tie.Need-facts-base-requires
+facts-base-requires c κs = omega (arith, inside (begun (c .before)))
 
 facts-requires : tie.Need-facts-requires
 facts-requires c κs =
     let s = begun (counted (c .before)) in
     let i = inside s in
     let n = counted (c .before) .word .ensures .0 in
-    let b = c .before .facts-begin .ensures in
+    let b = c .before .facts-base .ensures in
     (omega arith, (omega arith, omega (arith, s .pre .1)))
 
 mul-facts : tie.Need-mul-facts
@@ -61,11 +58,8 @@ add-facts : tie.Need-add-facts
 add-facts c =
     let i = inside (begun (counted (based (c .before .before)))) in
     let n = counted (based (c .before .before)) .word .ensures in
-    let b = based (c .before .before) .facts-begin .ensures in
+    let b = based (c .before .before) .facts-base .ensures in
     omega (arith, n .0)
-
-cast-facts-2 : tie.Need-cast-facts-2
-cast-facts-2 c = search needs
 
 facts-requires-2 : tie.Need-facts-requires-2
 facts-requires-2 c κs =
@@ -73,7 +67,7 @@ facts-requires-2 c κs =
     let i = inside s in
     let n = counted (based (c .before .before .before)) .word .ensures .0 in
     let g = based (c .before .before .before) .before .word2 .ensures .0 in
-    let b = based (c .before .before .before) .facts-begin .ensures in
+    let b = based (c .before .before .before) .facts-base .ensures in
     let f = c .before .before .before .facts .ensures in
     let l = puts-length (f .0) in
     (omega arith, (omega arith, omega (arith, s .pre .1, f .1)))
@@ -88,7 +82,7 @@ returns c =
     let t = splitTask (taskOf w) in
     let n = counted (based (started (c .before .before))) .word in
     let g = based (started (c .before .before)) .before .word2 in
-    let b = based (started (c .before .before)) .facts-begin in
+    let b = based (started (c .before .before)) .facts-base in
     let e = n .ensures .0 in
     let from = b .ensures in
     puts-then
@@ -100,5 +94,5 @@ returns c =
 pub all-facts-spec : {M : Type 1} → statement M
 all-facts-spec =
     tie.close
-    (tie.spec word-requires word-requires-2 facts-begin-requires cast-facts facts-requires mul-facts add-facts
-    cast-facts-2 facts-requires-2 same-length returns)
+    (tie.spec word-requires word-requires-2 facts-base-requires facts-requires mul-facts add-facts facts-requires-2
+    same-length returns)

@@ -9,6 +9,7 @@ use borrow.Author.Tests.{le-leb, lt-leb}
 use Rattle.task.specs.Table.{atomIn}
 use Rattle.words.proofs.Ranges.{and-more, and-fails}
 use Rattle.task.proofs.AtomRuns.{rolesLeft, roles-step, roles-last}
+use borrow.Author.Needs.{needs}
 use Rattle.task.proofs.table.schemas.roles_ascend.Statement.{statement}
 use Rattle.task.proofs.table.schemas.roles_ascend.Tie as tie
 
@@ -67,6 +68,9 @@ loop-again c =
 role-requires-3 : tie.Need-role-requires-3 Inv-loop μ-loop
 role-requires-3 c κs = let start = c .before .before .before in (start .pre .0, omega arith)
 
+cast-result : tie.Need-cast-result Inv-loop μ-loop
+cast-result c = search needs
+
 returns-2 : tie.Need-returns-2 Inv-loop μ-loop
 returns-2 c =
     let at = c .before .before in
@@ -79,4 +83,4 @@ pub roles-ascend-spec : {M : Type 1} → statement M
 roles-ascend-spec =
     tie.close
     (tie.spec Inv-loop μ-loop loop-holds add-loop add-role role-requires role-requires-2 returns add-i loop-less
-    loop-again role-requires-3 returns-2)
+    loop-again role-requires-3 cast-result returns-2)

@@ -1,6 +1,6 @@
 -- `task::table::schemas::schema_fits` meets its contract.
 -- The tests of a schema in turn: each that fails fails the whole, and the last decides.
-use Prim.Native.Nat.{ℕ, _+_, _-_}
+use Prim.Native.Nat.{ℕ, _-_}
 use mathlib.Core.Path.{_≡_, sym, _∙_, ap}
 use mathlib.Core.Bool.{Bool, true, false}
 use mathlib.Core.List.{List}
@@ -8,7 +8,6 @@ use native.Mathlib.Omega.{arith}
 use lib.ListN.{getD}
 use borrow.Author.Tests.{le-leb, lt-leb, not-true, not-false}
 use Rattle.words.specs.Lists.{all, any, every, upTo, upFrom}
-use Rattle.task.specs.Limits.{headWords}
 use Rattle.task.specs.Layout.{paramsIn}
 use Rattle.task.specs.Task.{names}
 use Rattle.task.specs.WordTests.{argWordsFit, atomsIn, schemaWordsFit, KnownIn}
@@ -22,8 +21,8 @@ use Rattle.task.proofs.table.schemas.schema_fits.Statement.{statement}
 use Rattle.task.proofs.table.schemas.schema_fits.Tie as tie
 
 -- the function's start, seen from behind the parameter count and each test
-abbrev start₁ : tie.After-word2 → tie.Start
-start₁ c = c .before .before .before
+abbrev start₁ : tie.After-params-of → tie.Start
+start₁ c = c .before .before
 
 abbrev start₂ : tie.After-roles-ascend → tie.Start
 start₂ c = start₁ (c .before .before .before .before)
@@ -56,10 +55,8 @@ fails : (c : tie.Start) (k : ℕ) → getD (tests c) k true ≡ false → false 
     schemaWordsFit (words c) (c .args .s) (indices c)
 fails c k e = some-fails (tests c) k e ∙ sym (whole c)
 
-params : (c : tie.After-word2) → c .word2 .result ≡ paramsIn (words (start₁ c)) (start₁ c .args .s)
-params c =
-    c .word2 .ensures .0 ∙ ap (λ (n : ℕ). getD (words (start₁ c)) (headWords + n + start₁ c .args .s) 0)
-    (c .before .word .ensures .0)
+params : (c : tie.After-params-of) → c .params-of .result ≡ paramsIn (words (start₁ c)) (start₁ c .args .s)
+params c = c .params-of .ensures .0
 
 -- the tests by the parameter count that was read are those by the schema's
 args-are : (c : tie.After-atoms-fit) → c .atoms-fit .result ≡ getD (tests (start₃ c)) 4 true
@@ -82,21 +79,12 @@ known : (c : tie.Else5) → KnownIn (words (start₃ (c .before))) (start₃ (c 
     (start₃ (c .before) .args .end)
 known c i l m =
     let start = start₃ (c .before) in
-    let n = c .before .before .before .before .before .before .before .word2 .result in
+    let n = c .before .before .before .before .before .before .before .params-of .result in
     args-fit-known (words start) n i (all-from (argWordsFit (words start) n) (start .args .first) (many start)
     (sym (c .before .atoms-fit .ensures) ∙ not-false _ (c .if5 .left)) i l (omega arith))
 
-word-requires : tie.Need-word-requires
-word-requires c κs = search needs
-
-add-word : tie.Need-add-word
-add-word c = search needs
-
-add-word-2 : tie.Need-add-word-2
-add-word-2 c = search needs
-
-word-requires-2 : tie.Need-word-requires-2
-word-requires-2 c κs = search needs
+params-of-requires : tie.Need-params-of-requires
+params-of-requires c κs = search needs
 
 returns : tie.Need-returns
 returns c =
@@ -171,6 +159,6 @@ returns-8 c =
 pub schema-fits-spec : {M : Type 1} → statement M
 schema-fits-spec =
     tie.close
-    (tie.spec word-requires add-word add-word-2 word-requires-2 returns sub-if2 returns-2 sub-if3 returns-3
-    roles-ascend-requires returns-4 atoms-fit-requires returns-5 atoms-differ-requires returns-6 all-named-requires
-    returns-7 parts-fit-requires returns-8)
+    (tie.spec params-of-requires returns sub-if2 returns-2 sub-if3 returns-3 roles-ascend-requires returns-4
+    atoms-fit-requires returns-5 atoms-differ-requires returns-6 all-named-requires returns-7 parts-fit-requires
+    returns-8)

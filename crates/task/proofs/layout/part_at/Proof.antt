@@ -1,0 +1,23 @@
+-- `task::layout::part_at` meets its contract: the fourth word of the row.
+use Prim.Native.Nat.{ℕ, _+_}
+use mathlib.Core.Path.{_∙_, ap}
+use lib.ListN.{getD}
+use borrow.Author.Needs.{needs}
+use Rattle.task.specs.Table.{atomIn}
+use Rattle.task.proofs.layout.part_at.Statement.{statement}
+use Rattle.task.proofs.layout.part_at.Tie as tie
+
+add-word-at : tie.Need-add-word-at
+add-word-at c = search needs
+
+word-at-requires : tie.Need-word-at-requires
+word-at-requires c κs = search needs
+
+returns : tie.Need-returns
+unfolding atomIn
+returns c =
+    let e = c .word-at .ensures in
+    (e, λ i p. e ∙ ap (λ (b : ℕ). getD (c .before .before .args .table .now) (b + 3) 0) p)
+
+pub part-at-spec : {M : Type 1} → statement M
+part-at-spec = tie.close (tie.spec add-word-at word-at-requires returns)
