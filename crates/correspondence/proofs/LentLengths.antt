@@ -19,7 +19,7 @@ use Rattle.task.specs.Run.{runTold, runDone, runOutcome}
 use Rattle.blocks.specs.Blocks.{unfoldOutcome, foldOutcome}
 use Rattle.words.proofs.Lists.{both-ft, or-left, or-right}
 use Rattle.task.proofs.BadSteps.{steps-whole}
-use Rattle.task.proofs.Rows.{length-stateIn}
+use Rattle.task.proofs.StateWords.{length-stateIn}
 use Rattle.task.proofs.SizeLaws.{state-asc}
 use Rattle.task.proofs.RunOutcome.{run-no-table, run-bad-step, run-no-state, run-done}
 use Rattle.task.proofs.RoomEnough.{never-outgrown}

@@ -26,8 +26,7 @@ use Rattle.task.proofs.States.{holds-in, in-holds}
 use Rattle.task.proofs.AtomsStand.{noFact}
 use Rattle.words.proofs.Words.{wordsAt-is, length-wordsAt}
 use Rattle.task.proofs.RecordWords.{arity-few, length-recordWords}
-use Rattle.task.proofs.StateWords.{Short, length-state, at-record, state-words, words-read, words-state}
-use Rattle.task.proofs.Rows.{length-stateIn}
+use Rattle.task.proofs.StateWords.{Short, length-state, at-record, state-words, words-read, words-state, length-stateIn}
 use Rattle.tokens.proofs.SplitAnswers.{AcceptedSplit}
 use Rattle.correspondence.specs.SharedRuns.{withFree}
 use Rattle.correspondence.specs.SharedRunsOnWords.{procnoneRecord, thenProcnone, LeavesProcnone, SecondStart}
