@@ -1,5 +1,5 @@
--- Places that are numbered in blocks, as the atoms of a table are by their schemas: which places have a number, and that
--- numbers which never fall lie so.
+-- Places numbered in blocks, as the atoms of a table are by their schemas: which places have a number, and that numbers
+-- which never fall lie so.
 use Prim.Native.Nat.{ℕ, zero, suc, _+_, _-_, _≤_, _<_}
 use mathlib.Core.Path.{_≡_, refl, _∙_, ap, ap₂}
 use mathlib.Core.Bool.{Bool}

@@ -6,19 +6,18 @@ use mathlib.Core.Bool.{true}
 use mathlib.Core.List.{List, [], _∷_, map}
 use native.Mathlib.Omega.{arith}
 use native.Mathlib.Decide.{decLt}
-use lib.ListN.{length, getD, replicate, List·getD-append}
+use lib.ListN.{length, getD}
 use Rattle.words.specs.Lists.{upTo, upFrom, padded}
 use Rattle.task.specs.Task.{Fact, Task, factsFit, wellFormed}
 use Rattle.words.specs.Words.{wordsAt}
 use Rattle.task.specs.Run.{recordWords, stateWords, recordAt, stateIn, roomIn, isState}
 use Rattle.task.specs.Records.{recordNumber, numberAt, rowNumber, RowsAscend, Keeps}
-use Rattle.words.proofs.Lists.{in-all, in-getD}
-use Rattle.words.proofs.Lists.{Less, tabulate, length-padded}
+use Rattle.words.proofs.Lists.{in-all, in-getD, Less, tabulate, length-padded}
 use Rattle.task.proofs.Tests.{fits, tests-fact}
 use Rattle.task.proofs.States.{key, Asc, asc-cons, asc-ascending, fitting-argsFit, Fits, State, factsFit-state}
-use Rattle.words.proofs.Words.{At, wordsAt-at, at-wordsAt}
+use Rattle.words.proofs.Words.{At, at-move, wordsAt-at, at-wordsAt}
 use Rattle.task.proofs.AtomsStand.{noFact}
-use Rattle.task.proofs.RecordWords.{length-recordWords}
+use Rattle.task.proofs.RecordWords.{length-recordWords, record-in}
 use Rattle.task.proofs.StateWords.{Short, state-here, here-state, length-stateIn, length-state, at-record}
 use Rattle.task.proofs.StateWords.{join-records}
 use Rattle.task.proofs.Numbers.{Slight, slight, less-number}
@@ -63,24 +62,18 @@ module _ (t : Task) (wf : wellFormed t ≡ true) where
         room = room-words w n (c .room);
       }
 
+  row-stands : (w : List ℕ) (s : List Fact) → State t s → Rows w s → (k : ℕ) → k < length s →
+      At w (5 * k) (recordWords (getD s k noFact))
+  row-stands w s c r k l j m =
+      let f = getD s k noFact in
+      let five = length-recordWords f (short s c f (in-getD s k noFact l)) in
+      r k j l (omega arith)
+
   pub record-read : (w : List ℕ) (s : List Fact) → State t s → Rows w s → (k : ℕ) → k < length s →
       recordAt t w k ≡ getD s k noFact
-  unfolding recordAt recordWords padded
-  record-read w s st r k l =
+  record-read w s c r k l =
       let f = getD s k noFact in
-      let c = st .fit f (in-getD s k noFact l) in
-      let short = slight t wf f c .short in
-      let zs : List ℕ = replicate (4 - length (f .args)) 0 in
-      let z : 5 * k ≡ 5 * k + 0 = omega arith in
-      let p : getD w (5 * k) 0 ≡ f .pred = ap (λ (x : ℕ). getD w x 0) z ∙ r k 0 l (omega arith) in
-      let n : getD (t .arities) (getD w (5 * k) 0) 0 ≡ length (f .args) = ap (λ (x : ℕ). getD (t .arities) x 0) p ∙
-      sym (c .count) in
-      let a : At w (5 * k + 1) (f .args) = λ j m.
-      (let e : 5 * k + 1 + j ≡ 5 * k + suc j = omega arith in
-      ap (λ (x : ℕ). getD w x 0) e ∙ (r k (suc j) l (omega arith) ∙ List·getD-append (f .args) zs 0 j m)) in
-      let e : wordsAt w (5 * k + 1) (getD (t .arities) (getD w (5 * k) 0) 0) ≡ f .args =
-      ap (wordsAt w (5 * k + 1)) n ∙ wordsAt-at w (5 * k + 1) (f .args) a in
-      λ i. record { pred = p i; args = e i }
+      record-in t w k f (c .fit f (in-getD s k noFact l) .count) (row-stands w s c r k l)
 
   pub kept-facts : (w : List ℕ) (n : ℕ) (s : List Fact) → Kept t w n s → stateIn t w n ≡ s
   unfolding stateIn upTo
@@ -103,16 +96,14 @@ module _ (t : Task) (wf : wellFormed t ≡ true) where
       let e = kept-facts w n s c in
       let few = short s (c .state) in
       let len = length-state s few in
-      let a : At w 0 (stateWords s) = join-records w s few (λ k l j m.
-      let f = getD s k noFact in
-      let five = length-recordWords f (few f (in-getD s k noFact l)) in
-      let z : 0 + 5 * k + j ≡ 5 * k + j = omega arith in
-      ap (λ (x : ℕ). getD w x 0) z ∙ c .rows k j l (omega arith)) in
+      let a : At w 0 (stateWords s) = join-records w s few (λ k l.
+      at-move w (5 * k) (0 + 5 * k) (recordWords (getD s k noFact)) (omega arith)
+      (row-stands w s (c .state) (c .rows) k l)) in
       let q : 5 * n ≡ length (stateWords s) = sym (len ∙ ap (λ (m : ℕ). 5 * m) (c .count)) in
       record {
         state = here-state t w n (record {
           room = words-room w n (c .room);
-          facts = subst (λ (x : List Fact). factsFit (t .objects) (t .arities) x ≡ true) (sym e) (state-fit s (c .state));
+          facts = ap (factsFit (t .objects) (t .arities)) e ∙ state-fit s (c .state);
           words = ap (wordsAt w 0) q ∙ (wordsAt-at w 0 (stateWords s) a ∙ ap stateWords (sym e));
         });
         facts = e;

@@ -19,9 +19,10 @@ use Rattle.words.proofs.Lists.{all-in, in-getD, sum-take-rises}
 use Rattle.words.proofs.Words.{At, at-right}
 use Rattle.task.proofs.Tests.{task-tests}
 use Rattle.task.proofs.AtomsStand.{Sized, Stands, factAtom, noFact, noAtom, counts}
-use Rattle.task.proofs.Tables.{startOf, content-used, zero-behind, schema-stands, init-stands, goal-stands, of-table}
-use Rattle.task.proofs.TablesByIndex.{Frame, table-frame, table-long, used-inside, atom-lies, start-suc, arity-at}
-use Rattle.task.proofs.TablesByIndex.{schemas-word, arities-word, init-word, goal-word}
+use Rattle.task.proofs.Tables.{startOf, content-used, zero-behind, schema-stands, init-stands, goal-stands}
+use Rattle.task.proofs.Tables.{of-table}
+use Rattle.task.proofs.TablesByIndex.{Frame, table-frame, table-long, used-inside, atom-lies, start-suc}
+use Rattle.task.proofs.TablesByIndex.{arity-at, schemas-word, arities-word, init-word, goal-word}
 use Rattle.task.proofs.TablesByWords.{FactWord, WordsFit}
 
 pub record Placed (w : List ℕ) (i : ℕ) : Type 0 where

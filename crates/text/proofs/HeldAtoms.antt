@@ -19,8 +19,8 @@ use Rattle.task.proofs.Tables.{tableWords-is}
 use Rattle.text.specs.Reading.{goOn, refuse}
 use Rattle.text.specs.Text.{Draft, rolePhase, addAtom, Line, atomLine, takeLine}
 use Rattle.text.specs.ReadCode.{Standing, Wrote, Listed, Fitting, bareAtom, rowSame, phaseNumber}
-use Rattle.text.specs.Holding.{Few, rowAt, rowBlocks, rowsOf, Holds, Touched, InSchema, withAtom, oneAtomMore, entryOf}
-use Rattle.text.specs.Holding.{Grows, firstRow, rowsAt}
+use Rattle.text.specs.Holding.{Few, rowAt, rowBlocks, rowsOf, Holds, Touched, InSchema, withAtom, oneAtomMore}
+use Rattle.text.specs.Holding.{entryOf, Grows, firstRow, rowsAt}
 use Rattle.text.proofs.Reading.{need-met}
 use Rattle.text.proofs.Growing.{all-snoc}
 use Rattle.text.proofs.LineTurns.{need-fails}
@@ -115,13 +115,15 @@ module _ {d : Draft} {w : List ℕ} {c : Counts} (h : Holds d w c) where
   pub inits-length : length initRows ≡ atomSize * c .initial
   inits-length =
       let e = h .initial in
-      let l = length-rows (factWords 3) atomSize (d .task .init) (length-facts (d .task) 3 (d .task .init) init-sized) in
+      let l = length-rows (factWords 3) atomSize (d .task .init)
+      (length-facts (d .task) 3 (d .task .init) init-sized) in
       omega arith
 
   pub goals-length : length goalRows ≡ atomSize * c .goal
   goals-length =
       let e = h .goal in
-      let l = length-rows (factWords 4) atomSize (d .task .goal) (length-facts (d .task) 4 (d .task .goal) goal-sized) in
+      let l = length-rows (factWords 4) atomSize (d .task .goal)
+      (length-facts (d .task) 4 (d .task .goal) goal-sized) in
       omega arith
 
   pub schemas-length : length schemaRows ≡ atomSize * c .closed

@@ -21,8 +21,8 @@ use Rattle.text.specs.Reading.{goOn, refuse}
 use Rattle.text.specs.Text.{Draft, inInit, inGoal, atPhase, withInit, withGoal, follows, addFact, init}
 use Rattle.text.specs.Text.{Phase, Line, takeLine}
 use Rattle.text.specs.ReadCode.{Standing, Wrote, Listed, Fitting, bareAtom, phaseNumber}
-use Rattle.text.specs.Holding.{Few, rowAt, rowBlocks, rowsOf, Holds, Allows, factKey, factLine, factsOf, withFacts}
-use Rattle.text.specs.Holding.{soFar, withCounted, oneFactMore, Grows, entryOf, rowsAt}
+use Rattle.text.specs.Holding.{Few, rowAt, rowBlocks, rowsOf, Holds, Allows, factKey, factLine, factsOf}
+use Rattle.text.specs.Holding.{withFacts, soFar, withCounted, oneFactMore, Grows, entryOf, rowsAt}
 use Rattle.text.proofs.Reading.{need-met}
 use Rattle.text.proofs.Growing.{all-snoc}
 use Rattle.text.proofs.LineTurns.{need-fails}

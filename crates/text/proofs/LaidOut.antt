@@ -88,7 +88,14 @@ module _ {d : Draft} {w : List ℕ} {c : Counts} (h : Holds d w c) (closed : 7 �
   many = atomSize * (((c .closed + c .atoms) + c .initial) + c .goal)
 
   abbrev head : List ℕ
-  head = c .objects ∷ c .predicates ∷ c .schemas ∷ c .closed ∷ c .initial ∷ c .goal ∷ []
+  head = headBlock (record {
+    objects = c .objects;
+    predicates = c .predicates;
+    schemas = c .schemas;
+    schemaAtoms = c .closed;
+    initialAtoms = c .initial;
+    goalAtoms = c .goal;
+  })
 
   -- the blocks behind the parameter counts
   abbrev atomBlocks : List (List ℕ)

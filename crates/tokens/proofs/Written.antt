@@ -10,7 +10,7 @@ use lib.ListN.{length, getD, replicate, length-map}
 use borrow.Author.Tests.{leb-true}
 use Rattle.words.specs.Lists.{concatMap, upTo}
 use Rattle.task.specs.Limits.{headWords}
-use Rattle.task.specs.Layout.{headBlock, headIn, factsBase, atomBase}
+use Rattle.task.specs.Layout.{headIn, factsBase, atomBase}
 use Rattle.task.specs.Limits.{tableWords, atomSize, mostPredicates, mostSchemas, mostSchemaAtoms, mostInitial, mostGoal}
 use Rattle.task.specs.Task.{Fact, Schema, Task, schemaAtoms, wellFormed}
 use Rattle.task.specs.Run.{schemaAt}
@@ -26,7 +26,7 @@ use Rattle.task.proofs.TablesByIndex.{Frame, table-frame, objects-word, arities
 use Rattle.task.proofs.TablesByIndex.{init-word, goal-word}
 use Rattle.words.specs.Sets.{member, members, wordBits}
 use Rattle.tokens.specs.Split.{has, procnone, token, orders, free, splitSchema, splitTask}
-use Rattle.tokens.specs.Writing.{setSize, countWords, arityWords, setSizes}
+use Rattle.tokens.specs.Writing.{setSize, splitHead, arityWords, setSizes}
 use Rattle.tokens.proofs.Places.{has-small}
 use Rattle.words.proofs.SetMembers.{filter-below}
 use Rattle.tokens.proofs.Predicates.{predicate-count}
@@ -47,19 +47,27 @@ module _ {w : List ℕ} {sizes : Sizes} {kept : List ℕ} (S : AcceptedKept w si
   frame = table-frame w (S .table)
 
   -- ---- counts
-  pub counts-written : headBlock (headOf (splitTask t)) ≡ countWords w sizes
+  pub head-written : headOf (splitTask t) ≡ splitHead w sizes
   unfolding splitTask
-  counts-written =
+  head-written =
       let z = S .sized in
-      let o = objects-word w frame in
-      let p : length (splitTask t .arities) ≡ headIn w .predicates + 1 + sizes .later + sizes .pars =
+      let objects = objects-word w frame in
+      let predicates : length (splitTask t .arities) ≡ splitHead w sizes .predicates =
       omega (arith, predicate-count t, arities-word w frame, z .later, z .pars) in
-      let i : length (splitTask t .init) ≡ headIn w .initialAtoms + 1 =
+      let schemas = sym (z .schemas) in
+      let schemaAtoms = sym (z .atoms) in
+      let initialAtoms : length (splitTask t .init) ≡ splitHead w sizes .initialAtoms =
       omega (arith, init-count t, init-word w frame) in
-      let l : length (splitTask t .goal) ≡ headIn w .goalAtoms + 1 = omega (arith, goal-count t, goal-word w frame) in
-      let g = sym (z .schemas) in
-      let h = sym (z .atoms) in
-      λ k. o k ∷ p k ∷ g k ∷ h k ∷ i k ∷ l k ∷ []
+      let goalAtoms : length (splitTask t .goal) ≡ splitHead w sizes .goalAtoms =
+      omega (arith, goal-count t, goal-word w frame) in
+      λ k. record {
+        objects = objects k;
+        predicates = predicates k;
+        schemas = schemas k;
+        schemaAtoms = schemaAtoms k;
+        initialAtoms = initialAtoms k;
+        goalAtoms = goalAtoms k;
+      }
 
   pub arities-written : splitTask t .arities ≡ arityWords w sizes
   unfolding splitTask

@@ -7,7 +7,7 @@ use mathlib.Core.List.{List, [], _∷_, _++_, map}
 use lib.ListN.{length, getD, replicate}
 use lib.Dec.{eqb}
 use Rattle.words.specs.Lists.{filter, concatMap, upTo}
-use Rattle.task.specs.Layout.{headIn}
+use Rattle.task.specs.Layout.{Head, headBlock, headIn}
 use Rattle.task.specs.Task.{Atom, Task, precondition, addition, deletion}
 use Rattle.task.specs.Limits.{mostAtoms, mostParameters, atomSize}
 use Rattle.task.specs.Table.{atomWords, taskOf, aritiesIn}
@@ -95,12 +95,19 @@ pub record TokensOf (t : Task) (s j : ℕ) (r : PartTokens) : Type 0 where
   pub pars : ParsHere t s (orders t s) j (r .pars)
 
 -- ---- the head, the arities, and the parameter counts of the parts
--- the six counts of the split, by its sizes
+-- the counts of the split, by its sizes
+abbrev pub splitHead : List ℕ → Sizes → Head
+splitHead w r = record {
+  objects = headIn w .objects;
+  predicates = headIn w .predicates + 1 + r .later + r .pars;
+  schemas = r .schemas;
+  schemaAtoms = r .atoms;
+  initialAtoms = headIn w .initialAtoms + 1;
+  goalAtoms = headIn w .goalAtoms + 1;
+}
+
 abbrev pub countWords : List ℕ → Sizes → List ℕ
-countWords w r =
-    headIn w .objects ∷ (headIn w .predicates + 1 + r .later + r .pars) ∷ r .schemas ∷ r .atoms ∷
-    (headIn w .initialAtoms + 1) ∷
-    (headIn w .goalAtoms + 1) ∷ []
+countWords w r = headBlock (splitHead w r)
 
 -- the old arities, 0 for procnone and each do, 1 for each par
 abbrev pub arityWords : List ℕ → Sizes → List ℕ

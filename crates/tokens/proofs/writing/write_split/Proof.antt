@@ -20,7 +20,7 @@ use Rattle.words.specs.Putting.{Puts}
 use Rattle.tokens.proofs.Predicates.{predicate-count}
 use Rattle.tokens.proofs.Sizes.{init-count, goal-count}
 use Rattle.tokens.proofs.Splitting.{split-well, few-schemas, few-parts, predicates-word}
-use Rattle.tokens.proofs.Written.{Room, room, counts-written, arities-written, params-written}
+use Rattle.tokens.proofs.Written.{Room, room, head-written, arities-written, params-written}
 use Rattle.tokens.proofs.writing.write_split.Statement.{statement}
 
 -- the places, one from the next
@@ -97,7 +97,7 @@ head-put : (c : tie.After-head) →
     let s = begun c in Puts (s .args .out .now) 0 (headBlock (headOf (split s))) (headed c) (c .head .result)
 head-put c =
     let s = begun c in
-    puts-is (c .head .ensures) refl refl (headBlock (headOf (split s))) (counts-written (s .pre .0))
+    puts-is (c .head .ensures) refl refl (headBlock (headOf (split s))) (ap headBlock (head-written (s .pre .0)))
 
 names-put : (c : tie.After-arities) →
     let h = head c in
