@@ -85,6 +85,28 @@ fn takes_so_many_bytes() {
     }
 }
 
+fn joined(numbers: impl Iterator<Item = usize>) -> String {
+    numbers.map(|n| n.to_string()).collect::<Vec<_>>().join(",")
+}
+
+/// No unfolding is longer: 100 steps of 16 parts, three digits for each schema and each of 12 objects.
+#[test]
+fn longest_unfolding() {
+    let mut task = format!("task=1\nobjects=1000\narity=0{}\n", ",4".repeat(16));
+    task += &"schema=0\npre=0:\npart=0\n".repeat(100);
+    task += "schema=12\n";
+    for atom in 0..48 {
+        let first = 4 * (atom % 3);
+        task += &format!("pre={}:{}\n", 1 + atom / 3, joined(first..first + 4));
+    }
+    task += &format!("part={}\nend=1\n", joined((0..48).map(|atom| atom / 3)));
+    let plan = format!("step=100:{}\n", joined(900..912)).repeat(100) + "end=1\n";
+    let (task, plan) = (Some(task.as_bytes()), Some(plan.as_bytes()));
+    let printed = unfold(&Program::named("unfold"), task, plan);
+    assert_eq!(printed.len(), 91_206);
+    assert_eq!(printed, unfold_program(task, plan));
+}
+
 #[test]
 fn vectors() {
     let program = Program::named("unfold");
