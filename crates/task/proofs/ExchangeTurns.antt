@@ -37,10 +37,16 @@ use Rattle.task.proofs.ExchangeLaws.{
   rest-comes,
 }
 
-module _ (w steps : List ℕ) (i add del k next : ℕ) (found : List ℕ) (n : ℕ) (sp : SpanOf w steps i add del)
-    (l : add ≤ next) (m : next ≤ del)
-    (st : isState (taskOf w) found n ≡ true)
-    (h : all (holds (stateIn (taskOf w) found n)) (groundSpan w steps i add (next - add)) ≡ true) where
+-- what is known as a delete is dealt with: the adds before the next one hold
+pub record Passed (w steps : List ℕ) (i add del next : ℕ) (found : List ℕ) (n : ℕ) : Type 0 where
+  pub span : SpanOf w steps i add del
+  pub from : add ≤ next
+  pub within : next ≤ del
+  pub state : isState (taskOf w) found n ≡ true
+  pub hold : all (holds (stateIn (taskOf w) found n)) (groundSpan w steps i add (next - add)) ≡ true
+
+module _ {w steps : List ℕ} {i add del next : ℕ} {found : List ℕ} {n : ℕ} (p : Passed w steps i add del next found n)
+    (k : ℕ) where
   abbrev s : List Fact
   s = stateIn (taskOf w) found n
 
@@ -48,48 +54,49 @@ module _ (w steps : List ℕ) (i add del k next : ℕ) (found : List ℕ) (n : �
   d = groundAt w steps i k
 
   asc : Asc s
-  asc = state-asc w found n (sp .tabled) st
+  asc = state-asc w found n (p .span .tabled) (p .state)
 
   same-or-not : (x : Fact) → (x ≡ d) ⊎ (x ≡ d → ⊥)
   same-or-not x = elim (dec-in (d ∷ []) x) [ inl j ↦ inl (one-in j) | inr j ↦ inr (λ e. j (here e)) ]
 
   pub not-there : holds s d ≡ false → ExchangedOne w steps i add del k found n found n next
   not-there e = record {
-    from = l;
-    within = m;
-    state = st;
-    hold = h;
+    from = p .from;
+    within = p .within;
+    state = p .state;
+    hold = p .hold;
     same = same-end (groundSpan w steps i add (del - add)) d s s asc asc
         (λ x j. inr (j, λ q. both-ft (in-holds (in-eq (sym q) j)) e)) (λ x j q. inr j);
   }
 
-  module _ (fresh : New) (c : FirstNew w steps i next del found n fresh) where
+  module _ {fresh : New} (c : FirstNew w steps i next del found n fresh) where
     abbrev new : ℕ
     new = fresh .atom
 
     to-new : Held w steps i s add new
-    to-new = held-join w steps i s add next new (all-held w steps i s add next h)
+    to-new = held-join w steps i s add next new (all-held w steps i s add next (p .hold))
         (all-held w steps i s next new (c .hold))
 
     from-add : add ≤ new
-    from-add = let z = c .from in omega arith
+    from-add = let y = p .from in let z = c .from in omega arith
 
     passed : SpanOf w steps i add new
-    passed = span-front sp new from-add (c .within)
+    passed = span-front (p .span) new from-add (c .within)
 
     -- the delete is an add that holds
     pub is-add : {number : ℕ} {r : Bool} → Known (taskOf w) found n d number →
         r ≡ all (λ f. not (eqb (recordNumber f) number)) (groundSpan w steps i add (new - add)) → r ≡ false →
         ExchangedOne w steps i add del k found n found n new
     is-add known e q =
-        let p = not-false (holds (groundSpan w steps i add (new - add)) d) (sym (e ∙ span-absent passed known) ∙ q) in
-        let (j, a, b, y) = span-in w steps i add new d from-add (holds-in (groundSpan w steps i add (new - add)) d p) in
+        let one = not-false (holds (groundSpan w steps i add (new - add)) d) (sym (e ∙ span-absent passed known) ∙ q) in
+        let (j, a, b, y) =
+        span-in w steps i add new d from-add (holds-in (groundSpan w steps i add (new - add)) d one) in
         let u : In d (groundSpan w steps i add (del - add)) =
         in-eq y (in-span w steps i add del j a (let z = c .within in omega arith)) in
         record {
           from = from-add;
           within = c .within;
-          state = st;
+          state = p .state;
           hold = held-all w steps i s add new from-add to-new;
           same = same-end (groundSpan w steps i add (del - add)) d s s asc asc
               (λ x j. elim (same-or-not x) [ inl z ↦ inl (in-eq z u) | inr z ↦ inr (j, z) ]) (λ x j z. inr j);
@@ -100,9 +107,9 @@ module _ (w steps : List ℕ) (i add del k next : ℕ) (found : List ℕ) (n : �
         r ≡ all (λ f. not (eqb (recordNumber f) number)) (groundSpan w steps i add (new - add)) → r ≡ true →
         Held w steps i (removeAll (d ∷ []) s) add new
     others-hold known e q j a b =
-        let p = not-true (holds (groundSpan w steps i add (new - add)) d) (sym (e ∙ span-absent passed known) ∙ q) in
+        let none = not-true (holds (groundSpan w steps i add (new - add)) d) (sym (e ∙ span-absent passed known) ∙ q) in
         in-removed (d ∷ []) s (groundAt w steps i j) (to-new j a b) (λ z.
-        both-ft (in-holds (in-eq (sym (one-in z)) (in-span w steps i add new j a b))) p)
+        both-ft (in-holds (in-eq (sym (one-in z)) (in-span w steps i add new j a b))) none)
 
     left-in : (x : Fact) → In x (removeAll (d ∷ []) s) → In x s × (x ≡ d → ⊥)
     left-in x j = let (y, z) = removed-in (d ∷ []) s x j in (y, λ q. z (here q))
@@ -147,7 +154,7 @@ module _ (w steps : List ℕ) (i add del k next : ℕ) (found : List ℕ) (n : �
               same-end (groundSpan w steps i add (del - add)) d s (insert a rest) asc
               (asc-insert a (removed-asc (d ∷ []) asc))
               (λ x j. elim (in-insert a rest x j) [ inl v ↦ inl (in-eq v u) | inr v ↦ inr (left-in x v) ])
-              (λ x j v. inr (insert-old a rest x (in-removed (d ∷ []) s x j (λ p. v (one-in p))))) fs;
+              (λ x j v. inr (insert-old a rest x (in-removed (d ∷ []) s x j (λ m. v (one-in m))))) fs;
         }
 
 -- ---- all deletes, one after another

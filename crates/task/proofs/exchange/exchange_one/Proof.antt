@@ -3,112 +3,129 @@
 -- the next missing add takes its row (`replaced-by`); no add is missing, and its row goes out alone (`goes-alone`). The
 -- rows of a state ascend, so whether the row that `find` gives has the delete's number says whether the delete holds
 -- (`found-holds`).
-use mathlib.Core.Path.{sym, _∙_}
+use Prim.Native.Nat.{_*_, _≤_, _<_}
+use mathlib.Core.Path.{_≡_, sym, _∙_}
 use native.Mathlib.Omega.{arith}
+use lib.ListN.{length}
 use borrow.Author.Tests.{not-true, not-false}
+use Rattle.task.specs.Limits.{recordSize}
 use Rattle.task.specs.Table.{taskOf}
-use Rattle.task.specs.Records.{Known}
+use Rattle.task.specs.Records.{Known, rowNumber}
 use Rattle.task.specs.Spans.{groundAt}
 use Rattle.task.proofs.GroundWords.{span-atom}
 use Rattle.task.proofs.RowsFound.{row-is, found-holds, row-out}
 use Rattle.task.proofs.RowsReplaced.{row-replaced}
 use Rattle.task.proofs.SpanLaws.{state-long, state-ascends, atom-known, known-small}
 use Rattle.task.proofs.SizeLaws.{span-front, span-back}
-use Rattle.task.proofs.ExchangeTurns.{not-there, is-add, replaced-by, goes-alone}
+use Rattle.task.proofs.ExchangeTurns.{Passed, not-there, is-add, replaced-by, goes-alone}
 use borrow.Author.Needs.{needs}
 use Rattle.task.proofs.exchange.exchange_one.Statement.{statement}
 use Rattle.task.proofs.exchange.exchange_one.Tie as tie
 
-abbrev start : tie.After-is-row → tie.Start
-start c = c .before .before .before .before .before .before .before .before
+-- ---- what is known at the start
+passed : (s : tie.Start) → let a = s .args in
+    Passed (a .table .now) (a .steps .now) (a .i) (a .add) (a .del) (a .next) (a .state .now) (a .n)
+passed s =
+    let p = s .pre .1 in
+    record { span = p .0; from = p .1 .0 .0; within = p .1 .0 .1; state = p .1 .1 .0; hold = p .1 .1 .1 }
+
+long : (s : tie.Start) → recordSize * s .args .n ≤ length (s .args .state .now)
+long s = state-long _ _ _ (s .pre .0 .tabled) (passed s .state)
+
+-- ---- and once the delete is looked for
+abbrev start : tie.After-find → tie.Start
+start f = f .before .before .before .before .before .before
+
+abbrev entry : tie.After-is-row → tie.Start
+entry r = start (r .before .before)
 
 -- the delete is a ground atom of the task, and its number that of the code
-known : (c : tie.After-is-row) →
-    Known (taskOf (start c .args .table .now)) (start c .args .state .now) (start c .args .n)
-    (groundAt (start c .args .table .now) (start c .args .steps .now) (start c .args .i) (start c .args .k))
-    (c .before .before .before .before .ground .result)
-known c = atom-known (start c .pre .0) (start c .pre .1 .1 .1 .0) (c .before .before .before .before .ground .ensures)
+known : (r : tie.After-is-row) → let a = entry r .args in
+    Known (taskOf (a .table .now)) (a .state .now) (a .n)
+    (groundAt (a .table .now) (a .steps .now) (a .i) (a .k)) (r .before .before .before .before .ground .result)
+known r = atom-known (entry r .pre .0) (passed (entry r) .state) (r .before .before .before .before .ground .ensures)
 
+-- where it holds, its row is one of the state's
+row : (e : tie.Else1) → let r = e .before in
+    let k = r .before .before .find .result in
+    (k < entry r .args .n) ×
+    (rowNumber (entry r .args .state .now) k ≡ r .before .before .before .before .ground .result)
+row e = e .before .is-row .ensures .found (not-false _ (e .if1 .left))
+
+-- ---- and once the next missing add is looked for
+abbrev held : tie.After-first-new → tie.Else1
+held f = f .before .before
+
+abbrev begun : tie.After-first-new → tie.Start
+begun f = entry (held f .before)
+
+new : (f : tie.After-first-new) → let a = begun f .args in
+    f .first-new .result .atom < a .del →
+    Known (taskOf (a .table .now)) (a .state .now) (a .n)
+    (groundAt (a .table .now) (a .steps .now) (a .i) (f .first-new .result .atom)) (f .first-new .result .number)
+new f less =
+    let p = passed (begun f) in
+    let from = p .from in
+    let onward = f .first-new .ensures .from in
+    atom-known (span-atom _ _ _ _ _ (p .span) (f .first-new .result .atom) (omega arith) less) (p .state)
+    (f .first-new .ensures .is less)
+
+-- ---- the answers
 ground-requires : tie.Need-ground-requires
 ground-requires c κs = search needs
 
 find-requires : tie.Need-find-requires
 find-requires c κs =
-    let start = c .before .before .before .before .before in (
-      state-long _ _ _ (start .pre .0 .tabled)
-          (start .pre .1 .1 .1 .0),
-      state-ascends _ _ _ (start .pre .0 .tabled)
-          (start .pre .1 .1 .1 .0),
-    )
+    let s = c .before .before .before .before .before in
+    (long s, state-ascends _ _ _ (s .pre .0 .tabled) (passed s .state))
 
 is-row-requires : tie.Need-is-row-requires
-is-row-requires c κs =
-    let start = c .before .before .before .before .before .before .before in
-    state-long _ _ _ (start .pre .0 .tabled) (start .pre .1 .1 .1 .0)
+is-row-requires c κs = long (start (c .before))
 
 same-length : tie.Need-same-length
 same-length c = search needs
 
 returns : tie.Need-returns
 returns c =
-    let at-find = c .before .before .before in
-    let start = at-find .before .before .before .before .before .before in
-    not-there _ _ _ _ _ _ _ _ _ (start .pre .1 .0) (start .pre .1 .1 .0 .0) (start .pre .1 .1 .0 .1)
-    (start .pre .1 .1 .1 .0) (start .pre .1 .1 .1 .1)
-    (sym (found-holds (known (c .before)) (at-find .find .ensures) (c .before .is-row .ensures)) ∙
+    let r = c .before in
+    not-there (passed (entry r)) _ (sym (found-holds (known r) (r .before .before .find .ensures) (r .is-row .ensures)) ∙
     not-true _ (c .if1 .taken))
 
 first-new-requires : tie.Need-first-new-requires
 first-new-requires c κs =
-    let start = c .before .before .before .before .before .before .before .before .before .before in (
-      span-back
-          (start .pre .1 .0) _
-          (start .pre .1 .1 .0 .0)
-          (start .pre .1 .1 .0 .1),
-      start .pre .1 .1 .1 .0,
-    )
+    let p = passed (entry (c .before .before)) in
+    (span-back (p .span) _ (p .from) (p .within), p .state)
 
 absent-requires : tie.Need-absent-requires
 absent-requires c κs =
-    let start = c .before .before .before .before .before .before .before .before .before .before .before in
-    let from = c .first-new .ensures .from in
-    let next = start .pre .1 .1 .0 .0 in span-front (start .pre .1 .0) _ (omega arith) (c .first-new .ensures .within)
+    let p = passed (begun c) in
+    let from = p .from in
+    let onward = c .first-new .ensures .from in
+    span-front (p .span) _ (omega arith) (c .first-new .ensures .within)
 
 same-length-2 : tie.Need-same-length-2
 same-length-2 c = search needs
 
 returns-2 : tie.Need-returns-2
 returns-2 c =
-    let at-first-new = c .before .before in
-    let at-is-row = at-first-new .before .before .before in
-    let start = at-is-row .before .before .before .before .before .before .before .before in
-    is-add _ _ _ _ _ _ _ _ _ (start .pre .1 .0) (start .pre .1 .1 .0 .0) (start .pre .1 .1 .0 .1)
-    (start .pre .1 .1 .1 .0) (start .pre .1 .1 .1 .1) _ (at-first-new .first-new .ensures) (known at-is-row)
-    (c .before .absent .ensures) (not-true _ (c .if2 .taken))
+    let f = c .before .before in
+    is-add (passed (begun f)) _ (f .first-new .ensures) (known (held f .before)) (c .before .absent .ensures)
+    (not-true _ (c .if2 .taken))
 
 replace-requires : tie.Need-replace-requires
 replace-requires c κs =
-    let at-first-new = c .before .before .before .before in
-    let at-if1 = at-first-new .before .before in
-    let at-is-row = at-if1 .before in
-    let start = at-is-row .before .before .before .before .before .before .before .before in
-    let from = at-first-new .first-new .ensures .from in
-    let next = start .pre .1 .1 .0 .0 in
-    let new = atom-known (span-atom _ _ _ _ _ (start .pre .1 .0) (at-first-new .first-new .result .atom) (omega arith)
-    (c .before .if3 .taken)) (start .pre .1 .1 .1 .0)
-    (at-first-new .first-new .ensures .is (c .before .if3 .taken)) in
-    let row = at-is-row .is-row .ensures .found (not-false _ (at-if1 .if1 .left)) .0 in
-    let place = at-first-new .first-new .ensures .place (c .before .if3 .taken) .within in
-    let long = state-long _ _ _ (start .pre .0 .tabled) (start .pre .1 .1 .1 .0) in
-    (omega arith, omega arith, known-small new)
+    let f = c .before .before .before .before in
+    let less = c .before .if3 .taken in
+    let inside = row (held f) .0 in
+    let place = f .first-new .ensures .place less .within in
+    let room = long (begun f) in
+    (omega arith, omega arith, known-small (new f less))
 
 add-t25 : tie.Need-add-t25
 add-t25 c =
-    let at-if3 = c .before .before .before .before in
-    let at-find = at-if3 .before .before .before .before .before .before .before .before in
-    let start = at-find .before .before .before .before .before .before in
-    let z = at-if3 .if3 .taken in
-    let f = start .fits .del in
+    let t = c .before .before .before .before in
+    let less = t .if3 .taken in
+    let fits = begun (t .before .before .before) .fits .del in
     omega arith
 
 same-length-3 : tie.Need-same-length-3
@@ -116,60 +133,39 @@ same-length-3 c = search needs
 
 returns-3 : tie.Need-returns-3
 returns-3 c =
-    let at-replace = c .before .before in
-    let at-if3 = at-replace .before .before in
-    let at-if2 = at-if3 .before in
-    let at-absent = at-if2 .before in
-    let at-first-new = at-absent .before in
-    let at-if1 = at-first-new .before .before in
-    let at-is-row = at-if1 .before in
-    let start = at-is-row .before .before .before .before .before .before .before .before in
-    let from = at-first-new .first-new .ensures .from in
-    let next = start .pre .1 .1 .0 .0 in
-    let new = atom-known (span-atom _ _ _ _ _ (start .pre .1 .0) (at-first-new .first-new .result .atom) (omega arith)
-    (at-if3 .if3 .taken)) (start .pre .1 .1 .1 .0) (at-first-new .first-new .ensures .is (at-if3 .if3 .taken)) in
-    let row = at-is-row .is-row .ensures .found (not-false _ (at-if1 .if1 .left)) in
-    replaced-by _ _ _ _ _ _ _ _ _ (start .pre .1 .0) (start .pre .1 .1 .0 .0) (start .pre .1 .1 .0 .1)
-    (start .pre .1 .1 .1 .0) (start .pre .1 .1 .1 .1) _ (at-first-new .first-new .ensures) _ (known at-is-row)
-    (at-absent .absent .ensures) (not-false _ (at-if2 .if2 .left)) (at-if3 .if3 .taken)
-    (row-replaced (known at-is-row) new (at-first-new .first-new .ensures .new (at-if3 .if3 .taken)) row
-    (at-first-new .first-new .ensures .place (at-if3 .if3 .taken)) (at-replace .replace .ensures)
-    (at-replace .replace .kept .0))
+    let out = c .before .before in
+    let t = out .before .before in
+    let less = t .if3 .taken in
+    let a = t .before .before in
+    let f = a .before in
+    let first = f .first-new .ensures in
+    let r = held f .before in
+    replaced-by (passed (begun f)) _ first _ (known r) (a .absent .ensures) (not-false _ (t .before .if2 .left)) less
+    (row-replaced (known r) (new f less) (first .new less) (row (held f)) (first .place less) (out .replace .ensures)
+    (out .replace .kept .0))
 
 remove-row-requires : tie.Need-remove-row-requires
 remove-row-requires c κs =
-    let at-if1 = c .before .before .before .before .before .before in
-    let at-is-row = at-if1 .before in
-    let start = at-is-row .before .before .before .before .before .before .before .before in (
-      at-is-row .is-row .ensures .found
-          (not-false _ (at-if1 .if1 .left)) .0,
-      state-long _ _ _ (start .pre .0 .tabled)
-          (start .pre .1 .1 .1 .0),
-    )
+    let f = c .before .before .before .before in
+    (row (held f) .0, long (begun f))
 
 sub-t29 : tie.Need-sub-t29
-sub-t29 c =
-    let at-if1 = c .before .before .before .before .before .before .before .before .before in
-    let at-is-row = at-if1 .before in
-    let row = at-is-row .is-row .ensures .found (not-false _ (at-if1 .if1 .left)) .0 in omega arith
+sub-t29 c = omega (arith, row (held (c .before .before .before .before .before .before .before)) .0)
 
 same-length-4 : tie.Need-same-length-4
 same-length-4 c = search needs
 
 returns-4 : tie.Need-returns-4
 returns-4 c =
-    let at-remove-row = c .before .before in
-    let at-if2 = at-remove-row .before .before .before in
-    let at-absent = at-if2 .before in
-    let at-first-new = at-absent .before in
-    let at-if1 = at-first-new .before .before in
-    let at-is-row = at-if1 .before in
-    let start = at-is-row .before .before .before .before .before .before .before .before in
-    goes-alone _ _ _ _ _ _ _ _ _ (start .pre .1 .0) (start .pre .1 .1 .0 .0) (start .pre .1 .1 .0 .1)
-    (start .pre .1 .1 .1 .0) (start .pre .1 .1 .1 .1) _ (at-first-new .first-new .ensures) _ _ (known at-is-row)
-    (at-absent .absent .ensures) (not-false _ (at-if2 .if2 .left))
-    (row-out (known at-is-row) (row-is (at-is-row .is-row .ensures) (not-false _ (at-if1 .if1 .left)))
-    (at-remove-row .remove-row .ensures) (at-remove-row .remove-row .kept .0))
+    let out = c .before .before in
+    let e = out .before .before .before in
+    let a = e .before in
+    let f = a .before in
+    let r = held f .before in
+    goes-alone (passed (begun f)) _ (f .first-new .ensures) _ _ (known r) (a .absent .ensures)
+    (not-false _ (e .if2 .left))
+    (row-out (known r) (row-is (r .is-row .ensures) (not-false _ (held f .if1 .left))) (out .remove-row .ensures)
+    (out .remove-row .kept .0))
 
 pub exchange-one-spec : {M : Type 1} → statement M
 exchange-one-spec =
