@@ -19,10 +19,11 @@ use Rattle.task.specs.Table.{atomWords, factWords, schemasFrom, taskOf, isTable
 use Rattle.words.proofs.Lists.{map-same, append-concatMap, upTo-in, map-map, map-concatMap, concatMap-same}
 use Rattle.words.proofs.Words.{at-move, wordsAt-at, At}
 use Rattle.task.proofs.Tables.{length-blocks, length-facts, sixWords, content, places, factWords-is, lengths}
-use Rattle.task.proofs.Tables.{length-content, length-schemasFrom, content-fits}
+use Rattle.task.proofs.Tables.{length-schemasFrom, content-fits}
 use Rattle.task.proofs.Tests.{task-tests}
+use Rattle.task.proofs.TableReads.{table-roomy}
 use Rattle.task.proofs.TablesByIndex.{Frame, table-frame, objects-word, arities-word, schemas-word, atoms-word}
-use Rattle.task.proofs.TablesByIndex.{init-word, goal-word, table-long}
+use Rattle.task.proofs.TablesByIndex.{init-word, goal-word}
 use Rattle.words.specs.Sets.{member, members, wordBits}
 use Rattle.tokens.specs.Split.{has, procnone, token, orders, free, splitSchema, splitTask}
 use Rattle.tokens.specs.Writing.{setSize, countWords, arityWords, setSizes}
@@ -156,18 +157,7 @@ module _ (w : List ℕ) (table : isTable w ≡ true) where
 
   -- all atoms lie in the table
   pub facts-inside : rowsBase w + atomSize * (atomTotal w) ≤ length w
-  facts-inside =
-      omega (
-        arith,
-        length-content task (fr .sizes),
-        fr .inside,
-        table-long w table,
-        arities-word w fr,
-        schemas-word w fr,
-        atoms-word w fr,
-        init-word w fr,
-        goal-word w fr,
-      )
+  facts-inside = table-roomy w table .inside
 
 -- ---- how long each piece is
 pub record Room (t : Task) : Type 0 where
