@@ -21,6 +21,7 @@ use task::limits::ARGUMENTS;
 use task::limits::ATOM_SIZE;
 use task::limits::GOAL_ATOMS;
 use task::limits::HEAD_WORDS;
+use task::limits::INITIAL;
 use task::limits::INITIAL_ATOMS;
 use task::limits::OBJECTS;
 use task::limits::PART;
@@ -46,7 +47,7 @@ ghost use Rattle.task.specs.Limits.{atomSize};
 fn key_size(role: u16) -> usize
     ensures { λ r. ⌜ r ≡ length (keyBytes role) ⌝ }
 {
-    if role < 3 { 4 } else { 5 }
+    if role < INITIAL { 4 } else { 5 }
 }
 
 fn put_key(text: &mut [u8], at: usize, role: u16) -> usize
