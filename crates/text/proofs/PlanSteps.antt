@@ -13,14 +13,12 @@ use lib.Dec.{eqb, ltb}
 use borrow.Author.Tests.{leb-true, le-ltb, lt-ltb, eq-eqb, ne-eqb}
 use Rattle.words.specs.Lists.{all, concatMap, over, padded}
 use Rattle.task.specs.Limits.{stepSize}
-use Rattle.task.specs.Layout.{headIn}
 use Rattle.task.specs.Task.{Task, wellFormed}
 use Rattle.task.specs.Table.{taskOf, isTable}
 use Rattle.task.specs.Run.{Step, schemaAt, isStep, stepWords, paramCount, stepsIn, badStep}
 use Rattle.words.proofs.Lists.{in-getD, all-in, append-concatMap}
 use Rattle.task.proofs.Tests.{task-tests}
 use Rattle.task.proofs.Tables.{of-table}
-use Rattle.task.proofs.TablesByIndex.{table-frame, objects-word}
 use Rattle.words.proofs.Puts.{take-over}
 use Rattle.task.proofs.States.{isStep-is}
 use Rattle.words.proofs.Words.{and-false}
@@ -58,15 +56,14 @@ module _ (t : Task) (s : ℕ) (os : List ℕ) where
 
 -- what code finds of a schema, a count and the objects kept
 pub step-judged : (w : List ℕ) → isTable w ≡ true → (s count : ℕ) (kept : List ℕ) (r : Bool) → length kept ≡ 12 →
-    s < length (taskOf w .schemas) → paramCount (taskOf w) s ≡ count →
-    r ≡ all (λ o. ltb o (headIn w .objects)) (take count kept) → (ns : List ℕ) → Listed ns count kept →
+    s < length (taskOf w .schemas) → paramCount (taskOf w) s ≡ count → (objects : ℕ) → objects ≡ taskOf w .objects →
+    r ≡ all (λ o. ltb o objects) (take count kept) → (ns : List ℕ) → Listed ns count kept →
     r ≡ isStep (taskOf w) (stepOf s ns)
-step-judged w table s count kept r size known e h ns listed =
+step-judged w table s count kept r size known e objects many h ns listed =
     let few = params-few (taskOf w) (of-table w table .0) s in
     let c = listed .counted in
-    let objects = objects-word w (table-frame w table) in
-    h ∙ (ap (all (λ o. ltb o (headIn w .objects))) (listed-take listed (omega arith)) ∙
-    (ap (λ (m : ℕ). all (λ o. ltb o m) ns) (sym objects) ∙ right-number (taskOf w) s ns known (e ∙ sym c)))
+    h ∙ (ap (all (λ o. ltb o objects)) (listed-take listed (omega arith)) ∙
+    (ap (λ (m : ℕ). all (λ o. ltb o m) ns) many ∙ right-number (taskOf w) s ns known (e ∙ sym c)))
 
 -- the numbers of a step are words, and so few that they were kept
 pub record StepKept (s count : ℕ) (kept : List ℕ) : Type 0 where

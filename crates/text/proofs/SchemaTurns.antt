@@ -5,47 +5,40 @@ use mathlib.Core.Path.{_≡_, sym, _∙_, ap, ap₂, subst}
 use mathlib.Core.Bool.{true}
 use mathlib.Core.List.{List}
 use native.Mathlib.Omega.{arith}
-use lib.ListN.{length, getD}
+use lib.ListN.{length}
 use Rattle.words.specs.Lists.{sum}
-use Rattle.task.specs.Limits.{headWords, atomSize}
-use Rattle.task.specs.Layout.{headIn, paramsBase, atomBase}
+use Rattle.task.specs.Limits.{atomSize}
+use Rattle.task.specs.Layout.{headIn, paramsBase, rowsBase, paramsIn, atomBase}
 use Rattle.task.specs.Run.{schemaAt}
 use Rattle.task.specs.Table.{taskOf, isTable}
-use Rattle.task.proofs.Tables.{startOf, tableWords-is}
-use Rattle.task.proofs.TablesByIndex.{table-long, table-inside}
+use Rattle.task.proofs.Tables.{startOf}
+use Rattle.task.proofs.TableReads.{table-roomy}
 use Rattle.task.proofs.TablesByIndex.{start-suc}
 use Rattle.text.specs.Code.{AtomInside, SchemaRun, schemaText}
 use Rattle.text.proofs.TableAtoms.{frame, each-inside, start-most, run-long}
 use Rattle.text.proofs.TableText.{schemaLinesIn, schema-lines}
 
--- the head of a table: six counts
-pub head-inside : (w : List ℕ) → isTable w ≡ true → headWords ≤ length w
-head-inside w table = let l = table-long w table in let e = tableWords-is in omega arith
-
 -- a turn at schema s: its atoms begin at `at`, and `left` atoms of schemas are from there on
-pub record Turn (w : List ℕ) (schemas counts at left s : ℕ) : Type 0 where
+pub record Turn (w : List ℕ) (schemas at left s : ℕ) : Type 0 where
   pub schemas-are : schemas ≡ headIn w .schemas
-  pub counts-begin : counts ≡ paramsBase w
   pub atoms-begin : at ≡ atomBase w (startOf (taskOf w) s)
   pub atoms-left : startOf (taskOf w) s + left ≡ headIn w .schemaAtoms
 
 module _ {w : List ℕ} (table : isTable w ≡ true) where
-  pub turn-first : (schemas counts left : ℕ) → schemas ≡ headIn w .schemas → counts ≡ paramsBase w →
-      left ≡ headIn w .schemaAtoms →
-      Turn w schemas counts (counts + schemas) left 0
+  pub turn-first : (schemas at left : ℕ) → schemas ≡ headIn w .schemas → at ≡ rowsBase w →
+      left ≡ headIn w .schemaAtoms → Turn w schemas at left 0
   unfolding sum atomBase
-  turn-first schemas counts left e f g = record {
+  turn-first schemas at left e f g = record {
     schemas-are = e;
-    counts-begin = f;
     atoms-begin = omega arith;
     atoms-left = omega arith;
   }
 
-  module _ {schemas counts at left s : ℕ} (turn : Turn w schemas counts at left s) where
+  module _ {schemas at left s : ℕ} (turn : Turn w schemas at left s) where
     pub begin-inside : at + atomSize * left ≤ length w
     unfolding atomBase
     begin-inside =
-        let c = table-inside w table in
+        let c = table-roomy w table .inside in
         let b = turn .atoms-begin in
         let l = turn .atoms-left in
         omega arith
@@ -53,11 +46,10 @@ module _ {w : List ℕ} (table : isTable w ≡ true) where
     pub read-inside : (k : ℕ) → k < left → at + atomSize * k < length w
     read-inside k h = let b = begin-inside in omega arith
 
-    pub count-inside : s < schemas → counts + s < length w
+    pub count-inside : s < schemas → paramsBase w + s < length w
     count-inside h =
-        let c = table-inside w table in
+        let c = table-roomy w table .inside in
         let e = turn .schemas-are in
-        let f = turn .counts-begin in
         omega arith
 
     module _ {n : ℕ} (h : s < schemas) (run : SchemaRun w at left s n) where
@@ -78,17 +70,13 @@ module _ {w : List ℕ} (table : isTable w ≡ true) where
           let m = turn .atoms-left in
           subst (AtomInside w) e (each-inside w table (startOf (taskOf w) s + k) (omega arith))
 
-      pub turn-lines : schemaLinesIn w s ≡ schemaText w (getD w (counts + s) 0) at n
+      pub turn-lines : schemaLinesIn w s ≡ schemaText w (paramsIn w s) at n
       turn-lines =
           let e = turn .schemas-are in
-          let c = turn .counts-begin in
-          let b = turn .atoms-begin in
-          let q : paramsBase w + s ≡ counts + s = omega arith in
           schema-lines w table s (omega arith) ∙
-          (ap₂ (λ (i a : ℕ). schemaText w (getD w i 0) a (length (schemaAt (taskOf w) s .atoms))) q (sym b) ∙
-          ap (schemaText w (getD w (counts + s) 0) at) (sym run-is))
+          ap₂ (schemaText w (paramsIn w s)) (sym (turn .atoms-begin)) (sym run-is)
 
-      pub turn-next : Turn w schemas counts (at + atomSize * n) (left - n) (s + 1)
+      pub turn-next : Turn w schemas (at + atomSize * n) (left - n) (s + 1)
       unfolding atomBase
       turn-next =
           let e = turn .schemas-are in
@@ -101,7 +89,6 @@ module _ {w : List ℕ} (table : isTable w ≡ true) where
           let l = turn .atoms-left in
           record {
             schemas-are = e;
-            counts-begin = turn .counts-begin;
             atoms-begin = omega arith;
             atoms-left = omega arith;
           }

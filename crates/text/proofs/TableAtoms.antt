@@ -11,17 +11,18 @@ use lib.Dec.{leb}
 use borrow.Author.Tests.{leb-true}
 use Rattle.words.specs.Lists.{sum}
 use Rattle.task.specs.Limits.{atomSize}
-use Rattle.task.specs.Layout.{headIn, goalsFrom, atomTotal, arityIn, atomBase}
+use Rattle.task.specs.Layout.{headIn, goalsFrom, atomTotal, atomBase}
 use Rattle.task.specs.Task.{Atom, Task, rolesAscend, schemaFits, noSchema}
 use Rattle.task.specs.Run.{schemaAt}
-use Rattle.task.specs.Table.{atomIn, factIn, schemaNumberIn, taskOf, isTable}
+use Rattle.task.specs.Table.{atomIn, schemaNumberIn, taskOf, isTable}
 use Rattle.words.proofs.Lists.{and-left, and-right, In, here, there, all-in, in-getD}
 use Rattle.task.proofs.Tests.{schema-tests, task-tests}
-use Rattle.task.proofs.AtomsStand.{Sized, noAtom, noFact, counts}
+use Rattle.task.proofs.AtomsStand.{noAtom, counts}
 use Rattle.task.proofs.Tables.{startOf, of-table, init-stands, goal-stands}
-use Rattle.task.proofs.TablesByIndex.{Frame, table-frame, table-long, arities-word, schemas-word, atoms-word, init-word}
-use Rattle.task.proofs.TablesByIndex.{goal-word, arity-at, atom-inside, start-suc, atom-at, schema-of-atom, atom-lies}
-use Rattle.task.proofs.TablesByIndex.{init-at, goal-at}
+use Rattle.task.proofs.TableReads.{table-roomy}
+use Rattle.task.proofs.TablesPass.{table-words}
+use Rattle.task.proofs.TablesByIndex.{Frame, table-frame, schemas-word, atoms-word, init-word}
+use Rattle.task.proofs.TablesByIndex.{goal-word, start-suc, atom-at, schema-of-atom, atom-lies}
 use Rattle.text.specs.Code.{AtomInside, SchemaRun}
 
 -- "preconditions first, then adds, then deletes": no role of a schema's atom is above 2
@@ -51,61 +52,13 @@ module _ (w : List ℕ) (table : isTable w ≡ true) where
   abbrev total : ℕ
   total = atomTotal w
 
-  sized-inside : (i : ℕ) → i < total → (p : ℕ) (args : List ℕ) → p ≡ getD w (atomBase w i + 2) 0 →
-      Sized (t .arities) p args →
-      AtomInside w (atomBase w i)
-  unfolding atomBase
-  sized-inside i h p args e s =
-      let b = atom-inside w frame i h in
-      let l = table-long w table in
-      let n = arities-word w frame in
-      let k = s .known in
-      let a = arity-at w frame p (omega arith) in
-      let c = s .count in
-      let m = s .short in
-      record {
-        inside = omega arith;
-        known = omega arith;
-        short = subst (λ (q : ℕ). arityIn w q ≤ 4) e (omega arith);
-      }
-
   pub each-inside : (i : ℕ) → i < total → AtomInside w (atomBase w i)
-  unfolding atomIn factIn schemaAt
-  each-inside i h = elim (decLt i (headIn w .schemaAtoms)) [
-    | yes l ↦
-        let s : ℕ = schemaNumberIn w i in
-        let q = atom-lies w frame i l in
-        let n = schemas-word w frame in
-        let k : ℕ = i - startOf t s in
-        let z : startOf t s + k ≡ i = let f = q .from-start in omega arith in
-        let lies : k < length (schemaAt t s .atoms) =
-        let r = start-suc w frame s (q .known) in let f = q .from-start in let g = q .before-next in omega arith in
-        let a = getD (schemaAt t s .atoms) k noAtom in
-        let e : a .pred ≡ getD w (atomBase w i + 2) 0 =
-        sym (ap (λ (b : Atom). b .pred) (ap (atomIn w) (sym z) ∙ atom-at w frame s k (q .known) lies)) in
-        let known = q .known in
-        sized-inside i h (a .pred) (a .args) e
-        (frame .sizes .schema (schemaAt t s) (in-getD (t .schemas) s noSchema (omega arith)) a
-        (in-getD (schemaAt t s .atoms) k noAtom lies))
-    | no l ↦ elim (decLt i (goalsFrom w)) [
-      | yes m ↦
-          let k : ℕ = i - headIn w .schemaAtoms in
-          let z : headIn w .schemaAtoms + k ≡ i = omega arith in
-          let n = init-word w frame in
-          let f = getD (t .init) k noFact in
-          let e = sym (ap (λ (j : ℕ). factIn w j .pred) (sym z) ∙
-          ap (λ g. g .pred) (init-at w frame k (omega arith))) in
-          sized-inside i h (f .pred) (f .args) e (frame .sizes .init f (in-getD (t .init) k noFact (omega arith)))
-      | no m ↦
-          let k : ℕ = i - (goalsFrom w) in
-          let z : goalsFrom w + k ≡ i = omega arith in
-          let n = goal-word w frame in
-          let f = getD (t .goal) k noFact in
-          let e = sym (ap (λ (j : ℕ). factIn w j .pred) (sym z) ∙
-          ap (λ g. g .pred) (goal-at w frame k (omega arith))) in
-          sized-inside i h (f .pred) (f .args) e (frame .sizes .goal f (in-getD (t .goal) k noFact (omega arith)))
-    ]
-  ]
+  unfolding atomBase atomIn
+  each-inside i h =
+      let fit = table-words w table in
+      let known = fit .known i h in
+      let room = table-roomy w table .inside in
+      record { inside = omega arith; known = omega arith; short = fit .arity (getD w (atomBase w i + 2) 0) known }
 
   -- ---- the roles of atoms
   pub schema-role : (s k : ℕ) → s < headIn w .schemas → k < length (schemaAt t s .atoms) →

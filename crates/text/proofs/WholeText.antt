@@ -22,7 +22,7 @@ use Rattle.text.specs.Code.{spaced, AtomInside, atomsText, headText, sch
 use Rattle.text.specs.Code.{longestText}
 use Rattle.text.proofs.TableAtoms.{each-inside}
 use Rattle.text.proofs.TableText.{write-table}
-use Rattle.task.proofs.TablesByIndex.{table-long, table-inside}
+use Rattle.task.proofs.TableReads.{table-roomy}
 use Rattle.text.proofs.LongestText.{text-most}
 
 -- ---- the head
@@ -48,7 +48,7 @@ unfolding headText
 head-parts w = refl
 
 pub arities-inside : (w : List ℕ) → isTable w ≡ true → (k : ℕ) → k < headIn w .predicates → headWords + 1 * k < length w
-arities-inside w table k h = let c = table-inside w table in omega arith
+arities-inside w table k h = let c = table-roomy w table .inside in omega arith
 
 -- ---- the whole
 abbrev pub endBytes : List ℕ

@@ -11,11 +11,12 @@ use crate::put::put_byte;
 use crate::put::put_bytes;
 use crate::put::put_list;
 use crate::put::put_number;
-use crate::put::wide;
 use crate::storing::clear;
 use crate::storing::put_words;
 use task::Place;
-use task::limits::HEAD_WORDS;
+use task::layout::object_count;
+use task::layout::param_count;
+use task::layout::schema_count;
 use task::limits::MOST_PARAMETERS;
 use task::limits::STEP_SIZE;
 ghost use mathlib.Core.Path.{_≡_};
@@ -27,7 +28,7 @@ ghost use lib.ListN.{length, getD, take};
 ghost use Rattle.words.specs.Lists.{over};
 ghost use Rattle.task.specs.Task.{Task};
 ghost use Rattle.task.specs.Table.{taskOf, isTable};
-ghost use Rattle.task.specs.Run.{Step, isStep, stepWords, paramCount, stepsIn, badStep};
+ghost use Rattle.task.specs.Run.{Step, isStep, stepWords, stepsIn, badStep};
 ghost use Rattle.text.specs.Lines.{ended, number, entry};
 ghost use Rattle.text.specs.Plan.{planWords, stepLine, endLine, nextPlanLine, writePlan};
 ghost use Rattle.text.specs.Outcomes.{planOutcome, planAnswerTold};
@@ -60,15 +61,6 @@ pub const PLAN_WORDS: usize = STEP_SIZE * MOST_STEPS;
 // each, `end` takes 6.
 pub const LONGEST_PLAN: usize = 91206;
 
-// How many parameters a schema of the task has.
-fn param_count(table: &[u16], schema: usize) -> usize
-    requires { ⌜ isTable (now table) ≡ true ⌝ }
-    requires { ⌜ schema < length (taskOf (now table) .schemas) ⌝ }
-    ensures { λ r. ⌜ r ≡ paramCount (taskOf (now (table .entry))) schema ⌝ }
-{
-    wide(table[HEAD_WORDS + wide(table[1]) + schema])
-}
-
 // Refusal 5: "a wrong schema, object or number of objects".
 fn is_step(table: &[u16], schema: u32, objects: &[u32], count: usize) -> bool
     requires { ⌜ isTable (now table) ≡ true ⌝ }
@@ -76,14 +68,13 @@ fn is_step(table: &[u16], schema: u32, objects: &[u32], count: usize) -> bool
     ensures { λ r. ⌜ ((ns : List ℕ) → Listed ns count (now (objects .entry)) →
         r ≡ isStep (taskOf (now (table .entry))) (stepOf schema ns)) ⌝ }
 {
-    let s = schema as usize;
-    if wide(table[2]) <= s {
+    if schema_count(table) as u32 <= schema {
         return false;
     }
-    if param_count(table, s) != count {
+    if param_count(table, schema as u16) != count {
         return false;
     }
-    all_below(objects, count, table[0] as u32)
+    all_below(objects, count, object_count(table) as u32)
 }
 
 // "schema, one object per parameter, zeros": puts a step's words at a place.
@@ -228,7 +219,7 @@ pub fn write_plan(table: &[u16], words: &[u16], text: &mut [u8]) -> usize
     let count = words.len() / STEP_SIZE;
     for i in 0..count {
         let base = STEP_SIZE * i;
-        let params = param_count(table, wide(words[base]));
+        let params = param_count(table, words[base]);
         next = put_step_line(text, next, words, base, params);
     }
     put_bytes(text, next, b"end=1\n")

@@ -8,13 +8,6 @@ ghost use Rattle.text.specs.Lines.{comma, newline, digits, commaed};
 ghost use Rattle.words.specs.Putting.{Puts};
 ghost use Rattle.text.specs.Code.{spaced};
 
-// A word as an index.
-pub fn wide(word: u16) -> usize
-    ensures { λ r. ⌜ r ≡ word ⌝ }
-{
-    word as usize
-}
-
 // "Numbers have 1 to 5 digits".
 pub fn number_size(n: u16) -> usize
     ensures { λ r. ⌜ r ≡ length (digits n) ⌝ }

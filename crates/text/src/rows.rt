@@ -3,10 +3,16 @@
 use crate::checks::all_below;
 use crate::checks::number_or_zero;
 use crate::storing::put_words;
+use task::layout::arity_of;
+use task::layout::predicate_at;
+use task::limits::ARGUMENTS;
 use task::limits::ATOM_SIZE;
-use task::limits::HEAD_WORDS;
+use task::limits::MOST_ARITY;
+use task::limits::PART;
+use task::limits::ROLE;
 use words::runs::has_word;
 use words::runs::same_words;
+use words::runs::wide;
 ghost use mathlib.Core.Path.{_≡_};
 ghost use mathlib.Core.Bool.{true};
 ghost use Prim.Native.Nat.{ℕ, _+_, _*_, _≤_, _<_};
@@ -17,7 +23,6 @@ ghost use Rattle.text.specs.ReadCode.{Wrote, Fitting, RowIn, rowNames, r
 ghost use Rattle.words.specs.Words.{wordBound};
 ghost use Rattle.task.specs.Limits.{mostArity, headWords, atomSize};
 
-// The six counts stand first, then the arities.
 // Refusal 5: "predicate unknown, wrong number of arguments, argument too high".
 pub fn fits(
     table: &[u16],
@@ -37,7 +42,7 @@ pub fn fits(
     if args.len() < count {
         return false;
     }
-    if table[HEAD_WORDS + p] as usize != count {
+    if arity_of(table, p) != count {
         return false;
     }
     all_below(args, count, bound as u32)
@@ -74,9 +79,8 @@ fn names(table: &[u16], row: usize, parameter: u16) -> bool
     requires { ⌜ RowIn (now table) row ⌝ }
     ensures { λ r. ⌜ r ≡ rowNames (now (table .entry)) row parameter ⌝ }
 {
-    let predicate = table[row + 2] as usize;
-    let arity = table[HEAD_WORDS + predicate] as usize;
-    has_word(table, row + 4, arity, parameter)
+    let arity = arity_of(table, wide(predicate_at(table, row)));
+    has_word(table, row + ARGUMENTS, arity, parameter)
 }
 
 // Whether a parameter stands in an atom of the n rows from a place on.
@@ -112,10 +116,10 @@ fn same_atom(table: &[u16], a: usize, b: usize) -> bool
     requires { ⌜ (a + atomSize ≤ length (now table)) × (b + atomSize ≤ length (now table)) ⌝ }
     ensures { λ r. ⌜ r ≡ rowSame (now (table .entry)) a b ⌝ }
 {
-    if !same_words(table, a + 1, b + 1, 2) {
+    if !same_words(table, a + ROLE, b + ROLE, 2) {
         return false;
     }
-    same_words(table, a + 4, b + 4, 4)
+    same_words(table, a + ARGUMENTS, b + ARGUMENTS, MOST_ARITY)
 }
 
 // Refusal 6: "atom repeated", among the n rows from a place on.
@@ -138,6 +142,6 @@ pub fn put_parts(table: &mut [u16], first: usize, parts: &[u32], n: usize)
     ensures { λ r. ⌜ PartsPut (now (table .entry)) first n (now (parts .entry)) (now (table .exit)) ⌝ }
 {
     for k in 0..n {
-        table[first + ATOM_SIZE * k + 3] = parts[k] as u16;
+        table[first + ATOM_SIZE * k + PART] = parts[k] as u16;
     }
 }

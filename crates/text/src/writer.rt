@@ -10,29 +10,44 @@ use crate::put::put_list;
 use crate::put::put_list_line;
 use crate::put::put_number;
 use crate::put::put_number_line;
-use crate::put::wide;
 use task::Place;
+use task::layout::arity_of;
+use task::layout::facts_base;
+use task::layout::params_of;
+use task::layout::predicate_at;
+use task::layout::role_at;
+use task::layout::rows_base;
+use task::limits::ARGUMENTS;
 use task::limits::ATOM_SIZE;
+use task::limits::GOAL_ATOMS;
 use task::limits::HEAD_WORDS;
+use task::limits::INITIAL;
+use task::limits::INITIAL_ATOMS;
+use task::limits::OBJECTS;
+use task::limits::PART;
+use task::limits::PREDICATES;
+use task::limits::SCHEMA_ATOMS;
+use task::limits::SCHEMAS;
+use words::runs::wide;
+use words::runs::word;
 ghost use mathlib.Core.Path.{_≡_};
 ghost use mathlib.Core.Bool.{true};
 ghost use Prim.Native.Nat.{ℕ, _+_, _*_, _^_, _≤_, _<_};
-ghost use lib.ListN.{length, getD};
+ghost use lib.ListN.{length};
 ghost use lib.Dec.{leb};
-ghost use Rattle.task.specs.Layout.{factsBase};
 ghost use Rattle.task.specs.Table.{taskOf, isTable};
 ghost use Rattle.text.specs.Text.{write};
 ghost use Rattle.text.specs.Outcomes.{writeOutcome, writeAnswerTold};
 ghost use Rattle.words.specs.Putting.{Puts};
 ghost use Rattle.text.specs.Code.{AtomInside, keyBytes, atomText, atomsText, schemaText, headText, schemasText};
 ghost use Rattle.text.specs.Code.{SchemaRun, factCount};
-ghost use Rattle.task.specs.Limits.{headWords, atomSize};
+ghost use Rattle.task.specs.Limits.{atomSize};
 
 // "role (0 precondition, 1 add, 2 delete, 3 initial, 4 goal)": the key of an atom's line, and its =.
 fn key_size(role: u16) -> usize
     ensures { λ r. ⌜ r ≡ length (keyBytes role) ⌝ }
 {
-    if role < 3 { 4 } else { 5 }
+    if role < INITIAL { 4 } else { 5 }
 }
 
 fn put_key(text: &mut [u8], at: usize, role: u16) -> usize
@@ -53,12 +68,12 @@ fn atom_size(table: &[u16], base: usize) -> usize
     requires { ⌜ AtomInside (now table) base ⌝ }
     ensures { λ r. ⌜ r ≡ length (atomText (now (table .entry)) base) ⌝ }
 {
-    let predicate = table[base + 2];
-    let arity = wide(table[HEAD_WORDS + wide(predicate)]);
-    key_size(table[base + 1])
+    let predicate = predicate_at(table, base);
+    let arity = arity_of(table, wide(predicate));
+    key_size(role_at(table, base))
         + number_size(predicate)
         + 1
-        + list_size(table, base + 4, 1, arity)
+        + list_size(table, base + ARGUMENTS, 1, arity)
         + 1
 }
 
@@ -67,12 +82,12 @@ fn put_atom(text: &mut [u8], at: usize, table: &[u16], base: usize) -> usize
     requires { ⌜ at + length (atomText (now table) base) ≤ length (now text) ⌝ }
     ensures { λ r. ⌜ Puts (now (text .entry)) at (atomText (now (table .entry)) base) (now (text .exit)) r ⌝ }
 {
-    let predicate = table[base + 2];
-    let arity = wide(table[HEAD_WORDS + wide(predicate)]);
-    let at_predicate = put_key(text, at, table[base + 1]);
+    let predicate = predicate_at(table, base);
+    let arity = arity_of(table, wide(predicate));
+    let at_predicate = put_key(text, at, role_at(table, base));
     let at_colon = put_number(text, at_predicate, predicate);
     let at_arguments = put_byte(text, at_colon, b':');
-    let at_end = put_list(text, at_arguments, table, base + 4, 1, arity);
+    let at_end = put_list(text, at_arguments, table, base + ARGUMENTS, 1, arity);
     put_byte(text, at_end, b'\n')
 }
 
@@ -122,7 +137,7 @@ fn schema_size(table: &[u16], params: u16, base: usize, n: usize) -> usize
     ensures { λ r. ⌜ r ≡ length (schemaText (now (table .entry)) params base n) ⌝ }
 {
     let atoms = atoms_size(table, base, n);
-    let parts = list_size(table, base + 3, ATOM_SIZE, n);
+    let parts = list_size(table, base + PART, ATOM_SIZE, n);
     b"schema=".len() + number_size(params) + 1 + atoms + b"part=".len() + parts + 1
 }
 
@@ -142,16 +157,7 @@ fn put_schema(
 {
     let at_atoms = put_number_line(text, at, b"schema=", params);
     let at_parts = put_atoms(text, at_atoms, table, base, n);
-    put_list_line(text, at_parts, b"part=", table, base + 3, ATOM_SIZE, n)
-}
-
-// One of a table's six counts.
-fn count(table: &[u16], i: usize) -> usize
-    requires { ⌜ isTable (now table) ≡ true ⌝ }
-    requires { ⌜ i < headWords ⌝ }
-    ensures { λ r. ⌜ r ≡ getD (now (table .entry)) i 0 ⌝ }
-{
-    wide(table[i])
+    put_list_line(text, at_parts, b"part=", table, base + PART, ATOM_SIZE, n)
 }
 
 // The lines of all schemas. Their atoms stand one schema behind another, so each schema begins where the one before it
@@ -161,14 +167,13 @@ fn schemas_size(table: &[u16]) -> usize
     requires { ⌜ length (schemasText (now table)) < 2 ^ 64 ⌝ }
     ensures { λ r. ⌜ r ≡ length (schemasText (now (table .entry))) ⌝ }
 {
-    let schemas = count(table, 2);
-    let counts = HEAD_WORDS + count(table, 1);
-    let mut base = counts + schemas;
-    let mut left = count(table, 3);
+    let schemas = word(table, SCHEMAS);
+    let mut base = rows_base(table);
+    let mut left = word(table, SCHEMA_ATOMS);
     let mut size = 0;
     for s in 0..schemas {
         let n = atoms_of(table, base, left, s);
-        size = size + schema_size(table, table[counts + s], base, n);
+        size = size + schema_size(table, params_of(table, s) as u16, base, n);
         base = base + ATOM_SIZE * n;
         left = left - n;
     }
@@ -180,14 +185,13 @@ fn put_schemas(text: &mut [u8], at: usize, table: &[u16]) -> usize
     requires { ⌜ at + length (schemasText (now table)) ≤ length (now text) ⌝ }
     ensures { λ r. ⌜ Puts (now (text .entry)) at (schemasText (now (table .entry))) (now (text .exit)) r ⌝ }
 {
-    let schemas = count(table, 2);
-    let counts = HEAD_WORDS + count(table, 1);
-    let mut base = counts + schemas;
-    let mut left = count(table, 3);
+    let schemas = word(table, SCHEMAS);
+    let mut base = rows_base(table);
+    let mut left = word(table, SCHEMA_ATOMS);
     let mut next = at;
     for s in 0..schemas {
         let n = atoms_of(table, base, left, s);
-        next = put_schema(text, next, table, table[counts + s], base, n);
+        next = put_schema(text, next, table, params_of(table, s) as u16, base, n);
         base = base + ATOM_SIZE * n;
         left = left - n;
     }
@@ -199,10 +203,10 @@ fn head_size(table: &[u16]) -> usize
     requires { ⌜ isTable (now table) ≡ true ⌝ }
     ensures { λ r. ⌜ r ≡ length (headText (now (table .entry))) ⌝ }
 {
-    let arities = list_size(table, HEAD_WORDS, 1, count(table, 1));
+    let arities = list_size(table, HEAD_WORDS, 1, word(table, PREDICATES));
     b"task=1\n".len()
         + b"objects=".len()
-        + number_size(table[0])
+        + number_size(table[OBJECTS])
         + 1
         + b"arity=".len()
         + arities
@@ -214,25 +218,18 @@ fn put_head(text: &mut [u8], table: &[u16]) -> usize
     requires { ⌜ length (headText (now table)) ≤ length (now text) ⌝ }
     ensures { λ r. ⌜ Puts (now (text .entry)) 0 (headText (now (table .entry))) (now (text .exit)) r ⌝ }
 {
-    let predicates = count(table, 1);
+    let predicates = word(table, PREDICATES);
     let at_objects = put_bytes(text, 0, b"task=1\n");
-    let at_arity = put_number_line(text, at_objects, b"objects=", table[0]);
+    let at_arity = put_number_line(text, at_objects, b"objects=", table[OBJECTS]);
     put_list_line(text, at_arity, b"arity=", table, HEAD_WORDS, 1, predicates)
 }
 
 // Initial and goal atoms follow the schemas' own, and their roles say which they are.
-fn facts_base(table: &[u16]) -> usize
-    requires { ⌜ isTable (now table) ≡ true ⌝ }
-    ensures { λ r. ⌜ r ≡ factsBase (now (table .entry)) ⌝ }
-{
-    HEAD_WORDS + count(table, 1) + count(table, 2) + ATOM_SIZE * count(table, 3)
-}
-
 fn fact_count(table: &[u16]) -> usize
     requires { ⌜ isTable (now table) ≡ true ⌝ }
     ensures { λ r. ⌜ r ≡ factCount (now (table .entry)) ⌝ }
 {
-    count(table, 4) + count(table, 5)
+    word(table, INITIAL_ATOMS) + word(table, GOAL_ATOMS)
 }
 
 fn text_size(table: &[u16]) -> usize

@@ -17,7 +17,8 @@ use Rattle.task.specs.Table.{atomWords, taskOf}
 use Rattle.words.proofs.Lists.{all-in, in-getD, length-upTo, length-concatMap, map-same}
 use Rattle.task.proofs.Tests.{TaskTests, task-tests, schema-tests, SchemaTests}
 use Rattle.task.proofs.Tables.{of-table}
-use Rattle.task.proofs.TablesByIndex.{table-frame, table-inside, arities-word, schemas-word, params-at}
+use Rattle.task.proofs.TableReads.{table-roomy}
+use Rattle.task.proofs.TablesByIndex.{table-frame, arities-word, schemas-word, params-at}
 use Rattle.words.specs.Sets.{member}
 use Rattle.arcs.proofs.OrderTaken.{orderOf-laws}
 use Rattle.tokens.specs.Split.{parts, laterParts, parCount, procnone, doToken, parToken, orders, splitSchema}
@@ -103,7 +104,8 @@ module _ {w : List ℕ} {sizes : Sizes} {kept : List ℕ} (S : AcceptedKept w si
     -- its parameter count lies in the table
     pub params-inside : paramsBase w + s < length w
     params-inside =
-        omega (arith, table-inside w (S .table), schemas-word w (table-frame w (S .table)))
+        let r = table-roomy w (S .table) .inside in
+        omega (arith, schemas-word w (table-frame w (S .table)))
 
     -- later parts in the schemas before
     pub few-before : laterParts (take s (t .schemas)) ≤ laterParts (t .schemas)

@@ -11,9 +11,11 @@ use crate::lists::entry_line;
 use crate::rows::fits;
 use crate::rows::put_row;
 use crate::rows::repeated;
+use task::limits::ATOM_SIZE;
 use task::limits::MOST_ARITY;
 use task::limits::MOST_ATOMS;
 use task::limits::MOST_SCHEMA_ATOMS;
+use task::limits::PREDICATE;
 use words::runs::less_words;
 ghost use mathlib.Core.Path.{_≡_};
 ghost use mathlib.Core.List.{List};
@@ -25,6 +27,9 @@ ghost use Rattle.text.specs.Text.{Draft, atomLine};
 ghost use Rattle.text.specs.ReadCode.{Placed, Listed};
 ghost use Rattle.text.specs.Holding.{Holds, Drafted, Touched, Allows, Checked, entryOf, InSchema, oneAtomMore};
 ghost use Rattle.text.specs.Holding.{factKey, factLine, oneFactMore, Takes};
+
+// Facts "ascend strictly": two rows are compared from their predicates on.
+const COMPARED: usize = ATOM_SIZE - PREDICATE;
 
 // An atom's row joins those of the schema that is being read, unless it is refused.
 fn add_atom(
@@ -132,7 +137,7 @@ fn add_fact(
     let row = counts.next_row();
     put_row(table, row, 0, facts.role, predicate, args, count);
     if 0 < facts.read {
-        if !less_words(table, row - 6, row + 2, 6) {
+        if !less_words(table, row - COMPARED, row + PREDICATE, COMPARED) {
             return Check::Refuses(6);
         }
     }

@@ -5,59 +5,65 @@ use native.Mathlib.Omega.{arith}
 use Rattle.task.specs.Table.{taskOf}
 use Rattle.task.proofs.Tables.{of-table}
 use Rattle.task.proofs.TablesByIndex.{table-frame, schemas-word}
-use Rattle.task.proofs.TableReads.{counts-inside}
+use Rattle.task.proofs.TableReads.{table-roomy}
 use Rattle.task.proofs.StepWords.{params-few}
 use Rattle.text.proofs.PlanSteps.{wrong-schema, wrong-number, step-judged}
 use borrow.Author.Needs.{needs}
 use Rattle.text.proofs.plan.is_step.Statement.{statement}
 use Rattle.text.proofs.plan.is_step.Tie as tie
 
-shared-slice-read-wide : tie.Need-shared-slice-read-wide
-shared-slice-read-wide c =
-    let start = c .before .before .before in
-    let l = counts-inside (start .args .table .now) (start .pre .0) in
-    omega arith
+-- the function's start, seen from behind each count
+abbrev start₁ : tie.After-schema-count → tie.Start
+start₁ c = c .before .before .before
 
-wide-requires : tie.Need-wide-requires
-wide-requires c κs = search needs
+abbrev start₂ : tie.After-param-count → tie.Start
+start₂ c = start₁ (c .before .before)
+
+schema-count-requires : tie.Need-schema-count-requires
+schema-count-requires c κs = c .before .before .pre .0
+
+cast-if1 : tie.Need-cast-if1
+cast-if1 c = search needs
 
 returns : tie.Need-returns
 returns c =
-    let start = c .before .before .before .before .before in
-    let w = start .args .table .now in
-    let e = schemas-word w (table-frame w (start .pre .0)) in
-    let f = c .before .wide .ensures in
+    let start = start₁ (c .before) in
+    let e = c .before .schema-count .ensures in
     let l = c .if1 .taken in
-    λ ns listed. wrong-schema (taskOf w) (start .args .schema) ns (omega arith)
+    λ ns listed. wrong-schema (taskOf (start .args .table .now)) (start .args .schema) ns (omega arith)
+
+cast-param-count : tie.Need-cast-param-count
+cast-param-count c =
+    let start = start₁ (c .before) in
+    let w = start .args .table .now in
+    let e = c .before .schema-count .ensures in
+    let f = schemas-word w (table-frame w (start .pre .0)) in
+    let r = table-roomy w (start .pre .0) .few in
+    let l = c .if1 .left in
+    omega arith
 
 param-count-requires : tie.Need-param-count-requires
 param-count-requires c κs =
-    let start = c .before .before .before .before .before in
-    let w = start .args .table .now in
-    let e = schemas-word w (table-frame w (start .pre .0)) in
-    let f = c .before .wide .ensures in
+    let e = c .before .schema-count .ensures in
     let l = c .if1 .left in
-    (start .pre .0, omega arith)
+    (start₁ (c .before) .pre .0, omega arith)
 
 returns-2 : tie.Need-returns-2
 returns-2 c =
-    let start = c .before .before .before .before .before .before .before in
+    let start = start₂ (c .before) in
     let e = c .before .param-count .ensures in
     λ ns listed. wrong-number (taskOf (start .args .table .now)) (start .args .schema) ns
     (λ q. c .if2 .taken (e ∙ (q ∙ listed .counted)))
 
-shared-slice-read-all-below : tie.Need-shared-slice-read-all-below
-shared-slice-read-all-below c =
-    let start = c .before .before .before .before .before .before .before .before in
-    let l = counts-inside (start .args .table .now) (start .pre .0) in
-    omega arith
+object-count-requires : tie.Need-object-count-requires
+object-count-requires c κs = start₂ (c .before) .pre .0
 
 cast-all-below : tie.Need-cast-all-below
-cast-all-below c = omega (arith, c .shared-slice-known4 .given 0)
+cast-all-below c = search needs
 
 all-below-requires : tie.Need-all-below-requires
 all-below-requires c κs =
-    let start = c .before .before .before .before .before .before .before .before in
+    let start = start₂ (c .before .before) in
     let w = start .args .table .now in
     let few = params-few (taskOf w) (of-table w (start .pre .0) .0) (start .args .schema) in
     let e = c .before .before .param-count .ensures in
@@ -67,18 +73,17 @@ all-below-requires c κs =
 
 returns-3 : tie.Need-returns-3
 returns-3 c =
-    let start = c .before .before .before .before .before .before .before .before .before in
-    let w = start .args .table .now in
-    let e = schemas-word w (table-frame w (start .pre .0)) in
-    let f = c .before .before .before .before .before .wide .ensures in
-    let l = c .before .before .before .before .if1 .left in
-    step-judged w (start .pre .0) (start .args .schema) (start .args .count) (start .args .objects .now) _
-    (start .pre .1) (omega arith)
-    (sym (c .before .before .before .param-count .ensures) ∙ c .before .before .if2 .left)
+    let counted = c .before .before .before in
+    let start = start₂ counted in
+    let e = counted .before .before .schema-count .ensures in
+    let l = counted .before .if1 .left in
+    step-judged (start .args .table .now) (start .pre .0) (start .args .schema) (start .args .count)
+    (start .args .objects .now) _ (start .pre .1) (omega arith)
+    (sym (counted .param-count .ensures) ∙ c .before .before .if2 .left) _ (c .before .object-count .ensures)
     (c .all-below .ensures)
 
 pub is-step-spec : {M : Type 1} → statement M
 is-step-spec =
     tie.close
-    (tie.spec shared-slice-read-wide wide-requires returns param-count-requires returns-2 shared-slice-read-all-below
-    cast-all-below all-below-requires returns-3)
+    (tie.spec schema-count-requires cast-if1 returns cast-param-count param-count-requires returns-2
+    object-count-requires cast-all-below all-below-requires returns-3)

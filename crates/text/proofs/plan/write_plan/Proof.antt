@@ -71,39 +71,30 @@ module _ (c : tie.In-loop Inv-loop μ-loop) where
 mul-base : tie.Need-mul-base Inv-loop μ-loop
 mul-base c = let h = there c .inside in omega arith
 
-mul-wide : tie.Need-mul-wide Inv-loop μ-loop
-mul-wide c = let h = there c .inside in omega arith
+mul-param-count : tie.Need-mul-param-count Inv-loop μ-loop
+mul-param-count c = let h = there c .inside in omega arith
 
-shared-slice-read-wide : tie.Need-shared-slice-read-wide Inv-loop μ-loop
-shared-slice-read-wide c = let h = there (c .before) .inside in omega arith
-
-wide-requires : tie.Need-wide-requires Inv-loop μ-loop
-wide-requires c κs = search needs
+shared-slice-read-param-count : tie.Need-shared-slice-read-param-count Inv-loop μ-loop
+shared-slice-read-param-count c = let h = there (c .before) .inside in omega arith
 
 param-count-requires : tie.Need-param-count-requires Inv-loop μ-loop
-param-count-requires c κs =
-    let h = there (c .before .before) .known in
-    let e = c .wide .ensures in
-    (start (c .before .before .before) .pre .0, omega arith)
+param-count-requires c κs = (start (c .before .before) .pre .0, there (c .before) .known)
 
 -- the parameters are those of the step's schema
 params-read : (c : tie.After-param-count Inv-loop μ-loop) →
-    let at = c .before .before .before in
+    let at = c .before .before in
     c .param-count .result ≡ paramCount (taskOf (start (at .before) .args .table .now))
     (getD (words at) (stepSize * i at) 0)
-params-read c =
-    c .param-count .ensures ∙
-    ap (paramCount (taskOf (start (c .before .before .before .before) .args .table .now))) (c .before .wide .ensures)
+params-read c = c .param-count .ensures
 
 line-read : (c : tie.After-param-count Inv-loop μ-loop) →
-    let at = c .before .before .before in stepText (words at) (stepSize * i at) (c .param-count .result) ≡ lines at
+    let at = c .before .before in stepText (words at) (stepSize * i at) (c .param-count .result) ≡ lines at
     (i at)
-line-read c = ap (stepText (words (c .before .before .before)) (stepSize * i (c .before .before .before)))
-    (params-read c)
+line-read c = ap (stepText (words (c .before .before)) (stepSize * i (c .before .before))) (params-read c)
 
 put-step-line-requires : tie.Need-put-step-line-requires Inv-loop μ-loop
 put-step-line-requires c κs =
-    let at = c .before .before .before .before in
+    let at = c .before .before .before in
     let e = params-read (c .before) in
     let inside = there at .inside in
     let few = there at .few in
@@ -116,11 +107,11 @@ add-i : tie.Need-add-i Inv-loop μ-loop
 add-i c = omega arith
 
 loop-less : tie.Need-loop-less Inv-loop μ-loop
-loop-less c = let l = c .before .before .before .before .before .before .before .loop-test .taken in omega arith
+loop-less c = let l = c .before .before .before .before .before .before .loop-test .taken in omega arith
 
 loop-again : tie.Need-loop-again Inv-loop μ-loop
 loop-again c =
-    let at = c .before .before .before .before .before .before .before in
+    let at = c .before .before .before .before .before .before in
     let l = at .loop-test .taken in
     let put = puts-same (line-read (c .before .before .before .before)) (c .before .before .put-step-line .ensures) in
     (omega arith, going-on (to-come at) put)
@@ -160,5 +151,5 @@ returns c =
 pub write-plan-spec : {M : Type 1} → statement M
 write-plan-spec =
     tie.close
-    (tie.spec Inv-loop μ-loop loop-holds mul-base mul-wide shared-slice-read-wide wide-requires param-count-requires
+    (tie.spec Inv-loop μ-loop loop-holds mul-base mul-param-count shared-slice-read-param-count param-count-requires
     put-step-line-requires add-i loop-less loop-again slice-aggregate-put-bytes put-bytes-requires same-length returns)

@@ -1,82 +1,58 @@
 -- `text::writer::atom_size` meets its contract: the sizes of key, predicate, colon, arguments and byte 10 add up.
 -- Each is small, so no sum wraps.
-use Rattle.task.specs.Limits.{headWords}
 use Rattle.task.specs.Layout.{arityIn}
 use native.Mathlib.Omega.{arith}
 use Prim.Native.Nat.{ℕ, _+_, _≤_}
 use mathlib.Core.Path.{_≡_, _∙_, ap}
 use lib.ListN.{length, getD}
-use Rattle.text.specs.Lines.{commaed}
-use Rattle.text.specs.Code.{spaced}
+use Rattle.text.specs.Lines.{digits, commaed}
+use Rattle.text.specs.Code.{spaced, keyBytes}
 use Rattle.text.proofs.DigitSteps.{at-most-five}
 use Rattle.text.proofs.AtomLines.{key-most, spaced-most, length-atomText, args-inside}
 use borrow.Author.Needs.{needs}
 use Rattle.text.proofs.writer.atom_size.Statement.{statement}
 use Rattle.text.proofs.writer.atom_size.Tie as tie
 
-abbrev start : tie.After-wide2 → tie.Start
-start c = c .before .before .before .before .before
+abbrev start : tie.After-arity-of → tie.Start
+start c = c .before .before .before .before
 
 -- the number of arguments is the arity of the atom's predicate
-arity-read : (c : tie.After-wide2) →
+arity-read : (c : tie.After-arity-of) →
     let w = start c .args .table .now in
-    c .wide2 .result ≡ arityIn w (getD w (start c .args .base + 2) 0)
-unfolding arityIn
+    c .arity-of .result ≡ arityIn w (getD w (start c .args .base + 2) 0)
 arity-read c =
-    c .wide2 .ensures ∙ ap (λ (p : ℕ). getD (start c .args .table .now) (headWords + p) 0)
-    (c .before .before .wide .ensures)
+    c .arity-of .ensures ∙ ap (arityIn (start c .args .table .now))
+    (c .before .wide .ensures ∙ c .before .before .predicate-at .ensures .0)
 
 -- the arguments take at most 24 bytes
-args-most : (c : tie.After-wide2) →
-    length (commaed (spaced (start c .args .table .now) (start c .args .base + 4) 1 (c .wide2 .result))) ≤ 24
+args-most : (c : tie.After-arity-of) →
+    length (commaed (spaced (start c .args .table .now) (start c .args .base + 4) 1 (c .arity-of .result))) ≤ 24
 args-most c =
-    let m = spaced-most (start c .args .table .now) (start c .args .base + 4) 1 (c .wide2 .result) in
+    let m = spaced-most (start c .args .table .now) (start c .args .base + 4) 1 (c .arity-of .result) in
     let e = arity-read c in
     let s = start c .pre .short in
     omega arith
 
 key-and-predicate : (c : tie.After-number-size) → c .before .key-size .result + c .number-size .result ≤ 10
 key-and-predicate c =
-    let w = start (c .before .before .before) .args .table .now in
-    let b = start (c .before .before .before) .args .base in
-    let k = key-most (getD w (b + 1) 0) in
-    let d = at-most-five (getD w (b + 2) 0) in
+    let k = key-most (c .before .before .role-at .result) in
+    let d = at-most-five (c .before .before .before .before .before .predicate-at .result) in
     let e = c .before .key-size .ensures in
     let f = c .number-size .ensures in
     omega arith
 
-add-predicate : tie.Need-add-predicate
-add-predicate c = search needs
-
-mul-predicate : tie.Need-mul-predicate
-mul-predicate c = search needs
-
-shared-slice-read-predicate : tie.Need-shared-slice-read-predicate
-shared-slice-read-predicate c = search needs
+predicate-at-requires : tie.Need-predicate-at-requires
+predicate-at-requires c κs = c .before .pre .inside
 
 wide-requires : tie.Need-wide-requires
 wide-requires c κs = search needs
 
-add-wide : tie.Need-add-wide
-add-wide c = search needs
+arity-of-requires : tie.Need-arity-of-requires
+arity-of-requires c κs =
+    omega (arith, c .before .before .before .pre .known, c .wide .ensures, c .before .predicate-at .ensures .0)
 
-mul-wide : tie.Need-mul-wide
-mul-wide c = search needs
-
-shared-slice-read-wide : tie.Need-shared-slice-read-wide
-shared-slice-read-wide c = search needs
-
-wide-requires-2 : tie.Need-wide-requires-2
-wide-requires-2 c κs = search needs
-
-add-key-size : tie.Need-add-key-size
-add-key-size c = search needs
-
-mul-key-size : tie.Need-mul-key-size
-mul-key-size c = search needs
-
-shared-slice-read-key-size : tie.Need-shared-slice-read-key-size
-shared-slice-read-key-size c = search needs
+role-at-requires : tie.Need-role-at-requires
+role-at-requires c κs = start c .pre .inside
 
 key-size-requires : tie.Need-key-size-requires
 key-size-requires c κs = search needs
@@ -123,14 +99,15 @@ returns c =
     let w = start at-arity .args .table .now in
     let b = start at-arity .args .base in
     let whole = length-atomText w b in
-    let key = c .before .before .key-size .ensures in
-    let pred = c .before .number-size .ensures in
+    let key = c .before .before .key-size .ensures ∙
+    ap (λ (r : ℕ). length (keyBytes r)) (c .before .before .before .role-at .ensures .0) in
+    let pred = c .before .number-size .ensures ∙
+    ap (λ (p : ℕ). length (digits p)) (at-arity .before .before .predicate-at .ensures .0) in
     let args = c .list-size .ensures ∙ ap (λ (n : ℕ). length (commaed (spaced w (b + 4) 1 n))) (arity-read at-arity) in
     omega arith
 
 pub atom-size-spec : {M : Type 1} → statement M
 atom-size-spec =
     tie.close
-    (tie.spec add-predicate mul-predicate shared-slice-read-predicate wide-requires add-wide mul-wide
-    shared-slice-read-wide wide-requires-2 add-key-size mul-key-size shared-slice-read-key-size key-size-requires
+    (tie.spec predicate-at-requires wide-requires arity-of-requires role-at-requires key-size-requires
     number-size-requires add-result add-result-2 add-list-size list-size-requires add-result-3 add-result-4 returns)

@@ -8,20 +8,20 @@ use mathlib.Core.List.{List}
 use lib.ListN.{length}
 use Rattle.text.specs.Lines.{commaed}
 use Rattle.text.specs.Code.{spaced, headText}
-use Rattle.text.proofs.SchemaTurns.{head-inside}
+use Rattle.task.proofs.TableReads.{counts-inside}
 use Rattle.text.proofs.WholeText.{length-headText, arities-inside, head-fits}
 use borrow.Author.Needs.{needs}
 use Rattle.text.proofs.writer.head_size.Statement.{statement}
 use Rattle.text.proofs.writer.head_size.Tie as tie
 
-count-requires : tie.Need-count-requires
-count-requires c κs = search needs
+word-requires : tie.Need-word-requires
+word-requires c κs = let l = counts-inside (c .before .args .table .now) (c .before .pre) in omega arith
 
 list-size-requires : tie.Need-list-size-requires
 list-size-requires c κs =
     let w = c .before .before .args .table .now in
     let table = c .before .before .pre in
-    let e = c .count .ensures in
+    let e = c .word .ensures .0 in
     let l = length-headText w in
     let m = head-fits w table in
     let a = ap (λ (n : ℕ). length (commaed (spaced w 6 1 n))) e in
@@ -33,7 +33,7 @@ add-result c = search needs
 shared-slice-read-number-size : tie.Need-shared-slice-read-number-size
 shared-slice-read-number-size c =
     let start = c .before .before .before .before .before .before in
-    let l = head-inside (start .args .table .now) (start .pre) in
+    let l = counts-inside (start .args .table .now) (start .pre) in
     omega arith
 
 number-size-requires : tie.Need-number-size-requires
@@ -53,7 +53,7 @@ sizes c =
     let w = words (listed c) in
     let l = length-headText w in
     let n = c .number-size .ensures in
-    let predicates = listed c .before .count .ensures in
+    let predicates = listed c .before .word .ensures .0 in
     let a = listed c .list-size .ensures ∙ ap (λ (n : ℕ). length (commaed (spaced w 6 1 n))) predicates in
     (omega arith, head-fits w (listed c .before .before .before .pre))
 
@@ -78,5 +78,5 @@ returns c = let l = sizes (c .before) in omega arith
 pub head-size-spec : {M : Type 1} → statement M
 head-size-spec =
     tie.close
-    (tie.spec count-requires list-size-requires add-result shared-slice-read-number-size number-size-requires
+    (tie.spec word-requires list-size-requires add-result shared-slice-read-number-size number-size-requires
     add-result-2 add-result-3 add-result-4 add-result-5 add-result-6 returns)

@@ -1,6 +1,5 @@
 -- `text::writer::put_atom` meets its contract: key, predicate, colon, arguments and byte 10 are put one behind
 -- another. A lemma for each says what is still to come behind it.
-use Rattle.task.specs.Limits.{headWords}
 use Rattle.task.specs.Layout.{arityIn}
 use native.Mathlib.Omega.{arith}
 use Prim.Native.Nat.{ℕ, _+_, _≤_}
@@ -38,24 +37,25 @@ room c =
     (atomText-is (c .args .table .now) (c .args .base)) (c .pre .1)
 
 -- the number of arguments is the arity of the atom's predicate
-abbrev start : tie.After-wide2 → tie.Start
-start c = c .before .before .before .before .before .before
+abbrev start : tie.After-arity-of → tie.Start
+start c = c .before .before .before .before .before
 
-arity-read : (c : tie.After-wide2) →
+arity-read : (c : tie.After-arity-of) →
     let w = start c .args .table .now in
-    c .wide2 .result ≡ arityIn w (getD w (start c .args .base + 2) 0)
-unfolding arityIn
+    c .arity-of .result ≡ arityIn w (getD w (start c .args .base + 2) 0)
 arity-read c =
-    c .wide2 .ensures ∙ ap (λ (p : ℕ). getD (start c .args .table .now) (headWords + p) 0)
-    (c .before .before .wide .ensures)
+    c .arity-of .ensures ∙ ap (arityIn (start c .args .table .now))
+    (c .before .wide .ensures ∙ c .before .before .predicate-at .ensures .0)
 
-abbrev arity : tie.After-slice-known2 → tie.After-wide2
+abbrev arity : tie.After-slice-known2 → tie.After-arity-of
 arity c = c .before .before .before .before .before
 
 behind-key : (c : tie.After-slice-known2) →
     Left (start (arity c)) (predicate (start (arity c)) ++ (colon ∷ (arguments (start (arity c)) ++ (newline ∷ []))))
     (c .before .before .put-key .last .0) (c .before .before .put-key .result)
-behind-key c = going-on (going-start (room (start (arity c)))) (c .before .before .put-key .ensures)
+behind-key c =
+    going-on (going-start (room (start (arity c))))
+    (puts-same (ap keyBytes (c .before .before .before .role-at .ensures .0)) (c .before .before .put-key .ensures))
 
 abbrev keyed : tie.After-slice-known3 → tie.After-slice-known2
 keyed c = c .before .before .before .before
@@ -63,7 +63,10 @@ keyed c = c .before .before .before .before
 behind-predicate : (c : tie.After-slice-known3) →
     Left (start (arity (keyed c))) (colon ∷ (arguments (start (arity (keyed c))) ++ (newline ∷ [])))
     (c .before .before .put-number .last .0) (c .before .before .put-number .result)
-behind-predicate c = going-on (behind-key (keyed c)) (c .before .before .put-number .ensures)
+behind-predicate c =
+    going-on (behind-key (keyed c))
+    (puts-same (ap digits (arity (keyed c) .before .before .predicate-at .ensures .0))
+    (c .before .before .put-number .ensures))
 
 abbrev numbered : tie.After-slice-known4 → tie.After-slice-known3
 numbered c = c .before .before .before .before
@@ -87,48 +90,33 @@ behind-arguments c =
     (puts-same (ap (λ (n : ℕ). commaed (spaced w (b + 4) 1 n)) (arity-read at-arity))
     (c .before .before .put-list .ensures))
 
-add-predicate : tie.Need-add-predicate
-add-predicate c = search needs
-
-mul-predicate : tie.Need-mul-predicate
-mul-predicate c = search needs
-
-shared-slice-read-predicate : tie.Need-shared-slice-read-predicate
-shared-slice-read-predicate c = search needs
+predicate-at-requires : tie.Need-predicate-at-requires
+predicate-at-requires c κs = c .before .before .pre .0 .inside
 
 wide-requires : tie.Need-wide-requires
 wide-requires c κs = search needs
 
-add-wide : tie.Need-add-wide
-add-wide c = search needs
+arity-of-requires : tie.Need-arity-of-requires
+arity-of-requires c κs =
+    let known = c .before .before .before .before .pre .0 .known in
+    omega (arith, known, c .wide .ensures, c .before .predicate-at .ensures .0)
 
-mul-wide : tie.Need-mul-wide
-mul-wide c = search needs
-
-shared-slice-read-wide : tie.Need-shared-slice-read-wide
-shared-slice-read-wide c = search needs
-
-wide-requires-2 : tie.Need-wide-requires-2
-wide-requires-2 c κs = search needs
-
-add-put-key : tie.Need-add-put-key
-add-put-key c = search needs
-
-mul-put-key : tie.Need-mul-put-key
-mul-put-key c = search needs
-
-shared-slice-read-put-key : tie.Need-shared-slice-read-put-key
-shared-slice-read-put-key c = search needs
+role-at-requires : tie.Need-role-at-requires
+role-at-requires c κs = start (c .before) .pre .0 .inside
 
 put-key-requires : tie.Need-put-key-requires
 put-key-requires c κs =
-    let s = start (c .before .before) in
-    first-room (s .args .at) (key s) (predicate s ++ (colon ∷ (arguments s ++ (newline ∷ [])))) (room s)
+    let start = start (c .before .before) in
+    let r = first-room (start .args .at) (key start) (predicate start ++ (colon ∷ (arguments start ++ (newline ∷ []))))
+    (room start) in
+    omega (arith, ap (λ (r : ℕ). length (keyBytes r)) (c .role-at .ensures .0))
 
 put-number-requires : tie.Need-put-number-requires
 put-number-requires c κs =
-    let start = start (arity (c .before)) in
-    going-room (predicate start) (colon ∷ (arguments start ++ (newline ∷ []))) (behind-key (c .before))
+    let at-arity = arity (c .before) in
+    let start = start at-arity in
+    let r = going-room (predicate start) (colon ∷ (arguments start ++ (newline ∷ []))) (behind-key (c .before)) in
+    omega (arith, ap (λ (p : ℕ). length (digits p)) (at-arity .before .before .predicate-at .ensures .0))
 
 put-byte-requires : tie.Need-put-byte-requires
 put-byte-requires c κs =
@@ -162,6 +150,5 @@ returns c =
 pub put-atom-spec : {M : Type 1} → statement M
 put-atom-spec =
     tie.close
-    (tie.spec add-predicate mul-predicate shared-slice-read-predicate wide-requires add-wide mul-wide
-    shared-slice-read-wide wide-requires-2 add-put-key mul-put-key shared-slice-read-put-key put-key-requires
+    (tie.spec predicate-at-requires wide-requires arity-of-requires role-at-requires put-key-requires
     put-number-requires put-byte-requires add-put-list put-list-requires put-byte-requires-2 same-length returns)

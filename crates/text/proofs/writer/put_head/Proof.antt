@@ -9,7 +9,7 @@ use lib.ListN.{length}
 use Rattle.text.specs.Lines.{bytes, newline, digits, commaed, line}
 use Rattle.text.specs.Code.{spaced, headText}
 use Rattle.words.proofs.Puts.{Going, puts-same, going-start, going-left, going-room, going-on, last-room, going-last}
-use Rattle.text.proofs.SchemaTurns.{head-inside}
+use Rattle.task.proofs.TableReads.{counts-inside}
 use Rattle.text.proofs.WholeText.{arityBytes, taskBytes, head-parts, arities-inside}
 use borrow.Author.Needs.{needs}
 use Rattle.text.proofs.writer.put_head.Statement.{statement}
@@ -47,17 +47,20 @@ behind-objects c =
     going-on {ys = objects (start (opened c))} (behind-task (opened c)) (c .before .before .put-number-line .ensures)
 
 -- the predicates were counted first
-abbrev counted : tie.After-slice-known2 → tie.After-count
+abbrev counted : tie.After-slice-known2 → tie.After-word
 counted c = c .before .before .before .before .before
 
 predicates-read : (c : tie.After-slice-known3) →
     let w = start (opened c) .args .table .now in
-    commaed (spaced w 6 1 (counted (opened c) .count .result)) ≡ arityBytes w
+    commaed (spaced w 6 1 (counted (opened c) .word .result)) ≡ arityBytes w
 predicates-read c =
-    ap (λ (n : ℕ). commaed (spaced (start (opened c) .args .table .now) 6 1 n)) (counted (opened c) .count .ensures)
+    ap (λ (n : ℕ). commaed (spaced (start (opened c) .args .table .now) 6 1 n)) (counted (opened c) .word .ensures .0)
 
-count-requires : tie.Need-count-requires
-count-requires c κs = search needs
+word-requires : tie.Need-word-requires
+word-requires c κs =
+    let start = c .before .before in
+    let l = counts-inside (start .args .table .now) (start .pre .0) in
+    omega arith
 
 slice-aggregate-put-bytes : tie.Need-slice-aggregate-put-bytes
 slice-aggregate-put-bytes c = search needs
@@ -74,7 +77,7 @@ slice-aggregate-put-number-line c = search needs
 shared-slice-read-put-number-line : tie.Need-shared-slice-read-put-number-line
 shared-slice-read-put-number-line c =
     let put = c .before .before .before in
-    let l = head-inside (start put .args .table .now) (start put .pre .0) in
+    let l = counts-inside (start put .args .table .now) (start put .pre .0) in
     omega arith
 
 put-number-line-requires : tie.Need-put-number-line-requires
@@ -91,7 +94,7 @@ unfolding line bytes
 put-list-line-requires c κs =
     let put = c .before .before in
     let start = start (opened put) in
-    let e = counted (opened put) .count .ensures in
+    let e = counted (opened put) .word .ensures .0 in
     let r = last-room (behind-objects put) in
     let l = ap (λ (bs : List ℕ). length (bs ++ (newline ∷ []))) (predicates-read put) in
     (λ k h. arities-inside (start .args .table .now) (start .pre .0) k (omega arith), omega arith)
@@ -110,6 +113,6 @@ returns c =
 pub put-head-spec : {M : Type 1} → statement M
 put-head-spec =
     tie.close
-    (tie.spec count-requires slice-aggregate-put-bytes put-bytes-requires slice-aggregate-put-number-line
+    (tie.spec word-requires slice-aggregate-put-bytes put-bytes-requires slice-aggregate-put-number-line
     shared-slice-read-put-number-line put-number-line-requires slice-aggregate-put-list-line put-list-line-requires
     same-length returns)

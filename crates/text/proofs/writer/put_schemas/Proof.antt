@@ -1,63 +1,56 @@
 -- `text::writer::put_schemas` meets its contract. The invariant of its loop: a turn stands at schema s, and what is
 -- still to come is the lines from schema s on. The measure is the number of schemas less s.
-use Rattle.task.specs.Limits.{headWords}
+use Rattle.task.specs.Layout.{paramsIn}
+use Rattle.task.proofs.TableReads.{counts-inside}
 use native.Mathlib.Omega.{arith}
 use Prim.Native.Nat.{ℕ, _+_, _-_, _≤_}
-use mathlib.Core.Path.{sym, _∙_, ap}
+use mathlib.Core.Path.{_≡_, sym, _∙_, ap}
 use mathlib.Core.List.{List, _++_}
-use lib.ListN.{getD}
+use lib.ListN.{length}
 use Rattle.text.specs.Code.{schemaText, schemasText}
 use Rattle.text.proofs.TableText.{schemaLinesIn, schemas-onwards}
-use Rattle.task.proofs.TablesByIndex.{table-inside}
 use Rattle.text.proofs.SchemaTurns.{Turn, turn-first, read-inside, count-inside, run-inside}
 use Rattle.text.proofs.SchemaTurns.{atoms-inside, turn-lines, turn-next}
-use Rattle.words.proofs.Puts.{Going, going-start, going-long, going-left, going-room, going-on, going-end}
+use Rattle.words.proofs.Puts.{puts-same, Going, going-start, going-long, going-left, going-room, going-on, going-end}
 use Rattle.text.proofs.Onwards.{onwards, onwards-next, onwards-none}
 use Rattle.text.proofs.writer.put_schemas.Statement.{statement}
 use Rattle.text.proofs.writer.put_schemas.Tie as tie
 
 abbrev Inv-loop : tie.InvT-loop
-Inv-loop text₀ at table schemas counts base₀ left₀ next₀ s₀ text base left next s =
-    (s ≤ schemas) × (Turn table schemas counts base left s ×
+Inv-loop text₀ at table schemas base₀ left₀ next₀ s₀ text base left next s =
+    (s ≤ schemas) × (Turn table schemas base left s ×
     Going text₀ next₀ (schemasText table) (onwards (schemaLinesIn table) s schemas) text next)
 
 abbrev μ-loop : tie.MeasureT-loop
-μ-loop text₀ at table schemas counts base₀ left₀ next₀ s₀ text base left next s = schemas - s
+μ-loop text₀ at table schemas base₀ left₀ next₀ s₀ text base left next s = schemas - s
 
-count-requires : tie.Need-count-requires Inv-loop μ-loop
-count-requires c κs = (c .before .before .pre .0, omega arith)
-
-count-requires-2 : tie.Need-count-requires-2 Inv-loop μ-loop
-count-requires-2 c κs = (c .before .before .before .pre .0, omega arith)
-
-add-counts : tie.Need-add-counts Inv-loop μ-loop
-add-counts c =
-    let start = c .before .before .before .before in
-    let l = table-inside (start .args .table .now) (start .pre .0) in
-    let e = c .count2 .ensures in
+word-requires : tie.Need-word-requires Inv-loop μ-loop
+word-requires c κs =
+    let start = c .before .before in
+    let l = counts-inside (start .args .table .now) (start .pre .0) in
     omega arith
 
-add-base : tie.Need-add-base Inv-loop μ-loop
-add-base c =
-    let start = c .before .before .before .before in
-    let l = table-inside (start .args .table .now) (start .pre .0) in
-    let e = c .count2 .ensures in
-    let f = c .before .count .ensures in
+rows-base-requires : tie.Need-rows-base-requires Inv-loop μ-loop
+rows-base-requires c κs =
+    let start = c .before .before .before in
+    let l = counts-inside (start .args .table .now) (start .pre .0) in
     omega arith
 
-count-requires-3 : tie.Need-count-requires-3 Inv-loop μ-loop
-count-requires-3 c κs = (c .before .before .before .before .pre .0, omega arith)
+word-requires-2 : tie.Need-word-requires-2 Inv-loop μ-loop
+word-requires-2 c κs =
+    let start = c .before .before .before .before in
+    let l = counts-inside (start .args .table .now) (start .pre .0) in
+    omega arith
 
 loop-holds : tie.Need-loop-holds Inv-loop μ-loop
 loop-holds c =
     let start = c .before .before .before .before .before in
     let w = start .args .table .now in
-    let found = c .before .before .count .ensures in
-    let e = ap (onwards (schemaLinesIn w) 0) found in
-    let f = c .before .count2 .ensures in (
+    let found = c .before .before .word .ensures .0 in
+    let e = ap (onwards (schemaLinesIn w) 0) found in (
       omega arith,
       (
-        turn-first (start .pre .0) _ _ _ found (omega arith) (c .count3 .ensures),
+        turn-first (start .pre .0) _ _ _ found (c .before .rows-base .ensures .0) (c .word2 .ensures .0),
         going-left (sym (e ∙ schemas-onwards w)) (going-start (start .pre .1)),
       ),
     )
@@ -70,15 +63,13 @@ abbrev words : tie.At-loop Inv-loop μ-loop → List ℕ
 words c = start c .args .table .now
 
 abbrev schemas : tie.At-loop Inv-loop μ-loop → ℕ
-schemas c = c .before .before .before .count .result
+schemas c = c .before .before .before .word .result
 
 -- the lines of the turn's schema
 abbrev lines : tie.After-atoms-of Inv-loop μ-loop → List ℕ
 lines c =
     let at-loop = c .before .before in
-    schemaText (words at-loop) (getD (words at-loop)
-    (headWords + at-loop .before .before .count2 .result + at-loop .loop .s) 0)
-    (at-loop .loop .base) (c .atoms-of .result)
+    schemaText (words at-loop) (paramsIn (words at-loop) (at-loop .loop .s)) (at-loop .loop .base) (c .atoms-of .result)
 
 -- what is to come is the lines of schema s, and then those from s + 1 on
 to-come : (c : tie.After-atoms-of Inv-loop μ-loop) →
@@ -100,36 +91,37 @@ to-come c =
 atoms-of-requires : tie.Need-atoms-of-requires Inv-loop μ-loop
 atoms-of-requires c κs = read-inside (start (c .before) .pre .0) (c .before .loop .inv .1 .0)
 
-add-put-schema : tie.Need-add-put-schema Inv-loop μ-loop
-add-put-schema c =
-    let l = count-inside (start (c .before .before .before) .pre .0) (c .before .before .before .loop .inv .1 .0)
-    (c .before .before .loop-test .taken) in omega arith
+params-of-requires : tie.Need-params-of-requires Inv-loop μ-loop
+params-of-requires c κs =
+    let at-loop = c .before .before .before in
+    count-inside (start at-loop .pre .0) (at-loop .loop .inv .1 .0) (c .before .before .loop-test .taken)
 
-mul-put-schema : tie.Need-mul-put-schema Inv-loop μ-loop
-mul-put-schema c =
-    let l = count-inside (start (c .before .before .before) .pre .0) (c .before .before .before .loop .inv .1 .0)
-    (c .before .before .loop-test .taken) in omega arith
+cast-put-schema : tie.Need-cast-put-schema Inv-loop μ-loop
+cast-put-schema c = omega (arith, c .params-of .ensures .1)
 
-shared-slice-read-put-schema : tie.Need-shared-slice-read-put-schema Inv-loop μ-loop
-shared-slice-read-put-schema c =
-    count-inside (start (c .before .before .before .before) .pre .0)
-    (c .before .before .before .before .loop .inv .1 .0) (c .before .before .before .loop-test .taken)
+-- the parameter count that was read is the schema's
+lines-read : (c : tie.After-params-of Inv-loop μ-loop) →
+    let at-loop = c .before .before .before .before in
+    schemaText (words at-loop) (c .params-of .result) (at-loop .loop .base) (c .before .before .atoms-of .result) ≡
+    lines (c .before .before)
+lines-read c =
+    let at-loop = c .before .before .before .before in
+    ap (λ (p : ℕ). schemaText (words at-loop) p (at-loop .loop .base) (c .before .before .atoms-of .result))
+    (c .params-of .ensures .0)
 
 put-schema-requires : tie.Need-put-schema-requires Inv-loop μ-loop
 put-schema-requires c κs =
     let at-loop = c .before .before .before .before in
     let l = run-inside (start (c .before .before .before .before) .pre .0)
     (c .before .before .before .before .loop .inv .1 .0) (c .before .before .before .loop-test .taken)
-    (c .before .before .atoms-of .ensures) in (
+    (c .before .before .atoms-of .ensures) in
+    let e = ap length (lines-read c) in
+    let r = going-room (lines (c .before .before)) (onwards (schemaLinesIn (words at-loop)) (at-loop .loop .s + 1)
+    (schemas at-loop)) (to-come (c .before .before)) in (
       atoms-inside (start (c .before .before .before .before) .pre .0)
           (c .before .before .before .before .loop .inv .1 .0) (c .before .before .before .loop-test .taken)
           (c .before .before .atoms-of .ensures),
-      (
-        omega arith,
-        going-room (lines (c .before .before)) (onwards (schemaLinesIn (words at-loop)) (at-loop .loop .s + 1)
-            (schemas at-loop))
-            (to-come (c .before .before)),
-      ),
+      (omega arith, omega arith),
     )
 
 mul-base : tie.Need-mul-base Inv-loop μ-loop
@@ -139,8 +131,8 @@ mul-base c =
     (c .before .before .before .before .before .before .loop-test .taken)
     (c .before .before .before .before .before .atoms-of .ensures) in omega arith
 
-add-base-2 : tie.Need-add-base-2 Inv-loop μ-loop
-add-base-2 c =
+add-base : tie.Need-add-base Inv-loop μ-loop
+add-base c =
     let l = run-inside (start (c .before .before .before .before .before .before .before) .pre .0)
     (c .before .before .before .before .before .before .before .loop .inv .1 .0)
     (c .before .before .before .before .before .before .loop-test .taken)
@@ -163,7 +155,8 @@ loop-again c = (
         (c .before .before .before .before .before .before .before .loop .inv .1 .0)
         (c .before .before .before .before .before .before .loop-test .taken)
         (c .before .before .before .before .before .atoms-of .ensures),
-    going-on (to-come (c .before .before .before .before .before)) (c .before .before .put-schema .ensures),
+    going-on (to-come (c .before .before .before .before .before))
+        (puts-same (lines-read (c .before .before .before)) (c .before .before .put-schema .ensures)),
   ),
 )
 
@@ -179,6 +172,6 @@ returns c =
 pub put-schemas-spec : {M : Type 1} → statement M
 put-schemas-spec =
     tie.close
-    (tie.spec Inv-loop μ-loop count-requires count-requires-2 add-counts add-base count-requires-3 loop-holds
-    atoms-of-requires add-put-schema mul-put-schema shared-slice-read-put-schema put-schema-requires mul-base add-base-2
-    sub-left add-s loop-less loop-again same-length returns)
+    (tie.spec Inv-loop μ-loop word-requires rows-base-requires word-requires-2 loop-holds atoms-of-requires
+    params-of-requires cast-put-schema put-schema-requires mul-base add-base sub-left add-s loop-less loop-again
+    same-length returns)

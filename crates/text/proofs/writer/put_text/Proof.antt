@@ -6,6 +6,7 @@ use mathlib.Core.Path.{_≡_, ap, ap₂}
 use mathlib.Core.List.{List, _++_}
 use lib.ListN.{length}
 use Rattle.task.specs.Table.{taskOf}
+use Rattle.task.proofs.TableReads.{counts-inside}
 use Rattle.text.specs.Text.{write}
 use Rattle.text.specs.Code.{atomsText, headText, schemasText}
 use Rattle.words.proofs.Puts.{puts-same, Going, going-start, going-left, going-room, going-on, last-room, going-last}
@@ -65,7 +66,10 @@ behind-facts c =
     (puts-same (facts-read (counted (headed (listed c)))) (c .before .before .put-atoms .ensures))
 
 facts-base-requires : tie.Need-facts-base-requires
-facts-base-requires c κs = search needs
+facts-base-requires c κs =
+    let start = c .before .before in
+    let l = counts-inside (start .args .table .now) (start .pre .0) in
+    omega arith
 
 fact-count-requires : tie.Need-fact-count-requires
 fact-count-requires c κs = search needs

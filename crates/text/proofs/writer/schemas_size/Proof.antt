@@ -1,14 +1,14 @@
 -- `text::writer::schemas_size` meets its contract. The invariant of its loop: a turn stands at schema s, and the size
 -- so far and that of the lines from schema s on make the whole. The measure is the number of schemas less s.
-use Rattle.task.specs.Limits.{headWords}
+use Rattle.task.specs.Layout.{paramsIn}
+use Rattle.task.proofs.TableReads.{counts-inside}
 use native.Mathlib.Omega.{arith}
 use Prim.Native.Nat.{ℕ, _+_, _-_, _≤_}
 use mathlib.Core.Path.{_≡_, ap}
 use mathlib.Core.List.{List}
-use lib.ListN.{length, getD}
+use lib.ListN.{length}
 use Rattle.text.specs.Code.{schemaText, schemasText}
 use Rattle.text.proofs.TableText.{schemaLinesIn, schemas-onwards}
-use Rattle.task.proofs.TablesByIndex.{table-inside}
 use Rattle.text.proofs.SchemaTurns.{Turn, turn-first, read-inside, count-inside}
 use Rattle.text.proofs.SchemaTurns.{run-inside, atoms-inside, turn-lines, turn-next}
 use Rattle.text.proofs.Onwards.{onwards, onwards-longer, onwards-short}
@@ -16,46 +16,39 @@ use Rattle.text.proofs.writer.schemas_size.Statement.{statement}
 use Rattle.text.proofs.writer.schemas_size.Tie as tie
 
 abbrev Inv-loop : tie.InvT-loop
-Inv-loop table schemas counts base₀ left₀ size₀ s₀ base left size s =
-    (s ≤ schemas) × (Turn table schemas counts base left s ×
+Inv-loop table schemas base₀ left₀ size₀ s₀ base left size s =
+    (s ≤ schemas) × (Turn table schemas base left s ×
     (size + length (onwards (schemaLinesIn table) s schemas) ≡ length (schemasText table)))
 
 abbrev μ-loop : tie.MeasureT-loop
-μ-loop table schemas counts base₀ left₀ size₀ s₀ base left size s = schemas - s
+μ-loop table schemas base₀ left₀ size₀ s₀ base left size s = schemas - s
 
-count-requires : tie.Need-count-requires Inv-loop μ-loop
-count-requires c κs = (c .before .pre .0, omega arith)
-
-count-requires-2 : tie.Need-count-requires-2 Inv-loop μ-loop
-count-requires-2 c κs = (c .before .before .pre .0, omega arith)
-
-add-counts : tie.Need-add-counts Inv-loop μ-loop
-add-counts c =
-    let start = c .before .before .before in
-    let l = table-inside (start .args .table .now) (start .pre .0) in
-    let e = c .count2 .ensures in
+word-requires : tie.Need-word-requires Inv-loop μ-loop
+word-requires c κs =
+    let l = counts-inside (c .before .args .table .now) (c .before .pre .0) in
     omega arith
 
-add-base : tie.Need-add-base Inv-loop μ-loop
-add-base c =
-    let start = c .before .before .before in
-    let l = table-inside (start .args .table .now) (start .pre .0) in
-    let e = c .count2 .ensures in
-    let f = c .before .count .ensures in
+rows-base-requires : tie.Need-rows-base-requires Inv-loop μ-loop
+rows-base-requires c κs =
+    let start = c .before .before in
+    let l = counts-inside (start .args .table .now) (start .pre .0) in
     omega arith
 
-count-requires-3 : tie.Need-count-requires-3 Inv-loop μ-loop
-count-requires-3 c κs = (c .before .before .before .pre .0, omega arith)
+word-requires-2 : tie.Need-word-requires-2 Inv-loop μ-loop
+word-requires-2 c κs =
+    let start = c .before .before .before in
+    let l = counts-inside (start .args .table .now) (start .pre .0) in
+    omega arith
 
 loop-holds : tie.Need-loop-holds Inv-loop μ-loop
 loop-holds c =
     let start = c .before .before .before .before in
     let w = start .args .table .now in
-    let found = c .before .before .count .ensures in
+    let found = c .before .before .word .ensures .0 in
     let e = ap (λ (n : ℕ). length (onwards (schemaLinesIn w) 0 n)) found in
-    let f = c .before .count2 .ensures in
     let l = ap length (schemas-onwards w) in
-    (omega arith, (turn-first (start .pre .0) _ _ _ found (omega arith) (c .count3 .ensures), omega arith))
+    let first = turn-first (start .pre .0) _ _ _ found (c .before .rows-base .ensures .0) (c .word2 .ensures .0) in
+    (omega arith, (first, omega arith))
 
 -- what the loop's head knows: the function's entry, and the counts that were read
 abbrev start : tie.At-loop Inv-loop μ-loop → tie.Start Inv-loop μ-loop
@@ -65,15 +58,13 @@ abbrev words : tie.At-loop Inv-loop μ-loop → List ℕ
 words c = start c .args .table .now
 
 abbrev schemas : tie.At-loop Inv-loop μ-loop → ℕ
-schemas c = c .before .before .before .count .result
+schemas c = c .before .before .before .word .result
 
 -- the lines of the turn's schema
 abbrev lines : tie.After-atoms-of Inv-loop μ-loop → List ℕ
 lines c =
     let at-loop = c .before .before in
-    schemaText (words at-loop) (getD (words at-loop)
-    (headWords + at-loop .before .before .count2 .result + at-loop .loop .s) 0)
-    (at-loop .loop .base) (c .atoms-of .result)
+    schemaText (words at-loop) (paramsIn (words at-loop) (at-loop .loop .s)) (at-loop .loop .base) (c .atoms-of .result)
 
 -- the lines of schema s are part of what is to come
 longer : (c : tie.After-atoms-of Inv-loop μ-loop) →
@@ -92,26 +83,29 @@ longer c =
 atoms-of-requires : tie.Need-atoms-of-requires Inv-loop μ-loop
 atoms-of-requires c κs = read-inside (start (c .before) .pre .0) (c .before .loop .inv .1 .0)
 
-add-schema-size : tie.Need-add-schema-size Inv-loop μ-loop
-add-schema-size c =
-    let l = count-inside (start (c .before .before) .pre .0) (c .before .before .loop .inv .1 .0)
-    (c .before .loop-test .taken) in omega arith
+params-of-requires : tie.Need-params-of-requires Inv-loop μ-loop
+params-of-requires c κs =
+    count-inside (start (c .before .before) .pre .0) (c .before .before .loop .inv .1 .0) (c .before .loop-test .taken)
 
-mul-schema-size : tie.Need-mul-schema-size Inv-loop μ-loop
-mul-schema-size c =
-    let l = count-inside (start (c .before .before) .pre .0) (c .before .before .loop .inv .1 .0)
-    (c .before .loop-test .taken) in omega arith
+cast-schema-size : tie.Need-cast-schema-size Inv-loop μ-loop
+cast-schema-size c = omega (arith, c .params-of .ensures .1)
 
-shared-slice-read-schema-size : tie.Need-shared-slice-read-schema-size Inv-loop μ-loop
-shared-slice-read-schema-size c =
-    count-inside (start (c .before .before .before) .pre .0) (c .before .before .before .loop .inv .1 .0)
-    (c .before .before .loop-test .taken)
+-- the parameter count that was read is the schema's
+lines-read : (c : tie.After-params-of Inv-loop μ-loop) →
+    let at-loop = c .before .before .before in
+    length (schemaText (words at-loop) (c .params-of .result) (at-loop .loop .base) (c .before .atoms-of .result)) ≡
+    length (lines (c .before))
+lines-read c =
+    let at-loop = c .before .before .before in
+    ap (λ (p : ℕ). length (schemaText (words at-loop) p (at-loop .loop .base) (c .before .atoms-of .result)))
+    (c .params-of .ensures .0)
 
 schema-size-requires : tie.Need-schema-size-requires Inv-loop μ-loop
 schema-size-requires c κs =
     let l = run-inside (start (c .before .before .before) .pre .0) (c .before .before .before .loop .inv .1 .0)
     (c .before .before .loop-test .taken) (c .before .atoms-of .ensures) in
-    let m = longer (c .before) in (
+    let m = longer (c .before) in
+    let e = lines-read c in (
       atoms-inside (start (c .before .before .before) .pre .0) (c .before .before .before .loop .inv .1 .0)
           (c .before .before .loop-test .taken) (c .before .atoms-of .ensures),
       (omega arith, omega arith),
@@ -120,6 +114,7 @@ schema-size-requires c κs =
 add-size : tie.Need-add-size Inv-loop μ-loop
 add-size c =
     let l = longer (c .before .before) in
+    let r = lines-read (c .before) in
     let e = c .schema-size .ensures in
     omega arith
 
@@ -129,8 +124,8 @@ mul-base c =
     (c .before .before .before .before .loop .inv .1 .0) (c .before .before .before .loop-test .taken)
     (c .before .before .atoms-of .ensures) in omega arith
 
-add-base-2 : tie.Need-add-base-2 Inv-loop μ-loop
-add-base-2 c =
+add-base : tie.Need-add-base Inv-loop μ-loop
+add-base c =
     let l = run-inside (start (c .before .before .before .before) .pre .0)
     (c .before .before .before .before .loop .inv .1 .0) (c .before .before .before .loop-test .taken)
     (c .before .before .atoms-of .ensures) in omega arith
@@ -147,6 +142,7 @@ loop-less c = omega arith
 loop-again : tie.Need-loop-again Inv-loop μ-loop
 loop-again c =
     let l = longer (c .before .before) in
+    let r = lines-read (c .before) in
     let e = c .schema-size .ensures in (
       omega arith,
       (
@@ -166,6 +162,6 @@ returns c =
 pub schemas-size-spec : {M : Type 1} → statement M
 schemas-size-spec =
     tie.close
-    (tie.spec Inv-loop μ-loop count-requires count-requires-2 add-counts add-base count-requires-3 loop-holds
-    atoms-of-requires add-schema-size mul-schema-size shared-slice-read-schema-size schema-size-requires add-size
-    mul-base add-base-2 sub-left add-s loop-less loop-again returns)
+    (tie.spec Inv-loop μ-loop word-requires rows-base-requires word-requires-2 loop-holds atoms-of-requires
+    params-of-requires cast-schema-size schema-size-requires add-size mul-base add-base sub-left add-s loop-less
+    loop-again returns)

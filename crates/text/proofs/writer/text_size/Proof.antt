@@ -7,6 +7,7 @@ use Prim.Native.Nat.{ℕ, _+_, _^_, _<_}
 use mathlib.Core.Path.{_≡_, ap₂}
 use lib.ListN.{length}
 use Rattle.task.specs.Table.{taskOf}
+use Rattle.task.proofs.TableReads.{counts-inside}
 use Rattle.text.specs.Text.{write}
 use Rattle.text.specs.Code.{atomsText}
 use Rattle.text.proofs.WholeText.{length-write, write-fits, facts-inside}
@@ -15,7 +16,7 @@ use Rattle.text.proofs.writer.text_size.Statement.{statement}
 use Rattle.text.proofs.writer.text_size.Tie as tie
 
 facts-base-requires : tie.Need-facts-base-requires
-facts-base-requires c κs = search needs
+facts-base-requires c κs = let l = counts-inside (c .before .args .table .now) (c .before .pre) in omega arith
 
 fact-count-requires : tie.Need-fact-count-requires
 fact-count-requires c κs = search needs

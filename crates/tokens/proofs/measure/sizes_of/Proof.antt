@@ -6,8 +6,8 @@ use mathlib.Core.Path.{_≡_, refl, sym, _∙_}
 use native.Mathlib.Omega.{arith}
 use lib.ListN.{length}
 use Rattle.task.specs.Table.{taskOf}
-use Rattle.task.proofs.Tables.{tableWords-is}
-use Rattle.task.proofs.TablesByIndex.{table-frame, table-long, schemas-word}
+use Rattle.task.proofs.TableReads.{counts-inside}
+use Rattle.task.proofs.TablesByIndex.{table-frame, schemas-word}
 use Rattle.tokens.specs.Code.{SizesBefore}
 use Rattle.tokens.proofs.KeptSchemas.{schemas-few}
 use Rattle.tokens.proofs.KeptSchema.{count-small, count-parts, count-some, schema-small, counted}
@@ -48,7 +48,7 @@ kept c =
 word-requires : tie.Need-word-requires Inv-loop μ-loop
 word-requires c κs =
     let s = c .before in
-    omega (arith, table-long (s .args .table .now) (s .pre .0), tableWords-is)
+    omega (arith, counts-inside (s .args .table .now) (s .pre .0))
 
 loop-holds : tie.Need-loop-holds Inv-loop μ-loop
 loop-holds c = (omega arith, sizes-none (taskOf (c .before .before .args .table .now)) _ refl refl refl refl refl)

@@ -8,15 +8,14 @@ use mathlib.Core.Bool.{Bool}
 use native.Mathlib.Omega.{arith}
 use lib.ListN.{length}
 use Rattle.task.specs.Layout.{headIn}
-use Rattle.task.proofs.Tables.{tableWords-is}
-use Rattle.task.proofs.TablesByIndex.{table-long}
+use Rattle.task.proofs.TableReads.{counts-inside}
 use Rattle.tokens.specs.Code.{sizesFit, areWithin}
 use Rattle.tokens.proofs.measure.within_limits.Statement.{statement}
 use Rattle.task.specs.Limits.{headWords}
 
 -- the table has a head
 long : (s : tie.Start) → headWords ≤ length (s .args .table .now)
-long s = omega (arith, table-long (s .args .table .now) (s .pre .0), tableWords-is)
+long s = omega (arith, counts-inside (s .args .table .now) (s .pre .0))
 
 word-requires : tie.Need-word-requires
 word-requires c κs = omega (arith, long (c .before))

@@ -13,8 +13,8 @@ use Rattle.words.specs.Lists.{sum, upFrom, upTo}
 use Rattle.task.specs.Layout.{headIn}
 use Rattle.task.specs.Run.{schemaAt}
 use Rattle.task.specs.Table.{taskOf, isTable}
-use Rattle.task.proofs.Tables.{tableWords-is}
-use Rattle.task.proofs.TablesByIndex.{table-frame, table-long, schemas-word}
+use Rattle.task.proofs.TableReads.{counts-inside}
+use Rattle.task.proofs.TablesByIndex.{table-frame, schemas-word}
 use Rattle.arcs.specs.Code.{IsStretch, atomsIn, orderTold}
 use Rattle.words.proofs.Ascending.{no-none}
 use Rattle.arcs.proofs.Stretches.{schema-atoms, schema-stretch}
@@ -116,7 +116,7 @@ count-kept c =
 word-requires : tie.Need-word-requires Inv-loop μ-loop
 word-requires c κs =
     let s = c .before in
-    omega (arith, table-long (s .args .table .now) (s .pre .0), tableWords-is)
+    omega (arith, counts-inside (s .args .table .now) (s .pre .0))
 
 keep-begin-requires : tie.Need-keep-begin-requires Inv-loop μ-loop
 keep-begin-requires c κs = (omega arith, (omega arith, omega arith))

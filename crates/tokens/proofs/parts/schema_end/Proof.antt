@@ -6,8 +6,7 @@ use mathlib.Core.Path.{sym, _∙_}
 use native.Mathlib.Omega.{arith}
 use Rattle.task.specs.Layout.{headIn}
 use Rattle.task.specs.Table.{taskOf}
-use Rattle.task.proofs.Tables.{tableWords-is}
-use Rattle.task.proofs.TablesByIndex.{table-long}
+use Rattle.task.proofs.TableReads.{counts-inside}
 use Rattle.arcs.specs.Code.{IsStretch}
 use Rattle.arcs.proofs.Stretches.{atom-row, schema-stretch}
 use Rattle.tokens.proofs.PartParameters.{schema-known, ends-here, goes-on}
@@ -44,7 +43,7 @@ inside c = let n = c .before .before .word .ensures .0 in omega (arith, c .loop-
 word-requires : tie.Need-word-requires Inv-loop μ-loop
 word-requires c κs =
     let s = c .before in
-    omega (arith, table-long (s .args .table .now) (s .pre .0), tableWords-is)
+    omega (arith, counts-inside (s .args .table .now) (s .pre .0))
 
 loop-holds : tie.Need-loop-holds Inv-loop μ-loop
 loop-holds c =

@@ -9,8 +9,8 @@ use lib.ListN.{length, length-append}
 use Rattle.words.specs.Lists.{concatMap, upFrom, upTo}
 use Rattle.task.specs.Task.{Task}
 use Rattle.task.specs.Table.{taskOf, schemasFrom}
-use Rattle.task.proofs.TablesByIndex.{table-frame, table-long, schemas-word}
-use Rattle.task.proofs.Tables.{tableWords-is}
+use Rattle.task.proofs.TableReads.{counts-inside}
+use Rattle.task.proofs.TablesByIndex.{table-frame, schemas-word}
 use Rattle.words.specs.Putting.{Puts}
 use Rattle.words.proofs.Puts.{puts-none, puts-then, puts-length}
 use Rattle.tokens.proofs.SchemaRuns.{schemasUpTo, schemas-more, schemas-fewer}
@@ -74,7 +74,7 @@ known i = let n = schemas-are (i .before) in omega (arith, i .loop-test .taken)
 word-requires : tie.Need-word-requires Inv-loop μ-loop
 word-requires c κs =
     let s = c .before .before in
-    omega (arith, table-long (s .args .table .now) (s .pre .0 .table), tableWords-is)
+    omega (arith, counts-inside (s .args .table .now) (s .pre .0 .table))
 
 loop-holds : tie.Need-loop-holds Inv-loop μ-loop
 unfolding concatMap upTo upFrom schemasFrom
