@@ -22,7 +22,6 @@ use Rattle.words.proofs.Words.{length-rows}
 use Rattle.task.proofs.AtomsStand.{length-facts, factWords-is, lengths, length-schemasFrom}
 use Rattle.task.proofs.Tables.{content, content-fits, places}
 use Rattle.task.proofs.Tests.{task-tests}
-use Rattle.task.proofs.TableReads.{table-roomy}
 use Rattle.task.proofs.TablesByIndex.{Frame, table-frame, objects-word, arities-word}
 use Rattle.task.proofs.TablesByIndex.{init-word, goal-word}
 use Rattle.words.specs.Sets.{member, members, wordBits}
@@ -163,10 +162,6 @@ module _ (w : List ℕ) (table : isTable w ≡ true) where
       (omega arith)
       (length-rows (factWords 4) atomSize (task .goal) (length-facts task 4 (task .goal) (fr .sizes .goal)) ∙
       ap (λ (k : ℕ). atomSize * k) (goal-word w fr ∙ sym f))
-
-  -- all atoms lie in the table
-  pub facts-inside : rowsBase w + atomSize * (atomTotal w) ≤ length w
-  facts-inside = table-roomy w table .inside
 
 -- ---- how long each piece is
 pub record Room (t : Task) : Type 0 where

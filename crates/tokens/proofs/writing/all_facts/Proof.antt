@@ -8,7 +8,7 @@ use borrow.Author.Needs.{needs}
 use Rattle.words.specs.Lists.{concatMap}
 use Rattle.task.specs.Layout.{headIn, factsBase}
 use Rattle.task.specs.Table.{taskOf, factWords}
-use Rattle.task.proofs.TablesByIndex.{table-inside}
+use Rattle.task.proofs.TableReads.{table-roomy}
 use Rattle.tokens.specs.Split.{splitTask}
 use Rattle.words.proofs.Puts.{puts-is, puts-then, puts-length}
 use Rattle.tokens.proofs.Written.{init-written, goal-written}
@@ -32,7 +32,7 @@ started c = c .before .before .before .before
 -- all atoms lie in the table
 inside : (s : tie.Start) →
     let w = s .args .table .now in factsBase w + atomSize * (headIn w .initialAtoms + headIn w .goalAtoms) ≤ length w
-inside s = omega (arith, table-inside (s .args .table .now) (s .pre .0))
+inside s = omega (arith, table-roomy (s .args .table .now) (s .pre .0) .inside)
 
 word-requires : tie.Need-word-requires
 word-requires c κs = omega (arith, inside (c .before .before))

@@ -14,7 +14,8 @@ use Rattle.task.specs.Task.{Schema, Task, initial, goalRole}
 use Rattle.task.specs.Table.{factWords, taskOf, headOf, blocksOf, wordsOf}
 use Rattle.words.proofs.Puts.{put-over, puts-is, puts-then, puts-append, puts-same, puts-length}
 use Rattle.task.proofs.Tables.{content, wordsOf-is, tableWords-is, words-length}
-use Rattle.task.proofs.TablesByIndex.{table-frame, table-inside, schemas-word, init-word, goal-word}
+use Rattle.task.proofs.TableReads.{table-roomy}
+use Rattle.task.proofs.TablesByIndex.{table-frame, schemas-word, init-word, goal-word}
 use Rattle.tokens.specs.Split.{splitTask}
 use Rattle.words.specs.Putting.{Puts}
 use Rattle.tokens.proofs.Predicates.{predicate-count}
@@ -78,7 +79,7 @@ known c =
       predicates = omega (arith, predicate-count t, predicates-word S);
       inits = omega (arith, init-count t, init-word w fr);
       goals = omega (arith, goal-count t, goal-word w fr);
-      inside = omega (arith, table-inside w (S .table));
+      inside = omega (arith, table-roomy w (S .table) .inside);
       long = omega (arith, c .pre .1, tableWords-is);
     }
 
