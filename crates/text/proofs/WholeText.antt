@@ -23,6 +23,7 @@ use Rattle.text.specs.Code.{longestText}
 use Rattle.text.proofs.TableAtoms.{each-inside}
 use Rattle.text.proofs.TableText.{write-table}
 use Rattle.task.proofs.TableReads.{table-roomy}
+use Rattle.task.proofs.TablesByIndex.{table-long}
 use Rattle.text.proofs.LongestText.{text-most}
 
 -- ---- the head
