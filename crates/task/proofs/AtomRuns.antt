@@ -30,10 +30,10 @@ module _ (w : List ℕ) (i e : ℕ) where
   abbrev pub rolesLeft : ℕ → Bool
   rolesLeft k = rolesAscend (atomsIn w k (e - k))
 
-  abbrev pub ascendLeft : ℕ → Bool
+  abbrev ascendLeft : ℕ → Bool
   ascendLeft k = ascending (factsIn w k (e - k))
 
-  abbrev pub distinctLeft : ℕ → Bool
+  abbrev distinctLeft : ℕ → Bool
   distinctLeft k = distinct (atomsIn w k (e - k))
 
   pub roles-step : i + 1 < e → rolesLeft i ≡ leb (atomIn w i .role) (atomIn w (i + 1) .role) && rolesLeft (i + 1)

@@ -1,4 +1,5 @@
--- How the parameters that are found of a part grow, an atom at a time, and where a schema's atoms end. Parameters are tests over lists that grow at their end.
+-- How the parameters that are found of a part grow, an atom at a time, and where a schema's atoms end. Parameters are
+-- tests over lists that grow at their end.
 use Prim.Native.Nat.{ℕ, suc, _+_, _-_, _≤_, _<_}
 use mathlib.Core.Path.{_≡_, refl, sym, _∙_, ap, subst}
 use mathlib.Core.Bool.{Bool, true, false, _&&_, _||_}

@@ -13,7 +13,7 @@ use Rattle.words.proofs.Ranges.{or-false}
 use Rattle.words.proofs.Loops.{AllLeft, all-steps}
 use Rattle.words.proofs.Lists.{false-if, eqList-refl, lessList-less, less-irrefl}
 
-pub words-step : (w : List ℕ) (i n k : ℕ) → k < n → wordsAt w (i + k) (n - k) ≡
+words-step : (w : List ℕ) (i n k : ℕ) → k < n → wordsAt w (i + k) (n - k) ≡
     getD w (i + k) 0 ∷ wordsAt w (i + (k + 1)) (n - (k + 1))
 unfolding wordsAt upFrom
 words-step w i n k l =
@@ -21,11 +21,11 @@ words-step w i n k l =
     let s : suc (i + k) ≡ i + (k + 1) = omega arith in
     rw (q, s) refl
 
-pub words-done : (w : List ℕ) (i n k : ℕ) → n ≤ k → wordsAt w (i + k) (n - k) ≡ []
+words-done : (w : List ℕ) (i n k : ℕ) → n ≤ k → wordsAt w (i + k) (n - k) ≡ []
 unfolding wordsAt upFrom
 words-done w i n k l = let q : n - k ≡ 0 = omega arith in rw q refl
 
-pub words-start : (w : List ℕ) (i n : ℕ) → wordsAt w i n ≡ wordsAt w (i + 0) (n - 0)
+words-start : (w : List ℕ) (i n : ℕ) → wordsAt w i n ≡ wordsAt w (i + 0) (n - 0)
 words-start w i n = ap₂ (wordsAt w) (omega arith) (omega arith)
 
 -- ---- whether they are the same

@@ -1,7 +1,7 @@
 -- Loops over the indices up to an end, with a test at each. The invariant: the whole is what is left of it at the
 -- loop's index. It holds at first (a law for each form that the whole has, under 'at first'), holds again after an
 -- index that doesn't decide (`-more`), and says what is answered where one does (`-fails`, `-found`), and at the end
--- (`-ends`).
+-- (`-ends`). In a function's proof `search all-ends` and the like find the invariant and what was tested.
 use Prim.Native.Nat.{ℕ, zero, suc, _+_, _-_, _≤_, _<_}
 use mathlib.Core.Path.{_≡_, refl, sym, _∙_, ap}
 use mathlib.Core.Bool.{Bool, true, false, not, _&&_, _||_}

@@ -1,13 +1,12 @@
--- `running::goal_met` meets its contract.
+-- `task::running::goal_met` meets its contract.
 -- The invariant: the whole test is what is left of it from atom k on. The measure is how many atoms are left.
 use Prim.Native.Nat.{_-_, _≤_}
-use mathlib.Core.Path.{_≡_, sym, _∙_}
+use mathlib.Core.Path.{_≡_}
 use native.Mathlib.Omega.{arith}
-use borrow.Author.Tests.{not-true, not-false}
 use Rattle.task.specs.Table.{factIn, taskOf}
 use Rattle.task.specs.Run.{holds, stateIn, goalMet}
 use Rattle.task.proofs.TableReads.{counts-inside}
-use Rattle.words.proofs.Loops.{AllLeft, all-more, all-fails, all-ends}
+use Rattle.words.proofs.Loops.{AllLeft, all-yes, all-no, all-ends}
 use Rattle.task.proofs.SpanLaws.{state-long, state-ascends}
 use Rattle.task.proofs.GoalLaws.{goal-known, goal-start}
 use Rattle.task.proofs.running.goal_met.Statement.{statement}
@@ -92,8 +91,7 @@ held-is c =
 returns : tie.Need-returns Inv-loop μ-loop
 returns c =
     let turn = c .before .before .before in
-    all-fails (turn .before .loop .inv .1) (turn .loop-test .taken)
-    (sym (held-is (c .before)) ∙ not-true _ (c .if1 .taken))
+    all-no (turn .before .loop .inv .1) (turn .loop-test .taken) (held-is (c .before)) (c .if1 .taken)
 
 add-k : tie.Need-add-k Inv-loop μ-loop
 add-k c = omega arith
@@ -103,11 +101,8 @@ loop-less c = omega arith
 
 loop-again : tie.Need-loop-again Inv-loop μ-loop
 loop-again c =
-    let turn = c .before .before .before in (
-      omega arith,
-      all-more (turn .before .loop .inv .1) (turn .loop-test .taken)
-          (sym (held-is (c .before)) ∙ not-false _ (c .if1 .left)),
-    )
+    let turn = c .before .before .before in
+    (omega arith, all-yes (turn .before .loop .inv .1) (turn .loop-test .taken) (held-is (c .before)) (c .if1 .left))
 
 returns-2 : tie.Need-returns-2 Inv-loop μ-loop
 returns-2 c = all-ends (c .before .loop .inv .1) (c .loop-test .left)

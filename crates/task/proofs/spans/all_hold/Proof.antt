@@ -1,14 +1,13 @@
 -- `spans::all_hold` meets its contract.
 -- The invariant: the whole test is what is left of it from atom k on. The measure is how many atoms are left.
 use Prim.Native.Nat.{_-_, _≤_}
-use mathlib.Core.Path.{_≡_, sym, _∙_}
+use mathlib.Core.Path.{_≡_}
 use native.Mathlib.Omega.{arith}
-use borrow.Author.Tests.{not-true, not-false}
 use Rattle.words.specs.Lists.{all}
 use Rattle.task.specs.Table.{taskOf}
 use Rattle.task.specs.Run.{holds, stateIn}
 use Rattle.task.specs.Spans.{groundAt, groundSpan}
-use Rattle.words.proofs.Loops.{AllLeft, all-mapped, all-more, all-fails, all-ends}
+use Rattle.words.proofs.Loops.{AllLeft, all-mapped, all-yes, all-no, all-ends}
 use Rattle.task.proofs.GroundWords.{span-atom}
 use Rattle.task.proofs.SpanLaws.{state-long, state-ascends, atom-known}
 use Rattle.task.proofs.spans.all_hold.Statement.{statement}
@@ -58,8 +57,7 @@ held-is c =
 returns : tie.Need-returns Inv-loop μ-loop
 returns c =
     let turn = c .before .before .before in
-    all-fails (turn .before .loop .inv .1) (turn .loop-test .taken)
-    (sym (held-is (c .before)) ∙ not-true _ (c .if1 .taken))
+    all-no (turn .before .loop .inv .1) (turn .loop-test .taken) (held-is (c .before)) (c .if1 .taken)
 
 add-k : tie.Need-add-k Inv-loop μ-loop
 add-k c = omega arith
@@ -69,11 +67,8 @@ loop-less c = omega arith
 
 loop-again : tie.Need-loop-again Inv-loop μ-loop
 loop-again c =
-    let turn = c .before .before .before in (
-      omega arith,
-      all-more (turn .before .loop .inv .1) (turn .loop-test .taken)
-          (sym (held-is (c .before)) ∙ not-false _ (c .if1 .left)),
-    )
+    let turn = c .before .before .before in
+    (omega arith, all-yes (turn .before .loop .inv .1) (turn .loop-test .taken) (held-is (c .before)) (c .if1 .left))
 
 returns-2 : tie.Need-returns-2 Inv-loop μ-loop
 returns-2 c = all-ends (c .before .loop .inv .1) (c .loop-test .left)

@@ -40,7 +40,8 @@ shared-slice-read-y c = omega arith
 returns : tie.Need-returns Inv-loop μ-loop
 returns c =
     let turn = c .before .before .before in
-    sym (lt-ltb _ _ (c .if1 .taken)) ∙ less-decides (turn .before .loop .inv) (turn .loop-test .taken) (λ e. omega arith)
+    sym (lt-ltb _ _ (c .if1 .taken)) ∙ less-decides (turn .before .loop .inv) (turn .loop-test .taken) (λ e.
+    omega arith)
 
 returns-2 : tie.Need-returns-2 Inv-loop μ-loop
 returns-2 c =

@@ -31,8 +31,7 @@ shared-slice-read-if1 : tie.Need-shared-slice-read-if1 Inv-loop μ-loop
 shared-slice-read-if1 c = omega arith
 
 returns : tie.Need-returns Inv-loop μ-loop
-returns c = any-found (c .before .before .before .loop .inv) (c .before .before .loop-test .taken)
-    (eq-eqb _ _ (c .if1 .taken))
+returns c = search (any-found, eq-eqb)
 
 add-k : tie.Need-add-k Inv-loop μ-loop
 add-k c = omega arith
@@ -41,11 +40,10 @@ loop-less : tie.Need-loop-less Inv-loop μ-loop
 loop-less c = omega arith
 
 loop-again : tie.Need-loop-again Inv-loop μ-loop
-loop-again c = any-more (c .before .before .before .loop .inv) (c .before .before .loop-test .taken)
-    (ne-eqb _ _ (c .if1 .left))
+loop-again c = search (any-more, ne-eqb)
 
 returns-2 : tie.Need-returns-2 Inv-loop μ-loop
-returns-2 c = any-ends (c .before .loop .inv) (c .loop-test .left)
+returns-2 c = search any-ends
 
 pub has-word-spec : {M : Type 1} → statement M
 has-word-spec =

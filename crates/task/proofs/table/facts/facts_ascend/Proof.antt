@@ -2,13 +2,11 @@
 -- The invariant: the whole test is what is left of it, from i to the last but one. The measure is how many atoms are
 -- left.
 use Prim.Native.Nat.{_+_, _-_, _≤_}
-use mathlib.Core.Path.{sym, _∙_}
 use native.Mathlib.Omega.{arith}
-use borrow.Author.Tests.{not-true, not-false}
 use Rattle.task.specs.Task.{factLess, ascending}
 use Rattle.task.specs.Table.{factIn}
 use Rattle.task.specs.WordTests.{factsIn}
-use Rattle.words.proofs.Loops.{AllLeft, all-more, all-fails, all-ends}
+use Rattle.words.proofs.Loops.{AllLeft, all-yes, all-no, all-ends}
 use Rattle.task.proofs.AtomRuns.{ascend-start}
 use Rattle.task.proofs.table.facts.facts_ascend.Statement.{statement}
 use Rattle.task.proofs.table.facts.facts_ascend.Tie as tie
@@ -39,8 +37,8 @@ fact-less-requires c κs =
     (start .pre .0, ((omega arith, omega arith), start .pre .1 .1 (at .loop .i) (omega arith) (omega arith)))
 
 returns : tie.Need-returns Inv-loop μ-loop
-returns c = all-fails (c .before .before .before .loop .inv .2) (omega arith)
-    (sym (c .before .fact-less .ensures) ∙ not-true _ (c .if1 .taken))
+returns c = all-no (c .before .before .before .loop .inv .2) (omega arith) (c .before .fact-less .ensures)
+    (c .if1 .taken)
 
 add-i : tie.Need-add-i Inv-loop μ-loop
 add-i c = omega arith
@@ -52,8 +50,7 @@ loop-again : tie.Need-loop-again Inv-loop μ-loop
 loop-again c = (
   omega arith,
   omega arith,
-  all-more (c .before .before .before .loop .inv .2) (omega arith)
-      (sym (c .before .fact-less .ensures) ∙ not-false _ (c .if1 .left)),
+  all-yes (c .before .before .before .loop .inv .2) (omega arith) (c .before .fact-less .ensures) (c .if1 .left),
 )
 
 returns-2 : tie.Need-returns-2 Inv-loop μ-loop

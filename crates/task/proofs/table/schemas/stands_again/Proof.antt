@@ -2,12 +2,12 @@
 -- The invariant: the whole test is what is left of it from j on. At an atom of another role nothing is left to find,
 -- since roles rise. The measure is how many atoms are left.
 use Prim.Native.Nat.{_-_, _<_}
-use mathlib.Core.Path.{sym, _∙_}
+use mathlib.Core.Path.{sym}
 use native.Mathlib.Omega.{arith}
 use Rattle.task.specs.Task.{sameAtom}
 use Rattle.task.specs.Table.{atomIn}
 use Rattle.task.specs.WordTests.{standsAgain}
-use Rattle.words.proofs.Loops.{AnyLeft, any-start, any-more, any-found, any-none, any-ends}
+use Rattle.words.proofs.Loops.{AnyLeft, any-start, any-yes, any-no, any-none, any-ends}
 use Rattle.task.proofs.AtomWords.{other-role}
 use Rattle.task.proofs.table.schemas.stands_again.Statement.{statement}
 use Rattle.task.proofs.table.schemas.stands_again.Tie as tie
@@ -51,10 +51,7 @@ same-atom-requires c κs =
     (start .pre .0, ((omega arith, omega arith), start .pre .1 .1 .0))
 
 returns-2 : tie.Need-returns-2 Inv-loop μ-loop
-returns-2 c =
-    let turn = c .before .before .before .before .before in
-    any-found (turn .before .loop .inv .1) (turn .loop-test .taken)
-    (sym (c .before .same-atom .ensures) ∙ c .if2 .taken)
+returns-2 c = search any-yes
 
 add-j-2 : tie.Need-add-j-2 Inv-loop μ-loop
 add-j-2 c = omega arith
@@ -63,15 +60,10 @@ loop-less : tie.Need-loop-less Inv-loop μ-loop
 loop-less c = omega arith
 
 loop-again : tie.Need-loop-again Inv-loop μ-loop
-loop-again c =
-    let turn = c .before .before .before .before .before in (
-      omega arith,
-      any-more (turn .before .loop .inv .1) (turn .loop-test .taken)
-          (sym (c .before .same-atom .ensures) ∙ c .if2 .left),
-    )
+loop-again c = (omega arith, search any-no)
 
 returns-3 : tie.Need-returns-3 Inv-loop μ-loop
-returns-3 c = any-ends (c .before .loop .inv .1) (c .loop-test .left)
+returns-3 c = search any-ends
 
 pub stands-again-spec : {M : Type 1} → statement M
 stands-again-spec =
