@@ -91,6 +91,7 @@ module _ (t : Task) (w out : List ℕ) (n size : ℕ) (h : isState t w n ≡ tru
     unfolding runTold lastState
     done-stopped q e = done-so a (stopped i (stateIn t w n)) e refl (stop-told 16 q)
 
-    pub done-outgrown : {r : Running} → a ≡ answer.Stopped 17 (place.Step i) n → r ≡ outgrown i (stateIn t w n) → Done a r
+    pub done-outgrown : {r : Running} → a ≡ answer.Stopped 17 (place.Step i) n → r ≡ outgrown i (stateIn t w n) →
+        Done a r
     unfolding runTold lastState
     done-outgrown q e = done-so a (outgrown i (stateIn t w n)) e refl (stop-told 17 q)

@@ -10,6 +10,7 @@ use lib.ListN.{length, length-append}
 use lib.Dec.{eqb, ltb}
 use borrow.Author.Tests.{ltb-true, leb-true, eqb-true, lt-ltb}
 use Rattle.words.specs.Lists.{all, concatMap}
+use Rattle.task.specs.Limits.{mostObjects, mostSchemas}
 use Rattle.task.specs.Task.{Task, wellFormed}
 use Rattle.task.specs.Run.{Step, isStep}
 use Rattle.words.proofs.Lists.{and-left, and-right, here, there, map-append}
@@ -18,8 +19,8 @@ use Rattle.task.proofs.States.{isStep-is}
 use Rattle.text.specs.Lines.{newline, digits, Entry, entryBytes, Taken, taken}
 use Rattle.text.specs.Reading.{goOn, finish, read}
 use Rattle.text.specs.Plan.{mostPlanSteps, PlanKey, step, end, planKeyName, PlanLine, stepLine, endLine}
-use Rattle.text.specs.Plan.{writePlanLine, readPlanBody, stepEntry, planLines, writePlan, takePlanLine, nextPlanLine}
-use Rattle.text.specs.Plan.{readPlan}
+use Rattle.text.specs.Plan.{writePlanLine, readPlanBody, stepEntry, planLines, writePlan, takePlanLine}
+use Rattle.text.specs.Plan.{nextPlanLine, readPlan}
 use Rattle.text.proofs.NumberLists.{SmallEntry, entry-written}
 use Rattle.text.proofs.Reading.{need-went, need-finished, need-met, Leads, comes-last, goes-on, Exact}
 use Rattle.text.proofs.Reading.{lines-read, read-lines}
@@ -75,8 +76,8 @@ pub small-step : (t : Task) → TaskTests t → (x : Step) → isStep t x ≡ tr
 unfolding stepEntry
 small-step t c x h =
     let s = isStep-is t x h in
-    let schemas = leb-true (length (t .schemas)) 200 (c .schemas) in
-    let objects = leb-true (t .objects) 1000 (c .objects) in
+    let schemas = leb-true (length (t .schemas)) mostSchemas (c .schemas) in
+    let objects = leb-true (t .objects) mostObjects (c .objects) in
     (let k = s .known in omega arith, λ o i. let k = s .small o i in omega arith)
 
 pub plan-leads : (t : Task) → TaskTests t → (xs ys : List Step) → length (xs ++ ys) ≤ mostPlanSteps →
