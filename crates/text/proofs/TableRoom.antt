@@ -1,14 +1,16 @@
 -- Room in the table for a task that is read: what the counts keep to bounds the words that are moved, cleared and
--- written when it is laid out.
-use Prim.Native.Nat.{ℕ, _+_, _-_, _*_, _≤_}
+-- written when it is laid out, and the numbers of an atom's row.
+use Prim.Native.Nat.{ℕ, _+_, _-_, _*_, _≤_, _<_}
 use mathlib.Core.Path.{_≡_}
+use mathlib.Core.Bool.{Bool, true}
 use mathlib.Core.List.{List, [], _∷_}
 use native.Mathlib.Omega.{arith}
-use lib.ListN.{length}
-use Rattle.task.specs.Limits.{headWords, atomSize, tableLength, tableWords}
+use lib.ListN.{length, getD}
+use Rattle.words.specs.Words.{wordBound}
+use Rattle.task.specs.Limits.{headWords, atomSize, tableLength, tableWords, mostPredicates, mostArity}
 use Rattle.task.proofs.Tables.{tableWords-is}
 use Rattle.text.specs.Text.{Draft}
-use Rattle.text.specs.ReadCode.{Words}
+use Rattle.text.specs.ReadCode.{Words, Fitting}
 use Rattle.text.specs.Holding.{Holds, rowsAt}
 use Rattle.text.proofs.RowTests.{six-words}
 use Rattle.text.specs.declared.draft.Counts.{Counts}
@@ -18,6 +20,13 @@ pub in-table : {n long : ℕ} → n ≤ tableLength → tableWords ≤ long → 
 in-table l m = let z = tableWords-is in omega arith
 
 module _ {d : Draft} {w : List ℕ} {c : Counts} (h : Holds d w c) where
+  -- the parameter count of a schema that is closed has its place
+  pub params-inside : headWords + c .predicates + c .schemas < length w
+  params-inside =
+      let predicates = h .few .predicates in
+      let schemas = h .few .schemas in
+      in-table (omega arith) (h .long)
+
   abbrev to : ℕ
   to = headWords + c .predicates + c .schemas
 
@@ -64,3 +73,17 @@ module _ {d : Draft} {w : List ℕ} {c : Counts} (h : Holds d w c) where
       let initial = few .initial in
       let goal = few .goal in
       six-words (omega arith) (omega arith) (omega arith) (omega arith) (omega arith) (omega arith)
+
+-- ---- an atom that fits has a row
+module _ {w : List ℕ} {predicates bound p : ℕ} {kept : List ℕ} {count : ℕ} {told : Bool}
+    (fits : Fitting w predicates bound p kept count told) (yes : told ≡ true) where
+  pub row-numbers : {schema role : ℕ} → schema < wordBound → role < wordBound → predicates ≤ mostPredicates →
+      length kept ≡ mostArity →
+      (schema < wordBound) × (role < wordBound) × (p < wordBound) × (count ≤ length kept) × (count ≤ mostArity)
+  row-numbers schema role few four =
+      let known = fits .known yes in
+      let enough = fits .enough yes in
+      (schema, role, omega arith, enough, omega arith)
+
+  pub args-small : bound < wordBound → (k : ℕ) → k < count → getD kept k 0 < wordBound
+  args-small few k l = let low = fits .low yes k l in omega arith

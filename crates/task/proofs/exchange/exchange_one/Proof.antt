@@ -88,8 +88,8 @@ same-length c = search needs
 returns : tie.Need-returns
 returns c =
     let r = c .before in
-    not-there (passed (entry r)) _ (sym (found-holds (known r) (r .before .before .find .ensures) (r .is-row .ensures)) ∙
-    not-true _ (c .if1 .taken))
+    let told = found-holds (known r) (r .before .before .find .ensures) (r .is-row .ensures) in
+    not-there (passed (entry r)) _ (sym told ∙ not-true _ (c .if1 .taken))
 
 first-new-requires : tie.Need-first-new-requires
 first-new-requires c κs =

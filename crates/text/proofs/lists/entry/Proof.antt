@@ -28,11 +28,11 @@ placed h = moved-placed (start h .pre) (head h .moved)
 abbrev headed : tie.After-word → tie.After-head
 headed w = w .before .before .before
 
-abbrev before : tie.After-next → tie.After-head
-before w = headed (w .before .before)
+abbrev front : tie.After-next → tie.After-head
+front w = headed (w .before .before)
 
 behind : (w : tie.After-next) →
-    let h = before w in
+    let h = front w in
     WordHere (start h .args .text .now) (h .head .given .0 .1 .0) (colon ∷ []) (w .next .given .0 .0)
 behind w = subst (WordAt _ _ _) (w .next .given .1) (w .before .before .word .ensures)
 
@@ -73,7 +73,7 @@ returns-2 c =
 listing-requires : tie.Need-listing-requires
 listing-requires c κs =
     let w = c .before .before in
-    word-placed (placed (before w)) (behind w)
+    word-placed (placed (front w)) (behind w)
 
 enum-known-count : tie.Need-enum-known-count
 enum-known-count c = search needs
@@ -88,7 +88,7 @@ returns-3 : tie.Need-returns-3
 returns-3 c =
     let l = c .before .before .before .before in
     let w = parted l in
-    no-list _ _ _ (head (before w) .is) _ (behind w .is)
+    no-list _ _ _ (head (front w) .is) _ (behind w .is)
     (subst (ListAt _ _ _ _) (c .enum-told3 .given .1) (l .listing .ensures))
 
 same-length-2 : tie.Need-same-length-2
@@ -98,7 +98,7 @@ returns-4 : tie.Need-returns-4
 returns-4 c =
     let l = c .before .before .before .before .before in
     let w = parted l in
-    let h = head (before w) in
+    let h = head (front w) in
     let list = subst (ListAt _ _ _ _) (c .before .count .given .1) (l .listing .ensures) in
     let on = h .moved .on in
     let far = behind w .far in

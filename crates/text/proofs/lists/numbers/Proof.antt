@@ -31,17 +31,17 @@ read : (n : tie.After-n Inv-loop μ-loop) →
     NumberHere (text n) (turn n .loop .here) (n .n .given .0 .0) (n .n .given .0 .1 .0)
 read n = subst (NumberAt _ _) (n .n .given .1) (n .before .before .number .ensures)
 
-abbrev keeps : tie.After-word-arg Inv-loop μ-loop → tie.After-keep Inv-loop μ-loop
-keeps c = c .before .before .before
+abbrev storing : tie.After-word-arg Inv-loop μ-loop → tie.After-keep Inv-loop μ-loop
+storing c = c .before .before .before
 
-abbrev given : tie.After-keep Inv-loop μ-loop → tie.After-n Inv-loop μ-loop
-given k = k .before .before .before
+abbrev numbered : tie.After-keep Inv-loop μ-loop → tie.After-n Inv-loop μ-loop
+numbered k = k .before .before .before
 
-abbrev kept : tie.After-next Inv-loop μ-loop → tie.After-keep Inv-loop μ-loop
-kept w = keeps (w .before .before .before)
+abbrev stored : tie.After-next Inv-loop μ-loop → tie.After-keep Inv-loop μ-loop
+stored w = storing (w .before .before .before)
 
 behind : (w : tie.After-next Inv-loop μ-loop) →
-    let n = given (kept w) in
+    let n = numbered (stored w) in
     WordHere (text n) (n .n .given .0 .1 .0) (comma ∷ []) (w .next .given .0 .0)
 behind w = subst (WordAt _ _ _) (w .next .given .1) (w .before .before .word .ensures)
 
@@ -77,7 +77,7 @@ slice-aggregate-word c = search needs
 
 word-requires : tie.Need-word-requires Inv-loop μ-loop
 word-requires c κs =
-    let n = given (keeps c) in
+    let n = numbered (storing c) in
     moved-placed (turn n .loop .inv .1 .placed) (read n .moved)
 
 enum-known-next : tie.Need-enum-known-next Inv-loop μ-loop
@@ -88,29 +88,29 @@ enum-told-2 c = search needs
 
 same-length-2 : tie.Need-same-length-2 Inv-loop μ-loop
 same-length-2 c =
-    let k = keeps (c .before .before .before) in
-    k .keep .kept .0 ∙ turn (given k) .loop .inv .0
+    let k = storing (c .before .before .before) in
+    k .keep .kept .0 ∙ turn (numbered k) .loop .inv .0
 
 returns-2 : tie.Need-returns-2 Inv-loop μ-loop
 returns-2 c =
     let w = c .before .before in
-    let k = keeps (w .before) in
+    let k = storing (w .before) in
     let none = subst (WordAt _ _ _) (c .enum-told2 .given .1) (w .word .ensures) in
-    rw (k .keep .ensures) (list-ends (turn (given k) .loop .inv .1) (read (given k)) none)
+    rw (k .keep .ensures) (list-ends (turn (numbered k) .loop .inv .1) (read (numbered k)) none)
 
 loop-less : tie.Need-loop-less Inv-loop μ-loop
 loop-less c =
     let w = c .before in
     let far = behind w .far in
     let inside = behind w .inside in
-    let on = read (given (kept w)) .moved .on in
+    let on = read (numbered (stored w)) .moved .on in
     omega arith
 
 loop-again : tie.Need-loop-again Inv-loop μ-loop
 loop-again c =
-    let k = kept (c .before) in
-    let (long, sofar) = turn (given k) .loop .inv in
-    (k .keep .kept .0 ∙ long, rw (k .keep .ensures) (list-goes-on sofar (read (given k)) (behind (c .before))))
+    let k = stored (c .before) in
+    let (long, sofar) = turn (numbered k) .loop .inv in
+    (k .keep .kept .0 ∙ long, rw (k .keep .ensures) (list-goes-on sofar (read (numbered k)) (behind (c .before))))
 
 pub numbers-spec : {M : Type 1} → statement M
 numbers-spec =

@@ -69,7 +69,8 @@ enum-known-body-2 c = search needs
 last-line-requires : tie.Need-last-line-requires
 last-line-requires c κs =
     let w = c .before .before .before in
-    word-placed (start (step-tried w) .pre .1 .0) (subst (WordAt _ _ _) (c .before .body2 .given .1) (w .word2 .ensures))
+    word-placed (start (step-tried w) .pre .1 .0)
+    (subst (WordAt _ _ _) (c .before .body2 .given .1) (w .word2 .ensures))
 
 returns-2 : tie.Need-returns-2
 unfolding bytes planKeyName

@@ -50,7 +50,10 @@ atom-line-requires c κs =
     let known : s .args .key - 3 ≤ 2 = omega arith in
     let z = role-number (s .args .key - 3) known in (
       s .pre .0,
-      (s .pre .1 .0, record { known = known; allowed = stands-as (s .args .counts .phase) (omega arith) (s .pre .1 .1) }),
+      (
+        s .pre .1 .0,
+        record { known = known; allowed = stands-as (s .args .counts .phase) (omega arith) (s .pre .1 .1) },
+      ),
     )
 
 same-length-2 : tie.Need-same-length-2

@@ -2,18 +2,19 @@
 -- so, and 6 where the search among the schema's rows finds the new one. The row is written before 6 is tested, and
 -- touches nothing of the table but its own eight words.
 use Rattle.text.proofs.lines.atom.add_atom.Tie as tie
-use Prim.Native.Nat.{ℕ, _+_, _<_}
+use Prim.Native.Nat.{ℕ, _+_, _≤_, _<_}
 use mathlib.Core.Path.{_≡_, refl, sym, _∙_}
 use mathlib.Core.List.{List}
 use native.Mathlib.Omega.{arith}
 use borrow.Author.Needs.{needs}
 use borrow.Author.Tests.{not-true, not-false}
-use Rattle.task.proofs.Tables.{tableWords-is}
+use Rattle.task.specs.Limits.{atomSize, tableLength}
 use Rattle.text.specs.Text.{Draft}
 use Rattle.text.specs.ReadCode.{Listed}
-use Rattle.text.specs.Holding.{Holds, Touched}
+use Rattle.text.specs.Holding.{Holds, Touched, rowAt}
 use Rattle.text.proofs.HeldAtoms.{few-words, inside-touched, untouched, atom-fits, row-named, AtomPut, atom-put}
 use Rattle.text.proofs.HeldAtoms.{schema-full, table-full, atom-misfits, again}
+use Rattle.text.proofs.TableRoom.{in-table, row-numbers, args-small}
 use Rattle.text.proofs.lines.atom.add_atom.Statement.{statement}
 
 -- ---- what is known once it is tested whether the atom fits
@@ -22,6 +23,12 @@ few f = f .before .before .before .before
 
 abbrev entry : tie.After-fits2 → tie.Start
 entry f = few f .before .before .before .before
+
+total : (f : tie.After-fits2) → entry f .args .counts .closed + entry f .args .counts .atoms < 1000
+total f = f .before .before .if2 .left
+
+inside : (f : tie.After-fits2) → rowAt (entry f .args .counts) + atomSize ≤ tableLength
+inside f = few-words (entry f .pre .0 .holds .few) (total f)
 
 -- ---- and once the row is written
 abbrev fitting : tie.After-put-row → tie.After-fits2
@@ -36,12 +43,9 @@ before p = start p .args .table .now
 abbrev after : tie.After-put-row → List ℕ
 after p = p .put-row .last .0
 
-total : (p : tie.After-put-row) → start p .args .counts .closed + start p .args .counts .atoms < 1000
-total p = fitting p .before .before .if2 .left
-
 touched : (p : tie.After-put-row) → Touched (before p) (after p)
 touched p =
-    inside-touched (few-words (start p .pre .0 .holds .few) (total p))
+    inside-touched (inside (fitting p))
     (row-named (start p .args .role) (start p .args .predicate) (p .before .before .before .next-row .ensures) refl refl
     (p .put-row .ensures))
 
@@ -49,7 +53,7 @@ put : (p : tie.After-put-row) (d : Draft) (ns : List ℕ) → Holds d (before p)
     Listed ns (start p .args .count) (start p .args .args .now) →
     AtomPut d (start p .args .counts) (start p .args .role) (start p .args .predicate) ns (after p)
 put p d ns h s =
-    atom-put h (start p .pre .1 .0) (few (fitting p) .if1 .left) (total p) (fitting p .fits2 .ensures)
+    atom-put h (start p .pre .1 .0) (few (fitting p) .if1 .left) (total (fitting p)) (fitting p .fits2 .ensures)
     (not-false _ (p .before .before .before .before .if3 .left)) (start p .pre .1 .1) s
     (p .before .before .before .next-row .ensures) (p .put-row .ensures)
 
@@ -81,10 +85,7 @@ returns-2 c = (
 fits-requires : tie.Need-fits-requires
 fits-requires c κs =
     let h = c .before .before .before .before .before .before .before .pre .0 .holds in
-    let p = h .few .predicates in
-    let l = h .long in
-    let z = tableWords-is in
-    omega arith
+    in-table (omega (arith, h .few .predicates)) (h .long)
 
 same-length : tie.Need-same-length
 same-length c = search needs
@@ -110,22 +111,14 @@ put-row-requires c κs =
     let h = entry f .pre .0 .holds in
     let fits = f .fits2 .ensures in
     let told = not-false _ (c .before .before .before .if3 .left) in
+    let room = in-table (inside f) (h .long) in
     let row = c .before .before .next-row .ensures in
-    let four = entry f .pre .1 .1 in
-    let enough = fits .enough told in
-    let known = fits .known told in
-    let few = h .few in
-    let schemas = few .schemas in
-    let predicates = few .predicates in
-    let params = few .params in
     let role = entry f .pre .1 .0 .known in
-    let long = h .long in
-    let z = tableWords-is in
-    let room = few-words few (omega arith) in (
+    let schemas = h .few .schemas in (
       omega arith,
       (
-        (omega arith, omega arith, omega arith, omega arith, omega arith),
-        λ k l. let low = fits .low told k l in omega arith,
+        row-numbers fits told (omega arith) (omega arith) (h .few .predicates) (entry f .pre .1 .1),
+        args-small fits told (omega (arith, h .few .params)),
       ),
     )
 
@@ -135,14 +128,10 @@ first-row-requires c κs = search needs
 repeated-requires : tie.Need-repeated-requires
 repeated-requires c κs =
     let p = c .before .before .before .before in
-    let h = start p .pre .0 .holds in
-    let few = h .few in
-    let long = h .long in
-    let z = tableWords-is in
     let row = p .before .before .before .next-row .ensures in
     let first = c .first-row .ensures in
     let size = p .put-row .kept .0 in
-    let room = few-words few (total p) in
+    let room = in-table (inside (fitting p)) (start p .pre .0 .holds .long) in
     (omega arith, omega arith)
 
 same-length-2 : tie.Need-same-length-2

@@ -2,19 +2,20 @@
 -- where the words of the new row don't come behind those of the row before. The row is written before 6 is tested, and
 -- touches nothing of the table but its own eight words.
 use Rattle.text.proofs.lines.atom.add_fact.Tie as tie
-use Prim.Native.Nat.{ℕ, _-_, _<_}
+use Prim.Native.Nat.{ℕ, _+_, _-_, _≤_, _<_}
 use mathlib.Core.Path.{_≡_, refl, sym, _∙_}
 use mathlib.Core.List.{List}
 use native.Mathlib.Omega.{arith}
 use borrow.Author.Needs.{needs}
 use borrow.Author.Tests.{not-true, not-false}
-use Rattle.task.proofs.Tables.{tableWords-is}
+use Rattle.task.specs.Limits.{atomSize, tableLength}
 use Rattle.text.specs.Text.{Draft, follows}
 use Rattle.text.specs.ReadCode.{Listed}
-use Rattle.text.specs.Holding.{Holds, Touched, factsOf}
+use Rattle.text.specs.Holding.{Holds, Touched, factsOf, rowAt}
 use Rattle.text.proofs.HeldAtoms.{inside-touched, untouched}
-use Rattle.text.proofs.HeldFacts.{factOf, fact-room, fact-fits, fact-row, fact-place, FactPut, fact-put}
-use Rattle.text.proofs.HeldFacts.{full-refused, misfit-refused}
+use Rattle.text.proofs.HeldFacts.{factOf, fact-room, fact-fits, fact-row, FactPlace, fact-place, FactPut}
+use Rattle.text.proofs.HeldFacts.{fact-put, full-refused, misfit-refused}
+use Rattle.text.proofs.TableRoom.{in-table, row-numbers, args-small}
 use Rattle.text.proofs.lines.atom.add_fact.Statement.{statement}
 
 -- ---- what is known once it is tested whether the atom fits
@@ -23,6 +24,15 @@ facts f = f .before .before .before .before
 
 abbrev entry : tie.After-fits2 → tie.Start
 entry f = facts f .before .before .before
+
+below : (f : tie.After-fits2) → facts f .facts .result .read < facts f .facts .result .most
+below f = f .before .before .if1 .left
+
+place : (f : tie.After-fits2) → FactPlace (entry f .args .counts) (facts f .facts .result)
+place f = fact-place (entry f .args .kind) (entry f .pre .0 .holds .few) (facts f .facts .ensures)
+
+inside : (f : tie.After-fits2) → rowAt (entry f .args .counts) + atomSize ≤ tableLength
+inside f = fact-room (entry f .pre .0 .holds .few) (place f .few (below f))
 
 -- ---- and once the row is written
 abbrev fitting : tie.After-put-row → tie.After-fits2
@@ -45,13 +55,9 @@ abbrev Given : tie.After-put-row → Draft → List ℕ → Type 0
 Given p d ns =
     Holds d (before p) (start p .args .counts) × Listed ns (start p .args .count) (start p .args .args .now)
 
-below : (p : tie.After-put-row) → known p .facts .result .read < known p .facts .result .most
-below p = fitting p .before .before .if1 .left
-
 touched : (p : tie.After-put-row) → Touched (before p) (after p)
 touched p =
-    let few = start p .pre .0 .holds .few in
-    inside-touched (fact-room few (fact-place (start p .args .kind) few (known p .facts .ensures) .few (below p)))
+    inside-touched (inside (fitting p))
     (fact-row (known p .facts .result .role) (start p .args .predicate) (p .before .before .next-row .ensures) refl
     (p .put-row .ensures))
 
@@ -59,7 +65,7 @@ put : (p : tie.After-put-row) (d : Draft) (ns : List ℕ) → Given p d ns →
     FactPut (start p .args .kind) (known p .facts .result) d (start p .args .counts) (start p .args .predicate) ns
     (after p)
 put p d ns (h, s) =
-    fact-put (start p .args .kind) h (start p .pre .1 .0) (known p .facts .ensures) (below p)
+    fact-put (start p .args .kind) h (start p .pre .1 .0) (known p .facts .ensures) (below (fitting p))
     (fitting p .fits2 .ensures) (not-false _ (p .before .before .before .if2 .left))
     (start p .pre .1 .1) s (p .before .before .next-row .ensures) (p .put-row .ensures)
 
@@ -90,10 +96,7 @@ returns c =
 fits-requires : tie.Need-fits-requires
 fits-requires c κs =
     let h = c .before .before .before .before .before .before .pre .0 .holds in
-    let p = h .few .predicates in
-    let l = h .long in
-    let z = tableWords-is in
-    omega arith
+    in-table (omega (arith, h .few .predicates)) (h .long)
 
 same-length : tie.Need-same-length
 same-length c = search needs
@@ -102,7 +105,7 @@ returns-2 : tie.Need-returns-2
 returns-2 c =
     let f = c .before in (
       untouched _,
-      λ d ns h s. misfit-refused (entry f .args .kind) h (facts f .facts .ensures) _ ns (f .before .before .if1 .left)
+      λ d ns h s. misfit-refused (entry f .args .kind) h (facts f .facts .ensures) _ ns (below f)
           (sym (fact-fits h (f .fits2 .ensures) (entry f .pre .1 .1) s) ∙ not-true _ (c .if2 .taken)),
     )
 
@@ -115,23 +118,13 @@ put-row-requires c κs =
     let h = entry f .pre .0 .holds in
     let fits = f .fits2 .ensures in
     let told = not-false _ (c .before .before .if2 .left) in
-    let below = f .before .before .if1 .left in
+    let room = in-table (inside f) (h .long) in
     let row = c .before .next-row .ensures in
-    let four = entry f .pre .1 .1 in
-    let enough = fits .enough told in
-    let known = fits .known told in
-    let few = h .few in
-    let predicates = few .predicates in
-    let objects = few .objects in
-    let place = fact-place (entry f .args .kind) few (facts f .facts .ensures) in
-    let role = place .known in
-    let long = h .long in
-    let z = tableWords-is in
-    let room = fact-room few (place .few below) in (
+    let role = place f .known in (
       omega arith,
       (
-        (omega arith, omega arith, omega arith, omega arith, omega arith),
-        λ k l. let low = fits .low told k l in omega arith,
+        row-numbers fits told (omega arith) (omega arith) (h .few .predicates) (entry f .pre .1 .1),
+        args-small fits told (omega (arith, h .few .objects)),
       ),
     )
 
@@ -144,13 +137,9 @@ add-less-words c = search needs
 less-words-requires : tie.Need-less-words-requires
 less-words-requires c κs =
     let p = c .before .before .before .before .before in
-    let h = start p .pre .0 .holds in
-    let long = h .long in
-    let z = tableWords-is in
     let row = p .before .before .next-row .ensures in
     let size = p .put-row .kept .0 in
-    let place = fact-place (start p .args .kind) (h .few) (known p .facts .ensures) in
-    let room = fact-room (h .few) (place .few (below p)) in
+    let room = in-table (inside (fitting p)) (start p .pre .0 .holds .long) in
     (omega arith, omega arith)
 
 same-length-2 : tie.Need-same-length-2

@@ -18,6 +18,7 @@ use Rattle.words.proofs.Words.{each-first}
 use Rattle.text.proofs.RowTests.{listed-take, parts-all}
 use Rattle.text.proofs.HeldAtoms.{untouched}
 use Rattle.text.proofs.HeldSchemas.{schema-closed, closing-touched, schema-room}
+use Rattle.text.proofs.TableRoom.{params-inside}
 use Rattle.text.proofs.WholeLines.{list-placed}
 use Rattle.text.proofs.LineTurns.{no-line, line-refused, line-goes-on}
 use Rattle.text.proofs.lines.part.part_line.Statement.{statement}
@@ -148,26 +149,19 @@ add-at c = search needs
 add-at-2 : tie.Need-add-at-2
 add-at-2 c =
     let few = held (c .before .before .before .before) .holds .few in
-    let predicates = few .predicates in
-    let schemas = few .schemas in
-    omega arith
+    omega (arith, few .predicates, few .schemas)
 
 mul-table : tie.Need-mul-table
 mul-table c =
     let few = held (c .before .before .before .before) .holds .few in
-    let predicates = few .predicates in
-    let schemas = few .schemas in
-    omega arith
+    omega (arith, few .predicates, few .schemas)
 
 slice-write-table : tie.Need-slice-write-table
 slice-write-table c =
-    let h = held (c .before .before .before .before) .holds in
-    let predicates = h .few .predicates in
-    let schemas = h .few .schemas in
-    let long = h .long in
-    let z = tableWords-is in
-    let size = c .before .before .before .before .put-parts .kept .0 in
-    omega arith
+    let p = c .before .before .before .before in
+    let h = held p .holds in
+    let size = p .put-parts .kept .0 in
+    omega (arith, params-inside h)
 
 add-read : tie.Need-add-read
 add-read c = let schemas = held (c .before .before .before .before .before) .holds .few .schemas in omega arith
