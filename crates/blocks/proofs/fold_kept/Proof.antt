@@ -100,12 +100,6 @@ fits e =
     ∙ le-leb (length xs) (length (lent s) / stepSize) (omega arith)
 
 -- ---- the checks
-bad-split-step-requires : tie.Need-bad-split-step-requires
-bad-split-step-requires c κs = search needs
-
-enum-known-bad : tie.Need-enum-known-bad
-enum-known-bad c = search needs
-
 returns : tie.Need-returns
 unfolding foldAnswerTold badStepFound
 returns c =
@@ -114,12 +108,6 @@ returns c =
     let e = sym (b .bad-split-step .ensures) ∙ ap badStepFound (c .before .bad .given .1) in
     both (fold-bad-step (words s) (steps s) (lent s) (kept s) e)
 
-enum-told : tie.Need-enum-told
-enum-told c = search needs
-
-schema-count-requires : tie.Need-schema-count-requires
-schema-count-requires c κs = search needs
-
 begins-of-requires : tie.Need-begins-of-requires
 begins-of-requires c κs =
     let s = start (c .before) in
@@ -127,9 +115,6 @@ begins-of-requires c κs =
 
 take-apart-requires : tie.Need-take-apart-requires
 take-apart-requires c κs = let b = c .before in (taskOf (words (start (checked b))), list-kept b)
-
-enum-known-taken : tie.Need-enum-known-taken
-enum-known-taken c = search needs
 
 returns-2 : tie.Need-returns-2
 unfolding foldAnswerTold
@@ -152,12 +137,6 @@ put-folded-requires c κs =
     let (xs, f, n) = found w in
     let r = room e in
     (taskOf (words (start (checked b))), xs, list-kept b, f, omega arith)
-
-enum-known-taken-2 : tie.Need-enum-known-taken-2
-enum-known-taken-2 c = search needs
-
-same-length : tie.Need-same-length
-same-length c = search needs
 
 returns-3 : tie.Need-returns-3
 unfolding foldAnswerTold
@@ -187,6 +166,6 @@ returns-4 c =
 pub fold-kept-spec : {M : Type 1} → statement M
 fold-kept-spec =
     tie.close
-    (tie.spec bad-split-step-requires enum-known-bad returns enum-told schema-count-requires begins-of-requires
-    take-apart-requires enum-known-taken returns-2 put-folded-requires enum-known-taken-2 same-length returns-3
-    returns-4)
+    (tie.spec (λ c κs. search needs) (λ c. search needs) returns (λ c. search needs) (λ c κs. search needs)
+    begins-of-requires take-apart-requires (λ c. search needs) returns-2 put-folded-requires (λ c. search needs)
+    (λ c. search needs) returns-3 returns-4)

@@ -66,12 +66,6 @@ fits e =
     ∙ le-leb (unfolding·of (e .before)) (length (lent s) / stepSize) (room e)
 
 -- ---- the checks
-bad-step-requires : tie.Need-bad-step-requires
-bad-step-requires c κs = search needs
-
-enum-known-bad : tie.Need-enum-known-bad
-enum-known-bad c = search needs
-
 returns : tie.Need-returns
 unfolding unfoldAnswerTold badStepFound
 returns c =
@@ -79,9 +73,6 @@ returns c =
     let s = b .before .before .before .before in
     let e = sym (b .bad-step .ensures) ∙ ap badStepFound (c .before .bad .given .1) in
     both (unfold-bad-step (words s) (steps s) (lent s) (s .pre) e)
-
-enum-told : tie.Need-enum-told
-enum-told c = search needs
 
 split-steps-of-requires : tie.Need-split-steps-of-requires
 split-steps-of-requires c κs = (taskOf (words (start c)), steps-kept c)
@@ -103,9 +94,6 @@ put-blocks-requires c κs =
     let r = room e in
     (taskOf (words (start g)), steps-kept g, omega arith)
 
-same-length : tie.Need-same-length
-same-length c = search needs
-
 returns-3 : tie.Need-returns-3
 unfolding unfoldAnswerTold
 returns-3 c =
@@ -121,5 +109,5 @@ returns-3 c =
 pub unfold-kept-spec : {M : Type 1} → statement M
 unfold-kept-spec =
     tie.close
-    (tie.spec bad-step-requires enum-known-bad returns enum-told split-steps-of-requires returns-2 put-blocks-requires
-    same-length returns-3)
+    (tie.spec (λ c κs. search needs) (λ c. search needs) returns (λ c. search needs) split-steps-of-requires returns-2
+    put-blocks-requires (λ c. search needs) returns-3)

@@ -16,24 +16,9 @@ table : (c : tie.After-enum-told) → let k = c .before .before .before in
     TableRead (taken (start k .args .text .now)) (k .read-table .last .1 .0)
 table c = table-read _ _ (c .enum-told .given .1) (c .before .before .before .read-table .ensures)
 
-slice-aggregate-read-table : tie.Need-slice-aggregate-read-table
-slice-aggregate-read-table c = search needs
-
-read-table-requires : tie.Need-read-table-requires
-read-table-requires c κs = search needs
-
-enum-told : tie.Need-enum-told
-enum-told c = search needs
-
-slice-aggregate-put-split : tie.Need-slice-aggregate-put-split
-slice-aggregate-put-split c = search needs
-
 put-split-requires : tie.Need-put-split-requires
 unfolding longestText
 put-split-requires c κs = (table (c .before .before) .is-table, omega arith)
-
-enum-known-number : tie.Need-enum-known-number
-enum-known-number c = search needs
 
 put-refusal-requires : tie.Need-put-refusal-requires
 unfolding longestText
@@ -53,5 +38,5 @@ returns-2 c =
 pub split-text-spec : {M : Type 1} → statement M
 split-text-spec =
     tie.close
-    (tie.spec slice-aggregate-read-table read-table-requires enum-told slice-aggregate-put-split put-split-requires
-    enum-known-number put-refusal-requires returns returns-2)
+    (tie.spec (λ c. search needs) (λ c κs. search needs) (λ c. search needs) (λ c. search needs) put-split-requires
+    (λ c. search needs) put-refusal-requires returns returns-2)

@@ -13,24 +13,6 @@ use Rattle.split.proofs.main.Tie as tie
 within : (c : tie.After-split-text) → c .split-text .result ≤ length (c .split-text .last .1 .0)
 within c = printed-within _ _ (c .split-text .ensures .0) (c .split-text .ensures .1)
 
-large-buffer-requires : tie.Need-large-buffer-requires
-large-buffer-requires c κs = search needs
-
-slice-aggregate-read-full : tie.Need-slice-aggregate-read-full
-slice-aggregate-read-full c = search needs
-
-read-full-requires : tie.Need-read-full-requires
-read-full-requires c κs = search needs
-
-array-share-prefix-text : tie.Need-array-share-prefix-text
-array-share-prefix-text c = search needs
-
-slice-aggregate-split-text : tie.Need-slice-aggregate-split-text
-slice-aggregate-split-text c = search needs
-
-split-text-requires : tie.Need-split-text-requires
-split-text-requires c κs = search needs
-
 array-share-prefix-out : tie.Need-array-share-prefix-out
 array-share-prefix-out c = within c
 
@@ -39,15 +21,8 @@ slice-aggregate-write-all c =
     let s = c .before .split-text in
     sym (length-take-le (s .result) (s .last .1 .0) (within (c .before)))
 
-write-all-requires : tie.Need-write-all-requires
-write-all-requires c κs = search needs
-
-returns : tie.Need-returns
-returns c = search needs
-
 pub main-spec : {M : Type 1} → statement M
 main-spec =
     tie.close
-    (tie.spec large-buffer-requires slice-aggregate-read-full read-full-requires array-share-prefix-text
-    slice-aggregate-split-text split-text-requires array-share-prefix-out slice-aggregate-write-all write-all-requires
-    returns)
+    (tie.spec (λ c κs. search needs) (λ c. search needs) (λ c κs. search needs) (λ c. search needs) (λ c. search needs)
+    (λ c κs. search needs) array-share-prefix-out slice-aggregate-write-all (λ c κs. search needs) (λ c. search needs))

@@ -50,9 +50,6 @@ returns-2 c =
 bad-step-requires : tie.Need-bad-step-requires
 bad-step-requires c κs = table c
 
-enum-known-bad : tie.Need-enum-known-bad
-enum-known-bad c = search needs
-
 returns-3 : tie.Need-returns-3
 unfolding runAnswerTold badStepFound
 returns-3 c =
@@ -62,14 +59,8 @@ returns-3 c =
     let l = long (b .before .before .before) in
     both (run-bad-step (a .table .now) (a .steps .now) (a .state .now) (a .records) l (table (b .before)) e)
 
-enum-told : tie.Need-enum-told
-enum-told c = search needs
-
 is-state-requires : tie.Need-is-state-requires
 is-state-requires c κs = table (c .before .before .before .before)
-
-same-length : tie.Need-same-length
-same-length c = search needs
 
 returns-4 : tie.Need-returns-4
 unfolding runAnswerTold
@@ -91,9 +82,6 @@ run-steps-requires c κs =
     let b = c .before .before in
     (table (b .before .before .before .before .before), (good (b .before .before), state (c .before)))
 
-same-length-2 : tie.Need-same-length-2
-same-length-2 c = search needs
-
 returns-5 : tie.Need-returns-5
 returns-5 c =
     let r = c .before .before in
@@ -108,5 +96,5 @@ returns-5 c =
 pub run-spec : {M : Type 1} → statement M
 run-spec =
     tie.close
-    (tie.spec returns is-table-requires returns-2 bad-step-requires enum-known-bad returns-3 enum-told is-state-requires
-    same-length returns-4 run-steps-requires same-length-2 returns-5)
+    (tie.spec returns is-table-requires returns-2 bad-step-requires (λ c. search needs) returns-3 (λ c. search needs)
+    is-state-requires (λ c. search needs) returns-4 run-steps-requires (λ c. search needs) returns-5)

@@ -22,9 +22,6 @@ returns c =
 read-task-requires : tie.Need-read-task-requires
 read-task-requires c κs = let z = tableWords-is in omega arith
 
-same-length : tie.Need-same-length
-same-length c = search needs
-
 returns-2 : tie.Need-returns-2
 returns-2 c =
     let start = c .before .before .before .before .before .before .before in
@@ -34,4 +31,4 @@ returns-2 c =
     (done .0 ∙ both is .0, done .1 ∙ both is .1)
 
 pub read-spec : {M : Type 1} → statement M
-read-spec = tie.close (tie.spec returns read-task-requires same-length returns-2)
+read-spec = tie.close (tie.spec returns read-task-requires (λ c. search needs) returns-2)

@@ -32,11 +32,7 @@ write-task-requires c κs =
     let t = c .before .before in
     sym (t .is-table .ensures) ∙ not-false (t .is-table .result) (c .before .if2 .left)
 
-same-length : tie.Need-same-length
-same-length c = search needs
-
-returns-3 : tie.Need-returns-3
-returns-3 c = search needs
-
 pub write-spec : {M : Type 1} → statement M
-write-spec = tie.close (tie.spec returns is-table-requires returns-2 write-task-requires same-length returns-3)
+write-spec =
+    tie.close
+    (tie.spec returns is-table-requires returns-2 write-task-requires (λ c. search needs) (λ c. search needs))

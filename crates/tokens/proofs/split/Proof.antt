@@ -35,20 +35,11 @@ returns c =
 keep-accepted-requires : tie.Need-keep-accepted-requires
 keep-accepted-requires c κs = refl
 
-enum-known-accepted : tie.Need-enum-known-accepted
-enum-known-accepted c = search needs
-
 write-split-requires : tie.Need-write-split-requires
 write-split-requires c κs =
     let d = c .before .before .before in
     let k = d .before .before in
     (accepted d, has-table-words (start k .args .out .now) (begun k .if1 .left))
-
-enum-known-accepted-2 : tie.Need-enum-known-accepted-2
-enum-known-accepted-2 c = search needs
-
-same-length : tie.Need-same-length
-same-length c = search needs
 
 returns-2 : tie.Need-returns-2
 unfolding splitAnswerTold
@@ -72,5 +63,5 @@ returns-3 c =
 pub split-spec : {M : Type 1} → statement M
 split-spec =
     tie.close
-    (tie.spec returns keep-accepted-requires enum-known-accepted write-split-requires enum-known-accepted-2 same-length
-    returns-2 returns-3)
+    (tie.spec returns keep-accepted-requires (λ c. search needs) write-split-requires (λ c. search needs)
+    (λ c. search needs) returns-2 returns-3)

@@ -39,9 +39,6 @@ role-at-requires c κs = c .before .before .before .before .row-of .ensures .1
 role-at-requires-2 : tie.Need-role-at-requires-2
 role-at-requires-2 c κs = c .before .before .before .before .row-of2 .ensures .1
 
-role-before-requires : tie.Need-role-before-requires
-role-before-requires c κs = search needs
-
 -- the two atoms
 abbrev first : tie.Start → Atom
 first s = atomIn (s .args .table .now) (s .args .i)
@@ -80,4 +77,4 @@ pub gives-arc-spec : {M : Type 1} → statement M
 gives-arc-spec =
     tie.close
     (tie.spec row-of-requires row-of-requires-2 predicate-at-requires predicate-at-requires-2 role-at-requires
-    role-at-requires-2 role-before-requires returns returns-2)
+    role-at-requires-2 (λ c κs. search needs) returns returns-2)

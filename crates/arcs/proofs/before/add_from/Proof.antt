@@ -54,12 +54,6 @@ add-pair-requires c κs =
     let h = c .before .before .loop in
     (s .pre .0, (stretch-atom (s .pre .1 .0) (h .j) (c .before .loop-test .taken), h .inv .2))
 
-add-j : tie.Need-add-j Inv-loop μ-loop
-add-j c = omega arith
-
-loop-less : tie.Need-loop-less Inv-loop μ-loop
-loop-less c = omega arith
-
 loop-again : tie.Need-loop-again Inv-loop μ-loop
 loop-again c =
     let at = c .before .before .before in
@@ -88,5 +82,5 @@ returns-2 c =
 pub add-from-spec : {M : Type 1} → statement M
 add-from-spec =
     tie.close
-    (tie.spec Inv-loop μ-loop is-addition-requires returns loop-holds add-pair-requires add-j loop-less loop-again
-    returns-2)
+    (tie.spec Inv-loop μ-loop is-addition-requires returns loop-holds add-pair-requires (λ c. omega arith)
+    (λ c. omega arith) loop-again returns-2)

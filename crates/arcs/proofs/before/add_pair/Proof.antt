@@ -20,9 +20,6 @@ first s = atomIn (s .args .table .now) (s .args .i)
 abbrev second : tie.Start → Atom
 second s = atomIn (s .args .table .now) (s .args .j)
 
-gives-arc-requires : tie.Need-gives-arc-requires
-gives-arc-requires c κs = search needs
-
 returns : tie.Need-returns
 returns c =
     let s = c .before .before .before in (
@@ -30,33 +27,6 @@ returns c =
       pair-joins-none (first s) (second s)
           (λ n g. both-ft g (sym (c .before .gives-arc .ensures) ∙ not-true _ (c .if1 .taken))) (s .args .before .now),
     )
-
-part-of-requires : tie.Need-part-of-requires
-part-of-requires c κs = search needs
-
-cast-p : tie.Need-cast-p
-cast-p c = search needs
-
-part-of-requires-2 : tie.Need-part-of-requires-2
-part-of-requires-2 c κs = search needs
-
-cast-q : tie.Need-cast-q
-cast-q c = search needs
-
-mul-with : tie.Need-mul-with
-mul-with c = search needs
-
-element-copy-out-with : tie.Need-element-copy-out-with
-element-copy-out-with c = search needs
-
-with-requires : tie.Need-with-requires
-with-requires c κs = search needs
-
-mul-before : tie.Need-mul-before
-mul-before c = search needs
-
-element-write-before : tie.Need-element-write-before
-element-write-before c = search needs
 
 returns-2 : tie.Need-returns-2
 returns-2 c =
@@ -85,5 +55,6 @@ returns-3 c =
 pub add-pair-spec : {M : Type 1} → statement M
 add-pair-spec =
     tie.close
-    (tie.spec gives-arc-requires returns part-of-requires cast-p part-of-requires-2 cast-q mul-with
-    element-copy-out-with with-requires mul-before element-write-before returns-2 returns-3)
+    (tie.spec (λ c κs. search needs) returns (λ c κs. search needs) (λ c. search needs) (λ c κs. search needs)
+    (λ c. search needs) (λ c. search needs) (λ c. search needs) (λ c κs. search needs) (λ c. search needs)
+    (λ c. search needs) returns-2 returns-3)

@@ -37,12 +37,6 @@ add-from-requires c κs =
     let h = at .loop in
     (stretch-atom (s .pre) (h .i) (c .before .loop-test .taken), (s .pre, (e, h .inv .2)))
 
-add-i : tie.Need-add-i Inv-loop μ-loop
-add-i c = omega arith
-
-loop-less : tie.Need-loop-less Inv-loop μ-loop
-loop-less c = omega arith
-
 loop-again : tie.Need-loop-again Inv-loop μ-loop
 loop-again c =
     let h = c .before .before .before .loop in
@@ -70,4 +64,5 @@ returns c =
 pub arcs-of-spec : {M : Type 1} → statement M
 arcs-of-spec =
     tie.close
-    (tie.spec Inv-loop μ-loop effects-of-requires loop-holds add-from-requires add-i loop-less loop-again returns)
+    (tie.spec Inv-loop μ-loop effects-of-requires loop-holds add-from-requires (λ c. omega arith) (λ c. omega arith)
+    loop-again returns)

@@ -27,12 +27,6 @@ is-precondition-requires c κs = stretch-atom (c .before .before .before .pre) (
 returns : tie.Need-returns Inv-loop μ-loop
 returns c = c .before .before .before .loop .inv
 
-add-i : tie.Need-add-i Inv-loop μ-loop
-add-i c = omega arith
-
-loop-less : tie.Need-loop-less Inv-loop μ-loop
-loop-less c = omega arith
-
 loop-again : tie.Need-loop-again Inv-loop μ-loop
 loop-again c =
     let at = c .before .before .before in
@@ -50,4 +44,5 @@ returns-2 c = c .before .loop .inv
 pub effects-of-spec : {M : Type 1} → statement M
 effects-of-spec =
     tie.close
-    (tie.spec Inv-loop μ-loop loop-holds is-precondition-requires returns add-i loop-less loop-again returns-2)
+    (tie.spec Inv-loop μ-loop loop-holds is-precondition-requires returns (λ c. omega arith) (λ c. omega arith)
+    loop-again returns-2)

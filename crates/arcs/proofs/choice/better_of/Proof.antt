@@ -8,15 +8,6 @@ use Rattle.arcs.proofs.Choosing.{better-first, better-keeps, better-tak
 use Rattle.arcs.proofs.choice.better_of.Statement.{statement}
 use Rattle.arcs.proofs.choice.better_of.Tie as tie
 
-enum-known-found : tie.Need-enum-known-found
-enum-known-found c = search needs
-
-enum-told : tie.Need-enum-told
-enum-told c = search needs
-
-cast-t6 : tie.Need-cast-t6
-cast-t6 c = search needs
-
 returns : tie.Need-returns
 unfolding chosen
 returns c =
@@ -24,26 +15,11 @@ returns c =
     let e = ap chosen (c .enum-told .given .1) in
     (λ atoms k. better-first atoms p e, λ n l b. only-below n p l)
 
-cast-q : tie.Need-cast-q
-cast-q c = search needs
-
-mul-if1 : tie.Need-mul-if1
-mul-if1 c = search needs
-
-element-copy-out-if1 : tie.Need-element-copy-out-if1
-element-copy-out-if1 c = search needs
-
-mul-if1-2 : tie.Need-mul-if1-2
-mul-if1-2 c = search needs
-
 element-copy-out-if1-2 : tie.Need-element-copy-out-if1-2
 unfolding chosen
 element-copy-out-if1-2 c =
     let g = c .before .before .before .found .given in
     c .before .before .before .before .before .pre .1 (g .0 .0 .0) (ap chosen (g .1))
-
-cast-t18 : tie.Need-cast-t18
-cast-t18 c = search needs
 
 returns-2 : tie.Need-returns-2
 unfolding chosen
@@ -72,5 +48,6 @@ returns-3 c =
 pub better-of-spec : {M : Type 1} → statement M
 better-of-spec =
     tie.close
-    (tie.spec enum-known-found enum-told cast-t6 returns cast-q mul-if1 element-copy-out-if1 mul-if1-2
-    element-copy-out-if1-2 cast-t18 returns-2 returns-3)
+    (tie.spec (λ c. search needs) (λ c. search needs) (λ c. search needs) returns (λ c. search needs)
+    (λ c. search needs) (λ c. search needs) (λ c. search needs) element-copy-out-if1-2 (λ c. search needs) returns-2
+    returns-3)

@@ -24,17 +24,8 @@ loop-holds c =
       found-none (a .before .now) (a .counts .now) (a .unplaced) (a .count),
     )
 
-sub-p : tie.Need-sub-p Inv-loop μ-loop
-sub-p c = omega arith
-
-is-ready-requires : tie.Need-is-ready-requires Inv-loop μ-loop
-is-ready-requires c κs = omega arith
-
 better-of-requires : tie.Need-better-of-requires Inv-loop μ-loop
 better-of-requires c κs = (omega arith, λ p e. let l = c .before .before .before .loop .inv .1 p e in omega arith)
-
-loop-less : tie.Need-loop-less Inv-loop μ-loop
-loop-less c = omega arith
 
 loop-again : tie.Need-loop-again Inv-loop μ-loop
 loop-again c =
@@ -50,9 +41,6 @@ loop-again c =
           (chosen (c .better-of .result)) (turn .loop-test .taken) (h .inv .0)
           (λ atoms k. sym (r atoms (a .count) k (s .pre .1)) ∙ c .before .if1 .taken) (h .inv .2) (b .0),
     )
-
-loop-less-2 : tie.Need-loop-less-2 Inv-loop μ-loop
-loop-less-2 c = omega arith
 
 loop-again-2 : tie.Need-loop-again-2 Inv-loop μ-loop
 loop-again-2 c =
@@ -81,5 +69,5 @@ returns c =
 pub choose-spec : {M : Type 1} → statement M
 choose-spec =
     tie.close
-    (tie.spec Inv-loop μ-loop loop-holds sub-p is-ready-requires better-of-requires loop-less loop-again loop-less-2
-    loop-again-2 returns)
+    (tie.spec Inv-loop μ-loop loop-holds (λ c. omega arith) (λ c κs. omega arith) better-of-requires (λ c. omega arith)
+    loop-again (λ c. omega arith) loop-again-2 returns)

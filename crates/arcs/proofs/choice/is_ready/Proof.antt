@@ -10,18 +10,6 @@ use Rattle.arcs.proofs.Choosing.{ready-apart}
 use Rattle.arcs.proofs.choice.is_ready.Statement.{statement}
 use Rattle.arcs.proofs.choice.is_ready.Tie as tie
 
-has-requires : tie.Need-has-requires
-has-requires c κs = search needs
-
-mul-meet : tie.Need-mul-meet
-mul-meet c = search needs
-
-element-copy-out-meet : tie.Need-element-copy-out-meet
-element-copy-out-meet c = search needs
-
-meet-requires : tie.Need-meet-requires
-meet-requires c κs = search needs
-
 returns : tie.Need-returns
 returns c = λ atoms n a b.
     let s = c .before .before .before .before in
@@ -40,4 +28,6 @@ returns-2 c = λ atoms n a b.
     c .if1 .left ∙ ap (λ (x : Bool). x && ready atoms (members u n) (s .args .p)) (sym m)
 
 pub is-ready-spec : {M : Type 1} → statement M
-is-ready-spec = tie.close (tie.spec has-requires mul-meet element-copy-out-meet meet-requires returns returns-2)
+is-ready-spec =
+    tie.close
+    (tie.spec (λ c κs. search needs) (λ c. search needs) (λ c. search needs) (λ c κs. search needs) returns returns-2)

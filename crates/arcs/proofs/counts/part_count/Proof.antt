@@ -26,18 +26,6 @@ loop-holds c =
 part-of-requires : tie.Need-part-of-requires Inv-loop μ-loop
 part-of-requires c κs = stretch-atom (c .before .before .before .pre) (c .before .loop .i) (c .loop-test .taken)
 
-cast-part : tie.Need-cast-part Inv-loop μ-loop
-cast-part c = omega arith
-
-add-count : tie.Need-add-count Inv-loop μ-loop
-add-count c = omega arith
-
-add-i : tie.Need-add-i Inv-loop μ-loop
-add-i c = omega arith
-
-loop-less : tie.Need-loop-less Inv-loop μ-loop
-loop-less c = omega arith
-
 -- a turn takes the count to the larger of itself and one more than the part
 larger : (c : tie.Joined1 Inv-loop μ-loop) →
     c .if1 .count ≡ max (c .before .before .before .before .loop .count) (suc (c .before .before .part-of .result .0))
@@ -62,4 +50,5 @@ returns c =
 pub part-count-spec : {M : Type 1} → statement M
 part-count-spec =
     tie.close
-    (tie.spec Inv-loop μ-loop loop-holds part-of-requires cast-part add-count add-i loop-less loop-again returns)
+    (tie.spec Inv-loop μ-loop loop-holds part-of-requires (λ c. omega arith) (λ c. omega arith) (λ c. omega arith)
+    (λ c. omega arith) loop-again returns)

@@ -37,15 +37,6 @@ part-of-requires c κs =
     let turn = c .before .before in
     stretch-atom (turn .before .before .before .pre) (turn .before .loop .i) (turn .loop-test .taken)
 
-cast-part : tie.Need-cast-part Inv-loop μ-loop
-cast-part c = omega arith
-
-mul-counts : tie.Need-mul-counts Inv-loop μ-loop
-mul-counts c = omega arith
-
-array-read-counts : tie.Need-array-read-counts Inv-loop μ-loop
-array-read-counts c = omega arith
-
 add-counts : tie.Need-add-counts Inv-loop μ-loop
 add-counts c =
     let turn = c .before .before .before .before in
@@ -57,15 +48,6 @@ add-counts c =
     let l = turn .loop-test .taken in
     let b = s .fits .to .fits in
     omega arith
-
-array-write-counts : tie.Need-array-write-counts Inv-loop μ-loop
-array-write-counts c = omega arith
-
-add-i : tie.Need-add-i Inv-loop μ-loop
-add-i c = omega arith
-
-loop-less : tie.Need-loop-less Inv-loop μ-loop
-loop-less c = omega arith
 
 loop-again : tie.Need-loop-again Inv-loop μ-loop
 loop-again c =
@@ -106,5 +88,5 @@ returns c =
 pub preconditions-of-spec : {M : Type 1} → statement M
 preconditions-of-spec =
     tie.close
-    (tie.spec Inv-loop μ-loop loop-holds is-precondition-requires part-of-requires cast-part mul-counts
-    array-read-counts add-counts array-write-counts add-i loop-less loop-again returns)
+    (tie.spec Inv-loop μ-loop loop-holds is-precondition-requires part-of-requires (λ c. omega arith) (λ c. omega arith)
+    (λ c. omega arith) add-counts (λ c. omega arith) (λ c. omega arith) (λ c. omega arith) loop-again returns)

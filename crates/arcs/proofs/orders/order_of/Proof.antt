@@ -49,9 +49,6 @@ preconditions-of-requires c κs = c .before .before .pre
 part-count-requires : tie.Need-part-count-requires Inv-loop μ-loop
 part-count-requires c κs = c .before .before .before .pre
 
-below-requires : tie.Need-below-requires Inv-loop μ-loop
-below-requires c κs = omega arith
-
 loop-holds : tie.Need-loop-holds Inv-loop μ-loop
 loop-holds c =
     let n = c .before .part-count .result in
@@ -66,12 +63,6 @@ loop-holds c =
 -- ---- a turn
 choose-requires : tie.Need-choose-requires Inv-loop μ-loop
 choose-requires c κs = let l = c .before .before .before in (l .before .before .part-count .ensures .1, l .loop .inv .2)
-
-enum-known-part : tie.Need-enum-known-part Inv-loop μ-loop
-enum-known-part c = search needs
-
-enum-told : tie.Need-enum-told Inv-loop μ-loop
-enum-told c = search needs
 
 -- no part is ready
 returns : tie.Need-returns Inv-loop μ-loop
@@ -90,12 +81,6 @@ returns c = (
   (omega arith, c .before .before .before .before .before .before .loop .inv .1),
 )
 
-mul-parts : tie.Need-mul-parts Inv-loop μ-loop
-mul-parts c = omega arith
-
-array-set-from-parts : tie.Need-array-set-from-parts Inv-loop μ-loop
-array-set-from-parts c = omega arith
-
 cast-without : tie.Need-cast-without Inv-loop μ-loop
 unfolding chosen
 cast-without c =
@@ -109,12 +94,6 @@ without-requires c κs =
     let g = c .before .before .part .given in
     let b = c .before .before .before .before .choose .ensures .1 (g .0 .0 .0) (ap chosen (g .1)) in
     omega arith
-
-add-placed : tie.Need-add-placed Inv-loop μ-loop
-add-placed c = omega arith
-
-loop-less : tie.Need-loop-less Inv-loop μ-loop
-loop-less c = omega arith
 
 loop-again : tie.Need-loop-again Inv-loop μ-loop
 unfolding chosen
@@ -154,6 +133,6 @@ returns-2 c = (
 pub order-of-spec : {M : Type 1} → statement M
 order-of-spec =
     tie.close
-    (tie.spec Inv-loop μ-loop arcs-of-requires preconditions-of-requires part-count-requires below-requires loop-holds
-    choose-requires enum-known-part enum-told returns mul-parts array-set-from-parts cast-without without-requires
-    add-placed loop-less loop-again returns-2)
+    (tie.spec Inv-loop μ-loop arcs-of-requires preconditions-of-requires part-count-requires (λ c κs. omega arith)
+    loop-holds choose-requires (λ c. search needs) (λ c. search needs) returns (λ c. omega arith) (λ c. omega arith)
+    cast-without without-requires (λ c. omega arith) (λ c. omega arith) loop-again returns-2)

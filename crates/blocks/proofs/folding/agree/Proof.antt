@@ -40,9 +40,6 @@ loop-holds c =
       (omega arith, λ b h. ap₂ (fits b) (params-all (a .own)) (objects-all (a .steps .now) (a .at) (a .own))),
     )
 
-none-from-requires : tie.Need-none-from-requires Inv-loop μ-loop
-none-from-requires c κs = omega arith
-
 -- no parameter is left
 returns : tie.Need-returns Inv-loop μ-loop
 returns c = λ b h.
@@ -51,18 +48,6 @@ returns c = λ b h.
     sym (l .loop .inv .1 .1 b h
     ∙ fits-end (a .steps .now) (a .at) (l .loop .k) (a .own) (l .loop .p)
     (c .before .none-from .ensures (c .if1 .taken)) b)
-
-has-requires : tie.Need-has-requires Inv-loop μ-loop
-has-requires c κs = omega arith
-
-cast-t14 : tie.Need-cast-t14 Inv-loop μ-loop
-cast-t14 c = omega arith
-
-object-of-requires : tie.Need-object-of-requires Inv-loop μ-loop
-object-of-requires c κs = omega arith
-
-agrees-with-requires : tie.Need-agrees-with-requires Inv-loop μ-loop
-agrees-with-requires c κs = omega arith
 
 -- the object of p decides first, then those behind it
 decides : (c : tie.After-agrees-with Inv-loop μ-loop) →
@@ -93,15 +78,6 @@ returns-2 c = λ b h.
     let rest = fitsFrom b (a .steps .now) (a .at) (l .loop .k + 1) (a .own) (l .loop .p + 1) in
     sym (decides (c .before) b h
     ∙ ap (λ (c : Bool). c && rest) (not-true (c .before .agrees-with .result) (c .if3 .taken)))
-
-add-k : tie.Need-add-k Inv-loop μ-loop
-add-k c = omega arith
-
-add-p : tie.Need-add-p Inv-loop μ-loop
-add-p c = omega arith
-
-loop-less : tie.Need-loop-less Inv-loop μ-loop
-loop-less c = omega arith
 
 loop-again : tie.Need-loop-again Inv-loop μ-loop
 loop-again c =
@@ -145,5 +121,6 @@ returns-3 c = λ b h.
 pub agree-spec : {M : Type 1} → statement M
 agree-spec =
     tie.close
-    (tie.spec Inv-loop μ-loop loop-holds none-from-requires returns has-requires object-of-requires cast-t14
-    agrees-with-requires returns-2 add-k add-p loop-less loop-again returns-3)
+    (tie.spec Inv-loop μ-loop loop-holds (λ c κs. omega arith) returns (λ c κs. omega arith) (λ c κs. omega arith)
+    (λ c. omega arith) (λ c κs. omega arith) returns-2 (λ c. omega arith) (λ c. omega arith) (λ c. omega arith)
+    loop-again returns-3)

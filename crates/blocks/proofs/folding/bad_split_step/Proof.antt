@@ -20,14 +20,8 @@ start c = c .before .before .before .before
 written : (c : tie.After-write-split) → AcceptedSplit (start c .args .table .now) (c .write-split .last .1 .1 .1 .0)
 written c = split-written (start c .pre) _ table-zeros (c .write-split .ensures)
 
-slice-aggregate-write-split : tie.Need-slice-aggregate-write-split
-slice-aggregate-write-split c = search needs
-
 write-split-requires : tie.Need-write-split-requires
 write-split-requires c κs = (c .before .before .before .pre, omega (arith, tableWords-is))
-
-slice-aggregate-bad-step : tie.Need-slice-aggregate-bad-step
-slice-aggregate-bad-step c = search needs
 
 bad-step-requires : tie.Need-bad-step-requires
 bad-step-requires c κs = written (c .before .before) .split-table
@@ -44,4 +38,4 @@ returns c =
 pub bad-split-step-spec : {M : Type 1} → statement M
 bad-split-step-spec =
     tie.close
-    (tie.spec slice-aggregate-write-split write-split-requires slice-aggregate-bad-step bad-step-requires returns)
+    (tie.spec (λ c. search needs) write-split-requires (λ c. search needs) bad-step-requires returns)

@@ -36,26 +36,14 @@ small c =
 loop-holds : tie.Need-loop-holds Inv-loop μ-loop
 loop-holds c = (omega arith, refl, λ t K e k. all-the-same 0 200 k ∙ sym (begins-none t k))
 
-cast-first-of : tie.Need-cast-first-of Inv-loop μ-loop
-cast-first-of c = omega arith
-
 first-of-requires : tie.Need-first-of-requires Inv-loop μ-loop
 first-of-requires c κs = let k = small c .0 in omega arith
-
-add-begins : tie.Need-add-begins Inv-loop μ-loop
-add-begins c = omega arith
 
 mul-begins : tie.Need-mul-begins Inv-loop μ-loop
 mul-begins c = let k = small (c .before) .1 in let e = c .first-of .ensures in omega arith
 
 array-write-begins : tie.Need-array-write-begins Inv-loop μ-loop
 array-write-begins c = let k = small (c .before) .1 in let e = c .first-of .ensures in omega arith
-
-add-s : tie.Need-add-s Inv-loop μ-loop
-add-s c = omega arith
-
-loop-less : tie.Need-loop-less Inv-loop μ-loop
-loop-less c = omega arith
 
 loop-again : tie.Need-loop-again Inv-loop μ-loop
 loop-again c =
@@ -79,5 +67,5 @@ returns c = λ t K e.
 pub begins-of-spec : {M : Type 1} → statement M
 begins-of-spec =
     tie.close
-    (tie.spec Inv-loop μ-loop loop-holds cast-first-of first-of-requires add-begins mul-begins array-write-begins add-s
-    loop-less loop-again returns)
+    (tie.spec Inv-loop μ-loop loop-holds (λ c. omega arith) first-of-requires (λ c. omega arith) mul-begins
+    array-write-begins (λ c. omega arith) (λ c. omega arith) loop-again returns)

@@ -9,15 +9,6 @@ use lib.ListN.{getD}
 use borrow.Author.Needs.{needs}
 use Rattle.blocks.proofs.folding.begun_at.Statement.{statement}
 
-schema-at-requires : tie.Need-schema-at-requires
-schema-at-requires c κs = search needs
-
-mul-result : tie.Need-mul-result
-mul-result c = search needs
-
-element-copy-out-result : tie.Need-element-copy-out-result
-element-copy-out-result c = search needs
-
 -- what is noted for the step's schema
 noted : (c : tie.After-schema-at) → let a = c .before .before .args in
     getD (a .begins .now) (c .schema-at .result) 0 ≡ getD (a .begins .now) (getD (a .steps .now) (a .at) 0) 0
@@ -30,4 +21,4 @@ returns : tie.Need-returns
 returns c = noted (c .before)
 
 pub begun-at-spec : {M : Type 1} → statement M
-begun-at-spec = tie.close (tie.spec schema-at-requires mul-result element-copy-out-result cast-result returns)
+begun-at-spec = tie.close (tie.spec (λ c κs. search needs) (λ c. search needs) (λ c. search needs) cast-result returns)

@@ -8,17 +8,11 @@ use native.Mathlib.Omega.{arith}
 use Rattle.blocks.proofs.PartObjects.{fits-short, fits-other, fits-same}
 use Rattle.blocks.proofs.folding.goes_on.Statement.{statement}
 
-sub-if1 : tie.Need-sub-if1
-sub-if1 c = omega arith
-
 returns : tie.Need-returns
 returns c = λ b h.
     let a = c .before .before .args in
     let l = c .if1 .taken in
     sym (fits-short (a .steps .now) (a .at) (a .number) (a .own) b (omega arith))
-
-schema-at-requires : tie.Need-schema-at-requires
-schema-at-requires c κs = omega arith
 
 returns-2 : tie.Need-returns-2
 returns-2 c = λ b h.
@@ -27,9 +21,6 @@ returns-2 c = λ b h.
     let l = e .if1 .left in
     let f = c .before .schema-at .ensures in
     sym (fits-other (a .steps .now) (a .at) (a .number) (a .own) b (omega arith) (λ n. c .if2 .taken (f ∙ n)))
-
-agree-requires : tie.Need-agree-requires
-agree-requires c κs = omega arith
 
 returns-3 : tie.Need-returns-3
 returns-3 c = λ b h.
@@ -42,4 +33,6 @@ returns-3 c = λ b h.
     (sym (d .before .schema-at .ensures) ∙ d .if2 .left))
 
 pub goes-on-spec : {M : Type 1} → statement M
-goes-on-spec = tie.close (tie.spec sub-if1 returns schema-at-requires returns-2 agree-requires returns-3)
+goes-on-spec =
+    tie.close
+    (tie.spec (λ c. omega arith) returns (λ c κs. omega arith) returns-2 (λ c κs. omega arith) returns-3)

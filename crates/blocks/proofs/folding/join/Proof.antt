@@ -51,9 +51,6 @@ loop-holds c =
       ),
     )
 
-none-from-requires : tie.Need-none-from-requires Inv-loop μ-loop
-none-from-requires c κs = omega arith
-
 -- no parameter is left
 returns : tie.Need-returns Inv-loop μ-loop
 returns c = λ b held below.
@@ -64,30 +61,6 @@ returns c = λ b held below.
     let (d, g, n, e) = h .inv .1 .2 b held below in
     subst (λ (f : Bound). Held f (h .known) (h .found))
     (sym (e ∙ bind-end (a .steps .now) (a .at) (h .k) (a .own) (h .p) none d)) g
-
-has-requires : tie.Need-has-requires Inv-loop μ-loop
-has-requires c κs = omega arith
-
-cast-t16 : tie.Need-cast-t16 Inv-loop μ-loop
-cast-t16 c = omega arith
-
-object-of-requires : tie.Need-object-of-requires Inv-loop μ-loop
-object-of-requires c κs = omega arith
-
-note-requires : tie.Need-note-requires Inv-loop μ-loop
-note-requires c κs = omega arith
-
-with-requires : tie.Need-with-requires Inv-loop μ-loop
-with-requires c κs = omega arith
-
-add-k : tie.Need-add-k Inv-loop μ-loop
-add-k c = omega arith
-
-add-p : tie.Need-add-p Inv-loop μ-loop
-add-p c = omega arith
-
-loop-less : tie.Need-loop-less Inv-loop μ-loop
-loop-less c = omega arith
 
 loop-again : tie.Need-loop-again Inv-loop μ-loop
 loop-again c =
@@ -145,5 +118,6 @@ returns-2 c = λ b held below.
 pub join-spec : {M : Type 1} → statement M
 join-spec =
     tie.close
-    (tie.spec Inv-loop μ-loop loop-holds none-from-requires returns has-requires object-of-requires cast-t16
-    note-requires with-requires add-k add-p loop-less loop-again returns-2)
+    (tie.spec Inv-loop μ-loop loop-holds (λ c κs. omega arith) returns (λ c κs. omega arith) (λ c κs. omega arith)
+    (λ c. omega arith) (λ c κs. omega arith) (λ c κs. omega arith) (λ c. omega arith) (λ c. omega arith)
+    (λ c. omega arith) loop-again returns-2)

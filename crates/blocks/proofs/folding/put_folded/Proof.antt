@@ -137,9 +137,6 @@ loop-holds c =
     let a = c .before .before .args in
     (omega arith, refl, λ t xs K f. put-start t (a .steps .now) xs (a .out .now) f)
 
-mul-begun-at : tie.Need-mul-begun-at Inv-loop2 μ-loop2 Inv-loop μ-loop
-mul-begun-at c = omega arith
-
 begun-at-requires : tie.Need-begun-at-requires Inv-loop2 μ-loop2 Inv-loop μ-loop
 begun-at-requires c κs =
     let (t, xs, K, f, r) = from c .pre in
@@ -320,6 +317,6 @@ returns c = λ t xs K f.
 pub put-folded-spec : {M : Type 1} → statement M
 put-folded-spec =
     tie.close
-    (tie.spec Inv-loop2 μ-loop2 Inv-loop μ-loop loop-holds mul-begun-at begun-at-requires sub-s count-of-requires
+    (tie.spec Inv-loop2 μ-loop2 Inv-loop μ-loop loop-holds (λ c. omega arith) begun-at-requires sub-s count-of-requires
     loop2-holds mul-join own-at-requires join-requires add-i add-j loop2-less loop2-again cast-put-step
     put-step-requires add-next loop-less loop-again same-length returns)

@@ -162,9 +162,6 @@ not-past c =
 list-holds : tie.Need-list-holds Inv-loop μ-loop Inv-list μ-list
 list-holds c = (omega arith, omega arith, λ t K. taken-start t (c .before .args .steps .now))
 
-mul-begun-at : tie.Need-mul-begun-at Inv-loop μ-loop Inv-list μ-list
-mul-begun-at c = omega arith
-
 begun-at-requires : tie.Need-begun-at-requires Inv-loop μ-loop Inv-list μ-list
 begun-at-requires c κs =
     let (t, K) = from c .pre in
@@ -320,6 +317,6 @@ returns-3 c = λ t K.
 pub take-apart-spec : {M : Type 1} → statement M
 take-apart-spec =
     tie.close
-    (tie.spec Inv-loop μ-loop Inv-list μ-list list-holds mul-begun-at begun-at-requires sub-s count-of-requires
+    (tie.spec Inv-loop μ-loop Inv-list μ-list list-holds (λ c. omega arith) begun-at-requires sub-s count-of-requires
     loop-holds mul-at own-at-requires first-of-requires add-goes-on goes-on-requires join-requires add-i add-j loop-less
     loop-again add-taken list-less list-again returns returns-2 returns-3)

@@ -68,12 +68,6 @@ add-next c =
     let n = counted (l .before) in
     omega arith
 
-add-j : tie.Need-add-j Inv-loop μ-loop
-add-j c = omega arith
-
-loop-less : tie.Need-loop-less Inv-loop μ-loop
-loop-less c = omega arith
-
 loop-again : tie.Need-loop-again Inv-loop μ-loop
 loop-again c =
     let l = c .before .before .before .before .before in
@@ -109,5 +103,5 @@ returns c =
 pub put-block-spec : {M : Type 1} → statement M
 put-block-spec =
     tie.close
-    (tie.spec Inv-loop μ-loop schema-at-requires count-of-requires loop-holds put-part-requires add-next add-j loop-less
-    loop-again same-length returns)
+    (tie.spec Inv-loop μ-loop schema-at-requires count-of-requires loop-holds put-part-requires add-next
+    (λ c. omega arith) (λ c. omega arith) loop-again same-length returns)

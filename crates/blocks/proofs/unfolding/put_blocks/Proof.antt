@@ -40,9 +40,6 @@ loop-holds c =
           (e ∙ words-none),
     )
 
-mul-put-block : tie.Need-mul-put-block Inv-loop μ-loop
-mul-put-block c = omega arith
-
 -- the blocks of all steps have room
 room : (s : tie.Start Inv-loop μ-loop) →
     stepSize * sumFrom (s .args .steps .now) (s .args .kept .now) (length (s .args .steps .now) / stepSize) ≤
@@ -64,12 +61,6 @@ put-block-requires c κs =
     let g = sum-grows w (a .kept .now) (h .i + 1) (length w / stepSize) (omega arith) in
     let q = room s in
     (step-kept k (h .i) (turn .loop-test .taken), omega arith)
-
-add-i : tie.Need-add-i Inv-loop μ-loop
-add-i c = omega arith
-
-loop-less : tie.Need-loop-less Inv-loop μ-loop
-loop-less c = omega arith
 
 loop-again : tie.Need-loop-again Inv-loop μ-loop
 loop-again c =
@@ -114,5 +105,5 @@ returns c =
 pub put-blocks-spec : {M : Type 1} → statement M
 put-blocks-spec =
     tie.close
-    (tie.spec Inv-loop μ-loop loop-holds mul-put-block put-block-requires add-i loop-less loop-again same-length
-    returns)
+    (tie.spec Inv-loop μ-loop loop-holds (λ c. omega arith) put-block-requires (λ c. omega arith) (λ c. omega arith)
+    loop-again same-length returns)

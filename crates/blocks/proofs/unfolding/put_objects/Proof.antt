@@ -29,15 +29,6 @@ loop-holds c =
     let e = objects-none (a .steps .now) (a .at) (a .own) in
     (omega arith, (put-none (a .out .now) (a .to) (objectsFor (a .steps .now) (a .at) (a .own) 0) e, omega arith))
 
-has-requires : tie.Need-has-requires Inv-loop μ-loop
-has-requires c κs = omega arith
-
-cast-t11 : tie.Need-cast-t11 Inv-loop μ-loop
-cast-t11 c = omega arith
-
-object-of-requires : tie.Need-object-of-requires Inv-loop μ-loop
-object-of-requires c κs = omega arith
-
 mul-out : tie.Need-mul-out Inv-loop μ-loop
 mul-out c = let e = puts-length (c .before .before .before .before .loop .inv .1 .0) in omega arith
 
@@ -46,12 +37,6 @@ slice-write-out c = let e = puts-length (c .before .before .before .before .loop
 
 add-next : tie.Need-add-next Inv-loop μ-loop
 add-next c = let e = puts-length (c .before .before .before .before .loop .inv .1 .0) in omega arith
-
-add-p : tie.Need-add-p Inv-loop μ-loop
-add-p c = omega arith
-
-loop-less : tie.Need-loop-less Inv-loop μ-loop
-loop-less c = omega arith
 
 loop-again : tie.Need-loop-again Inv-loop μ-loop
 loop-again c =
@@ -90,5 +75,5 @@ returns c =
 pub put-objects-spec : {M : Type 1} → statement M
 put-objects-spec =
     tie.close
-    (tie.spec Inv-loop μ-loop loop-holds has-requires cast-t11 object-of-requires mul-out slice-write-out add-next add-p
-    loop-less loop-again same-length returns)
+    (tie.spec Inv-loop μ-loop loop-holds (λ c κs. omega arith) (λ c. omega arith) (λ c κs. omega arith) mul-out
+    slice-write-out add-next (λ c. omega arith) (λ c. omega arith) loop-again same-length returns)

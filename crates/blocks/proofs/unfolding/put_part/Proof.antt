@@ -53,26 +53,14 @@ add-out c = let e = first-is c in let f = start c .pre .0 .small in omega arith
 cast-out : tie.Need-cast-out
 cast-out c = let e = first-is c in let f = start c .pre .0 .small in omega arith
 
-mul-out : tie.Need-mul-out
-mul-out c = search needs
-
-slice-write-out : tie.Need-slice-write-out
-slice-write-out c = search needs
-
 own-at-requires : tie.Need-own-at-requires
 own-at-requires c κs =
     let k = start c .pre .0 .known in
     let e = c .before .schema-at .ensures in
     (omega arith, start c .pre .1 .0)
 
-add-put-objects : tie.Need-add-put-objects
-add-put-objects c = search needs
-
 put-objects-requires : tie.Need-put-objects-requires
 put-objects-requires c κs = (start (c .before .before) .pre .0 .whole, simp length-set (omega arith))
-
-add-fill : tie.Need-add-fill
-add-fill c = search needs
 
 sub-fill : tie.Need-sub-fill
 sub-fill c = let l = c .before .before .before .put-objects .ensures .1 .0 in omega arith
@@ -114,5 +102,6 @@ same-length c =
 pub put-part-spec : {M : Type 1} → statement M
 put-part-spec =
     tie.close
-    (tie.spec schema-at-requires first-of-requires add-out cast-out mul-out slice-write-out own-at-requires
-    add-put-objects put-objects-requires add-fill sub-fill fill-requires same-length returns)
+    (tie.spec schema-at-requires first-of-requires add-out cast-out (λ c. search needs) (λ c. search needs)
+    own-at-requires (λ c. search needs) put-objects-requires (λ c. search needs) sub-fill fill-requires same-length
+    returns)

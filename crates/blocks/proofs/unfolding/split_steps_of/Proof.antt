@@ -30,9 +30,6 @@ turn-step : (c : tie.In-loop Inv-loop μ-loop) →
     (stepSize * c .before .loop .i)
 turn-step c = let (t, k) = c .before .before .before .pre in step-kept k (c .before .loop .i) (c .loop-test .taken)
 
-mul-schema-at : tie.Need-mul-schema-at Inv-loop μ-loop
-mul-schema-at c = omega arith
-
 schema-at-requires : tie.Need-schema-at-requires Inv-loop μ-loop
 schema-at-requires c κs = let w = turn-step c .whole in omega arith
 
@@ -53,12 +50,6 @@ add-total c =
     let e = counted c in
     omega arith
 
-add-i : tie.Need-add-i Inv-loop μ-loop
-add-i c = omega arith
-
-loop-less : tie.Need-loop-less Inv-loop μ-loop
-loop-less c = omega arith
-
 loop-again : tie.Need-loop-again Inv-loop μ-loop
 loop-again c =
     let a = c .before .before .before .before .before .args in
@@ -78,5 +69,5 @@ returns c = λ t k.
 pub split-steps-of-spec : {M : Type 1} → statement M
 split-steps-of-spec =
     tie.close
-    (tie.spec Inv-loop μ-loop loop-holds mul-schema-at schema-at-requires count-of-requires add-total add-i loop-less
-    loop-again returns)
+    (tie.spec Inv-loop μ-loop loop-holds (λ c. omega arith) schema-at-requires count-of-requires add-total
+    (λ c. omega arith) (λ c. omega arith) loop-again returns)

@@ -10,19 +10,10 @@ use borrow.Author.Needs.{needs}
 use Rattle.text.specs.Outcomes.{readOutcome}
 use Rattle.programs.proofs.inputs.read_table.Statement.{statement}
 
-bytes-taken-requires : tie.Need-bytes-taken-requires
-bytes-taken-requires c κs = search needs
-
 slice-aggregate-read : tie.Need-slice-aggregate-read
 slice-aggregate-read c =
     let b = c .before .bytes-taken in
     sym (length-take-le (b .result) (c .before .before .before .before .args .input .now) (b .ensures .0))
-
-read-requires : tie.Need-read-requires
-read-requires c κs = search needs
-
-same-length : tie.Need-same-length
-same-length c = search needs
 
 returns : tie.Need-returns
 returns c =
@@ -34,4 +25,6 @@ returns c =
     )
 
 pub read-table-spec : {M : Type 1} → statement M
-read-table-spec = tie.close (tie.spec bytes-taken-requires slice-aggregate-read read-requires same-length returns)
+read-table-spec =
+    tie.close
+    (tie.spec (λ c κs. search needs) slice-aggregate-read (λ c κs. search needs) (λ c. search needs) returns)

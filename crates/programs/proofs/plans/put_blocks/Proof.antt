@@ -47,14 +47,8 @@ written b =
     blocks-written (a .table .now) (split-table k) (a .steps .now) (given k) (start k .pre .1 .0) _
     (h .0 t (steps-kept k)) (h .1 t (steps-kept k))
 
-slice-aggregate-write-split : tie.Need-slice-aggregate-write-split
-slice-aggregate-write-split c = search needs
-
 write-split-requires : tie.Need-write-split-requires
 write-split-requires c κs = (c .before .before .before .before .pre .0, omega (arith, tableWords-is))
-
-slice-aggregate-put-blocks : tie.Need-slice-aggregate-put-blocks
-slice-aggregate-put-blocks c = search needs
 
 put-blocks-requires : tie.Need-put-blocks-requires
 put-blocks-requires c κs =
@@ -62,9 +56,6 @@ put-blocks-requires c κs =
     let a = start k .args in
     let n = few-steps (a .table .now) (split-table k) (a .steps .now) (given k) (start k .pre .1 .0) in
     (taskOf (a .table .now), steps-kept k, omega arith)
-
-slice-aggregate-write-plan : tie.Need-slice-aggregate-write-plan
-slice-aggregate-write-plan c = search needs
 
 array-share-prefix-words : tie.Need-array-share-prefix-words
 array-share-prefix-words c = written (c .before .before) .inside
@@ -82,9 +73,6 @@ write-plan-requires c κs =
     let room = start k .pre .1 .1 in
     (given k .split-table, (written b .good, omega arith))
 
-same-length : tie.Need-same-length
-same-length c = search needs
-
 returns : tie.Need-returns
 returns c =
     let b = c .before .before .before .before .before .before .before in
@@ -94,6 +82,5 @@ returns c =
 pub put-blocks-spec : {M : Type 1} → statement M
 put-blocks-spec =
     tie.close
-    (tie.spec slice-aggregate-write-split write-split-requires slice-aggregate-put-blocks put-blocks-requires
-    slice-aggregate-write-plan array-share-prefix-words slice-aggregate-write-plan-2 write-plan-requires same-length
-    returns)
+    (tie.spec (λ c. search needs) write-split-requires (λ c. search needs) put-blocks-requires (λ c. search needs)
+    array-share-prefix-words slice-aggregate-write-plan-2 write-plan-requires (λ c. search needs) returns)

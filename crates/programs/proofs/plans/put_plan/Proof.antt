@@ -37,22 +37,13 @@ plan c =
     plan-read (start k .args .table .now) _ _ (start k .pre .0)
     (sym (ap planAnswerTold (c .before .count .given .1)) ∙ k .read-plan .ensures .0) (k .read-plan .ensures .1)
 
-bytes-taken-requires : tie.Need-bytes-taken-requires
-bytes-taken-requires c κs = search needs
-
 slice-aggregate-read-plan : tie.Need-slice-aggregate-read-plan
 slice-aggregate-read-plan c =
     let b = c .before .bytes-taken in
     sym (length-take-le (b .result) (c .before .before .before .before .before .args .plan .now) (b .ensures .0))
 
-slice-aggregate-read-plan-2 : tie.Need-slice-aggregate-read-plan-2
-slice-aggregate-read-plan-2 c = search needs
-
 read-plan-requires : tie.Need-read-plan-requires
 read-plan-requires c κs = let z = planWords-is in search needs
-
-enum-known-count : tie.Need-enum-known-count
-enum-known-count c = search needs
 
 mul-end : tie.Need-mul-end
 mul-end c = let few = plan c .few in omega arith
@@ -71,14 +62,8 @@ put-unfolding-requires c κs =
     let s = start (c .before .before .before .before .before .before) in
     (s .pre .0, (plan (c .before .before) .plan, s .pre .1))
 
-enum-known-number : tie.Need-enum-known-number
-enum-known-number c = search needs
-
 put-refusal-requires : tie.Need-put-refusal-requires
 put-refusal-requires c κs = text-room (start (c .before .before .before .before .before) .pre .1)
-
-same-length : tie.Need-same-length
-same-length c = search needs
 
 returns : tie.Need-returns
 returns c =
@@ -88,9 +73,6 @@ returns c =
     prints-same (plan-printed (printsSteps t) t _ (plan g .reads) ∙
     ap (λ (bs : List ℕ). printReading (printsSteps t) (readPlan t bs)) (is-taken k))
     (c .before .before .put-unfolding .ensures)
-
-same-length-2 : tie.Need-same-length-2
-same-length-2 c = search needs
 
 returns-2 : tie.Need-returns-2
 unfolding planAnswerTold
@@ -106,6 +88,6 @@ returns-2 c =
 pub put-plan-spec : {M : Type 1} → statement M
 put-plan-spec =
     tie.close
-    (tie.spec bytes-taken-requires slice-aggregate-read-plan slice-aggregate-read-plan-2 read-plan-requires
-    enum-known-count mul-end array-share-prefix-steps slice-aggregate-put-unfolding put-unfolding-requires
-    enum-known-number put-refusal-requires same-length returns same-length-2 returns-2)
+    (tie.spec (λ c κs. search needs) slice-aggregate-read-plan (λ c. search needs) read-plan-requires
+    (λ c. search needs) mul-end array-share-prefix-steps slice-aggregate-put-unfolding put-unfolding-requires
+    (λ c. search needs) put-refusal-requires (λ c. search needs) returns (λ c. search needs) returns-2)

@@ -24,12 +24,6 @@ prints s t′ =
     let t = taskOf (s .args .table .now) in
     writePlan (unfoldSteps t (stepsIn t (s .args .steps .now)))
 
-keep-accepted-requires : tie.Need-keep-accepted-requires
-keep-accepted-requires c κs = search needs
-
-enum-known-accepted : tie.Need-enum-known-accepted
-enum-known-accepted c = search needs
-
 put-blocks-requires : tie.Need-put-blocks-requires
 put-blocks-requires c κs =
     let d = c .before .before .before in
@@ -37,14 +31,8 @@ put-blocks-requires c κs =
     let p = start k .pre in
     (told-accepted (d .accepted .given .1) (k .keep-accepted .ensures), (p .1 .0, p .1 .1))
 
-enum-known-accepted-2 : tie.Need-enum-known-accepted-2
-enum-known-accepted-2 c = search needs
-
 put-refusal-requires : tie.Need-put-refusal-requires
 put-refusal-requires c κs = text-room (start (c .before .before .before .before) .pre .1 .1)
-
-same-length : tie.Need-same-length
-same-length c = search needs
 
 returns : tie.Need-returns
 returns c =
@@ -54,9 +42,6 @@ returns c =
     let accepted = told-accepted (d .accepted .given .1) (k .keep-accepted .ensures) in
     prints-same (split-printed (prints s) (taskOf (s .args .table .now)) (accepted .accepted))
     (c .before .before .put-blocks .ensures)
-
-same-length-2 : tie.Need-same-length-2
-same-length-2 c = search needs
 
 returns-2 : tie.Need-returns-2
 returns-2 c =
@@ -70,5 +55,5 @@ returns-2 c =
 pub put-unfolding-spec : {M : Type 1} → statement M
 put-unfolding-spec =
     tie.close
-    (tie.spec keep-accepted-requires enum-known-accepted put-blocks-requires enum-known-accepted-2 put-refusal-requires
-    same-length returns same-length-2 returns-2)
+    (tie.spec (λ c κs. search needs) (λ c. search needs) put-blocks-requires (λ c. search needs) put-refusal-requires
+    (λ c. search needs) returns (λ c. search needs) returns-2)

@@ -60,9 +60,6 @@ behind-place c =
     going-on (behind-colon (placed c)) (puts-same (ap (digitsWithin 5) (c .before .number .ensures))
     (c .put-digits2 .ensures))
 
-slice-aggregate-put-bytes : tie.Need-slice-aggregate-put-bytes
-slice-aggregate-put-bytes c = search needs
-
 put-bytes-requires : tie.Need-put-bytes-requires
 unfolding bytes
 put-bytes-requires c κs =
@@ -79,9 +76,6 @@ put-byte-requires c κs =
     let k = c .before .before .before in
     byte-room colon (place (keyed (numbered k)) ++ (newline ∷ [])) (behind-number k)
 
-number-requires : tie.Need-number-requires
-number-requires c κs = search needs
-
 put-digits-requires-2 : tie.Need-put-digits-requires-2
 put-digits-requires-2 c κs =
     let k = c .before .before .before .before in
@@ -90,9 +84,6 @@ put-digits-requires-2 c κs =
 
 put-byte-requires-2 : tie.Need-put-byte-requires-2
 put-byte-requires-2 c κs = byte-room newline [] (behind-place (c .before .before .before))
-
-same-length : tie.Need-same-length
-same-length c = search needs
 
 returns : tie.Need-returns
 returns c =
@@ -104,5 +95,5 @@ returns c =
 pub put-refusal-spec : {M : Type 1} → statement M
 put-refusal-spec =
     tie.close
-    (tie.spec slice-aggregate-put-bytes put-bytes-requires put-digits-requires put-byte-requires number-requires
-    put-digits-requires-2 put-byte-requires-2 same-length returns)
+    (tie.spec (λ c. search needs) put-bytes-requires put-digits-requires put-byte-requires (λ c κs. search needs)
+    put-digits-requires-2 put-byte-requires-2 (λ c. search needs) returns)

@@ -23,31 +23,10 @@ given c =
     split-given (start k .args .table .now) _
     (sym (ap splitAnswerTold (c .enum-told .given .1)) ∙ k .split .ensures .0) (k .split .ensures .1)
 
-slice-aggregate-split : tie.Need-slice-aggregate-split
-slice-aggregate-split c = search needs
-
-split-requires : tie.Need-split-requires
-split-requires c κs = search needs
-
-enum-told : tie.Need-enum-told
-enum-told c = search needs
-
-slice-aggregate-put-task : tie.Need-slice-aggregate-put-task
-slice-aggregate-put-task c = search needs
-
 put-task-requires : tie.Need-put-task-requires
 put-task-requires c κs =
     let k = c .before .before .before .before .before in
     (given (c .before .before) .split-table, start k .pre .1)
-
-enum-known-number : tie.Need-enum-known-number
-enum-known-number c = search needs
-
-put-refusal-requires : tie.Need-put-refusal-requires
-put-refusal-requires c κs = search needs
-
-same-length : tie.Need-same-length
-same-length c = search needs
 
 returns : tie.Need-returns
 returns c =
@@ -55,9 +34,6 @@ returns c =
     let k = g .before .before .before in
     prints-same (split-printed write (taskOf (start k .args .table .now)) (given g .accepted))
     (c .before .before .put-task .ensures)
-
-same-length-2 : tie.Need-same-length-2
-same-length-2 c = search needs
 
 returns-2 : tie.Need-returns-2
 unfolding splitAnswerTold
@@ -71,5 +47,5 @@ returns-2 c =
 pub put-split-spec : {M : Type 1} → statement M
 put-split-spec =
     tie.close
-    (tie.spec slice-aggregate-split split-requires enum-told slice-aggregate-put-task put-task-requires
-    enum-known-number put-refusal-requires same-length returns same-length-2 returns-2)
+    (tie.spec (λ c. search needs) (λ c κs. search needs) (λ c. search needs) (λ c. search needs) put-task-requires
+    (λ c. search needs) (λ c κs. search needs) (λ c. search needs) returns (λ c. search needs) returns-2)

@@ -22,18 +22,6 @@ is : (c : tie.After-slice-known2) → let a = start c .args in
     writeOutcome (a .table .now) (a .out .now) ≡ writtenOver (write (taskOf (a .table .now))) (a .out .now)
 is c = let s = start c in task-written (s .args .table .now) (s .args .out .now) (s .pre .0) (s .pre .1)
 
-write-requires : tie.Need-write-requires
-write-requires c κs = search needs
-
-enum-known-bytes : tie.Need-enum-known-bytes
-enum-known-bytes c = search needs
-
-enum-known-number : tie.Need-enum-known-number
-enum-known-number c = search needs
-
-same-length : tie.Need-same-length
-same-length c = search needs
-
 returns : tie.Need-returns
 unfolding writeAnswerTold
 returns c =
@@ -42,9 +30,6 @@ returns c =
     let result = sym (ap writeAnswerTold (c .before .bytes .given .1)) ∙ w .ensures .0 in
     let told = result ∙ told-by o in
     record { bytes = w .ensures .1 ∙ left-by o; count = cc }
-
-same-length-2 : tie.Need-same-length-2
-same-length-2 c = search needs
 
 returns-2 : tie.Need-returns-2
 unfolding writeAnswerTold
@@ -58,4 +43,5 @@ returns-2 c =
 pub put-task-spec : {M : Type 1} → statement M
 put-task-spec =
     tie.close
-    (tie.spec write-requires enum-known-bytes enum-known-number same-length returns same-length-2 returns-2)
+    (tie.spec (λ c κs. search needs) (λ c. search needs) (λ c. search needs) (λ c. search needs) returns
+    (λ c. search needs) returns-2)

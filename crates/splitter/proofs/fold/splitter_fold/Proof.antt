@@ -7,31 +7,10 @@ use Rattle.blocks.specs.Blocks.{foldAnswerTold}
 use Rattle.splitter.proofs.Numbers.{two-values}
 use Rattle.splitter.proofs.fold.splitter_fold.Statement.{statement}
 
-fold-requires : tie.Need-fold-requires
-fold-requires c κs = search needs
-
-enum-known-read : tie.Need-enum-known-read
-enum-known-read c = search needs
-
-result-requires : tie.Need-result-requires
-result-requires c κs = search needs
-
-enum-known-number : tie.Need-enum-known-number
-enum-known-number c = search needs
-
-refusal-requires : tie.Need-refusal-requires
-refusal-requires c κs = search needs
-
-same-length : tie.Need-same-length
-same-length c = search needs
-
 returns : tie.Need-returns
 unfolding foldAnswerTold
 returns c = two-values foldAnswerTold (c .before .before .before .before .before .before .before .fold .ensures)
     (c .before .before .before .read .given .1) (c .result .ensures) refl refl
-
-same-length-2 : tie.Need-same-length-2
-same-length-2 c = search needs
 
 returns-2 : tie.Need-returns-2
 unfolding foldAnswerTold
@@ -41,5 +20,5 @@ returns-2 c = two-values foldAnswerTold (c .before .before .before .before .befo
 pub splitter-fold-spec : {M : Type 1} → statement M
 splitter-fold-spec =
     tie.close
-    (tie.spec fold-requires enum-known-read result-requires enum-known-number refusal-requires same-length returns
-    same-length-2 returns-2)
+    (tie.spec (λ c κs. search needs) (λ c. search needs) (λ c κs. search needs) (λ c. search needs)
+    (λ c κs. search needs) (λ c. search needs) returns (λ c. search needs) returns-2)

@@ -8,30 +8,6 @@ use Rattle.task.specs.Run.{bit, runAnswerTold}
 use Rattle.splitter.proofs.Numbers.{two-values}
 use Rattle.splitter.proofs.run.splitter_run.Statement.{statement}
 
-run-requires : tie.Need-run-requires
-run-requires c κs = search needs
-
-enum-known-kept : tie.Need-enum-known-kept
-enum-known-kept c = search needs
-
-result-requires : tie.Need-result-requires
-result-requires c κs = search needs
-
-enum-known-number : tie.Need-enum-known-number
-enum-known-number c = search needs
-
-refusal-requires : tie.Need-refusal-requires
-refusal-requires c κs = search needs
-
-enum-known-number-2 : tie.Need-enum-known-number-2
-enum-known-number-2 c = search needs
-
-refusal-requires-2 : tie.Need-refusal-requires-2
-refusal-requires-2 c κs = search needs
-
-same-length : tie.Need-same-length
-same-length c = search needs
-
 -- a result, with its goal met or not
 returns : tie.Need-returns
 unfolding runAnswerTold
@@ -41,17 +17,11 @@ returns c =
     (c .before .before .before .before .kept .given .1) (c .result .ensures) refl
     (⊎-elim (λ w. w .1 ∙ ap bit (sym (w .0 .taken))) (λ w. w .1 ∙ ap bit (sym (w .0 .left))) arm)
 
-same-length-2 : tie.Need-same-length-2
-same-length-2 c = search needs
-
 -- a refusal before a step ran
 returns-2 : tie.Need-returns-2
 unfolding runAnswerTold
 returns-2 c = two-values runAnswerTold (c .before .before .before .before .before .before .before .run .ensures)
     (c .before .before .before .number .given .1) (c .refusal .ensures) refl refl
-
-same-length-3 : tie.Need-same-length-3
-same-length-3 c = search needs
 
 -- a refusal at a step
 returns-3 : tie.Need-returns-3
@@ -62,5 +32,6 @@ returns-3 c = two-values runAnswerTold (c .before .before .before .before .befor
 pub splitter-run-spec : {M : Type 1} → statement M
 splitter-run-spec =
     tie.close
-    (tie.spec run-requires enum-known-kept result-requires enum-known-number refusal-requires enum-known-number-2
-    refusal-requires-2 same-length returns same-length-2 returns-2 same-length-3 returns-3)
+    (tie.spec (λ c κs. search needs) (λ c. search needs) (λ c κs. search needs) (λ c. search needs)
+    (λ c κs. search needs) (λ c. search needs) (λ c κs. search needs) (λ c. search needs) returns (λ c. search needs)
+    returns-2 (λ c. search needs) returns-3)

@@ -6,31 +6,10 @@ use Rattle.tokens.specs.Split.{splitAnswerTold}
 use Rattle.splitter.proofs.Numbers.{no-values}
 use Rattle.splitter.proofs.split.splitter_split.Statement.{statement}
 
-split-requires : tie.Need-split-requires
-split-requires c κs = search needs
-
-enum-told : tie.Need-enum-told
-enum-told c = search needs
-
-result-requires : tie.Need-result-requires
-result-requires c κs = search needs
-
-enum-known-number : tie.Need-enum-known-number
-enum-known-number c = search needs
-
-refusal-requires : tie.Need-refusal-requires
-refusal-requires c κs = search needs
-
-same-length : tie.Need-same-length
-same-length c = search needs
-
 returns : tie.Need-returns
 unfolding splitAnswerTold
 returns c = no-values splitAnswerTold (c .before .before .before .before .before .before .split .ensures)
     (c .before .before .enum-told .given .1) (c .result .ensures)
-
-same-length-2 : tie.Need-same-length-2
-same-length-2 c = search needs
 
 returns-2 : tie.Need-returns-2
 unfolding splitAnswerTold
@@ -40,5 +19,5 @@ returns-2 c = no-values splitAnswerTold (c .before .before .before .before .befo
 pub splitter-split-spec : {M : Type 1} → statement M
 splitter-split-spec =
     tie.close
-    (tie.spec split-requires enum-told result-requires enum-known-number refusal-requires same-length returns
-    same-length-2 returns-2)
+    (tie.spec (λ c κs. search needs) (λ c. search needs) (λ c κs. search needs) (λ c. search needs)
+    (λ c κs. search needs) (λ c. search needs) returns (λ c. search needs) returns-2)

@@ -9,20 +9,11 @@ use Rattle.task.proofs.Holding.{agrees-new, agrees-known}
 use Rattle.task.proofs.bindings.agrees_with.Statement.{statement}
 use Rattle.task.proofs.bindings.agrees_with.Tie as tie
 
-cast-has : tie.Need-cast-has
-cast-has c = search needs
-
-has-requires : tie.Need-has-requires
-has-requires c κs = search needs
-
 returns : tie.Need-returns
 returns c = λ b h.
     let a = c .before .before .before .args in
     sym (agrees-new h (a .parameter .0) (a .object .0)
     (sym (c .before .has .ensures) ∙ not-true (c .before .has .result) (c .if1 .taken)))
-
-found-for-requires : tie.Need-found-for-requires
-found-for-requires c κs = search needs
 
 returns-2 : tie.Need-returns-2
 returns-2 c = λ b h.
@@ -34,4 +25,6 @@ returns-2 c = λ b h.
     (sym (e .before .has .ensures) ∙ not-false (e .before .has .result) (e .if1 .left)))
 
 pub agrees-with-spec : {M : Type 1} → statement M
-agrees-with-spec = tie.close (tie.spec cast-has has-requires returns found-for-requires returns-2)
+agrees-with-spec =
+    tie.close
+    (tie.spec (λ c. search needs) (λ c κs. search needs) returns (λ c κs. search needs) returns-2)

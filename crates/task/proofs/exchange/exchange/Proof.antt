@@ -34,12 +34,6 @@ exchange-one-requires c κs =
       ),
     )
 
-add-k : tie.Need-add-k Inv-loop μ-loop
-add-k c = omega arith
-
-loop-less : tie.Need-loop-less Inv-loop μ-loop
-loop-less c = omega arith
-
 loop-again : tie.Need-loop-again Inv-loop μ-loop
 loop-again c =
     let at-exchange-one = c .before .before in
@@ -79,5 +73,5 @@ returns c =
 pub exchange-spec : {M : Type 1} → statement M
 exchange-spec =
     tie.close
-    (tie.spec Inv-loop μ-loop loop-holds exchange-one-requires add-k loop-less loop-again insert-span-requires
-    same-length returns)
+    (tie.spec Inv-loop μ-loop loop-holds exchange-one-requires (λ c. omega arith) (λ c. omega arith) loop-again
+    insert-span-requires same-length returns)

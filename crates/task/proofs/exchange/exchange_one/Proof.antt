@@ -71,9 +71,6 @@ new f less =
     (f .first-new .ensures .is less)
 
 -- ---- the answers
-ground-requires : tie.Need-ground-requires
-ground-requires c κs = search needs
-
 find-requires : tie.Need-find-requires
 find-requires c κs =
     let s = c .before .before .before .before .before in
@@ -81,9 +78,6 @@ find-requires c κs =
 
 is-row-requires : tie.Need-is-row-requires
 is-row-requires c κs = long (start (c .before))
-
-same-length : tie.Need-same-length
-same-length c = search needs
 
 returns : tie.Need-returns
 returns c =
@@ -102,9 +96,6 @@ absent-requires c κs =
     let from = p .from in
     let onward = c .first-new .ensures .from in
     span-front (p .span) _ (omega arith) (c .first-new .ensures .within)
-
-same-length-2 : tie.Need-same-length-2
-same-length-2 c = search needs
 
 returns-2 : tie.Need-returns-2
 returns-2 c =
@@ -128,9 +119,6 @@ add-t25 c =
     let fits = begun (t .before .before .before) .fits .del in
     omega arith
 
-same-length-3 : tie.Need-same-length-3
-same-length-3 c = search needs
-
 returns-3 : tie.Need-returns-3
 returns-3 c =
     let out = c .before .before in
@@ -152,9 +140,6 @@ remove-row-requires c κs =
 sub-t29 : tie.Need-sub-t29
 sub-t29 c = omega (arith, row (held (c .before .before .before .before .before .before .before)) .0)
 
-same-length-4 : tie.Need-same-length-4
-same-length-4 c = search needs
-
 returns-4 : tie.Need-returns-4
 returns-4 c =
     let out = c .before .before in
@@ -170,6 +155,6 @@ returns-4 c =
 pub exchange-one-spec : {M : Type 1} → statement M
 exchange-one-spec =
     tie.close
-    (tie.spec ground-requires find-requires is-row-requires same-length returns first-new-requires absent-requires
-    same-length-2 returns-2 replace-requires add-t25 same-length-3 returns-3 remove-row-requires sub-t29 same-length-4
-    returns-4)
+    (tie.spec (λ c κs. search needs) find-requires is-row-requires (λ c. search needs) returns first-new-requires
+    absent-requires (λ c. search needs) returns-2 replace-requires add-t25 (λ c. search needs) returns-3
+    remove-row-requires sub-t29 (λ c. search needs) returns-4)

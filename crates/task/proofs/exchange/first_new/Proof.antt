@@ -68,12 +68,6 @@ returns c =
       place = λ l. at-find .find .ensures;
     }
 
-add-k : tie.Need-add-k Inv-loop μ-loop
-add-k c = omega arith
-
-loop-less : tie.Need-loop-less Inv-loop μ-loop
-loop-less c = omega arith
-
 loop-again : tie.Need-loop-again Inv-loop μ-loop
 loop-again c =
     let at-find = c .before .before in
@@ -109,5 +103,5 @@ returns-2 c =
 pub first-new-spec : {M : Type 1} → statement M
 first-new-spec =
     tie.close
-    (tie.spec Inv-loop μ-loop loop-holds ground-requires find-requires is-row-requires returns add-k loop-less
-    loop-again returns-2)
+    (tie.spec Inv-loop μ-loop loop-holds ground-requires find-requires is-row-requires returns (λ c. omega arith)
+    (λ c. omega arith) loop-again returns-2)

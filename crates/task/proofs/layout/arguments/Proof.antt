@@ -4,14 +4,8 @@ use borrow.Author.Needs.{needs}
 use Rattle.task.proofs.layout.arguments.Statement.{statement}
 use Rattle.task.proofs.layout.arguments.Tie as tie
 
-row-of-requires : tie.Need-row-of-requires
-row-of-requires c κs = search needs
-
-add-result : tie.Need-add-result
-add-result c = search needs
-
 returns : tie.Need-returns
 returns c = (omega (arith, c .row-of .ensures .0), omega (arith, c .row-of .ensures .1))
 
 pub arguments-spec : {M : Type 1} → statement M
-arguments-spec = tie.close (tie.spec row-of-requires add-result returns)
+arguments-spec = tie.close (tie.spec (λ c κs. search needs) (λ c. search needs) returns)

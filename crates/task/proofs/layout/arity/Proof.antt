@@ -4,9 +4,6 @@ use borrow.Author.Needs.{needs}
 use Rattle.task.proofs.layout.arity.Statement.{statement}
 use Rattle.task.proofs.layout.arity.Tie as tie
 
-arity-of-requires : tie.Need-arity-of-requires
-arity-of-requires c κs = search needs
-
 returns : tie.Need-returns
 returns c =
     let start = c .before .before in
@@ -14,4 +11,4 @@ returns c =
     (e, omega (arith, start .pre .0 .arities (start .args .p) (start .pre .1), e))
 
 pub arity-spec : {M : Type 1} → statement M
-arity-spec = tie.close (tie.spec arity-of-requires returns)
+arity-spec = tie.close (tie.spec (λ c κs. search needs) returns)

@@ -4,15 +4,9 @@ use Rattle.task.specs.Layout.{arityIn}
 use Rattle.task.proofs.layout.arity_of.Statement.{statement}
 use Rattle.task.proofs.layout.arity_of.Tie as tie
 
-add-word : tie.Need-add-word
-add-word c = search needs
-
-word-requires : tie.Need-word-requires
-word-requires c κs = search needs
-
 returns : tie.Need-returns
 unfolding arityIn
 returns c = c .word .ensures .0
 
 pub arity-of-spec : {M : Type 1} → statement M
-arity-of-spec = tie.close (tie.spec add-word word-requires returns)
+arity-of-spec = tie.close (tie.spec (λ c. search needs) (λ c κs. search needs) returns)

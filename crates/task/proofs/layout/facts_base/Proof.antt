@@ -5,16 +5,10 @@ use Rattle.task.specs.Layout.{atomBase}
 use Rattle.task.proofs.layout.facts_base.Statement.{statement}
 use Rattle.task.proofs.layout.facts_base.Tie as tie
 
-word-requires : tie.Need-word-requires
-word-requires c κs = search needs
-
-atom-base-requires : tie.Need-atom-base-requires
-atom-base-requires c κs = search needs
-
 returns : tie.Need-returns
 unfolding atomBase
 returns c =
     c .atom-base .ensures ∙ ap (atomBase (c .before .before .before .args .table .now)) (c .before .word .ensures .0)
 
 pub facts-base-spec : {M : Type 1} → statement M
-facts-base-spec = tie.close (tie.spec word-requires atom-base-requires returns)
+facts-base-spec = tie.close (tie.spec (λ c κs. search needs) (λ c κs. search needs) returns)

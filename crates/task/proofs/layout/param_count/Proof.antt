@@ -7,9 +7,6 @@ use Rattle.task.proofs.TableReads.{params-inside, params-word}
 use Rattle.task.proofs.layout.param_count.Statement.{statement}
 use Rattle.task.proofs.layout.param_count.Tie as tie
 
-wide-requires : tie.Need-wide-requires
-wide-requires c κs = search needs
-
 params-of-requires : tie.Need-params-of-requires
 params-of-requires c κs =
     let start = c .before .before in
@@ -24,4 +21,4 @@ returns c =
     params-word w (start .pre .0) (start .args .schema) (start .pre .1))
 
 pub param-count-spec : {M : Type 1} → statement M
-param-count-spec = tie.close (tie.spec wide-requires params-of-requires returns)
+param-count-spec = tie.close (tie.spec (λ c κs. search needs) params-of-requires returns)

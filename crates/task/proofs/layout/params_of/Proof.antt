@@ -6,15 +6,6 @@ use borrow.Author.Needs.{needs}
 use Rattle.task.proofs.layout.params_of.Statement.{statement}
 use Rattle.task.proofs.layout.params_of.Tie as tie
 
-params-base-requires : tie.Need-params-base-requires
-params-base-requires c κs = search needs
-
-add-word : tie.Need-add-word
-add-word c = search needs
-
-word-requires : tie.Need-word-requires
-word-requires c κs = search needs
-
 returns : tie.Need-returns
 returns c =
     let given = c .before .before .before .args in (
@@ -24,4 +15,4 @@ returns c =
     )
 
 pub params-of-spec : {M : Type 1} → statement M
-params-of-spec = tie.close (tie.spec params-base-requires add-word word-requires returns)
+params-of-spec = tie.close (tie.spec (λ c κs. search needs) (λ c. search needs) (λ c κs. search needs) returns)

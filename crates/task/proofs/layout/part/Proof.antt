@@ -7,15 +7,6 @@ use Rattle.task.specs.Table.{atomIn}
 use Rattle.task.proofs.layout.part.Statement.{statement}
 use Rattle.task.proofs.layout.part.Tie as tie
 
-row-of-requires : tie.Need-row-of-requires
-row-of-requires c κs = search needs
-
-add-word : tie.Need-add-word
-add-word c = search needs
-
-word-requires : tie.Need-word-requires
-word-requires c κs = search needs
-
 returns : tie.Need-returns
 unfolding atomIn
 returns c = (
@@ -25,4 +16,4 @@ returns c = (
 )
 
 pub part-spec : {M : Type 1} → statement M
-part-spec = tie.close (tie.spec row-of-requires add-word word-requires returns)
+part-spec = tie.close (tie.spec (λ c κs. search needs) (λ c. search needs) (λ c κs. search needs) returns)

@@ -4,17 +4,8 @@ use borrow.Author.Needs.{needs}
 use Rattle.task.proofs.layout.predicate.Statement.{statement}
 use Rattle.task.proofs.layout.predicate.Tie as tie
 
-row-of-requires : tie.Need-row-of-requires
-row-of-requires c κs = search needs
-
-predicate-at-requires : tie.Need-predicate-at-requires
-predicate-at-requires c κs = search needs
-
-wide-requires : tie.Need-wide-requires
-wide-requires c κs = search needs
-
 returns : tie.Need-returns
 returns c = c .wide .ensures ∙ c .before .predicate-at .ensures .1 _ (c .before .before .row-of .ensures .0)
 
 pub predicate-spec : {M : Type 1} → statement M
-predicate-spec = tie.close (tie.spec row-of-requires predicate-at-requires wide-requires returns)
+predicate-spec = tie.close (tie.spec (λ c κs. search needs) (λ c κs. search needs) (λ c κs. search needs) returns)

@@ -7,12 +7,6 @@ use Rattle.task.specs.Table.{atomIn}
 use Rattle.task.proofs.layout.predicate_at.Statement.{statement}
 use Rattle.task.proofs.layout.predicate_at.Tie as tie
 
-add-word-at : tie.Need-add-word-at
-add-word-at c = search needs
-
-word-at-requires : tie.Need-word-at-requires
-word-at-requires c κs = search needs
-
 returns : tie.Need-returns
 unfolding atomIn
 returns c =
@@ -20,4 +14,4 @@ returns c =
     (e, λ i p. e ∙ ap (λ (b : ℕ). getD (c .before .before .args .table .now) (b + 2) 0) p)
 
 pub predicate-at-spec : {M : Type 1} → statement M
-predicate-at-spec = tie.close (tie.spec add-word-at word-at-requires returns)
+predicate-at-spec = tie.close (tie.spec (λ c. search needs) (λ c κs. search needs) returns)

@@ -4,17 +4,8 @@ use borrow.Author.Needs.{needs}
 use Rattle.task.proofs.layout.role.Statement.{statement}
 use Rattle.task.proofs.layout.role.Tie as tie
 
-row-of-requires : tie.Need-row-of-requires
-row-of-requires c κs = search needs
-
-role-at-requires : tie.Need-role-at-requires
-role-at-requires c κs = search needs
-
-wide-requires : tie.Need-wide-requires
-wide-requires c κs = search needs
-
 returns : tie.Need-returns
 returns c = c .wide .ensures ∙ c .before .role-at .ensures .1 _ (c .before .before .row-of .ensures .0)
 
 pub role-spec : {M : Type 1} → statement M
-role-spec = tie.close (tie.spec row-of-requires role-at-requires wide-requires returns)
+role-spec = tie.close (tie.spec (λ c κs. search needs) (λ c κs. search needs) (λ c κs. search needs) returns)

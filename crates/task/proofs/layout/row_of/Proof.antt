@@ -5,12 +5,9 @@ use Rattle.task.specs.Layout.{atomBase}
 use Rattle.task.proofs.layout.row_of.Statement.{statement}
 use Rattle.task.proofs.layout.row_of.Tie as tie
 
-atom-base-requires : tie.Need-atom-base-requires
-atom-base-requires c κs = search needs
-
 returns : tie.Need-returns
 unfolding atomBase
 returns c = (c .atom-base .ensures, omega arith)
 
 pub row-of-spec : {M : Type 1} → statement M
-row-of-spec = tie.close (tie.spec atom-base-requires returns)
+row-of-spec = tie.close (tie.spec (λ c κs. search needs) returns)

@@ -7,12 +7,6 @@ use Rattle.task.specs.Table.{schemaNumberIn}
 use Rattle.task.proofs.layout.schema_number.Statement.{statement}
 use Rattle.task.proofs.layout.schema_number.Tie as tie
 
-row-of-requires : tie.Need-row-of-requires
-row-of-requires c κs = search needs
-
-word-requires : tie.Need-word-requires
-word-requires c κs = search needs
-
 returns : tie.Need-returns
 unfolding schemaNumberIn
 returns c =
@@ -20,4 +14,4 @@ returns c =
     (c .before .row-of .ensures .0)
 
 pub schema-number-spec : {M : Type 1} → statement M
-schema-number-spec = tie.close (tie.spec row-of-requires word-requires returns)
+schema-number-spec = tie.close (tie.spec (λ c κs. search needs) (λ c κs. search needs) returns)

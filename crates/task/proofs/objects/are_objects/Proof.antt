@@ -22,26 +22,11 @@ loop-holds c =
     let given = c .before .args in
     all-words (λ o. ltb o (given .objects)) (given .words .now) (given .from) (given .n)
 
-add-t8 : tie.Need-add-t8 Inv-loop μ-loop
-add-t8 c = omega arith
-
-mul-t9 : tie.Need-mul-t9 Inv-loop μ-loop
-mul-t9 c = omega arith
-
-shared-slice-read-t11 : tie.Need-shared-slice-read-t11 Inv-loop μ-loop
-shared-slice-read-t11 c = omega arith
-
 is-below-requires : tie.Need-is-below-requires Inv-loop μ-loop
 is-below-requires c κs = tt
 
 returns : tie.Need-returns Inv-loop μ-loop
 returns c = search all-no
-
-add-k : tie.Need-add-k Inv-loop μ-loop
-add-k c = omega arith
-
-loop-less : tie.Need-loop-less Inv-loop μ-loop
-loop-less c = omega arith
 
 loop-again : tie.Need-loop-again Inv-loop μ-loop
 loop-again c = search all-yes
@@ -52,5 +37,5 @@ returns-2 c = search all-ends
 pub are-objects-spec : {M : Type 1} → statement M
 are-objects-spec =
     tie.close
-    (tie.spec Inv-loop μ-loop loop-holds add-t8 mul-t9 shared-slice-read-t11 is-below-requires returns add-k loop-less
-    loop-again returns-2)
+    (tie.spec Inv-loop μ-loop loop-holds (λ c. omega arith) (λ c. omega arith) (λ c. omega arith) is-below-requires
+    returns (λ c. omega arith) (λ c. omega arith) loop-again returns-2)

@@ -18,24 +18,6 @@ middle c = c .before .loop .lo + (c .before .loop .hi - c .before .loop .lo) / 2
 loop-holds : tie.Need-loop-holds Inv-loop μ-loop
 loop-holds c = bracket-all _ _ _
 
-sub-mid : tie.Need-sub-mid Inv-loop μ-loop
-sub-mid c = omega arith
-
-add-mid : tie.Need-add-mid Inv-loop μ-loop
-add-mid c = omega arith
-
-mul-number-at : tie.Need-mul-number-at Inv-loop μ-loop
-mul-number-at c = omega arith
-
-number-at-requires : tie.Need-number-at-requires Inv-loop μ-loop
-number-at-requires c κs = omega arith
-
-add-lo : tie.Need-add-lo Inv-loop μ-loop
-add-lo c = omega arith
-
-loop-less : tie.Need-loop-less Inv-loop μ-loop
-loop-less c = omega arith
-
 loop-again : tie.Need-loop-again Inv-loop μ-loop
 loop-again c =
     let at-loop-test = c .before .before in
@@ -44,9 +26,6 @@ loop-again c =
     bracket-up (start .pre .1) (at-loop .loop .inv) (middle at-loop-test) (omega arith) (omega arith) (let e =
     c .before .number-at .ensures in
     let l = c .if1 .taken in omega arith)
-
-loop-less-2 : tie.Need-loop-less-2 Inv-loop μ-loop
-loop-less-2 c = omega arith
 
 loop-again-2 : tie.Need-loop-again-2 Inv-loop μ-loop
 loop-again-2 c =
@@ -63,5 +42,5 @@ returns c = bracket-met (c .loop-test .left) (c .before .loop .inv)
 pub find-spec : {M : Type 1} → statement M
 find-spec =
     tie.close
-    (tie.spec Inv-loop μ-loop loop-holds sub-mid add-mid mul-number-at number-at-requires add-lo loop-less loop-again
-    loop-less-2 loop-again-2 returns)
+    (tie.spec Inv-loop μ-loop loop-holds (λ c. omega arith) (λ c. omega arith) (λ c. omega arith) (λ c κs. omega arith)
+    (λ c. omega arith) (λ c. omega arith) loop-again (λ c. omega arith) loop-again-2 returns)

@@ -4,14 +4,8 @@ use borrow.Author.Needs.{needs}
 use Rattle.task.proofs.records.held.Statement.{statement}
 use Rattle.task.proofs.records.held.Tie as tie
 
-find-requires : tie.Need-find-requires
-find-requires c κs = search needs
-
-is-row-requires : tie.Need-is-row-requires
-is-row-requires c κs = search needs
-
 returns : tie.Need-returns
 returns c = λ t f d. found-holds d (c .before .find .ensures) (c .is-row .ensures)
 
 pub held-spec : {M : Type 1} → statement M
-held-spec = tie.close (tie.spec find-requires is-row-requires returns)
+held-spec = tie.close (tie.spec (λ c κs. search needs) (λ c κs. search needs) returns)

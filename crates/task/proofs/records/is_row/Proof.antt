@@ -9,12 +9,6 @@ use borrow.Author.Needs.{needs}
 use Rattle.task.proofs.records.is_row.Statement.{statement}
 use Rattle.task.proofs.records.is_row.Tie as tie
 
-mul-number-at : tie.Need-mul-number-at
-mul-number-at c = search needs
-
-number-at-requires : tie.Need-number-at-requires
-number-at-requires c κs = search needs
-
 returns : tie.Need-returns
 returns c = record {
   found = λ e. (c .before .if1 .taken, sym (c .number-at .ensures) ∙ eqb-true _ _ e);
@@ -27,4 +21,4 @@ returns-2 c =
     record { found = λ e. absurd (no-ft e); missed = λ e l q. absurd (omega arith) }
 
 pub is-row-spec : {M : Type 1} → statement M
-is-row-spec = tie.close (tie.spec mul-number-at number-at-requires returns returns-2)
+is-row-spec = tie.close (tie.spec (λ c. search needs) (λ c κs. search needs) returns returns-2)

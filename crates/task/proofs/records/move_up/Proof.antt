@@ -15,30 +15,15 @@ abbrev μ-loop : tie.MeasureT-loop
 loop-holds : tie.Need-loop-holds Inv-loop μ-loop
 loop-holds c = (omega arith, omega arith, up-none _ _)
 
-sub-i : tie.Need-sub-i Inv-loop μ-loop
-sub-i c = omega arith
-
-mul-state : tie.Need-mul-state Inv-loop μ-loop
-mul-state c = omega arith
-
 slice-read-state : tie.Need-slice-read-state Inv-loop μ-loop
 slice-read-state c =
     let at-loop = c .before .before in
     let z = at-loop .loop .inv .2 .size in omega arith
 
-add-state : tie.Need-add-state Inv-loop μ-loop
-add-state c = omega arith
-
-mul-state-2 : tie.Need-mul-state-2 Inv-loop μ-loop
-mul-state-2 c = omega arith
-
 slice-write-state : tie.Need-slice-write-state Inv-loop μ-loop
 slice-write-state c =
     let at-loop = c .before .before in
     let z = at-loop .loop .inv .2 .size in omega arith
-
-loop-less : tie.Need-loop-less Inv-loop μ-loop
-loop-less c = omega arith
 
 loop-again : tie.Need-loop-again Inv-loop μ-loop
 loop-again c =
@@ -60,5 +45,5 @@ returns c =
 pub move-up-spec : {M : Type 1} → statement M
 move-up-spec =
     tie.close
-    (tie.spec Inv-loop μ-loop loop-holds sub-i mul-state slice-read-state add-state mul-state-2 slice-write-state
-    loop-less loop-again same-length returns)
+    (tie.spec Inv-loop μ-loop loop-holds (λ c. omega arith) (λ c. omega arith) slice-read-state (λ c. omega arith)
+    (λ c. omega arith) slice-write-state (λ c. omega arith) loop-again same-length returns)

@@ -21,18 +21,6 @@ room : {w : List ℕ} {n number k : ℕ} {r : Bool} → (5 * n ≤ length w) × 
     LowerBound w n number k → RowIs w n k number r → r ≡ false → 5 * n + 5 ≤ length w
 room p b h e = p .1 .1 .0 (no-row (p .1 .0) b (row-is h e))
 
-find-requires : tie.Need-find-requires
-find-requires c κs = search needs
-
-is-row-requires : tie.Need-is-row-requires
-is-row-requires c κs = search needs
-
-mul-move-up : tie.Need-mul-move-up
-mul-move-up c = search needs
-
-mul-move-up-2 : tie.Need-mul-move-up-2
-mul-move-up-2 c = search needs
-
 move-up-requires : tie.Need-move-up-requires
 move-up-requires c κs =
     let at-is-row = c .before .before in
@@ -42,9 +30,6 @@ move-up-requires c κs =
       room (start .pre)
           (at-find .find .ensures) (at-is-row .is-row .ensures) (c .before .if1 .left),
     )
-
-mul-write-at : tie.Need-mul-write-at
-mul-write-at c = search needs
 
 write-at-requires : tie.Need-write-at-requires
 write-at-requires c κs =
@@ -63,17 +48,8 @@ write-at-requires c κs =
       start .pre .1 .1 .1,
     )
 
-add-result : tie.Need-add-result
-add-result c = search needs
-
-same-length : tie.Need-same-length
-same-length c = search needs
-
 returns : tie.Need-returns
 returns c = λ t f d. row-there d (row-is (c .before .is-row .ensures) (c .if1 .taken))
-
-same-length-2 : tie.Need-same-length-2
-same-length-2 c = search needs
 
 returns-2 : tie.Need-returns-2
 returns-2 c =
@@ -91,5 +67,5 @@ returns-2 c =
 pub put-in-spec : {M : Type 1} → statement M
 put-in-spec =
     tie.close
-    (tie.spec find-requires is-row-requires mul-move-up mul-move-up-2 move-up-requires mul-write-at write-at-requires
-    add-result same-length returns same-length-2 returns-2)
+    (tie.spec (λ c κs. search needs) (λ c κs. search needs) (λ c. search needs) (λ c. search needs) move-up-requires
+    (λ c. search needs) write-at-requires (λ c. search needs) (λ c. search needs) returns (λ c. search needs) returns-2)

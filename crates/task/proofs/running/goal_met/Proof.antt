@@ -30,16 +30,10 @@ word-requires-2 c κs =
     let start = c .before .before .before in
     let l = counts-inside _ (start .pre .0) in omega arith
 
-add-from : tie.Need-add-from Inv-loop μ-loop
-add-from c = omega arith
-
 word-requires-3 : tie.Need-word-requires-3 Inv-loop μ-loop
 word-requires-3 c κs =
     let start = c .before .before .before .before in
     let l = counts-inside _ (start .pre .0) in omega arith
-
-add-to : tie.Need-add-to Inv-loop μ-loop
-add-to c = omega arith
 
 loop-holds : tie.Need-loop-holds Inv-loop μ-loop
 loop-holds c =
@@ -93,12 +87,6 @@ returns c =
     let turn = c .before .before .before in
     all-no (turn .before .loop .inv .1) (turn .loop-test .taken) (held-is (c .before)) (c .if1 .taken)
 
-add-k : tie.Need-add-k Inv-loop μ-loop
-add-k c = omega arith
-
-loop-less : tie.Need-loop-less Inv-loop μ-loop
-loop-less c = omega arith
-
 loop-again : tie.Need-loop-again Inv-loop μ-loop
 loop-again c =
     let turn = c .before .before .before in
@@ -110,5 +98,5 @@ returns-2 c = all-ends (c .before .loop .inv .1) (c .loop-test .left)
 pub goal-met-spec : {M : Type 1} → statement M
 goal-met-spec =
     tie.close
-    (tie.spec Inv-loop μ-loop word-requires word-requires-2 add-from word-requires-3 add-to loop-holds
-    fact-number-requires held-requires returns add-k loop-less loop-again returns-2)
+    (tie.spec Inv-loop μ-loop word-requires word-requires-2 (λ c. omega arith) word-requires-3 (λ c. omega arith)
+    loop-holds fact-number-requires held-requires returns (λ c. omega arith) (λ c. omega arith) loop-again returns-2)

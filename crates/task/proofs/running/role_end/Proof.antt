@@ -37,12 +37,6 @@ returns c =
     let at-loop = c .before .before .before .before in
     role-ends (at-loop .loop .inv) (λ l e. c .if1 .taken (role-is (c .before) ∙ e))
 
-add-k : tie.Need-add-k Inv-loop μ-loop
-add-k c = omega arith
-
-loop-less : tie.Need-loop-less Inv-loop μ-loop
-loop-less c = omega arith
-
 loop-again : tie.Need-loop-again Inv-loop μ-loop
 loop-again c =
     let at-loop-test = c .before .before .before in
@@ -55,4 +49,5 @@ returns-2 c = role-ends (c .before .loop .inv) (λ l e. let z = c .loop-test .le
 pub role-end-spec : {M : Type 1} → statement M
 role-end-spec =
     tie.close
-    (tie.spec Inv-loop μ-loop loop-holds row-of-requires role-at-requires returns add-k loop-less loop-again returns-2)
+    (tie.spec Inv-loop μ-loop loop-holds row-of-requires role-at-requires returns (λ c. omega arith) (λ c. omega arith)
+    loop-again returns-2)

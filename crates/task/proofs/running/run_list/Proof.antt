@@ -48,15 +48,6 @@ loop-holds c =
     let start = c .before .before .before .before in
     run-start _ _ _ _ (start .pre .1 .1 .1)
 
-mul-schema : tie.Need-mul-schema Inv-loop μ-loop
-mul-schema c = omega arith
-
-mul-schema-2 : tie.Need-mul-schema-2 Inv-loop μ-loop
-mul-schema-2 c = omega arith
-
-shared-slice-read-schema : tie.Need-shared-slice-read-schema Inv-loop μ-loop
-shared-slice-read-schema c = omega arith
-
 cast-schema : tie.Need-cast-schema Inv-loop μ-loop
 cast-schema c =
     let at-loop = c .before .before in
@@ -131,15 +122,6 @@ run-step-requires c κs =
       ),
     )
 
-enum-known-turn : tie.Need-enum-known-turn Inv-loop μ-loop
-enum-known-turn c = search needs
-
-add-i : tie.Need-add-i Inv-loop μ-loop
-add-i c = omega arith
-
-loop-less : tie.Need-loop-less Inv-loop μ-loop
-loop-less c = omega arith
-
 loop-again : tie.Need-loop-again Inv-loop μ-loop
 loop-again c =
     let at-run-step = c .before .before .before .before .before in
@@ -147,9 +129,6 @@ loop-again c =
     let at-loop = at-loop-test .before in
     run-turn (at-loop .loop .inv) _ _ (at-loop-test .loop-test .taken) (at-run-step .run-step .kept .1 .1 .1 .1 .1 .0)
     (at-run-step .run-step .ensures) (c .before .turn .given .1)
-
-enum-told : tie.Need-enum-told Inv-loop μ-loop
-enum-told c = search needs
 
 same-length : tie.Need-same-length Inv-loop μ-loop
 same-length c =
@@ -165,9 +144,6 @@ returns c =
     let at-loop = at-loop-test .before in
     run-missing (at-loop .loop .inv) _ (at-loop-test .loop-test .taken) (at-run-step .run-step .ensures)
     (c .enum-told .given .1)
-
-enum-told-2 : tie.Need-enum-told-2 Inv-loop μ-loop
-enum-told-2 c = search needs
 
 same-length-2 : tie.Need-same-length-2 Inv-loop μ-loop
 same-length-2 c =
@@ -194,7 +170,7 @@ returns-3 c = (c .before .loop .inv .is-state, run-ended (c .before .loop .inv) 
 pub run-list-spec : {M : Type 1} → statement M
 run-list-spec =
     tie.close
-    (tie.spec Inv-loop μ-loop loop-holds mul-schema mul-schema-2 shared-slice-read-schema cast-schema mul-start
-    shared-slice-read-start cast-start add-end mul-end shared-slice-read-end cast-end run-step-requires enum-known-turn
-    add-i loop-less loop-again enum-told same-length returns enum-told-2 same-length-2 returns-2 same-length-3
-    returns-3)
+    (tie.spec Inv-loop μ-loop loop-holds (λ c. omega arith) (λ c. omega arith) (λ c. omega arith) cast-schema mul-start
+    shared-slice-read-start cast-start add-end mul-end shared-slice-read-end cast-end run-step-requires
+    (λ c. search needs) (λ c. omega arith) (λ c. omega arith) loop-again (λ c. search needs) same-length returns
+    (λ c. search needs) same-length-2 returns-2 same-length-3 returns-3)

@@ -58,9 +58,6 @@ all-hold-requires c κs =
       start .pre .1 .1 .1 .1,
     )
 
-same-length : tie.Need-same-length
-same-length c = search needs
-
 returns : tie.Need-returns
 unfolding Turned
 returns c =
@@ -80,9 +77,6 @@ has-room-requires c κs =
         start .pre .1 .1 .1 .1,
       ),
     )
-
-same-length-2 : tie.Need-same-length-2
-same-length-2 c = search needs
 
 returns-2 : tie.Need-returns-2
 unfolding Turned
@@ -114,9 +108,6 @@ exchange-requires c κs =
       ),
     )
 
-same-length-3 : tie.Need-same-length-3
-same-length-3 c = search needs
-
 returns-3 : tie.Need-returns-3
 unfolding Turned
 returns-3 c =
@@ -139,5 +130,5 @@ returns-3 c =
 pub run-step-spec : {M : Type 1} → statement M
 run-step-spec =
     tie.close
-    (tie.spec role-end-requires role-end-requires-2 all-hold-requires same-length returns has-room-requires
-    same-length-2 returns-2 exchange-requires same-length-3 returns-3)
+    (tie.spec role-end-requires role-end-requires-2 all-hold-requires (λ c. search needs) returns has-room-requires
+    (λ c. search needs) returns-2 exchange-requires (λ c. search needs) returns-3)

@@ -8,9 +8,6 @@ use borrow.Author.Needs.{needs}
 use Rattle.task.proofs.running.run_steps.Statement.{statement}
 use Rattle.task.proofs.running.run_steps.Tie as tie
 
-schema-starts-requires : tie.Need-schema-starts-requires
-schema-starts-requires c κs = search needs
-
 slice-aggregate-run-list : tie.Need-slice-aggregate-run-list
 slice-aggregate-run-list c = sym (c .before .schema-starts .ensures .0)
 
@@ -27,9 +24,6 @@ run-list-requires c κs =
         ),
       ),
     )
-
-enum-known-ended : tie.Need-enum-known-ended
-enum-known-ended c = search needs
 
 goal-met-requires : tie.Need-goal-met-requires
 unfolding recordsLeft
@@ -56,9 +50,6 @@ clear-from-requires c κs =
     let list = at-ended .before .before .before .before .run-list in
     state-fills _ _ _ (ended-so _ _ (at-ended .ended .given .1) (list .ensures) .0)
 
-enum-known-ended-2 : tie.Need-enum-known-ended-2
-enum-known-ended-2 c = search needs
-
 stopped-requires : tie.Need-stopped-requires
 unfolding recordsLeft
 stopped-requires c κs =
@@ -66,18 +57,12 @@ stopped-requires c κs =
     let list = at-ended2 .before .before .before .before .run-list in
     state-fills _ _ _ (ended-so _ _ (at-ended2 .ended2 .given .1) (list .ensures) .0)
 
-enum-known-ended-3 : tie.Need-enum-known-ended-3
-enum-known-ended-3 c = search needs
-
 stopped-requires-2 : tie.Need-stopped-requires-2
 unfolding recordsLeft
 stopped-requires-2 c κs =
     let at-ended3 = c .before .before in
     let list = at-ended3 .before .before .before .before .run-list in
     state-fills _ _ _ (ended-so _ _ (at-ended3 .ended3 .given .1) (list .ensures) .0)
-
-same-length : tie.Need-same-length
-same-length c = search needs
 
 returns : tie.Need-returns
 unfolding recordsLeft endedAs
@@ -90,9 +75,6 @@ returns c =
     done-ran _ _ _ _ _ (ended .0) (list .kept .1 .1 .1 .0) (at-clear-from .clear-from .ensures) (ended .1)
     (at-goal-met .goal-met .ensures)
 
-same-length-2 : tie.Need-same-length-2
-same-length-2 c = search needs
-
 returns-2 : tie.Need-returns-2
 unfolding recordsLeft endedAs
 returns-2 c =
@@ -101,9 +83,6 @@ returns-2 c =
     let ended = ended-so _ _ (at-ended2 .ended2 .given .1) (list .ensures) in
     let stop = c .before .before .stopped .ensures in
     done-stopped _ _ _ _ _ (ended .0) (list .kept .1 .1 .1 .0) (stop .1) _ (stop .0) (ended .1)
-
-same-length-3 : tie.Need-same-length-3
-same-length-3 c = search needs
 
 returns-3 : tie.Need-returns-3
 unfolding recordsLeft endedAs
@@ -117,6 +96,6 @@ returns-3 c =
 pub run-steps-spec : {M : Type 1} → statement M
 run-steps-spec =
     tie.close
-    (tie.spec schema-starts-requires slice-aggregate-run-list run-list-requires enum-known-ended goal-met-requires
-    mul-clear-from clear-from-requires enum-known-ended-2 stopped-requires enum-known-ended-3 stopped-requires-2
-    same-length returns same-length-2 returns-2 same-length-3 returns-3)
+    (tie.spec (λ c κs. search needs) slice-aggregate-run-list run-list-requires (λ c. search needs) goal-met-requires
+    mul-clear-from clear-from-requires (λ c. search needs) stopped-requires (λ c. search needs) stopped-requires-2
+    (λ c. search needs) returns (λ c. search needs) returns-2 (λ c. search needs) returns-3)

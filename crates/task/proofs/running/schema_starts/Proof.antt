@@ -71,9 +71,6 @@ element-write-starts c =
     let z = at-loop .loop .inv .size in
     omega (arith, few c)
 
-loop-less : tie.Need-loop-less Inv-loop μ-loop
-loop-less c = omega arith
-
 loop-again : tie.Need-loop-again Inv-loop μ-loop
 loop-again c =
     let at-loop-test = c .before in
@@ -100,4 +97,4 @@ pub schema-starts-spec : {M : Type 1} → statement M
 schema-starts-spec =
     tie.close
     (tie.spec Inv-loop μ-loop word-requires loop-holds schema-number-requires add-k cast-starts add-starts mul-starts
-    element-write-starts loop-less loop-again returns)
+    element-write-starts (λ c. omega arith) loop-again returns)

@@ -37,12 +37,6 @@ returns c =
     all-fails (turn .before .loop .inv .1) (turn .loop-test .taken)
     (ap not (eq-eqb _ _ (sym (c .before .ground .ensures) ∙ c .if1 .taken)))
 
-add-k : tie.Need-add-k Inv-loop μ-loop
-add-k c = omega arith
-
-loop-less : tie.Need-loop-less Inv-loop μ-loop
-loop-less c = omega arith
-
 loop-again : tie.Need-loop-again Inv-loop μ-loop
 loop-again c =
     let turn = c .before .before in (
@@ -57,4 +51,5 @@ returns-2 c = all-ends (c .before .loop .inv .1) (c .loop-test .left)
 pub absent-spec : {M : Type 1} → statement M
 absent-spec =
     tie.close
-    (tie.spec Inv-loop μ-loop loop-holds ground-requires returns add-k loop-less loop-again returns-2)
+    (tie.spec Inv-loop μ-loop loop-holds ground-requires returns (λ c. omega arith) (λ c. omega arith) loop-again
+    returns-2)

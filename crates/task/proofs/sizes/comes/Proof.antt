@@ -7,12 +7,6 @@ use borrow.Author.Needs.{needs}
 use Rattle.task.proofs.sizes.comes.Statement.{statement}
 use Rattle.task.proofs.sizes.comes.Tie as tie
 
-absent-requires : tie.Need-absent-requires
-absent-requires c κs = search needs
-
-stays-requires : tie.Need-stays-requires
-stays-requires c κs = search needs
-
 returns : tie.Need-returns
 returns c =
     let at-absent = c .before .before in
@@ -26,4 +20,4 @@ returns-2 c =
     λ f d. comes-again _ _ f (sym (c .before .absent .ensures ∙ span-absent (start .pre .0) d) ∙ c .if1 .left)
 
 pub comes-spec : {M : Type 1} → statement M
-comes-spec = tie.close (tie.spec absent-requires stays-requires returns returns-2)
+comes-spec = tie.close (tie.spec (λ c κs. search needs) (λ c κs. search needs) returns returns-2)

@@ -11,9 +11,6 @@ use borrow.Author.Needs.{needs}
 use Rattle.task.proofs.sizes.has_room.Statement.{statement}
 use Rattle.task.proofs.sizes.has_room.Tie as tie
 
-sub-if1 : tie.Need-sub-if1
-sub-if1 c = search needs
-
 sub-if1-2 : tie.Need-sub-if1-2
 sub-if1-2 c =
     let start = c .before .before .before in
@@ -24,12 +21,6 @@ returns c =
     let start = c .before .before .before .before in
     all-fit _ _ _ _ _ _ _ _ (start .pre .0 .tabled) (start .pre .1 .1) (c .if1 .taken)
 
-size-without-requires : tie.Need-size-without-requires
-size-without-requires c κs = search needs
-
-size-with-requires : tie.Need-size-with-requires
-size-with-requires c κs = search needs
-
 returns-2 : tie.Need-returns-2
 unfolding roomIn
 returns-2 c =
@@ -37,4 +28,6 @@ returns-2 c =
     ap (λ (m : ℕ). leb m (roomIn (start .args .state .now))) (c .size-with .ensures)
 
 pub has-room-spec : {M : Type 1} → statement M
-has-room-spec = tie.close (tie.spec sub-if1 sub-if1-2 returns size-without-requires size-with-requires returns-2)
+has-room-spec =
+    tie.close
+    (tie.spec (λ c. search needs) sub-if1-2 returns (λ c κs. search needs) (λ c κs. search needs) returns-2)

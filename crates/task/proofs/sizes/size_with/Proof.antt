@@ -77,12 +77,6 @@ add-total c =
     let w = at-shared-slice-known .shared-slice-known .given 3 in
     omega (arith, start .good)
 
-add-k : tie.Need-add-k Inv-loop μ-loop
-add-k c = omega arith
-
-loop-less : tie.Need-loop-less Inv-loop μ-loop
-loop-less c = omega arith
-
 loop-again : tie.Need-loop-again Inv-loop μ-loop
 loop-again c =
     let at-ground = c .before .before in
@@ -106,4 +100,5 @@ returns c = count-end _ _ _ _ (c .before .loop .inv) (c .loop-test .left)
 pub size-with-spec : {M : Type 1} → statement M
 size-with-spec =
     tie.close
-    (tie.spec Inv-loop μ-loop loop-holds ground-requires comes-requires add-total add-k loop-less loop-again returns)
+    (tie.spec Inv-loop μ-loop loop-holds ground-requires comes-requires add-total (λ c. omega arith) (λ c. omega arith)
+    loop-again returns)

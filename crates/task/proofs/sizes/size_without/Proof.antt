@@ -62,12 +62,6 @@ sub-size c =
     (sym (c .before .stays .ensures _ known) ∙ c .if1 .taken) in
     let z = at-loop .loop .inv .is in omega arith
 
-add-k : tie.Need-add-k Inv-loop μ-loop
-add-k c = omega arith
-
-loop-less : tie.Need-loop-less Inv-loop μ-loop
-loop-less c = omega arith
-
 loop-again : tie.Need-loop-again Inv-loop μ-loop
 loop-again c =
     let at-ground = c .before .before in
@@ -90,4 +84,5 @@ returns c = count-end _ _ _ _ (c .before .loop .inv) (c .loop-test .left)
 pub size-without-spec : {M : Type 1} → statement M
 size-without-spec =
     tie.close
-    (tie.spec Inv-loop μ-loop loop-holds ground-requires stays-requires sub-size add-k loop-less loop-again returns)
+    (tie.spec Inv-loop μ-loop loop-holds ground-requires stays-requires sub-size (λ c. omega arith) (λ c. omega arith)
+    loop-again returns)

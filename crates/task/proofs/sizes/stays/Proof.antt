@@ -15,9 +15,6 @@ held-requires c κs =
       state-ascends _ _ _ (start .pre .0 .tabled) (start .pre .1),
     )
 
-absent-requires : tie.Need-absent-requires
-absent-requires c κs = search needs
-
 returns : tie.Need-returns
 returns c =
     let at-held = c .before .before in
@@ -29,4 +26,4 @@ returns-2 : tie.Need-returns-2
 returns-2 c = λ f d. stays-missing _ _ f (sym (c .before .held .ensures _ f d) ∙ c .if1 .left)
 
 pub stays-spec : {M : Type 1} → statement M
-stays-spec = tie.close (tie.spec held-requires absent-requires returns returns-2)
+stays-spec = tie.close (tie.spec held-requires (λ c κs. search needs) returns returns-2)

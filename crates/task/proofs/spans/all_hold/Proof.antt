@@ -59,12 +59,6 @@ returns c =
     let turn = c .before .before .before in
     all-no (turn .before .loop .inv .1) (turn .loop-test .taken) (held-is (c .before)) (c .if1 .taken)
 
-add-k : tie.Need-add-k Inv-loop μ-loop
-add-k c = omega arith
-
-loop-less : tie.Need-loop-less Inv-loop μ-loop
-loop-less c = omega arith
-
 loop-again : tie.Need-loop-again Inv-loop μ-loop
 loop-again c =
     let turn = c .before .before .before in
@@ -76,4 +70,5 @@ returns-2 c = all-ends (c .before .loop .inv .1) (c .loop-test .left)
 pub all-hold-spec : {M : Type 1} → statement M
 all-hold-spec =
     tie.close
-    (tie.spec Inv-loop μ-loop loop-holds ground-requires held-requires returns add-k loop-less loop-again returns-2)
+    (tie.spec Inv-loop μ-loop loop-holds ground-requires held-requires returns (λ c. omega arith) (λ c. omega arith)
+    loop-again returns-2)

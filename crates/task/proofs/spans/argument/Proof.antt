@@ -17,19 +17,10 @@ mul-object-of c =
     let start = c .before .before .before in
     let l = start .pre .1 (c .if1 .taken) in omega arith
 
-mul-t10 : tie.Need-mul-t10
-mul-t10 c = search needs
-
-shared-slice-read-t12 : tie.Need-shared-slice-read-t12
-shared-slice-read-t12 c = search needs
-
 object-of-requires : tie.Need-object-of-requires
 object-of-requires c κs =
     let start = c .before .before .before .before in
     start .pre .1 (c .before .if1 .taken)
-
-cast-result : tie.Need-cast-result
-cast-result c = search needs
 
 returns : tie.Need-returns
 unfolding argumentIn
@@ -51,4 +42,5 @@ returns-2 c =
 pub argument-spec : {M : Type 1} → statement M
 argument-spec =
     tie.close
-    (tie.spec mul-object-of mul-t10 shared-slice-read-t12 object-of-requires cast-result returns returns-2)
+    (tie.spec mul-object-of (λ c. search needs) (λ c. search needs) object-of-requires (λ c. search needs) returns
+    returns-2)

@@ -8,39 +8,6 @@ use Rattle.task.proofs.spans.fact_number.Tie as tie
 row-of-requires : tie.Need-row-of-requires
 row-of-requires c κs = let start = c .before in (table-roomy _ (start .pre .0), start .pre .1)
 
-add-from : tie.Need-add-from
-add-from c = search needs
-
-add-word : tie.Need-add-word
-add-word c = search needs
-
-word-requires : tie.Need-word-requires
-word-requires c κs = search needs
-
-add-word-2 : tie.Need-add-word-2
-add-word-2 c = search needs
-
-word-requires-2 : tie.Need-word-requires-2
-word-requires-2 c κs = search needs
-
-add-word-3 : tie.Need-add-word-3
-add-word-3 c = search needs
-
-word-requires-3 : tie.Need-word-requires-3
-word-requires-3 c κs = search needs
-
-add-word-4 : tie.Need-add-word-4
-add-word-4 c = search needs
-
-word-requires-4 : tie.Need-word-requires-4
-word-requires-4 c κs = search needs
-
-word-requires-5 : tie.Need-word-requires-5
-word-requires-5 c κs = search needs
-
-number-of-requires : tie.Need-number-of-requires
-number-of-requires c κs = search needs
-
 returns : tie.Need-returns
 returns c =
     let at-word4 = c .before .before in
@@ -61,5 +28,6 @@ returns c =
 pub fact-number-spec : {M : Type 1} → statement M
 fact-number-spec =
     tie.close
-    (tie.spec row-of-requires add-from add-word word-requires word-requires-2 add-word-2 word-requires-3 add-word-3
-    word-requires-4 add-word-4 word-requires-5 number-of-requires returns)
+    (tie.spec row-of-requires (λ c. search needs) (λ c. search needs) (λ c κs. search needs) (λ c κs. search needs)
+    (λ c. search needs) (λ c κs. search needs) (λ c. search needs) (λ c κs. search needs) (λ c. search needs)
+    (λ c κs. search needs) (λ c κs. search needs) returns)

@@ -11,19 +11,10 @@ row-of-requires c κs =
     let o = c .before .before .pre in
     (table-roomy _ (o .tabled), let l = o .known in omega arith)
 
-add-word : tie.Need-add-word
-add-word c = search needs
-
-word-requires : tie.Need-word-requires
-word-requires c κs = search needs
-
 arity-of-requires : tie.Need-arity-of-requires
 arity-of-requires c κs =
     let start = c .before .before .before .before in
     read-pred _ _ _ _ (start .pre) _ _ (c .before .row-of .ensures .0) (c .word .ensures .0)
-
-add-from : tie.Need-add-from
-add-from c = search needs
 
 argument-requires : tie.Need-argument-requires
 argument-requires c κs =
@@ -34,9 +25,6 @@ argument-requires c κs =
           (c .before .word .result) (c .arity-of .result) (at-row-of .row-of .ensures .0)
           (c .before .word .ensures .0) (c .arity-of .ensures) 0 _ (omega arith),
     )
-
-add-argument : tie.Need-add-argument
-add-argument c = search needs
 
 argument-requires-2 : tie.Need-argument-requires-2
 argument-requires-2 c κs =
@@ -49,9 +37,6 @@ argument-requires-2 c κs =
           (at-row-of .row-of .ensures .0) (at-word .word .ensures .0)
           (c .before .arity-of .ensures) 1 _ (omega arith),
     )
-
-add-argument-2 : tie.Need-add-argument-2
-add-argument-2 c = search needs
 
 argument-requires-3 : tie.Need-argument-requires-3
 argument-requires-3 c κs =
@@ -66,9 +51,6 @@ argument-requires-3 c κs =
           (at-word .word .ensures .0) (at-arity-of .arity-of .ensures) 2 _ (omega arith),
     )
 
-add-argument-3 : tie.Need-add-argument-3
-add-argument-3 c = search needs
-
 argument-requires-4 : tie.Need-argument-requires-4
 argument-requires-4 c κs =
     let at-arity-of = c .before .before .before in
@@ -82,9 +64,6 @@ argument-requires-4 c κs =
           (at-word .word .ensures .0) (at-arity-of .arity-of .ensures) 3 _
           (omega arith),
     )
-
-number-of-requires : tie.Need-number-of-requires
-number-of-requires c κs = search needs
 
 returns : tie.Need-returns
 returns c =
@@ -103,6 +82,6 @@ returns c =
 pub ground-spec : {M : Type 1} → statement M
 ground-spec =
     tie.close
-    (tie.spec row-of-requires add-word word-requires arity-of-requires add-from argument-requires add-argument
-    argument-requires-2 add-argument-2 argument-requires-3 add-argument-3 argument-requires-4 number-of-requires
-    returns)
+    (tie.spec row-of-requires (λ c. search needs) (λ c κs. search needs) arity-of-requires (λ c. search needs)
+    argument-requires (λ c. search needs) argument-requires-2 (λ c. search needs) argument-requires-3
+    (λ c. search needs) argument-requires-4 (λ c κs. search needs) returns)

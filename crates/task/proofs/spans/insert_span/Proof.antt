@@ -57,12 +57,6 @@ put-in-requires c κs =
       ),
     )
 
-add-k : tie.Need-add-k Inv-loop μ-loop
-add-k c = omega arith
-
-loop-less : tie.Need-loop-less Inv-loop μ-loop
-loop-less c = omega arith
-
 loop-again : tie.Need-loop-again Inv-loop μ-loop
 loop-again c =
     let at-put-in = c .before .before in
@@ -84,4 +78,5 @@ returns c = insert-end (c .before .loop .inv) (c .loop-test .left)
 pub insert-span-spec : {M : Type 1} → statement M
 insert-span-spec =
     tie.close
-    (tie.spec Inv-loop μ-loop loop-holds ground-requires put-in-requires add-k loop-less loop-again same-length returns)
+    (tie.spec Inv-loop μ-loop loop-holds ground-requires put-in-requires (λ c. omega arith) (λ c. omega arith)
+    loop-again same-length returns)

@@ -52,26 +52,11 @@ few c = c .arity .ensures .1
 abbrev else₁ : tie.Else2 → tie.Else1
 else₁ c = c .before .before .before .before .before
 
-mul-at : tie.Need-mul-at
-mul-at c = search needs
-
-mul-predicate : tie.Need-mul-predicate
-mul-predicate c = search needs
-
-shared-slice-read-predicate : tie.Need-shared-slice-read-predicate
-shared-slice-read-predicate c = search needs
-
-predicate-count-requires : tie.Need-predicate-count-requires
-predicate-count-requires c κs = search needs
-
 returns : tie.Need-returns
 returns c =
     let start = c .before .before .before .before .before in
     let e = c .before .predicate-count .ensures in
     sym (record-unknown (T start) (well start) (W start) (start .args .i) (omega arith))
-
-wide-requires : tie.Need-wide-requires
-wide-requires c κs = search needs
 
 arity-requires : tie.Need-arity-requires
 arity-requires c κs =
@@ -80,12 +65,6 @@ arity-requires c κs =
     let e = arities-word w (table-frame w (start .pre .0)) in
     let l = known (c .before) in
     (table-roomy w (start .pre .0), omega (arith, c .wide .ensures))
-
-add-are-objects : tie.Need-add-are-objects
-add-are-objects c = search needs
-
-object-count-requires : tie.Need-object-count-requires
-object-count-requires c κs = search needs
 
 are-objects-requires : tie.Need-are-objects-requires
 are-objects-requires c κs = let n = few (c .before) in omega arith
@@ -97,14 +76,8 @@ returns-2 c =
     (c .before .before .object-count .result) (counted (c .before .before .before))
     (c .before .before .object-count .ensures) (sym (c .before .are-objects .ensures) ∙ not-true _ (c .if2 .taken)))
 
-add-are-zero : tie.Need-add-are-zero
-add-are-zero c = search needs
-
 add-are-zero-2 : tie.Need-add-are-zero-2
 add-are-zero-2 c = let n = few (c .before .before .before) in omega arith
-
-sub-are-zero : tie.Need-sub-are-zero
-sub-are-zero c = search needs
 
 sub-are-zero-2 : tie.Need-sub-are-zero-2
 sub-are-zero-2 c = few (c .before .before .before)
@@ -124,6 +97,6 @@ returns-3 c =
 pub is-record-spec : {M : Type 1} → statement M
 is-record-spec =
     tie.close
-    (tie.spec mul-at mul-predicate shared-slice-read-predicate predicate-count-requires returns wide-requires
-    arity-requires add-are-objects object-count-requires are-objects-requires returns-2 add-are-zero add-are-zero-2
-    sub-are-zero sub-are-zero-2 are-zero-requires returns-3)
+    (tie.spec (λ c. search needs) (λ c. search needs) (λ c. search needs) (λ c κs. search needs) returns
+    (λ c κs. search needs) arity-requires (λ c. search needs) (λ c κs. search needs) are-objects-requires returns-2
+    (λ c. search needs) add-are-zero-2 (λ c. search needs) sub-are-zero-2 are-zero-requires returns-3)

@@ -53,18 +53,6 @@ returns-2 c =
     (omega arith)
     (sym (c .before .is-record .ensures) ∙ not-true _ (c .if2 .taken)))
 
-sub-record-less : tie.Need-sub-record-less Inv-loop μ-loop
-sub-record-less c = omega arith
-
-mul-record-less : tie.Need-mul-record-less Inv-loop μ-loop
-mul-record-less c = omega arith
-
-mul-record-less-2 : tie.Need-mul-record-less-2 Inv-loop μ-loop
-mul-record-less-2 c = omega arith
-
-record-less-requires : tie.Need-record-less-requires Inv-loop μ-loop
-record-less-requires c κs = omega arith
-
 returns-3 : tie.Need-returns-3 Inv-loop μ-loop
 returns-3 c =
     let start = c .before .before .before .before .before .before .before .before .before .before in
@@ -74,12 +62,6 @@ returns-3 c =
     sym (not-ascending (T start) (well start) (W start) (start .args .records) (i - 1) (omega arith)
     (ap (λ (k : ℕ). lessList (wordsAt (W start) (5 * (i - 1)) 5) (wordsAt (W start) (5 * k) 5)) e ∙
     (sym (c .before .record-less .ensures) ∙ not-true _ (c .if4 .taken))))
-
-add-i : tie.Need-add-i Inv-loop μ-loop
-add-i c = omega arith
-
-loop-less : tie.Need-loop-less Inv-loop μ-loop
-loop-less c = omega arith
 
 loop-again : tie.Need-loop-again Inv-loop μ-loop
 loop-again c =
@@ -103,5 +85,5 @@ returns-4 c =
 pub is-state-spec : {M : Type 1} → statement M
 is-state-spec =
     tie.close
-    (tie.spec Inv-loop μ-loop returns loop-holds is-record-requires returns-2 sub-record-less mul-record-less
-    mul-record-less-2 record-less-requires returns-3 add-i loop-less loop-again returns-4)
+    (tie.spec Inv-loop μ-loop returns loop-holds is-record-requires returns-2 (λ c. omega arith) (λ c. omega arith)
+    (λ c. omega arith) (λ c κs. omega arith) returns-3 (λ c. omega arith) (λ c. omega arith) loop-again returns-4)

@@ -19,24 +19,6 @@ abbrev μ-loop : tie.MeasureT-loop
 loop-holds : tie.Need-loop-holds Inv-loop μ-loop
 loop-holds c = less-start
 
-add-x : tie.Need-add-x Inv-loop μ-loop
-add-x c = omega arith
-
-mul-x : tie.Need-mul-x Inv-loop μ-loop
-mul-x c = omega arith
-
-shared-slice-read-x : tie.Need-shared-slice-read-x Inv-loop μ-loop
-shared-slice-read-x c = omega arith
-
-add-y : tie.Need-add-y Inv-loop μ-loop
-add-y c = omega arith
-
-mul-y : tie.Need-mul-y Inv-loop μ-loop
-mul-y c = omega arith
-
-shared-slice-read-y : tie.Need-shared-slice-read-y Inv-loop μ-loop
-shared-slice-read-y c = omega arith
-
 returns : tie.Need-returns Inv-loop μ-loop
 returns c =
     let turn = c .before .before .before in
@@ -49,12 +31,6 @@ returns-2 c =
     sym (le-ltb _ _ (c .before .if1 .left)) ∙ less-decides (turn .before .loop .inv) (turn .loop-test .taken) (λ e.
     omega arith)
 
-add-k : tie.Need-add-k Inv-loop μ-loop
-add-k c = omega arith
-
-loop-less : tie.Need-loop-less Inv-loop μ-loop
-loop-less c = omega arith
-
 loop-again : tie.Need-loop-again Inv-loop μ-loop
 loop-again c =
     let turn = c .before .before .before .before in
@@ -66,5 +42,5 @@ returns-3 c = less-ends (c .before .loop .inv) (c .loop-test .left)
 pub record-less-spec : {M : Type 1} → statement M
 record-less-spec =
     tie.close
-    (tie.spec Inv-loop μ-loop loop-holds add-x mul-x shared-slice-read-x add-y mul-y shared-slice-read-y returns
-    returns-2 add-k loop-less loop-again returns-3)
+    (tie.spec Inv-loop μ-loop loop-holds (λ c. omega arith) (λ c. omega arith) (λ c. omega arith) (λ c. omega arith)
+    (λ c. omega arith) (λ c. omega arith) returns returns-2 (λ c. omega arith) (λ c. omega arith) loop-again returns-3)

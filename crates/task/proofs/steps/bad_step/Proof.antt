@@ -18,12 +18,6 @@ Inv-loop table steps begun i₀ i = (i ≤ begun) × ((k : ℕ) → k < i → is
 abbrev μ-loop : tie.MeasureT-loop
 μ-loop table steps begun i₀ i = begun - i
 
-add-begun : tie.Need-add-begun Inv-loop μ-loop
-add-begun c = omega arith
-
-sub-begun : tie.Need-sub-begun Inv-loop μ-loop
-sub-begun c = omega arith
-
 loop-holds : tie.Need-loop-holds Inv-loop μ-loop
 loop-holds c = (omega arith, λ k l. absurd (omega arith))
 
@@ -38,12 +32,6 @@ returns c =
     let h = c .before .before .loop-test .taken in
     sym (bad-step-at (taskOf (start .args .table .now)) (start .args .steps .now) (at-loop .loop .i) (omega arith)
     (at-loop .loop .inv .1) (sym (c .before .is-step .ensures) ∙ not-true _ (c .if1 .taken)))
-
-add-i : tie.Need-add-i Inv-loop μ-loop
-add-i c = omega arith
-
-loop-less : tie.Need-loop-less Inv-loop μ-loop
-loop-less c = omega arith
 
 loop-again : tie.Need-loop-again Inv-loop μ-loop
 loop-again c =
@@ -63,5 +51,5 @@ returns-2 c =
 pub bad-step-spec : {M : Type 1} → statement M
 bad-step-spec =
     tie.close
-    (tie.spec Inv-loop μ-loop add-begun sub-begun loop-holds is-step-requires returns add-i loop-less loop-again
-    returns-2)
+    (tie.spec Inv-loop μ-loop (λ c. omega arith) (λ c. omega arith) loop-holds is-step-requires returns
+    (λ c. omega arith) (λ c. omega arith) loop-again returns-2)

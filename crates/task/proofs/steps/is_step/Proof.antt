@@ -48,26 +48,11 @@ few c =
     let l = params-few (T start) (well start) (getD (W start) (stepSize * start .args .i) 0) in
     omega arith
 
-mul-at : tie.Need-mul-at
-mul-at c = search needs
-
-sub-if1 : tie.Need-sub-if1
-sub-if1 c = search needs
-
 returns : tie.Need-returns
 returns c =
     let start = c .before .before .before in
     let h = start .pre .1 in
     sym (step-short (T start) (well start) (W start) (start .args .i) (omega arith))
-
-mul-schema : tie.Need-mul-schema
-mul-schema c = search needs
-
-shared-slice-read-schema : tie.Need-shared-slice-read-schema
-shared-slice-read-schema c = search needs
-
-schema-count-requires : tie.Need-schema-count-requires
-schema-count-requires c κs = search needs
 
 returns-2 : tie.Need-returns-2
 returns-2 c =
@@ -77,12 +62,6 @@ returns-2 c =
 
 param-count-requires : tie.Need-param-count-requires
 param-count-requires c κs = (start₂ c .pre .0, known c)
-
-add-are-objects : tie.Need-add-are-objects
-add-are-objects c = search needs
-
-object-count-requires : tie.Need-object-count-requires
-object-count-requires c κs = search needs
 
 are-objects-requires : tie.Need-are-objects-requires
 are-objects-requires c κs = let l = whole (c .before .before) in let n = few (c .before) in omega arith
@@ -94,14 +73,8 @@ returns-3 c =
     (c .before .before .object-count .result) (c .before .before .before .param-count .ensures)
     (c .before .before .object-count .ensures) (sym (c .before .are-objects .ensures) ∙ not-true _ (c .if3 .taken)))
 
-add-are-zero : tie.Need-add-are-zero
-add-are-zero c = search needs
-
 add-are-zero-2 : tie.Need-add-are-zero-2
 add-are-zero-2 c = let l = whole (else₂ c) in let n = few (c .before .before .before) in omega arith
-
-sub-are-zero : tie.Need-sub-are-zero
-sub-are-zero c = search needs
 
 sub-are-zero-2 : tie.Need-sub-are-zero-2
 sub-are-zero-2 c = few (c .before .before .before)
@@ -122,6 +95,7 @@ returns-4 c =
 pub is-step-spec : {M : Type 1} → statement M
 is-step-spec =
     tie.close
-    (tie.spec mul-at sub-if1 returns mul-schema shared-slice-read-schema schema-count-requires returns-2
-    param-count-requires add-are-objects object-count-requires are-objects-requires returns-3 add-are-zero
-    add-are-zero-2 sub-are-zero sub-are-zero-2 are-zero-requires returns-4)
+    (tie.spec (λ c. search needs) (λ c. search needs) returns (λ c. search needs) (λ c. search needs)
+    (λ c κs. search needs) returns-2 param-count-requires (λ c. search needs) (λ c κs. search needs)
+    are-objects-requires returns-3 (λ c. search needs) add-are-zero-2 (λ c. search needs) sub-are-zero-2
+    are-zero-requires returns-4)

@@ -14,15 +14,6 @@ use Rattle.words.proofs.Puts.{put-on, length-put}
 use Rattle.task.proofs.steps.put_step.Statement.{statement}
 use Rattle.task.proofs.steps.put_step.Tie as tie
 
-mul-out : tie.Need-mul-out
-mul-out c = search needs
-
-slice-write-out : tie.Need-slice-write-out
-slice-write-out c = search needs
-
-add-copy : tie.Need-add-copy
-add-copy c = search needs
-
 copy-requires : tie.Need-copy-requires
 copy-requires c κs = let n = c .before .before .before .pre .0 in (omega arith, simp length-set (omega arith))
 
@@ -43,4 +34,6 @@ same-length c =
     ap length (returns c) ∙ length-put (a .out .now) (a .to) (a .schema ∷ a .objects .now)
 
 pub put-step-spec : {M : Type 1} → statement M
-put-step-spec = tie.close (tie.spec mul-out slice-write-out add-copy copy-requires same-length returns)
+put-step-spec =
+    tie.close
+    (tie.spec (λ c. search needs) (λ c. search needs) (λ c. search needs) copy-requires same-length returns)

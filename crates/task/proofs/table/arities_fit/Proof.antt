@@ -17,25 +17,13 @@ Inv-loop table predicates p₀ p = AllLeft (λ p. leb (arityIn table p) 4) predi
 abbrev μ-loop : tie.MeasureT-loop
 μ-loop table predicates p₀ p = predicates - p
 
-word-requires : tie.Need-word-requires Inv-loop μ-loop
-word-requires c κs = omega arith
-
 loop-holds : tie.Need-loop-holds Inv-loop μ-loop
 unfolding aritiesFit
 loop-holds c = all-up-to (sym (c .word .ensures .0))
 
-arity-of-requires : tie.Need-arity-of-requires Inv-loop μ-loop
-arity-of-requires c κs = omega arith
-
 returns : tie.Need-returns Inv-loop μ-loop
 returns c = all-fails (c .before .before .before .loop .inv) (c .before .before .loop-test .taken)
     (rw (← c .before .arity-of .ensures) (lt-leb _ _ (c .if1 .taken)))
-
-add-p : tie.Need-add-p Inv-loop μ-loop
-add-p c = omega arith
-
-loop-less : tie.Need-loop-less Inv-loop μ-loop
-loop-less c = omega arith
 
 loop-again : tie.Need-loop-again Inv-loop μ-loop
 loop-again c = all-more (c .before .before .before .loop .inv) (c .before .before .loop-test .taken)
@@ -47,4 +35,5 @@ returns-2 c = all-ends (c .before .loop .inv) (c .loop-test .left)
 pub arities-fit-spec : {M : Type 1} → statement M
 arities-fit-spec =
     tie.close
-    (tie.spec Inv-loop μ-loop word-requires loop-holds arity-of-requires returns add-p loop-less loop-again returns-2)
+    (tie.spec Inv-loop μ-loop (λ c κs. omega arith) loop-holds (λ c κs. omega arith) returns (λ c. omega arith)
+    (λ c. omega arith) loop-again returns-2)

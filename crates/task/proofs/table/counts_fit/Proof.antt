@@ -11,30 +11,12 @@ use Rattle.task.proofs.table.counts_fit.Tie as tie
 abbrev start : tie.After-word6 → tie.Start
 start c = c .before .before .before .before .before .before .before .before .before .before .before
 
-word-requires : tie.Need-word-requires
-word-requires c κs = search needs
-
-word-requires-2 : tie.Need-word-requires-2
-word-requires-2 c κs = search needs
-
 returns : tie.Need-returns
 returns c =
     let w = c .before .before .before .before .args .table .now in
     ⊎-elim (λ a. not-counted w (λ k. omega arith)) (⊎-elim (λ a. not-counted w (λ k. omega (arith, ltb-true)))
     (⊎-elim (λ a. not-counted w (λ k. omega (arith, ltb-true))) (λ a. not-counted w (λ k. omega (arith, ltb-true)))))
     (c .if1 .came)
-
-word-requires-3 : tie.Need-word-requires-3
-word-requires-3 c κs = search needs
-
-word-requires-4 : tie.Need-word-requires-4
-word-requires-4 c κs = search needs
-
-word-requires-5 : tie.Need-word-requires-5
-word-requires-5 c κs = search needs
-
-word-requires-6 : tie.Need-word-requires-6
-word-requires-6 c κs = search needs
 
 returns-2 : tie.Need-returns-2
 returns-2 c =
@@ -58,5 +40,5 @@ returns-3 c = all-counted (start (c .before .before .before .before) .args .tabl
 pub counts-fit-spec : {M : Type 1} → statement M
 counts-fit-spec =
     tie.close
-    (tie.spec word-requires word-requires-2 returns word-requires-3 word-requires-4 word-requires-5 word-requires-6
-    returns-2 returns-3)
+    (tie.spec (λ c κs. search needs) (λ c κs. search needs) returns (λ c κs. search needs) (λ c κs. search needs)
+    (λ c κs. search needs) (λ c κs. search needs) returns-2 returns-3)

@@ -134,12 +134,6 @@ word-requires c κs = let r = room₄ c in omega arith
 word-requires-2 : tie.Need-word-requires-2
 word-requires-2 c κs = let r = room₄ (c .before) in omega arith
 
-add-facts : tie.Need-add-facts
-add-facts c = search needs
-
-cast-facts-fit : tie.Need-cast-facts-fit
-cast-facts-fit c = search needs
-
 facts-fit-requires : tie.Need-facts-fit-requires
 facts-fit-requires c κs =
     let r = room₄ (c .before .before) in
@@ -157,9 +151,6 @@ add-end : tie.Need-add-end
 add-end c =
     let k = c .before .before .before in
     omega (arith, c .word3 .ensures .1, k .word2 .ensures .1, k .before .word .ensures .1)
-
-cast-facts-fit-2 : tie.Need-cast-facts-fit-2
-cast-facts-fit-2 c = search needs
 
 facts-fit-requires-2 : tie.Need-facts-fit-requires-2
 facts-fit-requires-2 c κs =
@@ -206,5 +197,6 @@ pub is-table-spec : {M : Type 1} → statement M
 is-table-spec =
     tie.close
     (tie.spec counts-fit-requires returns arities-fit-requires returns-2 numbers-fit-requires returns-3
-    schemas-fit-requires returns-4 word-requires word-requires-2 add-facts cast-facts-fit facts-fit-requires returns-5
-    word-requires-3 add-end cast-facts-fit-2 facts-fit-requires-2 returns-6 atom-base-requires zeros-requires returns-7)
+    schemas-fit-requires returns-4 word-requires word-requires-2 (λ c. search needs) (λ c. search needs)
+    facts-fit-requires returns-5 word-requires-3 add-end (λ c. search needs) facts-fit-requires-2 returns-6
+    atom-base-requires zeros-requires returns-7)

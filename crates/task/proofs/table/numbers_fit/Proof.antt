@@ -55,12 +55,6 @@ returns-2 c =
     all-fails (at .loop .inv .0) (k .before .loop-test .taken)
     (number-high w i (at .loop .before) (at .loop .inv .1) (omega (arith, at .before .before .word .ensures .0)))
 
-add-i : tie.Need-add-i Inv-loop μ-loop
-add-i c = omega arith
-
-loop-less : tie.Need-loop-less Inv-loop μ-loop
-loop-less c = omega arith
-
 loop-again : tie.Need-loop-again Inv-loop μ-loop
 loop-again c =
     let k = c .before .before in
@@ -80,5 +74,5 @@ returns-3 c = all-ends (c .before .loop .inv .0) (c .loop-test .left)
 pub numbers-fit-spec : {M : Type 1} → statement M
 numbers-fit-spec =
     tie.close
-    (tie.spec Inv-loop μ-loop word-requires word-requires-2 loop-holds schema-number-requires returns returns-2 add-i
-    loop-less loop-again returns-3)
+    (tie.spec Inv-loop μ-loop word-requires word-requires-2 loop-holds schema-number-requires returns returns-2
+    (λ c. omega arith) (λ c. omega arith) loop-again returns-3)

@@ -11,12 +11,6 @@ use lib.Seq.{getD-take, length-take-le}
 use Rattle.words.proofs.Words.{past-end}
 use Rattle.text.proofs.checks.number_or_zero.Statement.{statement}
 
-mul-result : tie.Need-mul-result
-mul-result c = search needs
-
-shared-slice-read-result : tie.Need-shared-slice-read-result
-shared-slice-read-result c = search needs
-
 returns : tie.Need-returns
 returns c = sym (getD-take _ _ _ 0 (c .before .if1 .taken))
 
@@ -28,4 +22,4 @@ returns-2 c =
     sym (past-end (take n list) (c .before .args .k) (omega arith))
 
 pub number-or-zero-spec : {M : Type 1} → statement M
-number-or-zero-spec = tie.close (tie.spec mul-result shared-slice-read-result returns returns-2)
+number-or-zero-spec = tie.close (tie.spec (λ c. search needs) (λ c. search needs) returns returns-2)

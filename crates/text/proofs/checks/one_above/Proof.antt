@@ -25,12 +25,6 @@ loop-holds : tie.Need-loop-holds Inv-loop μ-loop
 unfolding oneAbove
 loop-holds c = (omega arith, refl)
 
-mul-number : tie.Need-mul-number Inv-loop μ-loop
-mul-number c = omega arith
-
-shared-slice-read-number : tie.Need-shared-slice-read-number Inv-loop μ-loop
-shared-slice-read-number c = omega arith
-
 add-above : tie.Need-add-above Inv-loop μ-loop
 add-above c =
     let at-loop = c .before .before .before in
@@ -41,12 +35,6 @@ add-above c =
     (each-first (λ a. ltb a 16) list (start .args .n) (start .pre .0) (start .pre .1) k
     (c .before .before .loop-test .taken)) in
     omega arith
-
-add-k : tie.Need-add-k Inv-loop μ-loop
-add-k c = omega arith
-
-loop-less : tie.Need-loop-less Inv-loop μ-loop
-loop-less c = omega arith
 
 loop-again : tie.Need-loop-again Inv-loop μ-loop
 loop-again c =
@@ -67,5 +55,5 @@ returns c =
 pub one-above-spec : {M : Type 1} → statement M
 one-above-spec =
     tie.close
-    (tie.spec Inv-loop μ-loop loop-holds mul-number shared-slice-read-number add-above add-k loop-less loop-again
-    returns)
+    (tie.spec Inv-loop μ-loop loop-holds (λ c. omega arith) (λ c. omega arith) add-above (λ c. omega arith)
+    (λ c. omega arith) loop-again returns)

@@ -31,12 +31,6 @@ has-number-requires c κs = c .before .before .before .before .pre .0
 returns : tie.Need-returns Inv-loop μ-loop
 returns c = search all-no
 
-add-p : tie.Need-add-p Inv-loop μ-loop
-add-p c = omega arith
-
-loop-less : tie.Need-loop-less Inv-loop μ-loop
-loop-less c = omega arith
-
 loop-again : tie.Need-loop-again Inv-loop μ-loop
 loop-again c = search all-yes
 
@@ -46,5 +40,5 @@ returns-2 c = search all-ends
 pub without-gap-spec : {M : Type 1} → statement M
 without-gap-spec =
     tie.close
-    (tie.spec Inv-loop μ-loop one-above-requires loop-holds has-number-requires returns add-p loop-less loop-again
-    returns-2)
+    (tie.spec Inv-loop μ-loop one-above-requires loop-holds has-number-requires returns (λ c. omega arith)
+    (λ c. omega arith) loop-again returns-2)

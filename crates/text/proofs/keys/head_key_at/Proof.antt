@@ -11,69 +11,21 @@ use Rattle.text.specs.ReadCode.{WordAt}
 use Rattle.text.proofs.KeyLines.{key-found}
 use Rattle.text.proofs.keys.head_key_at.Statement.{statement}
 
-slice-aggregate-word : tie.Need-slice-aggregate-word
-slice-aggregate-word c = search needs
-
-word-requires : tie.Need-word-requires
-word-requires c κs = search needs
-
-enum-known-body : tie.Need-enum-known-body
-enum-known-body c = search needs
-
 returns : tie.Need-returns
 unfolding bytes keyName
 returns c = key-found task (c .before .body .given .1) (c .before .before .before .word .ensures)
-
-enum-told : tie.Need-enum-told
-enum-told c = search needs
-
-slice-aggregate-word-2 : tie.Need-slice-aggregate-word-2
-slice-aggregate-word-2 c = search needs
-
-word-requires-2 : tie.Need-word-requires-2
-word-requires-2 c κs = search needs
-
-enum-known-body-2 : tie.Need-enum-known-body-2
-enum-known-body-2 c = search needs
 
 returns-2 : tie.Need-returns-2
 unfolding bytes keyName
 returns-2 c = key-found objects (c .before .body2 .given .1) (c .before .before .before .word2 .ensures)
 
-enum-told-2 : tie.Need-enum-told-2
-enum-told-2 c = search needs
-
-slice-aggregate-word-3 : tie.Need-slice-aggregate-word-3
-slice-aggregate-word-3 c = search needs
-
-word-requires-3 : tie.Need-word-requires-3
-word-requires-3 c κs = search needs
-
-enum-known-body-3 : tie.Need-enum-known-body-3
-enum-known-body-3 c = search needs
-
 returns-3 : tie.Need-returns-3
 unfolding bytes keyName
 returns-3 c = key-found arity (c .before .body3 .given .1) (c .before .before .before .word3 .ensures)
 
-enum-told-3 : tie.Need-enum-told-3
-enum-told-3 c = search needs
-
-slice-aggregate-word-4 : tie.Need-slice-aggregate-word-4
-slice-aggregate-word-4 c = search needs
-
-word-requires-4 : tie.Need-word-requires-4
-word-requires-4 c κs = search needs
-
-enum-known-body-4 : tie.Need-enum-known-body-4
-enum-known-body-4 c = search needs
-
 returns-4 : tie.Need-returns-4
 unfolding bytes keyName
 returns-4 c = key-found end (c .before .body4 .given .1) (c .before .before .before .word4 .ensures)
-
-enum-told-4 : tie.Need-enum-told-4
-enum-told-4 c = search needs
 
 returns-5 : tie.Need-returns-5
 unfolding bytes keyName
@@ -92,6 +44,7 @@ returns-5 c =
 pub head-key-at-spec : {M : Type 1} → statement M
 head-key-at-spec =
     tie.close
-    (tie.spec slice-aggregate-word word-requires enum-known-body returns enum-told slice-aggregate-word-2
-    word-requires-2 enum-known-body-2 returns-2 enum-told-2 slice-aggregate-word-3 word-requires-3 enum-known-body-3
-    returns-3 enum-told-3 slice-aggregate-word-4 word-requires-4 enum-known-body-4 returns-4 enum-told-4 returns-5)
+    (tie.spec (λ c. search needs) (λ c κs. search needs) (λ c. search needs) returns (λ c. search needs)
+    (λ c. search needs) (λ c κs. search needs) (λ c. search needs) returns-2 (λ c. search needs) (λ c. search needs)
+    (λ c κs. search needs) (λ c. search needs) returns-3 (λ c. search needs) (λ c. search needs) (λ c κs. search needs)
+    (λ c. search needs) returns-4 (λ c. search needs) returns-5)

@@ -1,5 +1,5 @@
--- `text::keys::key_at`: each key that may stand more than once is looked for in turn, by its bytes; behind them all those of
--- lines that stand once are. The key that is found is the only one, since no two stand at one place.
+-- `text::keys::key_at`: each key that may stand more than once is looked for in turn, by its bytes; behind them all
+-- those of lines that stand once are. The key that is found is the only one, since no two stand at one place.
 use Rattle.text.proofs.keys.key_at.Tie as tie
 use Prim.Native.Nat.{_-_}
 use mathlib.Core.Path.{subst}
@@ -33,117 +33,33 @@ abbrev start : tie.After-enum-told7 → tie.Start
 start c = pre₁ c .before .before .before .before .before
 
 -- ---- the answers
-slice-aggregate-word : tie.Need-slice-aggregate-word
-slice-aggregate-word c = search needs
-
-word-requires : tie.Need-word-requires
-word-requires c κs = search needs
-
-enum-known-body : tie.Need-enum-known-body
-enum-known-body c = search needs
-
 returns : tie.Need-returns
 unfolding bytes keyName
 returns c = key-found pre (c .before .body .given .1) (c .before .before .before .word .ensures)
-
-enum-told : tie.Need-enum-told
-enum-told c = search needs
-
-slice-aggregate-word-2 : tie.Need-slice-aggregate-word-2
-slice-aggregate-word-2 c = search needs
-
-word-requires-2 : tie.Need-word-requires-2
-word-requires-2 c κs = search needs
-
-enum-known-body-2 : tie.Need-enum-known-body-2
-enum-known-body-2 c = search needs
 
 returns-2 : tie.Need-returns-2
 unfolding bytes keyName
 returns-2 c = key-found add (c .before .body2 .given .1) (c .before .before .before .word2 .ensures)
 
-enum-told-2 : tie.Need-enum-told-2
-enum-told-2 c = search needs
-
-slice-aggregate-word-3 : tie.Need-slice-aggregate-word-3
-slice-aggregate-word-3 c = search needs
-
-word-requires-3 : tie.Need-word-requires-3
-word-requires-3 c κs = search needs
-
-enum-known-body-3 : tie.Need-enum-known-body-3
-enum-known-body-3 c = search needs
-
 returns-3 : tie.Need-returns-3
 unfolding bytes keyName
 returns-3 c = key-found del (c .before .body3 .given .1) (c .before .before .before .word3 .ensures)
-
-enum-told-3 : tie.Need-enum-told-3
-enum-told-3 c = search needs
-
-slice-aggregate-word-4 : tie.Need-slice-aggregate-word-4
-slice-aggregate-word-4 c = search needs
-
-word-requires-4 : tie.Need-word-requires-4
-word-requires-4 c κs = search needs
-
-enum-known-body-4 : tie.Need-enum-known-body-4
-enum-known-body-4 c = search needs
 
 returns-4 : tie.Need-returns-4
 unfolding bytes keyName
 returns-4 c = key-found part (c .before .body4 .given .1) (c .before .before .before .word4 .ensures)
 
-enum-told-4 : tie.Need-enum-told-4
-enum-told-4 c = search needs
-
-slice-aggregate-word-5 : tie.Need-slice-aggregate-word-5
-slice-aggregate-word-5 c = search needs
-
-word-requires-5 : tie.Need-word-requires-5
-word-requires-5 c κs = search needs
-
-enum-known-body-5 : tie.Need-enum-known-body-5
-enum-known-body-5 c = search needs
-
 returns-5 : tie.Need-returns-5
 unfolding bytes keyName
 returns-5 c = key-found schema (c .before .body5 .given .1) (c .before .before .before .word5 .ensures)
-
-enum-told-5 : tie.Need-enum-told-5
-enum-told-5 c = search needs
-
-slice-aggregate-word-6 : tie.Need-slice-aggregate-word-6
-slice-aggregate-word-6 c = search needs
-
-word-requires-6 : tie.Need-word-requires-6
-word-requires-6 c κs = search needs
-
-enum-known-body-6 : tie.Need-enum-known-body-6
-enum-known-body-6 c = search needs
 
 returns-6 : tie.Need-returns-6
 unfolding bytes keyName
 returns-6 c = key-found init (c .before .body6 .given .1) (c .before .before .before .word6 .ensures)
 
-enum-told-6 : tie.Need-enum-told-6
-enum-told-6 c = search needs
-
-slice-aggregate-word-7 : tie.Need-slice-aggregate-word-7
-slice-aggregate-word-7 c = search needs
-
-word-requires-7 : tie.Need-word-requires-7
-word-requires-7 c κs = search needs
-
-enum-known-body-7 : tie.Need-enum-known-body-7
-enum-known-body-7 c = search needs
-
 returns-7 : tie.Need-returns-7
 unfolding bytes keyName
 returns-7 c = key-found goal (c .before .body7 .given .1) (c .before .before .before .word7 .ensures)
-
-enum-told-7 : tie.Need-enum-told-7
-enum-told-7 c = search needs
 
 head-key-at-requires : tie.Need-head-key-at-requires
 head-key-at-requires c κs = start c .pre
@@ -166,9 +82,10 @@ returns-8 c =
 pub key-at-spec : {M : Type 1} → statement M
 key-at-spec =
     tie.close
-    (tie.spec slice-aggregate-word word-requires enum-known-body returns enum-told slice-aggregate-word-2
-    word-requires-2 enum-known-body-2 returns-2 enum-told-2 slice-aggregate-word-3 word-requires-3 enum-known-body-3
-    returns-3 enum-told-3 slice-aggregate-word-4 word-requires-4 enum-known-body-4 returns-4 enum-told-4
-    slice-aggregate-word-5 word-requires-5 enum-known-body-5 returns-5 enum-told-5 slice-aggregate-word-6
-    word-requires-6 enum-known-body-6 returns-6 enum-told-6 slice-aggregate-word-7 word-requires-7 enum-known-body-7
-    returns-7 enum-told-7 head-key-at-requires returns-8)
+    (tie.spec (λ c. search needs) (λ c κs. search needs) (λ c. search needs) returns (λ c. search needs)
+    (λ c. search needs) (λ c κs. search needs) (λ c. search needs) returns-2 (λ c. search needs) (λ c. search needs)
+    (λ c κs. search needs) (λ c. search needs) returns-3 (λ c. search needs) (λ c. search needs) (λ c κs. search needs)
+    (λ c. search needs) returns-4 (λ c. search needs) (λ c. search needs) (λ c κs. search needs) (λ c. search needs)
+    returns-5 (λ c. search needs) (λ c. search needs) (λ c κs. search needs) (λ c. search needs) returns-6
+    (λ c. search needs) (λ c. search needs) (λ c κs. search needs) (λ c. search needs) returns-7 (λ c. search needs)
+    head-key-at-requires returns-8)

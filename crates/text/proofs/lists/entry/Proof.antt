@@ -40,30 +40,12 @@ abbrev parted : tie.After-listing → tie.After-next
 parted l = l .before .before .before
 
 -- ---- the answers
-number-requires : tie.Need-number-requires
-number-requires c κs = search needs
-
-enum-known-head : tie.Need-enum-known-head
-enum-known-head c = search needs
-
-enum-told : tie.Need-enum-told
-enum-told c = search needs
-
 returns : tie.Need-returns
 returns c = no-head _ (subst (NumberAt _ _) (c .enum-told .given .1) (c .before .before .number .ensures))
-
-slice-aggregate-word : tie.Need-slice-aggregate-word
-slice-aggregate-word c = search needs
 
 word-requires : tie.Need-word-requires
 word-requires c κs =
     placed (c .before .before)
-
-enum-known-next : tie.Need-enum-known-next
-enum-known-next c = search needs
-
-enum-told-2 : tie.Need-enum-told-2
-enum-told-2 c = search needs
 
 returns-2 : tie.Need-returns-2
 returns-2 c =
@@ -75,24 +57,12 @@ listing-requires c κs =
     let w = c .before .before in
     word-placed (placed (front w)) (behind w)
 
-enum-known-count : tie.Need-enum-known-count
-enum-known-count c = search needs
-
-enum-told-3 : tie.Need-enum-told-3
-enum-told-3 c = search needs
-
-same-length : tie.Need-same-length
-same-length c = search needs
-
 returns-3 : tie.Need-returns-3
 returns-3 c =
     let l = c .before .before .before .before in
     let w = parted l in
     no-list _ _ _ (head (front w) .is) _ (behind w .is)
     (subst (ListAt _ _ _ _) (c .enum-told3 .given .1) (l .listing .ensures))
-
-same-length-2 : tie.Need-same-length-2
-same-length-2 c = search needs
 
 returns-4 : tie.Need-returns-4
 returns-4 c =
@@ -114,5 +84,6 @@ returns-4 c =
 pub entry-spec : {M : Type 1} → statement M
 entry-spec =
     tie.close
-    (tie.spec number-requires enum-known-head enum-told returns slice-aggregate-word word-requires enum-known-next
-    enum-told-2 returns-2 listing-requires enum-known-count enum-told-3 same-length returns-3 same-length-2 returns-4)
+    (tie.spec (λ c κs. search needs) (λ c. search needs) (λ c. search needs) returns (λ c. search needs) word-requires
+    (λ c. search needs) (λ c. search needs) returns-2 listing-requires (λ c. search needs) (λ c. search needs)
+    (λ c. search needs) returns-3 (λ c. search needs) returns-4)

@@ -22,18 +22,6 @@ body : (h : tie.After-head) → EntryHere (start h .args .text .now) (start h .a
 body h = subst (EntryAt _ _ _) (h .head .given .1) (read h .entry .ensures)
 
 -- ---- the answers
-entry-requires : tie.Need-entry-requires
-entry-requires c κs = search needs
-
-enum-known-head : tie.Need-enum-known-head
-enum-known-head c = search needs
-
-enum-told : tie.Need-enum-told
-enum-told c = search needs
-
-same-length : tie.Need-same-length
-same-length c = search needs
-
 returns : tie.Need-returns
 returns c = no-body _ (subst (EntryAt _ _ _) (c .enum-told .given .1)
     (c .before .before .before .before .entry .ensures))
@@ -41,22 +29,10 @@ returns c = no-body _ (subst (EntryAt _ _ _) (c .enum-told .given .1)
 line-end-requires : tie.Need-line-end-requires
 line-end-requires c κs = onward-placed (start (c .before) .pre) (body (c .before) .onward)
 
-enum-known-next : tie.Need-enum-known-next
-enum-known-next c = search needs
-
-enum-told-2 : tie.Need-enum-told-2
-enum-told-2 c = search needs
-
-same-length-2 : tie.Need-same-length-2
-same-length-2 c = search needs
-
 returns-2 : tie.Need-returns-2
 returns-2 c =
     no-end _ _ _ (body (c .before .before .before .before) .is)
     (subst (EndAt _ _) (c .enum-told2 .given .1) (c .before .before .line-end .ensures))
-
-same-length-3 : tie.Need-same-length-3
-same-length-3 c = search needs
 
 returns-3 : tie.Need-returns-3
 returns-3 c =
@@ -72,5 +48,6 @@ returns-3 c =
 pub entry-line-spec : {M : Type 1} → statement M
 entry-line-spec =
     tie.close
-    (tie.spec entry-requires enum-known-head enum-told same-length returns line-end-requires enum-known-next enum-told-2
-    same-length-2 returns-2 same-length-3 returns-3)
+    (tie.spec (λ c κs. search needs) (λ c. search needs) (λ c. search needs) (λ c. search needs) returns
+    line-end-requires (λ c. search needs) (λ c. search needs) (λ c. search needs) returns-2 (λ c. search needs)
+    returns-3)

@@ -9,23 +9,11 @@ use Rattle.text.specs.ReadCode.{ListAt, EndAt}
 use Rattle.text.proofs.WholeLines.{no-body, no-end, line-whole, to-next}
 use Rattle.text.proofs.lists.list_line.Statement.{statement}
 
-enum-known-found : tie.Need-enum-known-found
-enum-known-found c = search needs
-
-enum-told : tie.Need-enum-told
-enum-told c = search needs
-
 returns : tie.Need-returns
 returns c = λ from body kept h. no-body body (subst (ListAt _ from body kept) (c .enum-told .given .1) h)
 
 line-end-requires : tie.Need-line-end-requires
 line-end-requires c κs = c .before .before .before .before .pre _ _ (c .before .found .given .1)
-
-enum-known-next : tie.Need-enum-known-next
-enum-known-next c = search needs
-
-enum-told-2 : tie.Need-enum-told-2
-enum-told-2 c = search needs
 
 returns-2 : tie.Need-returns-2
 returns-2 c =
@@ -49,4 +37,5 @@ returns-3 c =
 pub list-line-spec : {M : Type 1} → statement M
 list-line-spec =
     tie.close
-    (tie.spec enum-known-found enum-told returns line-end-requires enum-known-next enum-told-2 returns-2 returns-3)
+    (tie.spec (λ c. search needs) (λ c. search needs) returns line-end-requires (λ c. search needs) (λ c. search needs)
+    returns-2 returns-3)

@@ -11,24 +11,6 @@ use Rattle.text.proofs.WholeLines.{listing-ends, listing-begins}
 use Rattle.text.proofs.ListLoop.{listed-none}
 use Rattle.text.proofs.lists.listing.Statement.{statement}
 
-slice-aggregate-word : tie.Need-slice-aggregate-word
-slice-aggregate-word c = search needs
-
-word-requires : tie.Need-word-requires
-word-requires c κs = search needs
-
-enum-told : tie.Need-enum-told
-enum-told c = search needs
-
-enum-told-2 : tie.Need-enum-told-2
-enum-told-2 c = search needs
-
-numbers-requires : tie.Need-numbers-requires
-numbers-requires c κs = search needs
-
-same-length : tie.Need-same-length
-same-length c = search needs
-
 returns : tie.Need-returns
 returns c =
     let numbers = c .before .before in
@@ -53,4 +35,5 @@ returns-2 c =
 pub listing-spec : {M : Type 1} → statement M
 listing-spec =
     tie.close
-    (tie.spec slice-aggregate-word word-requires enum-told enum-told-2 numbers-requires same-length returns returns-2)
+    (tie.spec (λ c. search needs) (λ c κs. search needs) (λ c. search needs) (λ c. search needs) (λ c κs. search needs)
+    (λ c. search needs) returns returns-2)

@@ -11,15 +11,6 @@ use native.Mathlib.Nat.{le-of-lt}
 use Rattle.text.proofs.WholeLines.{no-body, no-end, line-whole, moved-placed, to-next}
 use Rattle.text.proofs.lists.number_line.Statement.{statement}
 
-number-requires : tie.Need-number-requires
-number-requires c κs = search needs
-
-enum-known-n : tie.Need-enum-known-n
-enum-known-n c = search needs
-
-enum-told : tie.Need-enum-told
-enum-told c = search needs
-
 returns : tie.Need-returns
 returns c = no-body _ (subst (NumberAt _ _) (c .enum-told .given .1) (c .before .before .number .ensures))
 
@@ -28,12 +19,6 @@ line-end-requires c κs =
     let n = c .before in
     moved-placed (n .before .before .before .before .pre)
     (subst (NumberAt _ _) (n .n .given .1) (n .before .before .number .ensures) .moved)
-
-enum-known-next : tie.Need-enum-known-next
-enum-known-next c = search needs
-
-enum-told-2 : tie.Need-enum-told-2
-enum-told-2 c = search needs
 
 returns-2 : tie.Need-returns-2
 returns-2 c =
@@ -55,5 +40,5 @@ returns-3 c =
 pub number-line-spec : {M : Type 1} → statement M
 number-line-spec =
     tie.close
-    (tie.spec number-requires enum-known-n enum-told returns line-end-requires enum-known-next enum-told-2 returns-2
-    returns-3)
+    (tie.spec (λ c κs. search needs) (λ c. search needs) (λ c. search needs) returns line-end-requires
+    (λ c. search needs) (λ c. search needs) returns-2 returns-3)

@@ -1,5 +1,5 @@
--- `text::lists::numbers`: what was kept and counted so far is a beginning of the list, and the rest of the list is read at
--- the cursor. A turn reads one number and goes on behind a comma; the measure is the bytes left.
+-- `text::lists::numbers`: what was kept and counted so far is a beginning of the list, and the rest of the list is read
+-- at the cursor. A turn reads one number and goes on behind a comma; the measure is the bytes left.
 use Rattle.text.proofs.lists.numbers.Tie as tie
 use Prim.Native.Nat.{ℕ, _-_}
 use mathlib.Core.Path.{_≡_, refl, _∙_, subst}
@@ -52,12 +52,6 @@ loop-holds c = (refl, list-begins _ _ _ (c .before .before .pre))
 number-requires : tie.Need-number-requires Inv-loop μ-loop
 number-requires c κs = tt
 
-enum-known-n : tie.Need-enum-known-n Inv-loop μ-loop
-enum-known-n c = search needs
-
-enum-told : tie.Need-enum-told Inv-loop μ-loop
-enum-told c = search needs
-
 same-length : tie.Need-same-length Inv-loop μ-loop
 same-length c = c .before .before .before .loop .inv .0
 
@@ -69,22 +63,10 @@ returns c =
 keep-requires : tie.Need-keep-requires Inv-loop μ-loop
 keep-requires c κs = tt
 
-add-count : tie.Need-add-count Inv-loop μ-loop
-add-count c = omega arith
-
-slice-aggregate-word : tie.Need-slice-aggregate-word Inv-loop μ-loop
-slice-aggregate-word c = search needs
-
 word-requires : tie.Need-word-requires Inv-loop μ-loop
 word-requires c κs =
     let n = numbered (storing c) in
     moved-placed (turn n .loop .inv .1 .placed) (read n .moved)
-
-enum-known-next : tie.Need-enum-known-next Inv-loop μ-loop
-enum-known-next c = search needs
-
-enum-told-2 : tie.Need-enum-told-2 Inv-loop μ-loop
-enum-told-2 c = search needs
 
 same-length-2 : tie.Need-same-length-2 Inv-loop μ-loop
 same-length-2 c =
@@ -115,6 +97,6 @@ loop-again c =
 pub numbers-spec : {M : Type 1} → statement M
 numbers-spec =
     tie.close
-    (tie.spec Inv-loop μ-loop loop-holds number-requires enum-known-n enum-told same-length returns keep-requires
-    add-count slice-aggregate-word word-requires enum-known-next enum-told-2 same-length-2 returns-2 loop-less
-    loop-again)
+    (tie.spec Inv-loop μ-loop loop-holds number-requires (λ c. search needs) (λ c. search needs) same-length returns
+    keep-requires (λ c. omega arith) (λ c. search needs) word-requires (λ c. search needs) (λ c. search needs)
+    same-length-2 returns-2 loop-less loop-again)

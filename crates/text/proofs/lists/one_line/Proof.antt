@@ -6,15 +6,6 @@ use Rattle.text.specs.ReadCode.{NumberLineAt}
 use Rattle.text.proofs.LineTurns.{none-taken, other-taken, same-taken}
 use Rattle.text.proofs.lists.one_line.Statement.{statement}
 
-number-line-requires : tie.Need-number-line-requires
-number-line-requires c κs = search needs
-
-enum-known-n : tie.Need-enum-known-n
-enum-known-n c = search needs
-
-enum-told : tie.Need-enum-told
-enum-told c = search needs
-
 returns : tie.Need-returns
 returns c =
     none-taken (subst (NumberLineAt _ _) (c .enum-told .given .1) (c .before .before .number-line .ensures))
@@ -32,4 +23,6 @@ returns-3 c =
     record { is = same-taken (read .is) (c .if1 .left); line = read .line }
 
 pub one-line-spec : {M : Type 1} → statement M
-one-line-spec = tie.close (tie.spec number-line-requires enum-known-n enum-told returns returns-2 returns-3)
+one-line-spec =
+    tie.close
+    (tie.spec (λ c κs. search needs) (λ c. search needs) (λ c. search needs) returns returns-2 returns-3)

@@ -22,9 +22,6 @@ start₂ c = start₁ (c .before .before)
 schema-count-requires : tie.Need-schema-count-requires
 schema-count-requires c κs = c .before .before .pre .0
 
-cast-if1 : tie.Need-cast-if1
-cast-if1 c = search needs
-
 returns : tie.Need-returns
 returns c =
     let start = start₁ (c .before) in
@@ -58,9 +55,6 @@ returns-2 c =
 object-count-requires : tie.Need-object-count-requires
 object-count-requires c κs = start₂ (c .before) .pre .0
 
-cast-all-below : tie.Need-cast-all-below
-cast-all-below c = search needs
-
 all-below-requires : tie.Need-all-below-requires
 all-below-requires c κs =
     let start = start₂ (c .before .before) in
@@ -85,5 +79,5 @@ returns-3 c =
 pub is-step-spec : {M : Type 1} → statement M
 is-step-spec =
     tie.close
-    (tie.spec schema-count-requires cast-if1 returns cast-param-count param-count-requires returns-2
-    object-count-requires cast-all-below all-below-requires returns-3)
+    (tie.spec schema-count-requires (λ c. search needs) returns cast-param-count param-count-requires returns-2
+    object-count-requires (λ c. search needs) all-below-requires returns-3)

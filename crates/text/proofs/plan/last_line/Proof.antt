@@ -10,15 +10,6 @@ use Rattle.text.proofs.PlanLoop.{end-taken, end-wrong}
 use Rattle.text.proofs.plan.last_line.Statement.{statement}
 use Rattle.text.proofs.plan.last_line.Tie as tie
 
-number-line-requires : tie.Need-number-line-requires
-number-line-requires c κs = search needs
-
-enum-known-n : tie.Need-enum-known-n
-enum-known-n c = search needs
-
-enum-told : tie.Need-enum-told
-enum-told c = search needs
-
 returns : tie.Need-returns
 returns c = λ t xs w. (
   no-turn endLine _ (takePlanLine t xs)
@@ -49,4 +40,6 @@ returns-3 c =
     )
 
 pub last-line-spec : {M : Type 1} → statement M
-last-line-spec = tie.close (tie.spec number-line-requires enum-known-n enum-told returns returns-2 returns-3)
+last-line-spec =
+    tie.close
+    (tie.spec (λ c κs. search needs) (λ c. search needs) (λ c. search needs) returns returns-2 returns-3)

@@ -24,23 +24,11 @@ abbrev step-tried : tie.After-word2 → tie.After-word
 step-tried w = w .before .before .before .before
 
 -- ---- the answers
-slice-aggregate-word : tie.Need-slice-aggregate-word
-slice-aggregate-word c = search needs
-
-word-requires : tie.Need-word-requires
-word-requires c κs = search needs
-
-enum-known-body : tie.Need-enum-known-body
-enum-known-body c = search needs
-
 step-line-requires : tie.Need-step-line-requires
 step-line-requires c κs =
     let word = subst (WordAt _ _ _) (c .before .before .body .given .1) (stepped c .word .ensures) in
     let given = start (stepped c) .pre in
     (given .0, (word-placed (given .1 .0) word, given .1 .1))
-
-same-length : tie.Need-same-length
-same-length c = search needs
 
 returns : tie.Need-returns
 unfolding bytes planKeyName
@@ -53,18 +41,6 @@ returns c =
     plan-turned-at (taskOf (args .table .now)) (args .text .now) (args .from) _ xs _ _ (args .steps .now)
     (done .result) (done .last .1 .1 .1 .0) (word-moved _ (omega arith) word) (next-step xs _ _ (word .is))
     (done .ensures xs e)
-
-enum-told : tie.Need-enum-told
-enum-told c = search needs
-
-slice-aggregate-word-2 : tie.Need-slice-aggregate-word-2
-slice-aggregate-word-2 c = search needs
-
-word-requires-2 : tie.Need-word-requires-2
-word-requires-2 c κs = search needs
-
-enum-known-body-2 : tie.Need-enum-known-body-2
-enum-known-body-2 c = search needs
 
 last-line-requires : tie.Need-last-line-requires
 last-line-requires c κs =
@@ -85,9 +61,6 @@ returns-2 c =
     (args .steps .now) (word-moved _ (omega arith) word) (next-end xs _ _ none (word .is))
     (c .last-line .ensures t xs (args .steps .now))
 
-enum-told-2 : tie.Need-enum-told-2
-enum-told-2 c = search needs
-
 returns-3 : tie.Need-returns-3
 unfolding bytes planKeyName
 returns-3 c =
@@ -100,5 +73,6 @@ returns-3 c =
 pub plan-line-spec : {M : Type 1} → statement M
 plan-line-spec =
     tie.close
-    (tie.spec slice-aggregate-word word-requires enum-known-body step-line-requires same-length returns enum-told
-    slice-aggregate-word-2 word-requires-2 enum-known-body-2 last-line-requires returns-2 enum-told-2 returns-3)
+    (tie.spec (λ c. search needs) (λ c κs. search needs) (λ c. search needs) step-line-requires (λ c. search needs)
+    returns (λ c. search needs) (λ c. search needs) (λ c κs. search needs) (λ c. search needs) last-line-requires
+    returns-2 (λ c. search needs) returns-3)

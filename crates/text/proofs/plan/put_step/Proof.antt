@@ -8,18 +8,6 @@ use borrow.Author.Needs.{needs}
 use Rattle.text.proofs.plan.put_step.Statement.{statement}
 use Rattle.text.proofs.plan.put_step.Tie as tie
 
-cast-steps : tie.Need-cast-steps
-cast-steps c = search needs
-
-mul-steps : tie.Need-mul-steps
-mul-steps c = search needs
-
-slice-write-steps : tie.Need-slice-write-steps
-slice-write-steps c = search needs
-
-add-put-words : tie.Need-add-put-words
-add-put-words c = search needs
-
 put-words-requires : tie.Need-put-words-requires
 put-words-requires c κs =
     let start = c .before .before .before in
@@ -27,15 +15,6 @@ put-words-requires c κs =
     let room = start .pre .0 in
     let (schema, few, enough) = start .pre .1 .0 in
     (omega arith, record { enough = enough; small = start .pre .1 .1 })
-
-add-clear : tie.Need-add-clear
-add-clear c = search needs
-
-add-clear-2 : tie.Need-add-clear-2
-add-clear-2 c = search needs
-
-sub-clear : tie.Need-sub-clear
-sub-clear c = search needs
 
 clear-requires : tie.Need-clear-requires
 clear-requires c κs =
@@ -65,5 +44,5 @@ returns c =
 pub put-step-spec : {M : Type 1} → statement M
 put-step-spec =
     tie.close
-    (tie.spec cast-steps mul-steps slice-write-steps add-put-words put-words-requires add-clear add-clear-2 sub-clear
-    clear-requires same-length returns)
+    (tie.spec (λ c. search needs) (λ c. search needs) (λ c. search needs) (λ c. search needs) put-words-requires
+    (λ c. search needs) (λ c. search needs) (λ c. search needs) clear-requires same-length returns)

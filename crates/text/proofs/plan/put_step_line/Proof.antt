@@ -62,19 +62,10 @@ behind-objects : (c : tie.After-put-list) →
     Left (start (keyed (numbered (begun c)))) (newline ∷ []) (c .put-list .last .0) (c .put-list .result)
 behind-objects c = going-on (behind-colon (begun c)) (c .put-list .ensures)
 
-slice-aggregate-put-bytes : tie.Need-slice-aggregate-put-bytes
-slice-aggregate-put-bytes c = search needs
-
 put-bytes-requires : tie.Need-put-bytes-requires
 put-bytes-requires c κs =
     let start = c .before .before .before .before in
     going-room stepKey (schema start ++ (colon ∷ (objects start ++ (newline ∷ [])))) (begin start)
-
-mul-put-number : tie.Need-mul-put-number
-mul-put-number c = search needs
-
-shared-slice-read-put-number : tie.Need-shared-slice-read-put-number
-shared-slice-read-put-number c = search needs
 
 put-number-requires : tie.Need-put-number-requires
 put-number-requires c κs =
@@ -86,9 +77,6 @@ put-byte-requires c κs =
     let at-schema = c .before .before .before in
     byte-room colon (objects (start (keyed at-schema)) ++ (newline ∷ [])) (behind-schema at-schema)
 
-add-put-list : tie.Need-add-put-list
-add-put-list c = search needs
-
 put-list-requires : tie.Need-put-list-requires
 put-list-requires c κs =
     let at-colon = c .before .before .before in
@@ -99,9 +87,6 @@ put-list-requires c κs =
 put-byte-requires-2 : tie.Need-put-byte-requires-2
 put-byte-requires-2 c κs = byte-room newline [] (behind-objects (c .before .before .before))
 
-same-length : tie.Need-same-length
-same-length c = search needs
-
 returns : tie.Need-returns
 returns c =
     let at-end = c .before .before in
@@ -110,5 +95,5 @@ returns c =
 pub put-step-line-spec : {M : Type 1} → statement M
 put-step-line-spec =
     tie.close
-    (tie.spec slice-aggregate-put-bytes put-bytes-requires mul-put-number shared-slice-read-put-number
-    put-number-requires put-byte-requires add-put-list put-list-requires put-byte-requires-2 same-length returns)
+    (tie.spec (λ c. search needs) put-bytes-requires (λ c. search needs) (λ c. search needs) put-number-requires
+    put-byte-requires (λ c. search needs) put-list-requires put-byte-requires-2 (λ c. search needs) returns)

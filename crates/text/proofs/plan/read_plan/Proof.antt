@@ -103,9 +103,6 @@ refusing c = c .before .before .before .before .before .before
 abbrev ending : tie.After-struct-known Inv-loop μ-loop → tie.After-plan-line Inv-loop μ-loop
 ending c = c .before .before .before .before .before .before
 
-enum-known-number : tie.Need-enum-known-number Inv-loop μ-loop
-enum-known-number c = search needs
-
 refused-requires : tie.Need-refused-requires Inv-loop μ-loop
 refused-requires c κs = still-room (refusing c)
 
@@ -121,9 +118,6 @@ returns c =
     let (refuses, same) = turned at-line _ (done .before .before .before .number .given .1) in
     turned-back at-line (plan-refuses _ _ _ (sofar at-line) _ refuses) same (done .refused .ensures .0)
     (done .refused .ensures .1)
-
-enum-known-next : tie.Need-enum-known-next Inv-loop μ-loop
-enum-known-next c = search needs
 
 refused-requires-2 : tie.Need-refused-requires-2 Inv-loop μ-loop
 refused-requires-2 c κs = still-room (ending (c .before .before))
@@ -160,9 +154,6 @@ returns-3 c =
       done .1 ∙ (plan-stored _ _ _ s well (start .pre .1) ∙ both outcome .1),
     )
 
-enum-known-next-2 : tie.Need-enum-known-next-2 Inv-loop μ-loop
-enum-known-next-2 c = search needs
-
 add-n : tie.Need-add-n Inv-loop μ-loop
 add-n c = let few = sofar (c .before .before .before .before .before) .few in omega arith
 
@@ -183,6 +174,6 @@ loop-again c =
 pub read-plan-spec : {M : Type 1} → statement M
 read-plan-spec =
     tie.close
-    (tie.spec Inv-loop μ-loop start-requires loop-holds plan-line-requires enum-known-number refused-requires
-    same-length returns enum-known-next refused-requires-2 same-length-2 returns-2 same-length-3 returns-3
-    enum-known-next-2 add-n loop-less loop-again)
+    (tie.spec Inv-loop μ-loop start-requires loop-holds plan-line-requires (λ c. search needs) refused-requires
+    same-length returns (λ c. search needs) refused-requires-2 same-length-2 returns-2 same-length-3 returns-3
+    (λ c. search needs) add-n loop-less loop-again)

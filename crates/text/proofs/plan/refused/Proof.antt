@@ -11,11 +11,8 @@ use Rattle.text.proofs.plan.refused.Tie as tie
 clear-requires : tie.Need-clear-requires
 clear-requires c κs = let z = planWords-is in let l = c .before .before .pre in omega arith
 
-same-length : tie.Need-same-length
-same-length c = search needs
-
 returns : tie.Need-returns
 returns c = (refl, wrote-all (sym planWords-is) (c .before .before .clear .ensures))
 
 pub refused-spec : {M : Type 1} → statement M
-refused-spec = tie.close (tie.spec clear-requires same-length returns)
+refused-spec = tie.close (tie.spec clear-requires (λ c. search needs) returns)

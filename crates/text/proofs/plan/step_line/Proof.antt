@@ -61,18 +61,6 @@ kept s =
     (f .listed) (is-one s)
 
 -- ---- the answers
-slice-aggregate-entry-line : tie.Need-slice-aggregate-entry-line
-slice-aggregate-entry-line c = search needs
-
-entry-line-requires : tie.Need-entry-line-requires
-entry-line-requires c κs = search needs
-
-enum-known-schema : tie.Need-enum-known-schema
-enum-known-schema c = search needs
-
-enum-told : tie.Need-enum-told
-enum-told c = search needs
-
 returns : tie.Need-returns
 returns c =
     let r = c .before .before .before in
@@ -94,12 +82,6 @@ returns-2 c =
       refl,
     )
 
-slice-aggregate-is-step : tie.Need-slice-aggregate-is-step
-slice-aggregate-is-step c = search needs
-
-is-step-requires : tie.Need-is-step-requires
-is-step-requires c κs = search needs
-
 returns-3 : tie.Need-returns-3
 returns-3 c =
     let l = c .before .before .before .before .before in
@@ -114,12 +96,6 @@ returns-3 c =
       refl,
     )
 
-mul-put-step : tie.Need-mul-put-step
-mul-put-step c = search needs
-
-slice-aggregate-put-step : tie.Need-slice-aggregate-put-step
-slice-aggregate-put-step c = search needs
-
 put-step-requires : tie.Need-put-step-requires
 put-step-requires c κs =
     let s = c .before .before in
@@ -127,9 +103,6 @@ put-step-requires c κs =
       step-room (start (read (line s)) .pre .1 .1) (s .before .before .before .if1 .left),
       ((k .schema, k .few, k .enough), k .small),
     )
-
-same-length : tie.Need-same-length
-same-length c = search needs
 
 returns-4 : tie.Need-returns-4
 returns-4 c =
@@ -150,6 +123,6 @@ returns-4 c =
 pub step-line-spec : {M : Type 1} → statement M
 step-line-spec =
     tie.close
-    (tie.spec slice-aggregate-entry-line entry-line-requires enum-known-schema enum-told returns returns-2
-    slice-aggregate-is-step is-step-requires returns-3 mul-put-step slice-aggregate-put-step put-step-requires
-    same-length returns-4)
+    (tie.spec (λ c. search needs) (λ c κs. search needs) (λ c. search needs) (λ c. search needs) returns returns-2
+    (λ c. search needs) (λ c κs. search needs) returns-3 (λ c. search needs) (λ c. search needs) put-step-requires
+    (λ c. search needs) returns-4)

@@ -103,9 +103,6 @@ put-step-line-requires c κs =
     let l = ap length (line-read (c .before)) in
     (omega arith, omega arith)
 
-add-i : tie.Need-add-i Inv-loop μ-loop
-add-i c = omega arith
-
 loop-less : tie.Need-loop-less Inv-loop μ-loop
 loop-less c = let l = c .before .before .before .before .before .before .loop-test .taken in omega arith
 
@@ -130,9 +127,6 @@ ending c =
     (c .loop-test .left)))
     (c .before .loop .inv .1)
 
-slice-aggregate-put-bytes : tie.Need-slice-aggregate-put-bytes Inv-loop μ-loop
-slice-aggregate-put-bytes c = search needs
-
 put-bytes-requires : tie.Need-put-bytes-requires Inv-loop μ-loop
 put-bytes-requires c κs = last-room (ending (c .before .before))
 
@@ -152,4 +146,5 @@ pub write-plan-spec : {M : Type 1} → statement M
 write-plan-spec =
     tie.close
     (tie.spec Inv-loop μ-loop loop-holds mul-base mul-param-count shared-slice-read-param-count param-count-requires
-    put-step-line-requires add-i loop-less loop-again slice-aggregate-put-bytes put-bytes-requires same-length returns)
+    put-step-line-requires (λ c. omega arith) loop-less loop-again (λ c. search needs) put-bytes-requires same-length
+    returns)

@@ -85,12 +85,6 @@ add-size-2 c =
     let e = c .number-size2 .ensures in
     omega arith
 
-add-k : tie.Need-add-k Inv-loop μ-loop
-add-k c = omega arith
-
-loop-less : tie.Need-loop-less Inv-loop μ-loop
-loop-less c = omega arith
-
 loop-again : tie.Need-loop-again Inv-loop μ-loop
 loop-again c =
     let l = longer (c .before .before) in
@@ -109,4 +103,4 @@ list-size-spec =
     tie.close
     (tie.spec Inv-loop μ-loop returns mul-number-size shared-slice-read-number-size number-size-requires loop-holds
     add-size mul-number-size-2 add-number-size mul-number-size-3 shared-slice-read-number-size-2 number-size-requires-2
-    add-size-2 add-k loop-less loop-again returns-2)
+    add-size-2 (λ c. omega arith) (λ c. omega arith) loop-again returns-2)

@@ -24,12 +24,6 @@ loop-holds c =
     let bs = c .args .bytes .now in
     (refl, (omega arith, subst (λ (i : ℕ). Going s (c .args .at) bs bs s i) e (going-start (c .pre))))
 
-shared-slice-read-text : tie.Need-shared-slice-read-text Inv-loop μ-loop
-shared-slice-read-text c = omega arith
-
-add-text : tie.Need-add-text Inv-loop μ-loop
-add-text c = omega arith
-
 -- the byte that comes next, and those behind it
 to-come : (c : tie.In-loop Inv-loop μ-loop) →
     let bs = c .before .before .args .bytes .now in
@@ -44,12 +38,6 @@ to-come c =
 slice-write-text : tie.Need-slice-write-text Inv-loop μ-loop
 slice-write-text c = byte-room _ _ (to-come (c .before))
 
-add-k : tie.Need-add-k Inv-loop μ-loop
-add-k c = omega arith
-
-loop-less : tie.Need-loop-less Inv-loop μ-loop
-loop-less c = omega arith
-
 loop-again : tie.Need-loop-again Inv-loop μ-loop
 loop-again c =
     let start = c .before .before .before in
@@ -63,9 +51,6 @@ loop-again c =
             drop i (start .args .bytes .now)) e) (to-come (c .before))),
       ),
     )
-
-add-result : tie.Need-add-result Inv-loop μ-loop
-add-result c = omega arith
 
 same-length : tie.Need-same-length Inv-loop μ-loop
 same-length c = going-long (c .before .loop .inv .1 .1)
@@ -85,5 +70,5 @@ returns c =
 pub put-bytes-spec : {M : Type 1} → statement M
 put-bytes-spec =
     tie.close
-    (tie.spec Inv-loop μ-loop loop-holds shared-slice-read-text add-text slice-write-text add-k loop-less loop-again
-    add-result same-length returns)
+    (tie.spec Inv-loop μ-loop loop-holds (λ c. omega arith) (λ c. omega arith) slice-write-text (λ c. omega arith)
+    (λ c. omega arith) loop-again (λ c. omega arith) same-length returns)

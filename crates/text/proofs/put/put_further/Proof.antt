@@ -5,19 +5,10 @@ use borrow.Author.Needs.{needs}
 use Rattle.text.proofs.put.put_further.Statement.{statement}
 use Rattle.text.proofs.put.put_further.Tie as tie
 
-put-byte-requires : tie.Need-put-byte-requires
-put-byte-requires c κs = search needs
-
-put-number-requires : tie.Need-put-number-requires
-put-number-requires c κs = search needs
-
-same-length : tie.Need-same-length
-same-length c = search needs
-
 returns : tie.Need-returns
 returns c =
     let first = c .before .before .before .before .before .before .put-byte .ensures in
     puts-append first (c .before .before .put-number .ensures)
 
 pub put-further-spec : {M : Type 1} → statement M
-put-further-spec = tie.close (tie.spec put-byte-requires put-number-requires same-length returns)
+put-further-spec = tie.close (tie.spec (λ c κs. search needs) (λ c κs. search needs) (λ c. search needs) returns)

@@ -104,12 +104,6 @@ put-further-requires c κs =
     going-room (numbers (at-loop .loop .k)) (onwards numbers (at-loop .loop .k + 1) (args .n))
     (to-come (c .before .before))
 
-add-k : tie.Need-add-k Inv-loop μ-loop
-add-k c = omega arith
-
-loop-less : tie.Need-loop-less Inv-loop μ-loop
-loop-less c = omega arith
-
 loop-again : tie.Need-loop-again Inv-loop μ-loop
 loop-again c =
     let turn = c .before .before .before .before .before in
@@ -133,5 +127,5 @@ pub put-list-spec : {M : Type 1} → statement M
 put-list-spec =
     tie.close
     (tie.spec Inv-loop μ-loop returns mul-put-number shared-slice-read-put-number put-number-requires loop-holds
-    mul-put-further add-put-further mul-put-further-2 shared-slice-read-put-further put-further-requires add-k loop-less
-    loop-again same-length returns-2)
+    mul-put-further add-put-further mul-put-further-2 shared-slice-read-put-further put-further-requires
+    (λ c. omega arith) (λ c. omega arith) loop-again same-length returns-2)

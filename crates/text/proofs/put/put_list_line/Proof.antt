@@ -43,11 +43,10 @@ put-list-requires c κs =
 put-byte-requires : tie.Need-put-byte-requires
 put-byte-requires c κs = byte-room newline [] (behind-body (c .before))
 
-same-length : tie.Need-same-length
-same-length c = search needs
-
 returns : tie.Need-returns
 returns c = going-last (behind-body (c .before .before .before .before)) (c .before .before .put-byte .ensures)
 
 pub put-list-line-spec : {M : Type 1} → statement M
-put-list-line-spec = tie.close (tie.spec put-bytes-requires put-list-requires put-byte-requires same-length returns)
+put-list-line-spec =
+    tie.close
+    (tie.spec put-bytes-requires put-list-requires put-byte-requires (λ c. search needs) returns)

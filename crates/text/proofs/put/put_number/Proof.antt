@@ -21,9 +21,6 @@ abbrev μ-loop : tie.MeasureT-loop
 number-size-requires : tie.Need-number-size-requires Inv-loop μ-loop
 number-size-requires c κs = tt
 
-add-end : tie.Need-add-end Inv-loop μ-loop
-add-end c = omega arith
-
 sub-place : tie.Need-sub-place Inv-loop μ-loop
 sub-place c = let s = some-digit (c .before .before .args .n) (omega arith) in omega arith
 
@@ -40,9 +37,6 @@ loop-holds c =
       ),
     )
 
-digit-requires : tie.Need-digit-requires Inv-loop μ-loop
-digit-requires c κs = omega arith
-
 slice-write-text : tie.Need-slice-write-text Inv-loop μ-loop
 slice-write-text c =
     behind-room (c .before .before .loop .inv .1 .1) (let b = c .before .before .loop .inv in omega arith)
@@ -50,16 +44,10 @@ slice-write-text c =
 sub-place-2 : tie.Need-sub-place-2 Inv-loop μ-loop
 sub-place-2 c = let l = behind-again (c .before .before .loop .inv .1 .1) (omega arith) in omega arith
 
-loop-less : tie.Need-loop-less Inv-loop μ-loop
-loop-less c = omega arith
-
 loop-again : tie.Need-loop-again Inv-loop μ-loop
 loop-again c =
     let b = c .before .before .loop .inv in
     (b .0, (b .1 .0, rw (c .digit .ensures) (behind-more (b .1 .1) (omega arith))))
-
-digit-requires-2 : tie.Need-digit-requires-2 Inv-loop μ-loop
-digit-requires-2 c κs = omega arith
 
 slice-write-text-2 : tie.Need-slice-write-text-2 Inv-loop μ-loop
 slice-write-text-2 c =
@@ -76,5 +64,6 @@ returns c =
 pub put-number-spec : {M : Type 1} → statement M
 put-number-spec =
     tie.close
-    (tie.spec Inv-loop μ-loop number-size-requires add-end sub-place loop-holds digit-requires slice-write-text
-    sub-place-2 loop-less loop-again digit-requires-2 slice-write-text-2 same-length returns)
+    (tie.spec Inv-loop μ-loop number-size-requires (λ c. omega arith) sub-place loop-holds (λ c κs. omega arith)
+    slice-write-text sub-place-2 (λ c. omega arith) loop-again (λ c κs. omega arith) slice-write-text-2 same-length
+    returns)

@@ -42,11 +42,10 @@ put-number-requires c κs = going-room (body (start (c .before))) (newline ∷ [
 put-byte-requires : tie.Need-put-byte-requires
 put-byte-requires c κs = byte-room newline [] (behind-body (c .before))
 
-same-length : tie.Need-same-length
-same-length c = search needs
-
 returns : tie.Need-returns
 returns c = going-last (behind-body (c .before .before .before .before)) (c .before .before .put-byte .ensures)
 
 pub put-number-line-spec : {M : Type 1} → statement M
-put-number-line-spec = tie.close (tie.spec put-bytes-requires put-number-requires put-byte-requires same-length returns)
+put-number-line-spec =
+    tie.close
+    (tie.spec put-bytes-requires put-number-requires put-byte-requires (λ c. search needs) returns)

@@ -1,5 +1,5 @@
--- `text::reader::body_turn`: in each arm the key is known by its number, so the turn of the line that is called is the turn
--- at the body of that key; and what the line requires of its place follows, since the key may stand here.
+-- `text::reader::body_turn`: in each arm the key is known by its number, so the turn of the line that is called is the
+-- turn at the body of that key; and what the line requires of its place follows, since the key may stand here.
 use Rattle.text.proofs.reader.body_turn.Tie as tie
 use Prim.Native.Nat.{ℕ, _-_, _≤_}
 use mathlib.Core.Path.{_≡_, sym, _∙_, ap}
@@ -36,12 +36,6 @@ head-turn-requires c κs =
     let start = c .before .before .before .before in
     (start .pre .0, (start .pre .1 .0, (start .pre .1 .1, c .before .if1 .taken)))
 
-same-length : tie.Need-same-length
-same-length c = search needs
-
-returns : tie.Need-returns
-returns c = search needs
-
 atom-line-requires : tie.Need-atom-line-requires
 atom-line-requires c κs =
     let s = start (c .before .before) in
@@ -55,9 +49,6 @@ atom-line-requires c κs =
         record { known = known; allowed = stands-as (s .args .counts .phase) (omega arith) (s .pre .1 .1) },
       ),
     )
-
-same-length-2 : tie.Need-same-length-2
-same-length-2 c = search needs
 
 returns-2 : tie.Need-returns-2
 returns-2 c =
@@ -79,9 +70,6 @@ part-line-requires : tie.Need-part-line-requires
 part-line-requires c κs =
     let s = start (c .before .before .before) in
     (s .pre .0, (s .pre .1 .0, stands-as (s .args .counts .phase) (c .before .if3 .taken) (s .pre .1 .1)))
-
-same-length-3 : tie.Need-same-length-3
-same-length-3 c = search needs
 
 returns-3 : tie.Need-returns-3
 returns-3 c =
@@ -108,16 +96,10 @@ returns-4 c =
           (schema-body k (behind s) (e ∙ c .before .if4 .taken)) (c .schema-line .ensures d (table s) h),
     )
 
-kind-of-requires : tie.Need-kind-of-requires
-kind-of-requires c κs = omega arith
-
 fact-line-requires : tie.Need-fact-line-requires
 fact-line-requires c κs =
     let s = later (c .before .before .before .before) in
     (s .pre .0, (s .pre .1 .0, stands-as (s .args .counts .phase) (sym (c .kind-of .ensures)) (s .pre .1 .1)))
-
-same-length-4 : tie.Need-same-length-4
-same-length-4 c = search needs
 
 returns-5 : tie.Need-returns-5
 returns-5 c =
@@ -130,9 +112,6 @@ returns-5 c =
           (fact-body k (behind s) (named .kind-of .result) (e ∙ sym (named .kind-of .ensures)))
           (line .ensures .1 d h),
     )
-
-end-line-requires : tie.Need-end-line-requires
-end-line-requires c κs = search needs
 
 returns-6 : tie.Need-returns-6
 returns-6 c =
@@ -151,6 +130,6 @@ returns-6 c =
 pub body-turn-spec : {M : Type 1} → statement M
 body-turn-spec =
     tie.close
-    (tie.spec head-turn-requires same-length returns atom-line-requires same-length-2 returns-2 part-line-requires
-    same-length-3 returns-3 schema-line-requires returns-4 kind-of-requires fact-line-requires same-length-4
-    returns-5 end-line-requires returns-6)
+    (tie.spec head-turn-requires (λ c. search needs) (λ c. search needs) atom-line-requires (λ c. search needs)
+    returns-2 part-line-requires (λ c. search needs) returns-3 schema-line-requires returns-4 (λ c κs. omega arith)
+    fact-line-requires (λ c. search needs) returns-5 (λ c κs. search needs) returns-6)

@@ -1,5 +1,5 @@
--- `text::reader::head_turn`: in each arm the key is known by its number, so the turn of the line that is called is the turn
--- at the body of that key.
+-- `text::reader::head_turn`: in each arm the key is known by its number, so the turn of the line that is called is the
+-- turn at the body of that key.
 use Rattle.text.proofs.reader.head_turn.Tie as tie
 use Prim.Native.Nat.{ℕ, _-_}
 use mathlib.Core.Path.{_∙_}
@@ -58,9 +58,6 @@ arity-line-requires c κs =
     let few = s .pre .1 .1 .1 in
     (s .pre .0, (s .pre .1 .0, stands-as (s .args .counts .phase) (omega arith) (s .pre .1 .1 .0)))
 
-same-length : tie.Need-same-length
-same-length c = search needs
-
 returns-3 : tie.Need-returns-3
 returns-3 c =
     let line = c .before .before .arity-line in
@@ -75,4 +72,5 @@ returns-3 c =
 pub head-turn-spec : {M : Type 1} → statement M
 head-turn-spec =
     tie.close
-    (tie.spec task-line-requires returns objects-line-requires returns-2 arity-line-requires same-length returns-3)
+    (tie.spec task-line-requires returns objects-line-requires returns-2 arity-line-requires (λ c. search needs)
+    returns-3)

@@ -1,5 +1,5 @@
--- `text::reader::lay_out`: the rows, the zeros behind them and the counts are written one after the other. Each write leaves
--- what stands outside its place, so in the end the words are those of the task.
+-- `text::reader::lay_out`: the rows, the zeros behind them and the counts are written one after the other. Each write
+-- leaves what stands outside its place, so in the end the words are those of the task.
 use Rattle.text.proofs.reader.lay_out.Tie as tie
 use Prim.Native.Nat.{_-_}
 use mathlib.Core.Path.{_∙_}
@@ -27,46 +27,13 @@ abbrev counted : tie.After-head → tie.After-struct-known7
 counted c = c .before .before .before .before .before .before .before
 
 -- ---- the answers
-add-to : tie.Need-add-to
-add-to c = search needs
-
-add-to-2 : tie.Need-add-to-2
-add-to-2 c = search needs
-
-add-n : tie.Need-add-n
-add-n c = search needs
-
-add-n-2 : tie.Need-add-n-2
-add-n-2 c = search needs
-
-add-n-3 : tie.Need-add-n-3
-add-n-3 c = search needs
-
-mul-n : tie.Need-mul-n
-mul-n c = search needs
-
-add-move-down : tie.Need-add-move-down
-add-move-down c = search needs
-
 move-down-requires : tie.Need-move-down-requires
 move-down-requires c κs = move-room (start (c .before) .pre .holds)
-
-add-clear : tie.Need-add-clear
-add-clear c = search needs
-
-add-clear-2 : tie.Need-add-clear-2
-add-clear-2 c = search needs
-
-sub-clear : tie.Need-sub-clear
-sub-clear c = search needs
 
 clear-requires : tie.Need-clear-requires
 clear-requires c κs =
     let m = c .before .before .before in
     zeros-room (start (m .before .before) .pre .holds) (m .move-down .kept .0)
-
-cast-t14 : tie.Need-cast-t14
-cast-t14 c = search needs
 
 cast-t15 : tie.Need-cast-t15
 cast-t15 c = omega (arith, entry (c .before) .pre .holds .few .predicates)
@@ -82,9 +49,6 @@ cast-t18 c = omega (arith, entry (c .before .before .before .before) .pre .holds
 
 cast-t19 : tie.Need-cast-t19
 cast-t19 c = omega (arith, entry (c .before .before .before .before .before) .pre .holds .few .goal)
-
-slice-aggregate-put-words : tie.Need-slice-aggregate-put-words
-slice-aggregate-put-words c = search needs
 
 put-words-requires : tie.Need-put-words-requires
 put-words-requires c κs =
@@ -108,6 +72,7 @@ returns c =
 pub lay-out-spec : {M : Type 1} → statement M
 lay-out-spec =
     tie.close
-    (tie.spec add-to add-to-2 add-n add-n-2 add-n-3 mul-n add-move-down move-down-requires add-clear add-clear-2
-    sub-clear clear-requires cast-t14 cast-t15 cast-t16 cast-t17 cast-t18 cast-t19 slice-aggregate-put-words
-    put-words-requires same-length returns)
+    (tie.spec (λ c. search needs) (λ c. search needs) (λ c. search needs) (λ c. search needs) (λ c. search needs)
+    (λ c. search needs) (λ c. search needs) move-down-requires (λ c. search needs) (λ c. search needs)
+    (λ c. search needs) clear-requires (λ c. search needs) cast-t15 cast-t16 cast-t17 cast-t18 cast-t19
+    (λ c. search needs) put-words-requires same-length returns)

@@ -1,5 +1,5 @@
--- `text::reader::read_task`: what is read so far is what the definitions read (`SoFar`), and the line at the cursor is one
--- turn of both. Each arm says what the turn was; the measure is the bytes left, since a line has one at least.
+-- `text::reader::read_task`: what is read so far is what the definitions read (`SoFar`), and the line at the cursor is
+-- one turn of both. Each arm says what the turn was; the measure is the bytes left, since a line has one at least.
 use Rattle.text.proofs.reader.read_task.Tie as tie
 use Prim.Native.Nat.{_-_, ℕ, _≤_}
 use mathlib.Core.Path.{_∙_, subst, _≡_, sym}
@@ -88,9 +88,6 @@ turn-at-requires c κs =
     let s = c .before .loop .inv in
     (s .placed, record { draft = s .draft; holds = s .holds })
 
-enum-known-number : tie.Need-enum-known-number Inv-loop μ-loop
-enum-known-number c = search needs
-
 refused-requires : tie.Need-refused-requires Inv-loop μ-loop
 refused-requires c κs = long (refusing c)
 
@@ -109,9 +106,6 @@ returns c =
       told-refused (lent t) (text t) _ _ _ is (refused .0),
       buffer-refused (lent t) (text t) _ _ _ is (cleared-is (lent t) _ _ (entry t .pre) (touched t) (refused .1)),
     )
-
-enum-known-next : tie.Need-enum-known-next Inv-loop μ-loop
-enum-known-next c = search needs
 
 refused-requires-2 : tie.Need-refused-requires-2 Inv-loop μ-loop
 refused-requires-2 c κs = long (ending (c .before .before))
@@ -161,9 +155,6 @@ returns-3 c =
           (touched t)),
     )
 
-enum-known-read : tie.Need-enum-known-read Inv-loop μ-loop
-enum-known-read c = search needs
-
 loop-less : tie.Need-loop-less Inv-loop μ-loop
 loop-less c =
     let goes = went (c .before .before .before .before .before) (c .before .read .given .1) in
@@ -179,6 +170,6 @@ loop-again c =
 pub read-task-spec : {M : Type 1} → statement M
 read-task-spec =
     tie.close
-    (tie.spec Inv-loop μ-loop start-requires start-requires-2 loop-holds turn-at-requires enum-known-number
-    refused-requires same-length returns enum-known-next refused-requires-2 same-length-2 returns-2 lay-out-requires
-    same-length-3 returns-3 enum-known-read loop-less loop-again)
+    (tie.spec Inv-loop μ-loop start-requires start-requires-2 loop-holds turn-at-requires (λ c. search needs)
+    refused-requires same-length returns (λ c. search needs) refused-requires-2 same-length-2 returns-2 lay-out-requires
+    same-length-3 returns-3 (λ c. search needs) loop-less loop-again)

@@ -12,11 +12,8 @@ use Rattle.text.proofs.reader.refused.Statement.{statement}
 clear-requires : tie.Need-clear-requires
 clear-requires c κs = let z = tableWords-is in let l = c .before .before .pre in omega arith
 
-same-length : tie.Need-same-length
-same-length c = search needs
-
 returns : tie.Need-returns
 returns c = (refl, wrote-all (sym tableWords-is) (c .before .before .clear .ensures))
 
 pub refused-spec : {M : Type 1} → statement M
-refused-spec = tie.close (tie.spec clear-requires same-length returns)
+refused-spec = tie.close (tie.spec clear-requires (λ c. search needs) returns)

@@ -1,5 +1,5 @@
--- `text::reader::turn_at`: where no key stands, or one that the order doesn't allow here, there is no line, which is 3; else
--- the turn at the body of the key is the turn at the line.
+-- `text::reader::turn_at`: where no key stands, or one that the order doesn't allow here, there is no line, which is 3;
+-- else the turn at the body of the key is the turn at the line.
 use Rattle.text.proofs.reader.turn_at.Tie as tie
 use Prim.Native.Nat.{_-_}
 use mathlib.Core.Path.{sym, _∙_, subst, ap₂}
@@ -23,24 +23,12 @@ found : (k : tie.After-key) →
 found k = subst (KeyAt _ _) (k .key .given .1) (k .before .before .key-at .ensures)
 
 -- ---- the answers
-key-at-requires : tie.Need-key-at-requires
-key-at-requires c κs = search needs
-
-enum-known-key : tie.Need-enum-known-key
-enum-known-key c = search needs
-
-enum-told : tie.Need-enum-told
-enum-told c = search needs
-
 returns : tie.Need-returns
 returns c = (
   untouched _,
   λ d h. none-refused d _ (next-missing d _
       (subst (KeyAt _ _) (c .enum-told .given .1) (c .before .before .key-at .ensures))),
 )
-
-allowed-requires : tie.Need-allowed-requires
-allowed-requires c κs = search needs
 
 returns-2 : tie.Need-returns-2
 returns-2 c =
@@ -57,9 +45,6 @@ body-turn-requires c κs =
       moved-placed (start k .pre .0) (found k .moved),
       (start k .pre .1, sym (c .before .before .allowed .ensures) ∙ not-false _ (c .before .if1 .left)),
     )
-
-same-length : tie.Need-same-length
-same-length c = search needs
 
 returns-3 : tie.Need-returns-3
 returns-3 c =
@@ -82,5 +67,5 @@ returns-3 c =
 pub turn-at-spec : {M : Type 1} → statement M
 turn-at-spec =
     tie.close
-    (tie.spec key-at-requires enum-known-key enum-told returns allowed-requires returns-2 body-turn-requires same-length
-    returns-3)
+    (tie.spec (λ c κs. search needs) (λ c. search needs) (λ c. search needs) returns (λ c κs. search needs) returns-2
+    body-turn-requires (λ c. search needs) returns-3)

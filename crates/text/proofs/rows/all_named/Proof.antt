@@ -31,12 +31,6 @@ named-requires c κs = c .before .before .before .pre
 returns : tie.Need-returns Inv-loop μ-loop
 returns c = search all-no
 
-add-x : tie.Need-add-x Inv-loop μ-loop
-add-x c = omega arith
-
-loop-less : tie.Need-loop-less Inv-loop μ-loop
-loop-less c = omega arith
-
 loop-again : tie.Need-loop-again Inv-loop μ-loop
 loop-again c = search all-yes
 
@@ -46,4 +40,5 @@ returns-2 c = search all-ends
 pub all-named-spec : {M : Type 1} → statement M
 all-named-spec =
     tie.close
-    (tie.spec Inv-loop μ-loop loop-holds named-requires returns add-x loop-less loop-again returns-2)
+    (tie.spec Inv-loop μ-loop loop-holds named-requires returns (λ c. omega arith) (λ c. omega arith) loop-again
+    returns-2)

@@ -13,15 +13,9 @@ returns c = unknown-predicate _ _ _ _ _ _ (c .if1 .taken)
 returns-2 : tie.Need-returns-2
 returns-2 c = too-many _ _ _ _ _ _ (omega arith) (c .if2 .taken)
 
-arity-of-requires : tie.Need-arity-of-requires
-arity-of-requires c κs = search needs
-
 returns-3 : tie.Need-returns-3
 unfolding arityIn
 returns-3 c = other-arity _ _ _ _ _ _ (omega arith) (λ e. c .if3 .taken (c .before .arity-of .ensures ∙ e))
-
-all-below-requires : tie.Need-all-below-requires
-all-below-requires c κs = search needs
 
 returns-4 : tie.Need-returns-4
 unfolding arityIn
@@ -30,4 +24,4 @@ returns-4 c =
     (sym (c .before .before .arity-of .ensures) ∙ c .before .if3 .left) _ (c .all-below .ensures)
 
 pub fits-spec : {M : Type 1} → statement M
-fits-spec = tie.close (tie.spec returns returns-2 arity-of-requires returns-3 all-below-requires returns-4)
+fits-spec = tie.close (tie.spec returns returns-2 (λ c κs. search needs) returns-3 (λ c κs. search needs) returns-4)

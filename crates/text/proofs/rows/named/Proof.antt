@@ -39,12 +39,6 @@ names-requires c κs = c .before .before .before .pre (c .before .loop .i) (c .l
 returns : tie.Need-returns Inv-loop μ-loop
 returns c = search any-yes
 
-add-i : tie.Need-add-i Inv-loop μ-loop
-add-i c = omega arith
-
-loop-less : tie.Need-loop-less Inv-loop μ-loop
-loop-less c = omega arith
-
 loop-again : tie.Need-loop-again Inv-loop μ-loop
 loop-again c = search any-no
 
@@ -54,5 +48,5 @@ returns-2 c = search any-ends
 pub named-spec : {M : Type 1} → statement M
 named-spec =
     tie.close
-    (tie.spec Inv-loop μ-loop loop-holds mul-names add-names names-requires returns add-i loop-less loop-again
-    returns-2)
+    (tie.spec Inv-loop μ-loop loop-holds mul-names add-names names-requires returns (λ c. omega arith)
+    (λ c. omega arith) loop-again returns-2)

@@ -16,9 +16,6 @@ use Rattle.text.proofs.rows.names.Tie as tie
 predicate-at-requires : tie.Need-predicate-at-requires
 predicate-at-requires c κs = c .before .pre .inside
 
-wide-requires : tie.Need-wide-requires
-wide-requires c κs = search needs
-
 arity-of-requires : tie.Need-arity-of-requires
 arity-of-requires c κs =
     omega (arith, c .before .before .before .pre .known, c .wide .ensures, c .before .predicate-at .ensures .0)
@@ -50,4 +47,4 @@ returns c =
 pub names-spec : {M : Type 1} → statement M
 names-spec =
     tie.close
-    (tie.spec predicate-at-requires wide-requires arity-of-requires add-has-word has-word-requires returns)
+    (tie.spec predicate-at-requires (λ c κs. search needs) arity-of-requires add-has-word has-word-requires returns)

@@ -20,21 +20,6 @@ abbrev first : tie.After-row → tie.After-number-or-zero
 first r = r .before .before .before .before .before
 
 -- ---- the answers
-number-or-zero-requires : tie.Need-number-or-zero-requires
-number-or-zero-requires c κs = search needs
-
-number-or-zero-requires-2 : tie.Need-number-or-zero-requires-2
-number-or-zero-requires-2 c κs = search needs
-
-number-or-zero-requires-3 : tie.Need-number-or-zero-requires-3
-number-or-zero-requires-3 c κs = search needs
-
-number-or-zero-requires-4 : tie.Need-number-or-zero-requires-4
-number-or-zero-requires-4 c κs = search needs
-
-slice-aggregate-put-words : tie.Need-slice-aggregate-put-words
-slice-aggregate-put-words c = search needs
-
 put-words-requires : tie.Need-put-words-requires
 put-words-requires c κs =
     let s = start (first c) in
@@ -47,9 +32,6 @@ put-words-requires c κs =
           (rw (c .before .before .before .number-or-zero3 .ensures) (small 2))
           (rw (c .before .before .number-or-zero4 .ensures) (small 3)),
     )
-
-same-length : tie.Need-same-length
-same-length c = search needs
 
 returns : tie.Need-returns
 returns c =
@@ -69,5 +51,5 @@ returns c =
 pub put-row-spec : {M : Type 1} → statement M
 put-row-spec =
     tie.close
-    (tie.spec number-or-zero-requires number-or-zero-requires-2 number-or-zero-requires-3 number-or-zero-requires-4
-    slice-aggregate-put-words put-words-requires same-length returns)
+    (tie.spec (λ c κs. search needs) (λ c κs. search needs) (λ c κs. search needs) (λ c κs. search needs)
+    (λ c. search needs) put-words-requires (λ c. search needs) returns)

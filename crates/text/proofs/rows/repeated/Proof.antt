@@ -24,23 +24,8 @@ abbrev μ-loop : tie.MeasureT-loop
 loop-holds : tie.Need-loop-holds Inv-loop μ-loop
 loop-holds c = any-up-to refl
 
-mul-same-atom : tie.Need-mul-same-atom Inv-loop μ-loop
-mul-same-atom c = omega arith
-
-add-same-atom : tie.Need-add-same-atom Inv-loop μ-loop
-add-same-atom c = omega arith
-
-same-atom-requires : tie.Need-same-atom-requires Inv-loop μ-loop
-same-atom-requires c κs = omega arith
-
 returns : tie.Need-returns Inv-loop μ-loop
 returns c = search any-yes
-
-add-i : tie.Need-add-i Inv-loop μ-loop
-add-i c = omega arith
-
-loop-less : tie.Need-loop-less Inv-loop μ-loop
-loop-less c = omega arith
 
 loop-again : tie.Need-loop-again Inv-loop μ-loop
 loop-again c = search any-no
@@ -51,5 +36,5 @@ returns-2 c = search any-ends
 pub repeated-spec : {M : Type 1} → statement M
 repeated-spec =
     tie.close
-    (tie.spec Inv-loop μ-loop loop-holds mul-same-atom add-same-atom same-atom-requires returns add-i loop-less
-    loop-again returns-2)
+    (tie.spec Inv-loop μ-loop loop-holds (λ c. omega arith) (λ c. omega arith) (λ c κs. omega arith) returns
+    (λ c. omega arith) (λ c. omega arith) loop-again returns-2)

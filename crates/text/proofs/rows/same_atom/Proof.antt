@@ -9,27 +9,9 @@ use Rattle.text.specs.ReadCode.{rowSame}
 use Rattle.text.proofs.rows.same_atom.Statement.{statement}
 use Rattle.text.proofs.rows.same_atom.Tie as tie
 
-add-same-words : tie.Need-add-same-words
-add-same-words c = search needs
-
-add-same-words-2 : tie.Need-add-same-words-2
-add-same-words-2 c = search needs
-
-same-words-requires : tie.Need-same-words-requires
-same-words-requires c κs = search needs
-
 returns : tie.Need-returns
 unfolding rowSame
 returns c = sym (rw (sym (c .before .same-words .ensures) ∙ not-true _ (c .if1 .taken)) refl)
-
-add-same-words-3 : tie.Need-add-same-words-3
-add-same-words-3 c = search needs
-
-add-same-words-4 : tie.Need-add-same-words-4
-add-same-words-4 c = search needs
-
-same-words-requires-2 : tie.Need-same-words-requires-2
-same-words-requires-2 c κs = search needs
 
 returns-2 : tie.Need-returns-2
 unfolding rowSame
@@ -39,5 +21,5 @@ returns-2 c = c .same-words2 .ensures ∙
 pub same-atom-spec : {M : Type 1} → statement M
 same-atom-spec =
     tie.close
-    (tie.spec add-same-words add-same-words-2 same-words-requires returns add-same-words-3 add-same-words-4
-    same-words-requires-2 returns-2)
+    (tie.spec (λ c. search needs) (λ c. search needs) (λ c κs. search needs) returns (λ c. search needs)
+    (λ c. search needs) (λ c κs. search needs) returns-2)

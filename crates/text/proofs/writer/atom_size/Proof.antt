@@ -44,9 +44,6 @@ key-and-predicate c =
 predicate-at-requires : tie.Need-predicate-at-requires
 predicate-at-requires c κs = c .before .pre .inside
 
-wide-requires : tie.Need-wide-requires
-wide-requires c κs = search needs
-
 arity-of-requires : tie.Need-arity-of-requires
 arity-of-requires c κs =
     omega (arith, c .before .before .before .pre .known, c .wide .ensures, c .before .predicate-at .ensures .0)
@@ -54,20 +51,11 @@ arity-of-requires c κs =
 role-at-requires : tie.Need-role-at-requires
 role-at-requires c κs = start c .pre .inside
 
-key-size-requires : tie.Need-key-size-requires
-key-size-requires c κs = search needs
-
-number-size-requires : tie.Need-number-size-requires
-number-size-requires c κs = search needs
-
 add-result : tie.Need-add-result
 add-result c = let l = key-and-predicate c in omega arith
 
 add-result-2 : tie.Need-add-result-2
 add-result-2 c = let l = key-and-predicate c in omega arith
-
-add-list-size : tie.Need-add-list-size
-add-list-size c = search needs
 
 list-size-requires : tie.Need-list-size-requires
 list-size-requires c κs =
@@ -109,5 +97,6 @@ returns c =
 pub atom-size-spec : {M : Type 1} → statement M
 atom-size-spec =
     tie.close
-    (tie.spec predicate-at-requires wide-requires arity-of-requires role-at-requires key-size-requires
-    number-size-requires add-result add-result-2 add-list-size list-size-requires add-result-3 add-result-4 returns)
+    (tie.spec predicate-at-requires (λ c κs. search needs) arity-of-requires role-at-requires (λ c κs. search needs)
+    (λ c κs. search needs) add-result add-result-2 (λ c. search needs) list-size-requires add-result-3 add-result-4
+    returns)

@@ -46,12 +46,6 @@ returns c =
       stops = λ l e. c .if1 .taken (c .before .wide .ensures ∙ e);
     }
 
-add-n : tie.Need-add-n Inv-loop μ-loop
-add-n c = omega arith
-
-loop-less : tie.Need-loop-less Inv-loop μ-loop
-loop-less c = omega arith
-
 loop-again : tie.Need-loop-again Inv-loop μ-loop
 loop-again c = (
   omega arith,
@@ -70,5 +64,5 @@ returns-2 c =
 pub atoms-of-spec : {M : Type 1} → statement M
 atoms-of-spec =
     tie.close
-    (tie.spec Inv-loop μ-loop loop-holds mul-wide add-wide mul-wide-2 shared-slice-read-wide wide-requires returns add-n
-    loop-less loop-again returns-2)
+    (tie.spec Inv-loop μ-loop loop-holds mul-wide add-wide mul-wide-2 shared-slice-read-wide wide-requires returns
+    (λ c. omega arith) (λ c. omega arith) loop-again returns-2)

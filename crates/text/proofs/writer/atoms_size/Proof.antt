@@ -53,12 +53,6 @@ add-size c =
     let e = c .atom-size .ensures in
     omega arith
 
-add-k : tie.Need-add-k Inv-loop μ-loop
-add-k c = omega arith
-
-loop-less : tie.Need-loop-less Inv-loop μ-loop
-loop-less c = omega arith
-
 loop-again : tie.Need-loop-again Inv-loop μ-loop
 loop-again c =
     let l = longer (c .before) in
@@ -74,5 +68,5 @@ returns c =
 pub atoms-size-spec : {M : Type 1} → statement M
 atoms-size-spec =
     tie.close
-    (tie.spec Inv-loop μ-loop loop-holds mul-atom-size add-atom-size atom-size-requires add-size add-k loop-less
-    loop-again returns)
+    (tie.spec Inv-loop μ-loop loop-holds mul-atom-size add-atom-size atom-size-requires add-size (λ c. omega arith)
+    (λ c. omega arith) loop-again returns)

@@ -14,9 +14,6 @@ word-requires-2 c κs =
     let l = counts-inside (c .before .before .args .table .now) (c .before .before .pre) in
     omega arith
 
-add-result : tie.Need-add-result
-add-result c = search needs
-
 returns : tie.Need-returns
 unfolding factCount
 returns c =
@@ -25,4 +22,4 @@ returns c =
     omega arith
 
 pub fact-count-spec : {M : Type 1} → statement M
-fact-count-spec = tie.close (tie.spec word-requires word-requires-2 add-result returns)
+fact-count-spec = tie.close (tie.spec word-requires word-requires-2 (λ c. search needs) returns)

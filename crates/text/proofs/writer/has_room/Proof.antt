@@ -23,11 +23,8 @@ returns c =
     let m = text-most (taskOf (start .args .table .now)) (of-table (start .args .table .now) (start .pre) .0) in
     sym (le-leb (length (write (taskOf (start .args .table .now)))) (start .args .bytes) (omega arith))
 
-text-size-requires : tie.Need-text-size-requires
-text-size-requires c κs = search needs
-
 returns-2 : tie.Need-returns-2
 returns-2 c = ap (λ (n : ℕ). leb n (c .before .before .before .args .bytes)) (c .text-size .ensures)
 
 pub has-room-spec : {M : Type 1} → statement M
-has-room-spec = tie.close (tie.spec returns text-size-requires returns-2)
+has-room-spec = tie.close (tie.spec returns (λ c κs. search needs) returns-2)

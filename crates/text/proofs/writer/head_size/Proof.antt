@@ -27,17 +27,11 @@ list-size-requires c κs =
     let a = ap (λ (n : ℕ). length (commaed (spaced w 6 1 n))) e in
     (λ k h. arities-inside w table k (omega arith), omega arith)
 
-add-result : tie.Need-add-result
-add-result c = search needs
-
 shared-slice-read-number-size : tie.Need-shared-slice-read-number-size
 shared-slice-read-number-size c =
     let start = c .before .before .before .before .before .before in
     let l = counts-inside (start .args .table .now) (start .pre) in
     omega arith
-
-number-size-requires : tie.Need-number-size-requires
-number-size-requires c κs = search needs
 
 -- the sizes found make the whole, which is small
 abbrev listed : tie.After-number-size → tie.After-list-size
@@ -78,5 +72,5 @@ returns c = let l = sizes (c .before) in omega arith
 pub head-size-spec : {M : Type 1} → statement M
 head-size-spec =
     tie.close
-    (tie.spec word-requires list-size-requires add-result shared-slice-read-number-size number-size-requires
+    (tie.spec word-requires list-size-requires (λ c. search needs) shared-slice-read-number-size (λ c κs. search needs)
     add-result-2 add-result-3 add-result-4 add-result-5 add-result-6 returns)

@@ -93,9 +93,6 @@ behind-arguments c =
 predicate-at-requires : tie.Need-predicate-at-requires
 predicate-at-requires c κs = c .before .before .pre .0 .inside
 
-wide-requires : tie.Need-wide-requires
-wide-requires c κs = search needs
-
 arity-of-requires : tie.Need-arity-of-requires
 arity-of-requires c κs =
     let known = c .before .before .before .before .pre .0 .known in
@@ -122,9 +119,6 @@ put-byte-requires : tie.Need-put-byte-requires
 put-byte-requires c κs =
     byte-room colon (arguments (start (arity (keyed (c .before)))) ++ (newline ∷ [])) (behind-predicate (c .before))
 
-add-put-list : tie.Need-add-put-list
-add-put-list c = search needs
-
 put-list-requires : tie.Need-put-list-requires
 put-list-requires c κs =
     let at-arity = arity (keyed (numbered (c .before))) in
@@ -138,9 +132,6 @@ put-list-requires c κs =
 put-byte-requires-2 : tie.Need-put-byte-requires-2
 put-byte-requires-2 c κs = byte-room newline [] (behind-arguments (c .before))
 
-same-length : tie.Need-same-length
-same-length c = search needs
-
 returns : tie.Need-returns
 returns c =
     let start = start (arity (keyed (numbered (begun (c .before .before .before .before))))) in
@@ -150,5 +141,6 @@ returns c =
 pub put-atom-spec : {M : Type 1} → statement M
 put-atom-spec =
     tie.close
-    (tie.spec predicate-at-requires wide-requires arity-of-requires role-at-requires put-key-requires
-    put-number-requires put-byte-requires add-put-list put-list-requires put-byte-requires-2 same-length returns)
+    (tie.spec predicate-at-requires (λ c κs. search needs) arity-of-requires role-at-requires put-key-requires
+    put-number-requires put-byte-requires (λ c. search needs) put-list-requires put-byte-requires-2 (λ c. search needs)
+    returns)

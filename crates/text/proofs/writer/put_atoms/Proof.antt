@@ -64,12 +64,6 @@ put-atom-requires c κs =
       going-room (lines (at-loop .loop .k)) (onwards lines (at-loop .loop .k + 1) (args .n)) (to-come (c .before)),
     )
 
-add-k : tie.Need-add-k Inv-loop μ-loop
-add-k c = omega arith
-
-loop-less : tie.Need-loop-less Inv-loop μ-loop
-loop-less c = omega arith
-
 loop-again : tie.Need-loop-again Inv-loop μ-loop
 loop-again c =
     (omega arith, going-on (to-come (c .before .before .before .before)) (c .before .before .put-atom .ensures))
@@ -86,5 +80,5 @@ returns c =
 pub put-atoms-spec : {M : Type 1} → statement M
 put-atoms-spec =
     tie.close
-    (tie.spec Inv-loop μ-loop loop-holds mul-put-atom add-put-atom put-atom-requires add-k loop-less loop-again
-    same-length returns)
+    (tie.spec Inv-loop μ-loop loop-holds mul-put-atom add-put-atom put-atom-requires (λ c. omega arith)
+    (λ c. omega arith) loop-again same-length returns)

@@ -62,17 +62,11 @@ word-requires c κs =
     let l = counts-inside (start .args .table .now) (start .pre .0) in
     omega arith
 
-slice-aggregate-put-bytes : tie.Need-slice-aggregate-put-bytes
-slice-aggregate-put-bytes c = search needs
-
 put-bytes-requires : tie.Need-put-bytes-requires
 put-bytes-requires c κs =
     let start = c .before .before .before .before .before in
     let r = going-room taskBytes (objects start ++ arities start) (begin start) in
     omega arith
-
-slice-aggregate-put-number-line : tie.Need-slice-aggregate-put-number-line
-slice-aggregate-put-number-line c = search needs
 
 shared-slice-read-put-number-line : tie.Need-shared-slice-read-put-number-line
 shared-slice-read-put-number-line c =
@@ -86,9 +80,6 @@ put-number-line-requires c κs =
     let start = start (c .before .before .before) in
     going-room (objects start) (arities start) (behind-task (c .before .before .before))
 
-slice-aggregate-put-list-line : tie.Need-slice-aggregate-put-list-line
-slice-aggregate-put-list-line c = search needs
-
 put-list-line-requires : tie.Need-put-list-line-requires
 unfolding line bytes
 put-list-line-requires c κs =
@@ -98,9 +89,6 @@ put-list-line-requires c κs =
     let r = last-room (behind-objects put) in
     let l = ap (λ (bs : List ℕ). length (bs ++ (newline ∷ []))) (predicates-read put) in
     (λ k h. arities-inside (start .args .table .now) (start .pre .0) k (omega arith), omega arith)
-
-same-length : tie.Need-same-length
-same-length c = search needs
 
 returns : tie.Need-returns
 unfolding line bytes
@@ -113,6 +101,5 @@ returns c =
 pub put-head-spec : {M : Type 1} → statement M
 put-head-spec =
     tie.close
-    (tie.spec word-requires slice-aggregate-put-bytes put-bytes-requires slice-aggregate-put-number-line
-    shared-slice-read-put-number-line put-number-line-requires slice-aggregate-put-list-line put-list-line-requires
-    same-length returns)
+    (tie.spec word-requires (λ c. search needs) put-bytes-requires (λ c. search needs) shared-slice-read-put-number-line
+    put-number-line-requires (λ c. search needs) put-list-line-requires (λ c. search needs) returns)

@@ -22,18 +22,12 @@ goal-key c =
     let not-zero = c .match .rest .0 .0 .0 .1 in
     key-other role (omega arith)
 
-slice-aggregate-put-bytes : tie.Need-slice-aggregate-put-bytes
-slice-aggregate-put-bytes c = search needs
-
 put-bytes-requires : tie.Need-put-bytes-requires
 unfolding keyBytes
 put-bytes-requires c κs =
     let l = ap (λ (r : ℕ). length (keyBytes r)) (c .before .before .match .keys1) in
     let p = c .before .before .before .before .pre in
     omega arith
-
-slice-aggregate-put-bytes-2 : tie.Need-slice-aggregate-put-bytes-2
-slice-aggregate-put-bytes-2 c = search needs
 
 put-bytes-requires-2 : tie.Need-put-bytes-requires-2
 unfolding keyBytes
@@ -42,18 +36,12 @@ put-bytes-requires-2 c κs =
     let p = c .before .before .before .before .pre in
     omega arith
 
-slice-aggregate-put-bytes-3 : tie.Need-slice-aggregate-put-bytes-3
-slice-aggregate-put-bytes-3 c = search needs
-
 put-bytes-requires-3 : tie.Need-put-bytes-requires-3
 unfolding keyBytes
 put-bytes-requires-3 c κs =
     let l = ap (λ (r : ℕ). length (keyBytes r)) (c .before .before .match .keys3) in
     let p = c .before .before .before .before .pre in
     omega arith
-
-slice-aggregate-put-bytes-4 : tie.Need-slice-aggregate-put-bytes-4
-slice-aggregate-put-bytes-4 c = search needs
 
 put-bytes-requires-4 : tie.Need-put-bytes-requires-4
 unfolding keyBytes
@@ -62,9 +50,6 @@ put-bytes-requires-4 c κs =
     let p = c .before .before .before .before .pre in
     omega arith
 
-slice-aggregate-put-bytes-5 : tie.Need-slice-aggregate-put-bytes-5
-slice-aggregate-put-bytes-5 c = search needs
-
 put-bytes-requires-5 : tie.Need-put-bytes-requires-5
 unfolding keyBytes
 put-bytes-requires-5 c κs =
@@ -72,17 +57,11 @@ put-bytes-requires-5 c κs =
     let p = c .before .before .before .before .pre in
     omega arith
 
-same-length : tie.Need-same-length
-same-length c = search needs
-
 returns : tie.Need-returns
 unfolding keyBytes
 returns c =
     puts-same (sym (ap keyBytes (c .before .before .before .before .before .match .keys1)))
     (c .before .before .put-bytes .ensures)
-
-same-length-2 : tie.Need-same-length-2
-same-length-2 c = search needs
 
 returns-2 : tie.Need-returns-2
 unfolding keyBytes
@@ -90,26 +69,17 @@ returns-2 c =
     puts-same (sym (ap keyBytes (c .before .before .before .before .before .match .keys2)))
     (c .before .before .put-bytes2 .ensures)
 
-same-length-3 : tie.Need-same-length-3
-same-length-3 c = search needs
-
 returns-3 : tie.Need-returns-3
 unfolding keyBytes
 returns-3 c =
     puts-same (sym (ap keyBytes (c .before .before .before .before .before .match .keys3)))
     (c .before .before .put-bytes3 .ensures)
 
-same-length-4 : tie.Need-same-length-4
-same-length-4 c = search needs
-
 returns-4 : tie.Need-returns-4
 unfolding keyBytes
 returns-4 c =
     puts-same (sym (ap keyBytes (c .before .before .before .before .before .match .keys4)))
     (c .before .before .put-bytes4 .ensures)
-
-same-length-5 : tie.Need-same-length-5
-same-length-5 c = search needs
 
 returns-5 : tie.Need-returns-5
 unfolding keyBytes
@@ -119,7 +89,7 @@ returns-5 c =
 pub put-key-spec : {M : Type 1} → statement M
 put-key-spec =
     tie.close
-    (tie.spec slice-aggregate-put-bytes put-bytes-requires slice-aggregate-put-bytes-2 put-bytes-requires-2
-    slice-aggregate-put-bytes-3 put-bytes-requires-3 slice-aggregate-put-bytes-4 put-bytes-requires-4
-    slice-aggregate-put-bytes-5 put-bytes-requires-5 same-length returns same-length-2 returns-2 same-length-3 returns-3
-    same-length-4 returns-4 same-length-5 returns-5)
+    (tie.spec (λ c. search needs) put-bytes-requires (λ c. search needs) put-bytes-requires-2 (λ c. search needs)
+    put-bytes-requires-3 (λ c. search needs) put-bytes-requires-4 (λ c. search needs) put-bytes-requires-5
+    (λ c. search needs) returns (λ c. search needs) returns-2 (λ c. search needs) returns-3 (λ c. search needs)
+    returns-4 (λ c. search needs) returns-5)

@@ -48,9 +48,6 @@ behind-atoms : (c : tie.After-slice-known3) →
     (c .before .before .put-atoms .last .0) (c .before .before .put-atoms .result)
 behind-atoms c = going-on (behind-schema (opened c)) (c .before .before .put-atoms .ensures)
 
-slice-aggregate-put-number-line : tie.Need-slice-aggregate-put-number-line
-slice-aggregate-put-number-line c = search needs
-
 put-number-line-requires : tie.Need-put-number-line-requires
 unfolding line bytes
 put-number-line-requires c κs =
@@ -61,9 +58,6 @@ put-atoms-requires : tie.Need-put-atoms-requires
 put-atoms-requires c κs =
     let start = start (c .before) in
     (start .pre .0, going-room (atoms start) (partLine start) (behind-schema (c .before)))
-
-slice-aggregate-put-list-line : tie.Need-slice-aggregate-put-list-line
-slice-aggregate-put-list-line c = search needs
 
 add-put-list-line : tie.Need-add-put-list-line
 add-put-list-line c = omega (arith, start (opened (c .before .before)) .pre .1 .0)
@@ -76,9 +70,6 @@ put-list-line-requires c κs =
       last-room (behind-atoms (c .before .before)),
     )
 
-same-length : tie.Need-same-length
-same-length c = search needs
-
 returns : tie.Need-returns
 unfolding line bytes
 returns c =
@@ -87,5 +78,5 @@ returns c =
 pub put-schema-spec : {M : Type 1} → statement M
 put-schema-spec =
     tie.close
-    (tie.spec slice-aggregate-put-number-line put-number-line-requires put-atoms-requires slice-aggregate-put-list-line
-    add-put-list-line put-list-line-requires same-length returns)
+    (tie.spec (λ c. search needs) put-number-line-requires put-atoms-requires (λ c. search needs) add-put-list-line
+    put-list-line-requires (λ c. search needs) returns)

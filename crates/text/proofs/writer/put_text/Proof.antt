@@ -71,9 +71,6 @@ facts-base-requires c κs =
     let l = counts-inside (start .args .table .now) (start .pre .0) in
     omega arith
 
-fact-count-requires : tie.Need-fact-count-requires
-fact-count-requires c κs = search needs
-
 put-head-requires : tie.Need-put-head-requires
 put-head-requires c κs =
     let at = c .before in
@@ -95,14 +92,8 @@ put-atoms-requires c κs =
       omega arith,
     )
 
-slice-aggregate-put-bytes : tie.Need-slice-aggregate-put-bytes
-slice-aggregate-put-bytes c = search needs
-
 put-bytes-requires : tie.Need-put-bytes-requires
 put-bytes-requires c κs = last-room (behind-facts (c .before .before))
-
-same-length : tie.Need-same-length
-same-length c = search needs
 
 returns : tie.Need-returns
 returns c =
@@ -111,5 +102,5 @@ returns c =
 pub put-text-spec : {M : Type 1} → statement M
 put-text-spec =
     tie.close
-    (tie.spec facts-base-requires fact-count-requires put-head-requires put-schemas-requires put-atoms-requires
-    slice-aggregate-put-bytes put-bytes-requires same-length returns)
+    (tie.spec facts-base-requires (λ c κs. search needs) put-head-requires put-schemas-requires put-atoms-requires
+    (λ c. search needs) put-bytes-requires (λ c. search needs) returns)

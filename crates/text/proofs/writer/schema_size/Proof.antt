@@ -21,9 +21,6 @@ whole c = length-schemaText (c .args .table .now) (c .args .params) (c .args .ba
 atoms-size-requires : tie.Need-atoms-size-requires
 atoms-size-requires c κs = let l = whole (c .before) in (c .before .pre .0, omega arith)
 
-add-list-size : tie.Need-add-list-size
-add-list-size c = omega arith
-
 list-size-requires : tie.Need-list-size-requires
 list-size-requires c κs =
     let start = c .before .before in
@@ -32,9 +29,6 @@ list-size-requires c κs =
           (start .pre .0),
       omega arith,
     )
-
-number-size-requires : tie.Need-number-size-requires
-number-size-requires c κs = search needs
 
 add-result : tie.Need-add-result
 add-result c = let l = whole (c .before .before .before .before .before) in omega arith
@@ -60,5 +54,5 @@ returns c = let l = whole (c .before .before .before .before .before .before) in
 pub schema-size-spec : {M : Type 1} → statement M
 schema-size-spec =
     tie.close
-    (tie.spec atoms-size-requires add-list-size list-size-requires number-size-requires add-result add-result-2
+    (tie.spec atoms-size-requires (λ c. omega arith) list-size-requires (λ c κs. search needs) add-result add-result-2
     add-result-3 add-result-4 add-result-5 add-result-6 returns)

@@ -133,12 +133,6 @@ add-base c =
 sub-left : tie.Need-sub-left Inv-loop μ-loop
 sub-left c = c .before .before .atoms-of .ensures .within
 
-add-s : tie.Need-add-s Inv-loop μ-loop
-add-s c = omega arith
-
-loop-less : tie.Need-loop-less Inv-loop μ-loop
-loop-less c = omega arith
-
 loop-again : tie.Need-loop-again Inv-loop μ-loop
 loop-again c =
     let l = longer (c .before .before) in
@@ -163,5 +157,5 @@ pub schemas-size-spec : {M : Type 1} → statement M
 schemas-size-spec =
     tie.close
     (tie.spec Inv-loop μ-loop word-requires rows-base-requires word-requires-2 loop-holds atoms-of-requires
-    params-of-requires cast-schema-size schema-size-requires add-size mul-base add-base sub-left add-s loop-less
-    loop-again returns)
+    params-of-requires cast-schema-size schema-size-requires add-size mul-base add-base sub-left (λ c. omega arith)
+    (λ c. omega arith) loop-again returns)

@@ -18,9 +18,6 @@ use Rattle.text.proofs.writer.text_size.Tie as tie
 facts-base-requires : tie.Need-facts-base-requires
 facts-base-requires c κs = let l = counts-inside (c .before .args .table .now) (c .before .pre) in omega arith
 
-fact-count-requires : tie.Need-fact-count-requires
-fact-count-requires c κs = search needs
-
 atoms-size-requires : tie.Need-atoms-size-requires
 atoms-size-requires c κs =
     let start = c .before .before .before in
@@ -30,9 +27,6 @@ atoms-size-requires c κs =
     let b = ap₂ (λ (b n : ℕ). length (atomsText w b n)) (c .before .facts-base .ensures) (c .fact-count .ensures) in
     let n = c .fact-count .ensures in
     (λ k h. rw (c .before .facts-base .ensures) (facts-inside w (start .pre) k (omega arith)), omega arith)
-
-head-size-requires : tie.Need-head-size-requires
-head-size-requires c κs = search needs
 
 schemas-size-requires : tie.Need-schemas-size-requires
 schemas-size-requires c κs =
@@ -72,5 +66,5 @@ returns c = let l = sizes (c .before) in omega arith
 pub text-size-spec : {M : Type 1} → statement M
 text-size-spec =
     tie.close
-    (tie.spec facts-base-requires fact-count-requires atoms-size-requires head-size-requires schemas-size-requires
-    add-result add-result-2 add-result-3 returns)
+    (tie.spec facts-base-requires (λ c κs. search needs) atoms-size-requires (λ c κs. search needs)
+    schemas-size-requires add-result add-result-2 add-result-3 returns)

@@ -19,9 +19,6 @@ use borrow.Author.Needs.{needs}
 use Rattle.text.proofs.writer.write_task.Statement.{statement}
 use Rattle.task.proofs.Answers.{both}
 
-has-room-requires : tie.Need-has-room-requires
-has-room-requires c κs = search needs
-
 returns : tie.Need-returns
 unfolding writeAnswerTold
 returns c =
@@ -40,9 +37,6 @@ room c = sym (c .before .has-room .ensures) ∙ not-false _ (c .if1 .left)
 put-text-requires : tie.Need-put-text-requires
 put-text-requires c κs = (start (c .before) .pre, leb-true _ _ (room (c .before)))
 
-same-length : tie.Need-same-length
-same-length c = search needs
-
 returns-2 : tie.Need-returns-2
 unfolding writeAnswerTold
 returns-2 c =
@@ -59,4 +53,4 @@ returns-2 c =
     )
 
 pub write-task-spec : {M : Type 1} → statement M
-write-task-spec = tie.close (tie.spec has-room-requires returns put-text-requires same-length returns-2)
+write-task-spec = tie.close (tie.spec (λ c κs. search needs) returns put-text-requires (λ c. search needs) returns-2)

@@ -79,9 +79,6 @@ returns-2 c =
 keep-parts-requires : tie.Need-keep-parts-requires
 keep-parts-requires c κs = let e = c .before in (table e, start e .pre)
 
-enum-known-circular : tie.Need-enum-known-circular
-enum-known-circular c = search needs
-
 returns-3 : tie.Need-returns-3
 unfolding AcceptanceTold circularTold
 returns-3 c =
@@ -89,9 +86,6 @@ returns-3 c =
     let e = tested k in
     let s = sym (k .keep-parts .ensures .0) ∙ ap circularTold (c .before .circular .given .1) in
     refused-nine (words k) (long (e .before .before)) (table e) (found-circular (taskOf (words k)) s)
-
-enum-told : tie.Need-enum-told
-enum-told c = search needs
 
 sizes-of-requires : tie.Need-sizes-of-requires
 sizes-of-requires c κs = let d = c .before in (table (tested (keeper d)), kept d)
@@ -124,5 +118,5 @@ returns-5 c =
 pub keep-accepted-spec : {M : Type 1} → statement M
 keep-accepted-spec =
     tie.close
-    (tie.spec returns is-table-requires returns-2 keep-parts-requires enum-known-circular returns-3 enum-told
+    (tie.spec returns is-table-requires returns-2 keep-parts-requires (λ c. search needs) returns-3 (λ c. search needs)
     sizes-of-requires returns-4 returns-5)

@@ -9,18 +9,6 @@ use borrow.Author.Needs.{needs}
 use Rattle.tokens.specs.Kept.{firstPlace, withField}
 use Rattle.tokens.proofs.kept.keep_begin.Statement.{statement}
 
-cast-put : tie.Need-cast-put
-cast-put c = search needs
-
-put-requires : tie.Need-put-requires
-put-requires c κs = search needs
-
-cast-put-2 : tie.Need-cast-put-2
-cast-put-2 c = search needs
-
-put-requires-2 : tie.Need-put-requires-2
-put-requires-2 c κs = search needs
-
 returns : tie.Need-returns
 returns c =
     let a = c .before .before .before .before .args in
@@ -28,4 +16,6 @@ returns c =
     ap (λ (kept : List ℕ). withField kept (a .row) firstPlace (a .first)) (c .before .before .put .ensures)
 
 pub keep-begin-spec : {M : Type 1} → statement M
-keep-begin-spec = tie.close (tie.spec cast-put put-requires cast-put-2 put-requires-2 returns)
+keep-begin-spec =
+    tie.close
+    (tie.spec (λ c. search needs) (λ c κs. search needs) (λ c. search needs) (λ c κs. search needs) returns)

@@ -9,21 +9,6 @@ use borrow.Author.Needs.{needs}
 use Rattle.tokens.specs.Kept.{ownPlace, withField}
 use Rattle.tokens.proofs.kept.keep_part.Statement.{statement}
 
-add-put : tie.Need-add-put
-add-put c = search needs
-
-put-requires : tie.Need-put-requires
-put-requires c κs = search needs
-
-add-put-2 : tie.Need-add-put-2
-add-put-2 c = search needs
-
-cast-put : tie.Need-cast-put
-cast-put c = search needs
-
-put-requires-2 : tie.Need-put-requires-2
-put-requires-2 c κs = search needs
-
 returns : tie.Need-returns
 returns c =
     let a = c .before .before .before .before .args in
@@ -31,4 +16,7 @@ returns c =
     ap (λ (kept : List ℕ). withField kept (a .s) (ownPlace + a .j) (a .own)) (c .before .before .put .ensures)
 
 pub keep-part-spec : {M : Type 1} → statement M
-keep-part-spec = tie.close (tie.spec add-put put-requires add-put-2 cast-put put-requires-2 returns)
+keep-part-spec =
+    tie.close
+    (tie.spec (λ c. search needs) (λ c κs. search needs) (λ c. search needs) (λ c. search needs) (λ c κs. search needs)
+    returns)

@@ -33,15 +33,6 @@ loop-holds c =
 part-of-requires : tie.Need-part-of-requires Inv-loop μ-loop
 part-of-requires c κs = stretch-atom (c .before .before .before .pre) (c .before .loop .i) (c .loop-test .taken)
 
-add-n : tie.Need-add-n Inv-loop μ-loop
-add-n c = omega arith
-
-add-i : tie.Need-add-i Inv-loop μ-loop
-add-i c = omega arith
-
-loop-less : tie.Need-loop-less Inv-loop μ-loop
-loop-less c = omega arith
-
 loop-again : tie.Need-loop-again Inv-loop μ-loop
 loop-again c =
     let s = c .before .before .before .before .before .before .before in
@@ -69,4 +60,5 @@ returns c =
 pub atoms-in-spec : {M : Type 1} → statement M
 atoms-in-spec =
     tie.close
-    (tie.spec Inv-loop μ-loop loop-holds part-of-requires add-n add-i loop-less loop-again returns)
+    (tie.spec Inv-loop μ-loop loop-holds part-of-requires (λ c. omega arith) (λ c. omega arith) (λ c. omega arith)
+    loop-again returns)

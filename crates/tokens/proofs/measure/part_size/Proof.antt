@@ -89,9 +89,6 @@ pars-at-requires c κs = let s = begun (ended c .before) in let k = small s in (
 add-required : tie.Need-add-required
 add-required c = omega (arith, old-few (c .before))
 
-size-requires : tie.Need-size-requires
-size-requires c κs = search needs
-
 add-required-2 : tie.Need-add-required-2
 add-required-2 c = omega (arith, old-few (c .before .before))
 
@@ -108,21 +105,6 @@ returns c =
     let k = c .before .count-of .ensures in
     let one = ap (tokens p) (eq-eqb (keptCount (s .args .kept .now) (s .args .s)) 1 (omega (arith, c .if1 .taken))) in
     (omega arith, omega arith)
-
-size-requires-2 : tie.Need-size-requires-2
-size-requires-2 c κs = search needs
-
-add-result : tie.Need-add-result
-add-result c = search needs
-
-size-requires-3 : tie.Need-size-requires-3
-size-requires-3 c κs = search needs
-
-add-result-2 : tie.Need-add-result-2
-add-result-2 c = search needs
-
-add-result-3 : tie.Need-add-result-3
-add-result-3 c = search needs
 
 add-result-4 : tie.Need-add-result-4
 add-result-4 c = omega (arith, old-few (sized c .before))
@@ -145,5 +127,5 @@ pub part-size-spec : {M : Type 1} → statement M
 part-size-spec =
     tie.close
     (tie.spec start-of-requires end-of-requires part-at-requires atoms-in-requires pars-at-requires add-required
-    size-requires add-required-2 count-of-requires returns size-requires-2 add-result size-requires-3 add-result-2
-    add-result-3 add-result-4 returns-2)
+    (λ c κs. search needs) add-required-2 count-of-requires returns (λ c κs. search needs) (λ c. search needs)
+    (λ c κs. search needs) (λ c. search needs) (λ c. search needs) add-result-4 returns-2)

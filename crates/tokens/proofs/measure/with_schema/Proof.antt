@@ -11,18 +11,6 @@ use native.Mathlib.Omega.{arith}
 use Rattle.tokens.proofs.measure.with_schema.Statement.{statement}
 use Rattle.tokens.proofs.measure.with_schema.Tie as tie
 
-sub-t10 : tie.Need-sub-t10
-sub-t10 c = search needs
-
-add-t11 : tie.Need-add-t11
-add-t11 c = search needs
-
-add-t15 : tie.Need-add-t15
-add-t15 c = search needs
-
-add-t18 : tie.Need-add-t18
-add-t18 c = search needs
-
 larger : (c : tie.Joined1) → c .if1 .pars ≡ max (c .before .args .sizes .pars) (c .before .args .one .shared)
 larger c = ⊎-elim (λ x. omega arith) (λ x. omega arith) (c .if1 .came)
 
@@ -37,4 +25,6 @@ returns-2 c =
     (refl, (larger (c .before), (refl, (refl, c .if2 .left ∙ ap (λ b. b && a .one .few) (sym (c .if2 .left))))))
 
 pub with-schema-spec : {M : Type 1} → statement M
-with-schema-spec = tie.close (tie.spec sub-t10 add-t11 add-t15 add-t18 returns returns-2)
+with-schema-spec =
+    tie.close
+    (tie.spec (λ c. search needs) (λ c. search needs) (λ c. search needs) (λ c. search needs) returns returns-2)

@@ -26,24 +26,6 @@ word-requires-2 c κs = omega (arith, long (c .before .before))
 word-requires-3 : tie.Need-word-requires-3
 word-requires-3 c κs = omega (arith, long (c .before .before .before))
 
-add-predicates : tie.Need-add-predicates
-add-predicates c = search needs
-
-add-predicates-2 : tie.Need-add-predicates-2
-add-predicates-2 c = search needs
-
-add-predicates-3 : tie.Need-add-predicates-3
-add-predicates-3 c = search needs
-
-add-are-within : tie.Need-add-are-within
-add-are-within c = search needs
-
-add-are-within-2 : tie.Need-add-are-within-2
-add-are-within-2 c = search needs
-
-are-within-requires : tie.Need-are-within-requires
-are-within-requires c κs = search needs
-
 returns : tie.Need-returns
 unfolding sizesFit
 returns c =
@@ -62,5 +44,5 @@ returns c =
 pub within-limits-spec : {M : Type 1} → statement M
 within-limits-spec =
     tie.close
-    (tie.spec word-requires word-requires-2 word-requires-3 add-predicates add-predicates-2 add-predicates-3
-    add-are-within add-are-within-2 are-within-requires returns)
+    (tie.spec word-requires word-requires-2 word-requires-3 (λ c. search needs) (λ c. search needs) (λ c. search needs)
+    (λ c. search needs) (λ c. search needs) (λ c κs. search needs) returns)

@@ -31,12 +31,6 @@ own-at-requires c κs =
 union-requires : tie.Need-union-requires Inv-loop μ-loop
 union-requires c κs = tt
 
-add-j : tie.Need-add-j Inv-loop μ-loop
-add-j c = omega arith
-
-loop-less : tie.Need-loop-less Inv-loop μ-loop
-loop-less c = omega arith
-
 loop-again : tie.Need-loop-again Inv-loop μ-loop
 loop-again c =
     let turn = c .before .before in
@@ -50,4 +44,5 @@ returns c = set-ends (c .before .loop .inv) (c .loop-test .left)
 pub parameters-between-spec : {M : Type 1} → statement M
 parameters-between-spec =
     tie.close
-    (tie.spec Inv-loop μ-loop loop-holds own-at-requires union-requires add-j loop-less loop-again returns)
+    (tie.spec Inv-loop μ-loop loop-holds own-at-requires union-requires (λ c. omega arith) (λ c. omega arith) loop-again
+    returns)

@@ -30,18 +30,6 @@ parameters-between-requires-2 c κs =
     let n = c .count-of .ensures in
     (p .0, (omega (arith, p .1 .0), omega (arith, p .1 .1)))
 
-common-requires : tie.Need-common-requires
-common-requires c κs = search needs
-
-minus-requires : tie.Need-minus-requires
-minus-requires c κs = search needs
-
-common-requires-2 : tie.Need-common-requires-2
-common-requires-2 c κs = search needs
-
-minus-requires-2 : tie.Need-minus-requires-2
-minus-requires-2 c κs = search needs
-
 returns : tie.Need-returns
 returns c =
     λ t o known.
@@ -70,4 +58,5 @@ pub pars-at-spec : {M : Type 1} → statement M
 pars-at-spec =
     tie.close
     (tie.spec own-at-requires parameters-between-requires add-parameters-between count-of-requires
-    parameters-between-requires-2 common-requires minus-requires common-requires-2 minus-requires-2 returns)
+    parameters-between-requires-2 (λ c κs. search needs) (λ c κs. search needs) (λ c κs. search needs)
+    (λ c κs. search needs) returns)

@@ -33,24 +33,6 @@ argument-requires c κs =
     let n = c .before .before .argument-count .ensures in
     (s .pre .0, omega arith)
 
-renumbered-in-requires : tie.Need-renumbered-in-requires Inv-loop μ-loop
-renumbered-in-requires c κs = omega arith
-
-add-out : tie.Need-add-out Inv-loop μ-loop
-add-out c = omega arith
-
-mul-out : tie.Need-mul-out Inv-loop μ-loop
-mul-out c = omega arith
-
-slice-write-out : tie.Need-slice-write-out Inv-loop μ-loop
-slice-write-out c = omega arith
-
-add-k : tie.Need-add-k Inv-loop μ-loop
-add-k c = omega arith
-
-loop-less : tie.Need-loop-less Inv-loop μ-loop
-loop-less c = omega arith
-
 loop-again : tie.Need-loop-again Inv-loop μ-loop
 loop-again c =
     let s = c .before .before .before .before .before .before .before in
@@ -65,15 +47,6 @@ loop-again c =
           ap (λ (x : ℕ). map (newNumber (s .args .own)) (take (h .k) args) ++ (x ∷ [])) (sym e))
           (s .args .at + (h .k + 1)) (omega arith),
     )
-
-add-fill : tie.Need-add-fill Inv-loop μ-loop
-add-fill c = omega arith
-
-sub-fill : tie.Need-sub-fill Inv-loop μ-loop
-sub-fill c = omega arith
-
-fill-requires : tie.Need-fill-requires Inv-loop μ-loop
-fill-requires c κs = omega arith
 
 same-length : tie.Need-same-length Inv-loop μ-loop
 same-length c =
@@ -92,5 +65,6 @@ returns c =
 pub arguments-spec : {M : Type 1} → statement M
 arguments-spec =
     tie.close
-    (tie.spec Inv-loop μ-loop argument-count-requires loop-holds argument-requires renumbered-in-requires add-out
-    mul-out slice-write-out add-k loop-less loop-again add-fill sub-fill fill-requires same-length returns)
+    (tie.spec Inv-loop μ-loop argument-count-requires loop-holds argument-requires (λ c κs. omega arith)
+    (λ c. omega arith) (λ c. omega arith) (λ c. omega arith) (λ c. omega arith) (λ c. omega arith) loop-again
+    (λ c. omega arith) (λ c. omega arith) (λ c κs. omega arith) same-length returns)

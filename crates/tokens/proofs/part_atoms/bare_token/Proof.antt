@@ -11,16 +11,10 @@ use Rattle.tokens.specs.Split.{token}
 use Rattle.words.proofs.Puts.{puts-then, puts-length}
 use Rattle.tokens.proofs.part_atoms.bare_token.Statement.{statement}
 
-four-requires : tie.Need-four-requires
-four-requires c κs = search needs
-
 four-requires-2 : tie.Need-four-requires-2
 four-requires-2 c κs =
     let f = c .before .before .before .four .ensures in
     omega (arith, puts-length f, f .place)
-
-same-length : tie.Need-same-length
-same-length c = search needs
 
 returns : tie.Need-returns
 unfolding atomWords padded token
@@ -30,4 +24,4 @@ returns c =
     (puts-then f g _ refl, omega (arith, f .place, g .place))
 
 pub bare-token-spec : {M : Type 1} → statement M
-bare-token-spec = tie.close (tie.spec four-requires four-requires-2 same-length returns)
+bare-token-spec = tie.close (tie.spec (λ c κs. search needs) four-requires-2 (λ c. search needs) returns)

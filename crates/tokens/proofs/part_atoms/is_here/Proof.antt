@@ -29,9 +29,6 @@ role-is : (c : tie.After-role-at) →
     let a = c .before .before .before .args in c .role-at .result ≡ atomIn (a .table .now) (a .i) .role
 role-is c = c .role-at .ensures .1 _ (c .before .row-of .ensures .0)
 
-part-of-requires : tie.Need-part-of-requires
-part-of-requires c κs = search needs
-
 returns : tie.Need-returns
 returns c =
     let s = c .before .before .before .before .before .before .before in
@@ -45,4 +42,4 @@ returns-2 c =
     other-role (s .args .role) _ (s .args .part .0) _ (λ e. c .if1 .left (e ∙ sym (role-is (c .before))))
 
 pub is-here-spec : {M : Type 1} → statement M
-is-here-spec = tie.close (tie.spec row-of-requires role-at-requires part-of-requires returns returns-2)
+is-here-spec = tie.close (tie.spec row-of-requires role-at-requires (λ c κs. search needs) returns returns-2)

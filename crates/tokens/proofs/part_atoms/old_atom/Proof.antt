@@ -20,15 +20,6 @@ row-of-requires c κs = atom-row (c .before .before .pre .0)
 predicate-at-requires : tie.Need-predicate-at-requires
 predicate-at-requires c κs = c .row-of .ensures .1
 
-four-requires : tie.Need-four-requires
-four-requires c κs = search needs
-
-arguments-requires : tie.Need-arguments-requires
-arguments-requires c κs = search needs
-
-same-length : tie.Need-same-length
-same-length c = search needs
-
 returns : tie.Need-returns
 unfolding atomWords
 returns c =
@@ -45,4 +36,5 @@ returns c =
 pub old-atom-spec : {M : Type 1} → statement M
 old-atom-spec =
     tie.close
-    (tie.spec row-of-requires predicate-at-requires four-requires arguments-requires same-length returns)
+    (tie.spec row-of-requires predicate-at-requires (λ c κs. search needs) (λ c κs. search needs) (λ c. search needs)
+    returns)

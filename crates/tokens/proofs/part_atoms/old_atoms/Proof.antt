@@ -44,12 +44,6 @@ old-atom-requires c κs =
     let h = c .before .before .before .before .loop in
     (stretch-atom (s .pre .0) (h .i) (c .before .before .before .loop-test .taken), omega arith)
 
-add-i : tie.Need-add-i Inv-loop μ-loop
-add-i c = omega arith
-
-loop-less : tie.Need-loop-less Inv-loop μ-loop
-loop-less c = omega arith
-
 -- a turn puts atom i, if it is in the role and the part
 turn : (c : tie.Joined1 Inv-loop μ-loop) →
     let a = c .before .before .before .before .before .before .args in
@@ -98,5 +92,5 @@ returns c =
 pub old-atoms-spec : {M : Type 1} → statement M
 old-atoms-spec =
     tie.close
-    (tie.spec Inv-loop μ-loop loop-holds is-here-requires old-atom-requires add-i loop-less loop-again same-length
-    returns)
+    (tie.spec Inv-loop μ-loop loop-holds is-here-requires old-atom-requires (λ c. omega arith) (λ c. omega arith)
+    loop-again same-length returns)

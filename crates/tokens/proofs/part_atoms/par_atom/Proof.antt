@@ -13,22 +13,10 @@ use Rattle.tokens.specs.Split.{token}
 use Rattle.words.proofs.Puts.{puts-then, puts-length}
 use Rattle.tokens.proofs.part_atoms.par_atom.Statement.{statement}
 
-add-four : tie.Need-add-four
-add-four c = omega arith
-
-four-requires : tie.Need-four-requires
-four-requires c κs = search needs
-
-renumbered-in-requires : tie.Need-renumbered-in-requires
-renumbered-in-requires c κs = search needs
-
 four-requires-2 : tie.Need-four-requires-2
 four-requires-2 c κs =
     let f = c .before .before .before .before .four .ensures in
     omega (arith, puts-length f, f .place)
-
-same-length : tie.Need-same-length
-same-length c = search needs
 
 returns : tie.Need-returns
 unfolding atomWords padded token
@@ -44,4 +32,7 @@ returns c =
     )
 
 pub par-atom-spec : {M : Type 1} → statement M
-par-atom-spec = tie.close (tie.spec add-four four-requires renumbered-in-requires four-requires-2 same-length returns)
+par-atom-spec =
+    tie.close
+    (tie.spec (λ c. omega arith) (λ c κs. search needs) (λ c κs. search needs) four-requires-2 (λ c. search needs)
+    returns)

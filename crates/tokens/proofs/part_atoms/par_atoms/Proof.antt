@@ -39,22 +39,10 @@ loop-holds c =
           (pars-none (a .here .own) (a .here .par) (a .role) (a .here .number) (a .which)),
     )
 
-has-requires : tie.Need-has-requires Inv-loop μ-loop
-has-requires c κs = omega arith
-
-cast-t12 : tie.Need-cast-t12 Inv-loop μ-loop
-cast-t12 c = omega arith
-
 par-atom-requires : tie.Need-par-atom-requires Inv-loop μ-loop
 par-atom-requires c κs =
     let s = c .before .before .before .before .before .before .before in
     (omega arith, (s .pre .1 .0, omega arith))
-
-add-x : tie.Need-add-x Inv-loop μ-loop
-add-x c = omega arith
-
-loop-less : tie.Need-loop-less Inv-loop μ-loop
-loop-less c = omega arith
 
 -- a turn puts the par of x, if x is in the set
 turn : (c : tie.Joined2 Inv-loop μ-loop) →
@@ -104,5 +92,5 @@ returns-2 c =
 pub par-atoms-spec : {M : Type 1} → statement M
 par-atoms-spec =
     tie.close
-    (tie.spec Inv-loop μ-loop returns loop-holds has-requires cast-t12 par-atom-requires add-x loop-less loop-again
-    same-length returns-2)
+    (tie.spec Inv-loop μ-loop returns loop-holds (λ c κs. omega arith) (λ c. omega arith) par-atom-requires
+    (λ c. omega arith) (λ c. omega arith) loop-again same-length returns-2)

@@ -37,9 +37,6 @@ role-atoms-requires-3 c κs =
     let m = s .pre .1 .1 .1 in
     (s .pre .0, (s .pre .1 .0, (s .pre .1 .1 .0, omega (arith, puts-length (p .0), puts-length (q .0), p .1, q .1))))
 
-same-length : tie.Need-same-length
-same-length c = search needs
-
 returns : tie.Need-returns
 returns c =
     let p = first (second (c .before .before)) .role-atoms .ensures in
@@ -50,4 +47,4 @@ returns c =
 pub part-atoms-spec : {M : Type 1} → statement M
 part-atoms-spec =
     tie.close
-    (tie.spec role-atoms-requires role-atoms-requires-2 role-atoms-requires-3 same-length returns)
+    (tie.spec role-atoms-requires role-atoms-requires-2 role-atoms-requires-3 (λ c. search needs) returns)

@@ -11,21 +11,6 @@ use Rattle.words.specs.Sets.{member}
 use Rattle.tokens.proofs.PartWords.{members-below}
 use Rattle.tokens.proofs.part_atoms.renumbered_in.Statement.{statement}
 
-cast-below : tie.Need-cast-below
-cast-below c = omega arith
-
-below-requires : tie.Need-below-requires
-below-requires c κs = search needs
-
-common-requires : tie.Need-common-requires
-common-requires c κs = search needs
-
-size-requires : tie.Need-size-requires
-size-requires c κs = search needs
-
-cast-t6 : tie.Need-cast-t6
-cast-t6 c = omega arith
-
 returns : tie.Need-returns
 returns c =
     let s = c .before .before .before .before in
@@ -35,4 +20,7 @@ returns c =
     (λ k. c .before .common .ensures k ∙ ap (λ (b : Bool). member (s .args .own) k && b) (below k)))
 
 pub renumbered-in-spec : {M : Type 1} → statement M
-renumbered-in-spec = tie.close (tie.spec cast-below below-requires common-requires size-requires cast-t6 returns)
+renumbered-in-spec =
+    tie.close
+    (tie.spec (λ c. omega arith) (λ c κs. search needs) (λ c κs. search needs) (λ c κs. search needs) (λ c. omega arith)
+    returns)

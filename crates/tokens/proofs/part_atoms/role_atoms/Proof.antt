@@ -36,9 +36,6 @@ tokens s =
 old-atoms-requires : tie.Need-old-atoms-requires
 old-atoms-requires c κs = let s = c .before .before .before in (s .pre .0, omega (arith, s .pre .1 .1 .1))
 
-same-length : tie.Need-same-length
-same-length c = search needs
-
 returns : tie.Need-returns
 returns c =
     let s = begun (c .before .before .before) in
@@ -61,9 +58,6 @@ par-atoms-requires c κs =
     let m = s .pre .1 .1 .1 in
     (s .pre .1 .0, (s .pre .1 .1 .0, omega (arith, puts-length (o .0), puts-length (b .0), o .1, b .1)))
 
-same-length-2 : tie.Need-same-length-2
-same-length-2 c = search needs
-
 returns-2 : tie.Need-returns-2
 returns-2 c =
     let s = begun (olds (bare (c .before .before))) in
@@ -78,4 +72,5 @@ returns-2 c =
 pub role-atoms-spec : {M : Type 1} → statement M
 role-atoms-spec =
     tie.close
-    (tie.spec old-atoms-requires same-length returns bare-token-requires par-atoms-requires same-length-2 returns-2)
+    (tie.spec old-atoms-requires (λ c. search needs) returns bare-token-requires par-atoms-requires (λ c. search needs)
+    returns-2)

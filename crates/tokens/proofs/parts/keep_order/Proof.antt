@@ -56,12 +56,6 @@ loop-holds c =
     let none = order-none (a .table .now) (a .from) (a .to) (a .s) (a .found .parts) (a .kept .now) in
     (omega arith, s .pre .1 .1 .1 .0, none)
 
-mul-part : tie.Need-mul-part Inv-loop μ-loop
-mul-part c = omega arith
-
-array-copy-out-part : tie.Need-array-copy-out-part Inv-loop μ-loop
-array-copy-out-part c = omega arith
-
 cast-named : tie.Need-cast-named Inv-loop μ-loop
 cast-named c = omega (arith, found c .small)
 
@@ -120,5 +114,5 @@ returns c =
 pub keep-order-spec : {M : Type 1} → statement M
 keep-order-spec =
     tie.close
-    (tie.spec Inv-loop μ-loop parameter-sets-requires loop-holds mul-part array-copy-out-part cast-named mul-named
-    array-read-named keep-part-requires add-j loop-less loop-again returns)
+    (tie.spec Inv-loop μ-loop parameter-sets-requires loop-holds (λ c. omega arith) (λ c. omega arith) cast-named
+    mul-named array-read-named keep-part-requires add-j loop-less loop-again returns)

@@ -31,31 +31,10 @@ loop-holds c =
 part-of-requires : tie.Need-part-of-requires Inv-loop μ-loop
 part-of-requires c κs = stretch-atom (c .before .before .before .pre) (c .before .loop .i) (c .loop-test .taken)
 
-cast-part : tie.Need-cast-part Inv-loop μ-loop
-cast-part c = omega arith
-
-mul-named : tie.Need-mul-named Inv-loop μ-loop
-mul-named c = omega arith
-
-array-read-named : tie.Need-array-read-named Inv-loop μ-loop
-array-read-named c = omega arith
-
 with-arguments-requires : tie.Need-with-arguments-requires Inv-loop μ-loop
 with-arguments-requires c κs =
     let turn = c .before .before in
     stretch-atom (turn .before .before .before .pre) (turn .before .loop .i) (turn .loop-test .taken)
-
-mul-sets : tie.Need-mul-sets Inv-loop μ-loop
-mul-sets c = omega arith
-
-array-write-sets : tie.Need-array-write-sets Inv-loop μ-loop
-array-write-sets c = omega arith
-
-add-i : tie.Need-add-i Inv-loop μ-loop
-add-i c = omega arith
-
-loop-less : tie.Need-loop-less Inv-loop μ-loop
-loop-less c = omega arith
 
 loop-again : tie.Need-loop-again Inv-loop μ-loop
 loop-again c =
@@ -93,5 +72,6 @@ returns c =
 pub parameter-sets-spec : {M : Type 1} → statement M
 parameter-sets-spec =
     tie.close
-    (tie.spec Inv-loop μ-loop loop-holds part-of-requires cast-part mul-named array-read-named with-arguments-requires
-    mul-sets array-write-sets add-i loop-less loop-again returns)
+    (tie.spec Inv-loop μ-loop loop-holds part-of-requires (λ c. omega arith) (λ c. omega arith) (λ c. omega arith)
+    with-arguments-requires (λ c. omega arith) (λ c. omega arith) (λ c. omega arith) (λ c. omega arith) loop-again
+    returns)

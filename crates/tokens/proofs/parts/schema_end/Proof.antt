@@ -65,9 +65,6 @@ returns c =
 add-i : tie.Need-add-i Inv-loop μ-loop
 add-i c = omega (arith, c .before .before .loop-test .taken, turn (c .before) .before .word .ensures .1)
 
-loop-less : tie.Need-loop-less Inv-loop μ-loop
-loop-less c = omega arith
-
 loop-again : tie.Need-loop-again Inv-loop μ-loop
 loop-again c =
     let s = start (turn (c .before)) in
@@ -84,5 +81,5 @@ returns-2 c =
 pub schema-end-spec : {M : Type 1} → statement M
 schema-end-spec =
     tie.close
-    (tie.spec Inv-loop μ-loop word-requires loop-holds schema-number-requires returns add-i loop-less loop-again
-    returns-2)
+    (tie.spec Inv-loop μ-loop word-requires loop-holds schema-number-requires returns add-i (λ c. omega arith)
+    loop-again returns-2)

@@ -34,18 +34,6 @@ argument-requires c κs =
     let s = c .before .before .before .before in
     (s .pre, omega (arith, c .before .before .argument-count .ensures .0))
 
-cast-with : tie.Need-cast-with Inv-loop μ-loop
-cast-with c = omega arith
-
-with-requires : tie.Need-with-requires Inv-loop μ-loop
-with-requires c κs = omega arith
-
-add-k : tie.Need-add-k Inv-loop μ-loop
-add-k c = omega arith
-
-loop-less : tie.Need-loop-less Inv-loop μ-loop
-loop-less c = omega arith
-
 loop-again : tie.Need-loop-again Inv-loop μ-loop
 loop-again c =
     let turn = c .before .before .before in
@@ -58,5 +46,5 @@ returns c = set-ends (c .before .loop .inv) (c .loop-test .left)
 pub with-arguments-spec : {M : Type 1} → statement M
 with-arguments-spec =
     tie.close
-    (tie.spec Inv-loop μ-loop argument-count-requires loop-holds argument-requires cast-with with-requires add-k
-    loop-less loop-again returns)
+    (tie.spec Inv-loop μ-loop argument-count-requires loop-holds argument-requires (λ c. omega arith)
+    (λ c κs. omega arith) (λ c. omega arith) (λ c. omega arith) loop-again returns)

@@ -35,9 +35,6 @@ part-atoms-requires c κs =
     let v = p .few in
     (p .stretch, (p .few, (p .low, omega arith)))
 
-same-length : tie.Need-same-length
-same-length c = search needs
-
 returns : tie.Need-returns
 returns c =
     let st = begun (placed (c .before .before)) in
@@ -51,4 +48,6 @@ returns c =
     (tokens .result) (tokens .ensures) ∙ ap (λ (n : ℕ). concatMap (atomWords n) atoms) (here .ensures .1)))
 
 pub one-part-spec : {M : Type 1} → statement M
-one-part-spec = tie.close (tie.spec place-of-requires tokens-of-requires part-atoms-requires same-length returns)
+one-part-spec =
+    tie.close
+    (tie.spec place-of-requires tokens-of-requires part-atoms-requires (λ c. search needs) returns)

@@ -54,9 +54,6 @@ own-at-requires c κs = (start (c .before) .pre .0, omega (arith, room (c .befor
 size-requires : tie.Need-size-requires Inv-loop μ-loop
 size-requires c κs = tt
 
-cast-out : tie.Need-cast-out Inv-loop μ-loop
-cast-out c = omega arith
-
 add-out : tie.Need-add-out Inv-loop μ-loop
 add-out c = let r = room (turn c) in omega (arith, c .before .before .loop-test .taken)
 
@@ -105,5 +102,5 @@ returns c =
 pub part-params-spec : {M : Type 1} → statement M
 part-params-spec =
     tie.close
-    (tie.spec Inv-loop μ-loop count-of-requires loop-holds own-at-requires size-requires cast-out add-out mul-out
-    slice-write-out add-j loop-less loop-again add-result same-length returns)
+    (tie.spec Inv-loop μ-loop count-of-requires loop-holds own-at-requires size-requires (λ c. omega arith) add-out
+    mul-out slice-write-out add-j loop-less loop-again add-result same-length returns)

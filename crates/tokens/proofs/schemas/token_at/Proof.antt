@@ -7,28 +7,13 @@ use borrow.Author.Tests.{eq-eqb, ne-eqb}
 use Rattle.tokens.proofs.schemas.token_at.Statement.{statement}
 use Rattle.tokens.proofs.schemas.token_at.Tie as tie
 
-cast-result : tie.Need-cast-result
-cast-result c = omega arith
-
 returns : tie.Need-returns
 returns c = let a = c .before .args in rw (eq-eqb (a .j) 0 (c .if1 .taken)) refl
-
-cast-result-2 : tie.Need-cast-result-2
-cast-result-2 c = omega arith
 
 returns-2 : tie.Need-returns-2
 returns-2 c =
     let a = c .before .before .args in
     rw (ne-eqb (a .j) 0 (c .before .if1 .left), eq-eqb (a .j) (a .count) (c .if2 .taken)) refl
-
-add-result : tie.Need-add-result
-add-result c = omega arith
-
-add-result-2 : tie.Need-add-result-2
-add-result-2 c = omega arith
-
-cast-result-3 : tie.Need-cast-result-3
-cast-result-3 c = omega arith
 
 returns-3 : tie.Need-returns-3
 returns-3 c =
@@ -38,4 +23,5 @@ returns-3 c =
 pub token-at-spec : {M : Type 1} → statement M
 token-at-spec =
     tie.close
-    (tie.spec cast-result returns cast-result-2 returns-2 add-result add-result-2 cast-result-3 returns-3)
+    (tie.spec (λ c. omega arith) returns (λ c. omega arith) returns-2 (λ c. omega arith) (λ c. omega arith)
+    (λ c. omega arith) returns-3)

@@ -72,9 +72,6 @@ facts-requires-2 c κs =
     let l = puts-length (f .0) in
     (omega arith, (omega arith, omega (arith, s .pre .1, f .1)))
 
-same-length : tie.Need-same-length
-same-length c = search needs
-
 returns : tie.Need-returns
 returns c =
     let st = begun (counted (based (started (c .before .before)))) in
@@ -95,4 +92,4 @@ pub all-facts-spec : {M : Type 1} → statement M
 all-facts-spec =
     tie.close
     (tie.spec word-requires word-requires-2 facts-base-requires facts-requires mul-facts add-facts facts-requires-2
-    same-length returns)
+    (λ c. search needs) returns)

@@ -63,9 +63,6 @@ fill-requires-2 c κs =
     let k = length-wordsAt (a .table .now) headWords (n .result) in
     omega (arith, f .place, puts-length f, g .place, puts-length g)
 
-same-length : tie.Need-same-length
-same-length c = search needs
-
 returns : tie.Need-returns
 returns c =
     let w = begun (counted (copied (filled (c .before .before)))) .args .table .now in
@@ -78,4 +75,4 @@ returns c =
 pub arities-spec : {M : Type 1} → statement M
 arities-spec =
     tie.close
-    (tie.spec word-requires copy-requires add-fill fill-requires fill-requires-2 same-length returns)
+    (tie.spec word-requires copy-requires add-fill fill-requires fill-requires-2 (λ c. search needs) returns)

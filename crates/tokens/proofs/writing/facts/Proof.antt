@@ -39,9 +39,6 @@ bare-token-requires c κs =
     let n = length-wordsAt (s .args .table .now) (s .args .from) (atomSize * s .args .count) in
     omega (arith, s .pre .1 .1, f .place, puts-length f)
 
-same-length : tie.Need-same-length
-same-length c = search needs
-
 returns : tie.Need-returns
 returns c =
     let a = begun (copied (named (c .before .before))) .args in
@@ -54,4 +51,6 @@ returns c =
     )
 
 pub facts-spec : {M : Type 1} → statement M
-facts-spec = tie.close (tie.spec mul-copy copy-requires word-at-requires bare-token-requires same-length returns)
+facts-spec =
+    tie.close
+    (tie.spec mul-copy copy-requires word-at-requires bare-token-requires (λ c. search needs) returns)

@@ -250,9 +250,6 @@ fill-requires c κs =
     let l = puts-length p in
     omega (arith, p .place, k .room .whole, k .long, tableWords-is)
 
-same-length : tie.Need-same-length
-same-length c = search needs
-
 returns : tie.Need-returns
 returns c =
     let st = begun (head (names (sizes (atoms (facts (c .before .before)))))) in
@@ -271,4 +268,4 @@ pub write-split-spec : {M : Type 1} → statement M
 write-split-spec =
     tie.close
     (tie.spec head-requires arities-requires word-requires all-params-requires all-parts-requires all-facts-requires
-    sub-fill fill-requires same-length returns)
+    sub-fill fill-requires (λ c. search needs) returns)

@@ -22,18 +22,9 @@ loop-holds : tie.Need-loop-holds Inv-loop μ-loop
 loop-holds c = let given = c .before .args in
     all-between (λ a. ltb a (given .bound)) (given .table .now) (given .from) (given .to)
 
-word-requires : tie.Need-word-requires Inv-loop μ-loop
-word-requires c κs = omega arith
-
 returns : tie.Need-returns Inv-loop μ-loop
 returns c = all-fails (c .before .before .before .loop .inv) (c .before .before .loop-test .taken)
     (rw (← c .before .word .ensures .0) (le-ltb _ _ (c .if1 .taken)))
-
-add-i : tie.Need-add-i Inv-loop μ-loop
-add-i c = omega arith
-
-loop-less : tie.Need-loop-less Inv-loop μ-loop
-loop-less c = omega arith
 
 loop-again : tie.Need-loop-again Inv-loop μ-loop
 loop-again c = all-more (c .before .before .before .loop .inv) (c .before .before .loop-test .taken)
@@ -45,4 +36,5 @@ returns-2 c = all-ends (c .before .loop .inv) (c .loop-test .left)
 pub all-below-spec : {M : Type 1} → statement M
 all-below-spec =
     tie.close
-    (tie.spec Inv-loop μ-loop loop-holds word-requires returns add-i loop-less loop-again returns-2)
+    (tie.spec Inv-loop μ-loop loop-holds (λ c κs. omega arith) returns (λ c. omega arith) (λ c. omega arith) loop-again
+    returns-2)

@@ -18,30 +18,12 @@ abbrev μ-loop : tie.MeasureT-loop
 loop-holds : tie.Need-loop-holds Inv-loop μ-loop
 loop-holds c = less-start
 
-add-word : tie.Need-add-word Inv-loop μ-loop
-add-word c = omega arith
-
-word-requires : tie.Need-word-requires Inv-loop μ-loop
-word-requires c κs = omega arith
-
-add-word-2 : tie.Need-add-word-2 Inv-loop μ-loop
-add-word-2 c = omega arith
-
-word-requires-2 : tie.Need-word-requires-2 Inv-loop μ-loop
-word-requires-2 c κs = omega arith
-
 returns : tie.Need-returns Inv-loop μ-loop
 returns c =
     let turn = c .before .before .before in
     let x = c .before .before .word .ensures .0 in
     let y = c .before .word2 .ensures .0 in
     ap₂ ltb x y ∙ less-decides (turn .before .loop .inv) (turn .loop-test .taken) (λ e. c .if1 .taken (x ∙ (e ∙ sym y)))
-
-add-k : tie.Need-add-k Inv-loop μ-loop
-add-k c = omega arith
-
-loop-less : tie.Need-loop-less Inv-loop μ-loop
-loop-less c = omega arith
 
 loop-again : tie.Need-loop-again Inv-loop μ-loop
 loop-again c =
@@ -55,5 +37,5 @@ returns-2 c = less-ends (c .before .loop .inv) (c .loop-test .left)
 pub less-words-spec : {M : Type 1} → statement M
 less-words-spec =
     tie.close
-    (tie.spec Inv-loop μ-loop loop-holds add-word word-requires add-word-2 word-requires-2 returns add-k loop-less
-    loop-again returns-2)
+    (tie.spec Inv-loop μ-loop loop-holds (λ c. omega arith) (λ c κs. omega arith) (λ c. omega arith)
+    (λ c κs. omega arith) returns (λ c. omega arith) (λ c. omega arith) loop-again returns-2)

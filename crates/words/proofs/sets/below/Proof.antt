@@ -10,9 +10,6 @@ use Rattle.words.proofs.BitSets.{bit-is, member-ones}
 use Rattle.words.proofs.sets.below.Statement.{statement}
 use Rattle.words.proofs.sets.below.Tie as tie
 
-shl-result : tie.Need-shl-result
-shl-result c = search needs
-
 sub-result : tie.Need-sub-result
 sub-result c = subst (λ (x : ℕ). 1 ≤ x) (sym (bit-is (c .args .n) (c .pre))) (pow-pos (c .args .n))
 
@@ -20,4 +17,4 @@ returns : tie.Need-returns
 returns c = λ k. ap (λ (x : ℕ). member (x - 1) k) (bit-is (c .args .n) (c .pre)) ∙ member-ones (c .args .n) k
 
 pub below-spec : {M : Type 1} → statement M
-below-spec = tie.close (tie.spec shl-result sub-result returns)
+below-spec = tie.close (tie.spec (λ c. search needs) sub-result returns)

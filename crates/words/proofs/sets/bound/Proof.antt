@@ -19,18 +19,6 @@ abbrev μ-loop : tie.MeasureT-loop
 loop-holds : tie.Need-loop-holds Inv-loop μ-loop
 loop-holds c = (omega arith, omega arith, sym (above-none (c .args .set)))
 
-has-requires : tie.Need-has-requires Inv-loop μ-loop
-has-requires c κs = omega arith
-
-add-most : tie.Need-add-most Inv-loop μ-loop
-add-most c = omega arith
-
-add-k : tie.Need-add-k Inv-loop μ-loop
-add-k c = omega arith
-
-loop-less : tie.Need-loop-less Inv-loop μ-loop
-loop-less c = omega arith
-
 loop-again : tie.Need-loop-again Inv-loop μ-loop
 loop-again c =
     let s = c .before .before .before .before in
@@ -49,4 +37,7 @@ returns c =
     (h .inv .2 ∙ ap (λ (k : ℕ). above (members (c .before .before .args .set) k)) e, omega arith)
 
 pub bound-spec : {M : Type 1} → statement M
-bound-spec = tie.close (tie.spec Inv-loop μ-loop loop-holds has-requires add-most add-k loop-less loop-again returns)
+bound-spec =
+    tie.close
+    (tie.spec Inv-loop μ-loop loop-holds (λ c κs. omega arith) (λ c. omega arith) (λ c. omega arith) (λ c. omega arith)
+    loop-again returns)

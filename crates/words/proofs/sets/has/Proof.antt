@@ -8,12 +8,9 @@ use Rattle.words.specs.Sets.{member}
 use Rattle.words.proofs.sets.has.Statement.{statement}
 use Rattle.words.proofs.sets.has.Tie as tie
 
-shr-result : tie.Need-shr-result
-shr-result c = search needs
-
 returns : tie.Need-returns
 unfolding member
 returns c = ap (λ (x : ℕ). eqb x 1) (and-mask (c .args .set / 2 ^ c .args .k) 1)
 
 pub has-spec : {M : Type 1} → statement M
-has-spec = tie.close (tie.spec shr-result returns)
+has-spec = tie.close (tie.spec (λ c. search needs) returns)

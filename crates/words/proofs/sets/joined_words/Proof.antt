@@ -25,9 +25,6 @@ loop-holds c =
     let given = c .before .args in
     (omega arith, set-between (given .table .now) (given .mask) (given .from) (given .to))
 
-word-requires : tie.Need-word-requires Inv-loop μ-loop
-word-requires c κs = omega arith
-
 with-requires : tie.Need-with-requires Inv-loop μ-loop
 with-requires c κs =
     let at = c .before .before in
@@ -37,12 +34,6 @@ with-requires c κs =
       at .before .before .pre .1 (at .loop .i) (at .loop .inv .0)
           (c .before .loop-test .taken),
     )
-
-add-i : tie.Need-add-i Inv-loop μ-loop
-add-i c = omega arith
-
-loop-less : tie.Need-loop-less Inv-loop μ-loop
-loop-less c = omega arith
 
 loop-again : tie.Need-loop-again Inv-loop μ-loop
 loop-again c =
@@ -58,4 +49,5 @@ returns c = set-ends (c .before .loop .inv .1) (c .loop-test .left)
 pub joined-words-spec : {M : Type 1} → statement M
 joined-words-spec =
     tie.close
-    (tie.spec Inv-loop μ-loop loop-holds word-requires with-requires add-i loop-less loop-again returns)
+    (tie.spec Inv-loop μ-loop loop-holds (λ c κs. omega arith) with-requires (λ c. omega arith) (λ c. omega arith)
+    loop-again returns)

@@ -19,13 +19,10 @@ below-power x p e =
     let d = mod-lt x (pow-pos p) in
     omega arith
 
-shr-result : tie.Need-shr-result
-shr-result c = search needs
-
 returns : tie.Need-returns
 returns c = λ e k l.
     let a = c .args in
     member-beyond (a .set) (a .p) k (below-power (a .set) (a .p) (eqb-true (a .set / 2 ^ a .p) 0 e)) l
 
 pub none-from-spec : {M : Type 1} → statement M
-none-from-spec = tie.close (tie.spec shr-result returns)
+none-from-spec = tie.close (tie.spec (λ c. search needs) returns)

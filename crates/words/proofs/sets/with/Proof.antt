@@ -4,11 +4,8 @@ use Rattle.words.proofs.BitSets.{member-with}
 use Rattle.words.proofs.sets.with.Statement.{statement}
 use Rattle.words.proofs.sets.with.Tie as tie
 
-shl-result : tie.Need-shl-result
-shl-result c = search needs
-
 returns : tie.Need-returns
 returns c = λ j. member-with (c .args .set) (c .args .k) j (c .pre)
 
 pub with-spec : {M : Type 1} → statement M
-with-spec = tie.close (tie.spec shl-result returns)
+with-spec = tie.close (tie.spec (λ c. search needs) returns)

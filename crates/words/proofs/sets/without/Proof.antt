@@ -4,11 +4,8 @@ use Rattle.words.proofs.BitSets.{member-without}
 use Rattle.words.proofs.sets.without.Statement.{statement}
 use Rattle.words.proofs.sets.without.Tie as tie
 
-shl-result : tie.Need-shl-result
-shl-result c = search needs
-
 returns : tie.Need-returns
 returns c = λ j. member-without (c .args .set) (c .args .k) j (c .fits .set .fits) (c .pre)
 
 pub without-spec : {M : Type 1} → statement M
-without-spec = tie.close (tie.spec shl-result returns)
+without-spec = tie.close (tie.spec (λ c. search needs) returns)

@@ -36,38 +36,14 @@ parts c =
     args-words (given .table .now) (given .bound) (given .i) (from c) (to c) (c .before .arguments .ensures .0)
     (ap (λ (n : ℕ). from c + n) many) (omega (arith, c .before .before .before .word .ensures .0, predicate))
 
-predicate-requires : tie.Need-predicate-requires
-predicate-requires c κs = search needs
-
-word-requires : tie.Need-word-requires
-word-requires c κs = search needs
-
 returns : tie.Need-returns
 returns c =
     let given = c .before .before .before .before .args in
     args-unknown (given .table .now) (given .bound) (given .i)
     (omega (arith, c .before .word .ensures .0, c .before .before .predicate .ensures))
 
-arguments-requires : tie.Need-arguments-requires
-arguments-requires c κs = search needs
-
-arity-requires : tie.Need-arity-requires
-arity-requires c κs = search needs
-
-add-to : tie.Need-add-to
-add-to c = search needs
-
-all-below-requires : tie.Need-all-below-requires
-all-below-requires c κs = search needs
-
 returns-2 : tie.Need-returns-2
 returns-2 c = and-fails _ (parts (c .before .before)) (sym (c .before .all-below .ensures) ∙ not-true _ (c .if2 .taken))
-
-add-zeros : tie.Need-add-zeros
-add-zeros c = search needs
-
-zeros-requires : tie.Need-zeros-requires
-zeros-requires c κs = search needs
 
 returns-3 : tie.Need-returns-3
 returns-3 c =
@@ -78,5 +54,5 @@ returns-3 c =
 pub atom-fits-spec : {M : Type 1} → statement M
 atom-fits-spec =
     tie.close
-    (tie.spec predicate-requires word-requires returns arguments-requires arity-requires add-to all-below-requires
-    returns-2 add-zeros zeros-requires returns-3)
+    (tie.spec (λ c κs. search needs) (λ c κs. search needs) returns (λ c κs. search needs) (λ c κs. search needs)
+    (λ c. search needs) (λ c κs. search needs) returns-2 (λ c. search needs) (λ c κs. search needs) returns-3)

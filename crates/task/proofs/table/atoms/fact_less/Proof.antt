@@ -8,30 +8,12 @@ use borrow.Author.Needs.{needs}
 use Rattle.task.proofs.table.atoms.fact_less.Statement.{statement}
 use Rattle.task.proofs.table.atoms.fact_less.Tie as tie
 
-predicate-requires : tie.Need-predicate-requires
-predicate-requires c κs = search needs
-
-predicate-requires-2 : tie.Need-predicate-requires-2
-predicate-requires-2 c κs = search needs
-
 returns : tie.Need-returns
 returns c =
     let given = c .before .before .before .before .args in
     let p = c .before .before .predicate .ensures in
     let q = c .before .predicate2 .ensures in
     ap₂ ltb p q ∙ less-predicate (given .table .now) (given .i) (given .j) (λ e. c .if1 .taken (p ∙ (e ∙ sym q)))
-
-arguments-requires : tie.Need-arguments-requires
-arguments-requires c κs = search needs
-
-arguments-requires-2 : tie.Need-arguments-requires-2
-arguments-requires-2 c κs = search needs
-
-arity-requires : tie.Need-arity-requires
-arity-requires c κs = search needs
-
-less-words-requires : tie.Need-less-words-requires
-less-words-requires c κs = search needs
 
 returns-2 : tie.Need-returns-2
 returns-2 c =
@@ -49,5 +31,5 @@ returns-2 c =
 pub fact-less-spec : {M : Type 1} → statement M
 fact-less-spec =
     tie.close
-    (tie.spec predicate-requires predicate-requires-2 returns arguments-requires arguments-requires-2 arity-requires
-    less-words-requires returns-2)
+    (tie.spec (λ c κs. search needs) (λ c κs. search needs) returns (λ c κs. search needs) (λ c κs. search needs)
+    (λ c κs. search needs) (λ c κs. search needs) returns-2)

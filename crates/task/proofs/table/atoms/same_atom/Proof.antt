@@ -7,41 +7,17 @@ use borrow.Author.Needs.{needs}
 use Rattle.task.proofs.table.atoms.same_atom.Statement.{statement}
 use Rattle.task.proofs.table.atoms.same_atom.Tie as tie
 
-role-requires : tie.Need-role-requires
-role-requires c κs = search needs
-
-role-requires-2 : tie.Need-role-requires-2
-role-requires-2 c κs = search needs
-
 returns : tie.Need-returns
 returns c =
     let given = c .before .before .before .before .args in
     other-role (given .table .now) (given .i) (given .j)
     (λ e. c .if1 .taken (c .before .before .role .ensures ∙ (e ∙ sym (c .before .role2 .ensures))))
 
-predicate-requires : tie.Need-predicate-requires
-predicate-requires c κs = search needs
-
-predicate-requires-2 : tie.Need-predicate-requires-2
-predicate-requires-2 c κs = search needs
-
 returns-2 : tie.Need-returns-2
 returns-2 c =
     let given = c .before .before .before .before .before .before .before .args in
     other-predicate (given .table .now) (given .i) (given .j)
     (λ e. c .if2 .taken (c .before .before .predicate .ensures ∙ (e ∙ sym (c .before .predicate2 .ensures))))
-
-arguments-requires : tie.Need-arguments-requires
-arguments-requires c κs = search needs
-
-arguments-requires-2 : tie.Need-arguments-requires-2
-arguments-requires-2 c κs = search needs
-
-arity-requires : tie.Need-arity-requires
-arity-requires c κs = search needs
-
-same-words-requires : tie.Need-same-words-requires
-same-words-requires c κs = search needs
 
 returns-3 : tie.Need-returns-3
 returns-3 c =
@@ -61,5 +37,5 @@ returns-3 c =
 pub same-atom-spec : {M : Type 1} → statement M
 same-atom-spec =
     tie.close
-    (tie.spec role-requires role-requires-2 returns predicate-requires predicate-requires-2 returns-2 arguments-requires
-    arguments-requires-2 arity-requires same-words-requires returns-3)
+    (tie.spec (λ c κs. search needs) (λ c κs. search needs) returns (λ c κs. search needs) (λ c κs. search needs)
+    returns-2 (λ c κs. search needs) (λ c κs. search needs) (λ c κs. search needs) (λ c κs. search needs) returns-3)

@@ -7,36 +7,21 @@ use borrow.Author.Needs.{needs}
 use Rattle.task.proofs.table.facts.fact_fits.Statement.{statement}
 use Rattle.task.proofs.table.facts.fact_fits.Tie as tie
 
-schema-number-requires : tie.Need-schema-number-requires
-schema-number-requires c κs = search needs
-
 returns : tie.Need-returns
 returns c =
     let given = c .before .before .before .args in
     fact-number (given .table .now) (given .wanted) (given .i)
     (λ e. c .if1 .taken (c .before .schema-number .ensures ∙ e))
 
-role-requires : tie.Need-role-requires
-role-requires c κs = search needs
-
 returns-2 : tie.Need-returns-2
 returns-2 c =
     let given = c .before .before .before .before .before .args in
     fact-role (given .table .now) (given .wanted) (given .i) (λ e. c .if2 .taken (c .before .role .ensures ∙ e))
 
-part-requires : tie.Need-part-requires
-part-requires c κs = search needs
-
 returns-3 : tie.Need-returns-3
 returns-3 c =
     let given = c .before .before .before .before .before .before .before .args in
     fact-part (given .table .now) (given .wanted) (given .i) (λ e. c .if3 .taken (c .before .part .ensures .0 ∙ e))
-
-word-requires : tie.Need-word-requires
-word-requires c κs = search needs
-
-atom-fits-requires : tie.Need-atom-fits-requires
-atom-fits-requires c κs = search needs
 
 returns-4 : tie.Need-returns-4
 returns-4 c =
@@ -52,5 +37,5 @@ returns-4 c =
 pub fact-fits-spec : {M : Type 1} → statement M
 fact-fits-spec =
     tie.close
-    (tie.spec schema-number-requires returns role-requires returns-2 part-requires returns-3 word-requires
-    atom-fits-requires returns-4)
+    (tie.spec (λ c κs. search needs) returns (λ c κs. search needs) returns-2 (λ c κs. search needs) returns-3
+    (λ c κs. search needs) (λ c κs. search needs) returns-4)

@@ -24,12 +24,6 @@ loop-holds c =
     let given = c .before .args in
     (omega arith, omega arith, ascend-start (given .table .now) (given .first) (given .end))
 
-add-loop : tie.Need-add-loop Inv-loop μ-loop
-add-loop c = omega arith
-
-add-fact-less : tie.Need-add-fact-less Inv-loop μ-loop
-add-fact-less c = omega arith
-
 fact-less-requires : tie.Need-fact-less-requires Inv-loop μ-loop
 fact-less-requires c κs =
     let at = c .before in
@@ -39,12 +33,6 @@ fact-less-requires c κs =
 returns : tie.Need-returns Inv-loop μ-loop
 returns c = all-no (c .before .before .before .loop .inv .2) (omega arith) (c .before .fact-less .ensures)
     (c .if1 .taken)
-
-add-i : tie.Need-add-i Inv-loop μ-loop
-add-i c = omega arith
-
-loop-less : tie.Need-loop-less Inv-loop μ-loop
-loop-less c = omega arith
 
 loop-again : tie.Need-loop-again Inv-loop μ-loop
 loop-again c = (
@@ -59,5 +47,5 @@ returns-2 c = all-ends (c .before .loop .inv .2) (omega arith)
 pub facts-ascend-spec : {M : Type 1} → statement M
 facts-ascend-spec =
     tie.close
-    (tie.spec Inv-loop μ-loop loop-holds add-loop add-fact-less fact-less-requires returns add-i loop-less loop-again
-    returns-2)
+    (tie.spec Inv-loop μ-loop loop-holds (λ c. omega arith) (λ c. omega arith) fact-less-requires returns
+    (λ c. omega arith) (λ c. omega arith) loop-again returns-2)

@@ -11,9 +11,6 @@ use borrow.Author.Needs.{needs}
 use Rattle.task.proofs.table.facts.facts_fit.Statement.{statement}
 use Rattle.task.proofs.table.facts.facts_fit.Tie as tie
 
-each-fact-fits-requires : tie.Need-each-fact-fits-requires
-each-fact-fits-requires c κs = search needs
-
 returns : tie.Need-returns
 returns c =
     let given = c .before .before .before .args in
@@ -42,4 +39,4 @@ returns-2 c =
     (sym (c .before .before .each-fact-fits .ensures) ∙ not-false _ (c .before .if1 .left)))
 
 pub facts-fit-spec : {M : Type 1} → statement M
-facts-fit-spec = tie.close (tie.spec each-fact-fits-requires returns facts-ascend-requires returns-2)
+facts-fit-spec = tie.close (tie.spec (λ c κs. search needs) returns facts-ascend-requires returns-2)

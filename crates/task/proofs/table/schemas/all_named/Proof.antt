@@ -11,12 +11,6 @@ use borrow.Author.Needs.{needs}
 use Rattle.task.proofs.table.schemas.all_named.Statement.{statement}
 use Rattle.task.proofs.table.schemas.all_named.Tie as tie
 
-parameters-requires : tie.Need-parameters-requires
-parameters-requires c κs = search needs
-
-has-all-requires : tie.Need-has-all-requires
-has-all-requires c κs = search needs
-
 returns : tie.Need-returns
 returns c =
     let given = c .before .before .before .args in
@@ -25,4 +19,4 @@ returns c =
     (upTo (given .params)) (c .before .parameters .ensures)
 
 pub all-named-spec : {M : Type 1} → statement M
-all-named-spec = tie.close (tie.spec parameters-requires has-all-requires returns)
+all-named-spec = tie.close (tie.spec (λ c κs. search needs) (λ c κs. search needs) returns)

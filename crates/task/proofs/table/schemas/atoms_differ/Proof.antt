@@ -40,12 +40,6 @@ returns : tie.Need-returns Inv-loop μ-loop
 returns c = all-fails (c .before .before .before .loop .inv .1) (c .before .before .loop-test .taken)
     (ap not (sym (c .before .stands-again .ensures) ∙ c .if1 .taken))
 
-add-i : tie.Need-add-i Inv-loop μ-loop
-add-i c = omega arith
-
-loop-less : tie.Need-loop-less Inv-loop μ-loop
-loop-less c = omega arith
-
 loop-again : tie.Need-loop-again Inv-loop μ-loop
 loop-again c = (
   omega arith,
@@ -59,4 +53,5 @@ returns-2 c = all-ends (c .before .loop .inv .1) (c .loop-test .left)
 pub atoms-differ-spec : {M : Type 1} → statement M
 atoms-differ-spec =
     tie.close
-    (tie.spec Inv-loop μ-loop loop-holds stands-again-requires returns add-i loop-less loop-again returns-2)
+    (tie.spec Inv-loop μ-loop loop-holds stands-again-requires returns (λ c. omega arith) (λ c. omega arith) loop-again
+    returns-2)

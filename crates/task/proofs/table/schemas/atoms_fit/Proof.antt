@@ -24,12 +24,6 @@ atom-fits-requires c κs = (c .before .before .before .pre .0, omega arith)
 returns : tie.Need-returns Inv-loop μ-loop
 returns c = search all-no
 
-add-i : tie.Need-add-i Inv-loop μ-loop
-add-i c = omega arith
-
-loop-less : tie.Need-loop-less Inv-loop μ-loop
-loop-less c = omega arith
-
 loop-again : tie.Need-loop-again Inv-loop μ-loop
 loop-again c = search all-yes
 
@@ -39,4 +33,5 @@ returns-2 c = search all-ends
 pub atoms-fit-spec : {M : Type 1} → statement M
 atoms-fit-spec =
     tie.close
-    (tie.spec Inv-loop μ-loop loop-holds atom-fits-requires returns add-i loop-less loop-again returns-2)
+    (tie.spec Inv-loop μ-loop loop-holds atom-fits-requires returns (λ c. omega arith) (λ c. omega arith) loop-again
+    returns-2)

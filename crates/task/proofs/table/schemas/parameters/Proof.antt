@@ -79,12 +79,6 @@ joined-words-requires c κs =
     let small = below (c .before .before .arguments .ensures .0) (ap (λ (n : ℕ). from + n) (many c)) in
     (omega (arith, c .arity .ensures .1, c .before .before .arguments .ensures .1), λ j l m. omega (arith, small j l m))
 
-add-i : tie.Need-add-i Inv-loop μ-loop
-add-i c = omega arith
-
-loop-less : tie.Need-loop-less Inv-loop μ-loop
-loop-less c = omega arith
-
 loop-again : tie.Need-loop-again Inv-loop μ-loop
 unfolding names atomIn
 loop-again c =
@@ -107,4 +101,4 @@ pub parameters-spec : {M : Type 1} → statement M
 parameters-spec =
     tie.close
     (tie.spec Inv-loop μ-loop loop-holds arguments-requires predicate-requires arity-requires add-joined-words
-    joined-words-requires add-i loop-less loop-again returns)
+    joined-words-requires (λ c. omega arith) (λ c. omega arith) loop-again returns)

@@ -16,17 +16,11 @@ abbrev μ-loop : tie.MeasureT-loop
 loop-holds : tie.Need-loop-holds Inv-loop μ-loop
 loop-holds c = (omega arith, omega arith, count-none (c .before .args .table .now) (c .before .args .end))
 
-sub-i : tie.Need-sub-i Inv-loop μ-loop
-sub-i c = omega arith
-
 part-requires : tie.Need-part-requires Inv-loop μ-loop
 part-requires c κs = let start = c .before .before .before in (start .pre .0, omega arith)
 
 add-next : tie.Need-add-next Inv-loop μ-loop
 add-next c = omega (arith, c .part .ensures .1)
-
-loop-less : tie.Need-loop-less Inv-loop μ-loop
-loop-less c = omega arith
 
 loop-again : tie.Need-loop-again Inv-loop μ-loop
 loop-again c =
@@ -37,9 +31,6 @@ loop-again c =
       count-more (given .table .now) (given .end) (at .loop .i) (omega arith) (omega arith) (at .loop .inv .2)
           (c .before .part .result + 1) (ap (λ (n : ℕ). n + 1) (c .before .part .ensures .0)) (c .if1 .taken),
     )
-
-loop-less-2 : tie.Need-loop-less-2 Inv-loop μ-loop
-loop-less-2 c = omega arith
 
 loop-again-2 : tie.Need-loop-again-2 Inv-loop μ-loop
 loop-again-2 c =
@@ -61,5 +52,5 @@ returns c =
 pub part-count-spec : {M : Type 1} → statement M
 part-count-spec =
     tie.close
-    (tie.spec Inv-loop μ-loop loop-holds sub-i part-requires add-next loop-less loop-again loop-less-2 loop-again-2
-    returns)
+    (tie.spec Inv-loop μ-loop loop-holds (λ c. omega arith) part-requires add-next (λ c. omega arith) loop-again
+    (λ c. omega arith) loop-again-2 returns)

@@ -35,12 +35,6 @@ with-requires c κs =
     (at .loop .inv .0) (c .before .loop-test .taken) in
     omega (arith, c .part .ensures .0)
 
-add-i : tie.Need-add-i Inv-loop μ-loop
-add-i c = omega arith
-
-loop-less : tie.Need-loop-less Inv-loop μ-loop
-loop-less c = omega arith
-
 loop-again : tie.Need-loop-again Inv-loop μ-loop
 loop-again c =
     let turn = c .before .before in (
@@ -55,4 +49,5 @@ returns c = set-ends (c .before .loop .inv .1) (c .loop-test .left)
 pub parts-spec : {M : Type 1} → statement M
 parts-spec =
     tie.close
-    (tie.spec Inv-loop μ-loop loop-holds part-requires with-requires add-i loop-less loop-again returns)
+    (tie.spec Inv-loop μ-loop loop-holds part-requires with-requires (λ c. omega arith) (λ c. omega arith) loop-again
+    returns)

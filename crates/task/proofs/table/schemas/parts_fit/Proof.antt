@@ -26,9 +26,6 @@ parts-requires c κs =
     let start = c .before .before .before in
     (start .pre .0, (start .pre .1 .1, omega (arith, c .before .part-count .ensures)))
 
-has-all-requires : tie.Need-has-all-requires
-has-all-requires c κs = omega arith
-
 returns-2 : tie.Need-returns-2
 returns-2 c =
     let given = c .before .before .before .before .before .args in
@@ -39,4 +36,4 @@ returns-2 c =
     sym (parts-few atoms (k .part-count .result) (k .part-count .ensures) (c .before .before .if1 .left)))
 
 pub parts-fit-spec : {M : Type 1} → statement M
-parts-fit-spec = tie.close (tie.spec part-count-requires returns parts-requires has-all-requires returns-2)
+parts-fit-spec = tie.close (tie.spec part-count-requires returns parts-requires (λ c κs. omega arith) returns-2)

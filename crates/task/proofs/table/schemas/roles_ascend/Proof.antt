@@ -22,12 +22,6 @@ abbrev μ-loop : tie.MeasureT-loop
 loop-holds : tie.Need-loop-holds Inv-loop μ-loop
 loop-holds c = (omega arith, refl)
 
-add-loop : tie.Need-add-loop Inv-loop μ-loop
-add-loop c = omega arith
-
-add-role : tie.Need-add-role Inv-loop μ-loop
-add-role c = omega arith
-
 role-requires : tie.Need-role-requires Inv-loop μ-loop
 role-requires c κs = let start = c .before .before .before in (start .pre .0, omega arith)
 
@@ -44,12 +38,6 @@ returns c =
     let e = c .before .before .role .ensures in
     let f = c .before .role2 .ensures in
     and-fails _ step (lt-leb (atomIn w (at .loop .i) .role) (atomIn w (at .loop .i + 1) .role) (omega arith))
-
-add-i : tie.Need-add-i Inv-loop μ-loop
-add-i c = omega arith
-
-loop-less : tie.Need-loop-less Inv-loop μ-loop
-loop-less c = omega arith
 
 loop-again : tie.Need-loop-again Inv-loop μ-loop
 loop-again c =
@@ -68,9 +56,6 @@ loop-again c =
 role-requires-3 : tie.Need-role-requires-3 Inv-loop μ-loop
 role-requires-3 c κs = let start = c .before .before .before in (start .pre .0, omega arith)
 
-cast-result : tie.Need-cast-result Inv-loop μ-loop
-cast-result c = search needs
-
 returns-2 : tie.Need-returns-2 Inv-loop μ-loop
 returns-2 c =
     let at = c .before .before in
@@ -82,5 +67,5 @@ returns-2 c =
 pub roles-ascend-spec : {M : Type 1} → statement M
 roles-ascend-spec =
     tie.close
-    (tie.spec Inv-loop μ-loop loop-holds add-loop add-role role-requires role-requires-2 returns add-i loop-less
-    loop-again role-requires-3 cast-result returns-2)
+    (tie.spec Inv-loop μ-loop loop-holds (λ c. omega arith) (λ c. omega arith) role-requires role-requires-2 returns
+    (λ c. omega arith) (λ c. omega arith) loop-again role-requires-3 (λ c. search needs) returns-2)

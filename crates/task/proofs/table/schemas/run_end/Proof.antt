@@ -36,12 +36,6 @@ returns c =
       beyond = λ l e. c .if1 .taken (c .before .schema-number .ensures ∙ e);
     }
 
-add-i : tie.Need-add-i Inv-loop μ-loop
-add-i c = omega arith
-
-loop-less : tie.Need-loop-less Inv-loop μ-loop
-loop-less c = omega arith
-
 loop-again : tie.Need-loop-again Inv-loop μ-loop
 loop-again c =
     let at = c .before .before .before in
@@ -65,5 +59,5 @@ returns-2 c =
 pub run-end-spec : {M : Type 1} → statement M
 run-end-spec =
     tie.close
-    (tie.spec Inv-loop μ-loop word-requires loop-holds schema-number-requires returns add-i loop-less loop-again
-    returns-2)
+    (tie.spec Inv-loop μ-loop word-requires loop-holds schema-number-requires returns (λ c. omega arith)
+    (λ c. omega arith) loop-again returns-2)

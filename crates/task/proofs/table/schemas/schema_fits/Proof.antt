@@ -83,35 +83,20 @@ known c i l m =
     args-fit-known (words start) n i (all-from (argWordsFit (words start) n) (start .args .first) (many start)
     (sym (c .before .atoms-fit .ensures) ∙ not-false _ (c .if5 .left)) i l (omega arith))
 
-params-of-requires : tie.Need-params-of-requires
-params-of-requires c κs = search needs
-
 returns : tie.Need-returns
 returns c =
     let start = start₁ (c .before) in
     let e = params (c .before) in
     fails start 0 (lt-leb (paramsIn (words start) (start .args .s)) 12 (omega arith))
 
-sub-if2 : tie.Need-sub-if2
-sub-if2 c = search needs
-
 returns-2 : tie.Need-returns-2
 returns-2 c = let start = start₁ (c .before .before) in fails start 1 (lt-leb 1 (many start) (omega arith))
-
-sub-if3 : tie.Need-sub-if3
-sub-if3 c = search needs
 
 returns-3 : tie.Need-returns-3
 returns-3 c = let start = start₁ (c .before .before .before) in fails start 2 (lt-leb (many start) 64 (omega arith))
 
-roles-ascend-requires : tie.Need-roles-ascend-requires
-roles-ascend-requires c κs = search needs
-
 returns-4 : tie.Need-returns-4
 returns-4 c = fails (start₂ (c .before)) 3 (sym (c .before .roles-ascend .ensures) ∙ not-true _ (c .if4 .taken))
-
-atoms-fit-requires : tie.Need-atoms-fit-requires
-atoms-fit-requires c κs = search needs
 
 returns-5 : tie.Need-returns-5
 returns-5 c = fails (start₃ (c .before)) 4 (sym (args-are (c .before)) ∙ not-true _ (c .if5 .taken))
@@ -136,9 +121,6 @@ all-named-requires c κs =
 returns-7 : tie.Need-returns-7
 returns-7 c = fails (start₅ (c .before)) 6 (sym (named-are (c .before)) ∙ not-true _ (c .if7 .taken))
 
-parts-fit-requires : tie.Need-parts-fit-requires
-parts-fit-requires c κs = search needs
-
 returns-8 : tie.Need-returns-8
 returns-8 c =
     let named = c .before in
@@ -159,6 +141,6 @@ returns-8 c =
 pub schema-fits-spec : {M : Type 1} → statement M
 schema-fits-spec =
     tie.close
-    (tie.spec params-of-requires returns sub-if2 returns-2 sub-if3 returns-3 roles-ascend-requires returns-4
-    atoms-fit-requires returns-5 atoms-differ-requires returns-6 all-named-requires returns-7 parts-fit-requires
-    returns-8)
+    (tie.spec (λ c κs. search needs) returns (λ c. search needs) returns-2 (λ c. search needs) returns-3
+    (λ c κs. search needs) returns-4 (λ c κs. search needs) returns-5 atoms-differ-requires returns-6 all-named-requires
+    returns-7 (λ c κs. search needs) returns-8)

@@ -61,12 +61,6 @@ returns c =
     let turn = c .before .before .before in
     all-fails (turn .before .loop .inv .1) (turn .loop-test .taken) (fit (c .before) ∙ not-true _ (c .if1 .taken))
 
-add-s : tie.Need-add-s Inv-loop μ-loop
-add-s c = omega arith
-
-loop-less : tie.Need-loop-less Inv-loop μ-loop
-loop-less c = omega arith
-
 loop-again : tie.Need-loop-again Inv-loop μ-loop
 loop-again c =
     let k = c .before .before in
@@ -82,5 +76,5 @@ returns-2 c = all-ends (c .before .loop .inv .1) (c .loop-test .left)
 pub schemas-fit-spec : {M : Type 1} → statement M
 schemas-fit-spec =
     tie.close
-    (tie.spec Inv-loop μ-loop word-requires loop-holds run-end-requires schema-fits-requires returns add-s loop-less
-    loop-again returns-2)
+    (tie.spec Inv-loop μ-loop word-requires loop-holds run-end-requires schema-fits-requires returns (λ c. omega arith)
+    (λ c. omega arith) loop-again returns-2)

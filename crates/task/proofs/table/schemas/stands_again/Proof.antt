@@ -19,9 +19,6 @@ Inv-loop table i end j₀ j =
 abbrev μ-loop : tie.MeasureT-loop
 μ-loop table i end j₀ j = end - j
 
-add-j : tie.Need-add-j Inv-loop μ-loop
-add-j c = omega arith
-
 loop-holds : tie.Need-loop-holds Inv-loop μ-loop
 unfolding standsAgain
 loop-holds c = (omega arith, any-start)
@@ -53,12 +50,6 @@ same-atom-requires c κs =
 returns-2 : tie.Need-returns-2 Inv-loop μ-loop
 returns-2 c = search any-yes
 
-add-j-2 : tie.Need-add-j-2 Inv-loop μ-loop
-add-j-2 c = omega arith
-
-loop-less : tie.Need-loop-less Inv-loop μ-loop
-loop-less c = omega arith
-
 loop-again : tie.Need-loop-again Inv-loop μ-loop
 loop-again c = (omega arith, search any-no)
 
@@ -68,5 +59,5 @@ returns-3 c = search any-ends
 pub stands-again-spec : {M : Type 1} → statement M
 stands-again-spec =
     tie.close
-    (tie.spec Inv-loop μ-loop add-j loop-holds role-requires role-requires-2 returns same-atom-requires returns-2
-    add-j-2 loop-less loop-again returns-3)
+    (tie.spec Inv-loop μ-loop (λ c. omega arith) loop-holds role-requires role-requires-2 returns same-atom-requires
+    returns-2 (λ c. omega arith) (λ c. omega arith) loop-again returns-3)

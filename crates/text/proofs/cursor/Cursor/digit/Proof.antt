@@ -15,9 +15,6 @@ use Rattle.text.proofs.cursor.Cursor.digit.Statement.{statement}
 returns : tie.Need-returns
 returns c = no-digit-left (c .before .args .text .now) (c .before .args .self .at) (omega arith)
 
-shared-slice-read-byte : tie.Need-shared-slice-read-byte
-shared-slice-read-byte c = search needs
-
 returns-2 : tie.Need-returns-2
 returns-2 c =
     let start = c .before .before .before in
@@ -27,12 +24,6 @@ returns-3 : tie.Need-returns-3
 returns-3 c =
     let start = c .before .before .before .before in
     no-digit-here (start .args .text .now) (start .args .self .at) (omega arith) (high-no-digit _ (c .if3 .taken))
-
-cast-t10 : tie.Need-cast-t10
-cast-t10 c = search needs
-
-add-t6 : tie.Need-add-t6
-add-t6 c = search needs
 
 returns-4 : tie.Need-returns-4
 returns-4 c =
@@ -53,4 +44,6 @@ returns-4 c =
     }
 
 pub digit-spec : {M : Type 1} → statement M
-digit-spec = tie.close (tie.spec returns shared-slice-read-byte returns-2 returns-3 cast-t10 add-t6 returns-4)
+digit-spec =
+    tie.close
+    (tie.spec returns (λ c. search needs) returns-2 returns-3 (λ c. search needs) (λ c. search needs) returns-4)

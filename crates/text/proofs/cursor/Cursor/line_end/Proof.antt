@@ -9,18 +9,6 @@ use borrow.Author.Needs.{needs}
 use Rattle.text.specs.ReadCode.{WordAt}
 use Rattle.text.proofs.cursor.Cursor.line_end.Statement.{statement}
 
-slice-aggregate-word : tie.Need-slice-aggregate-word
-slice-aggregate-word c = search needs
-
-word-requires : tie.Need-word-requires
-word-requires c κs = search needs
-
-enum-known-next : tie.Need-enum-known-next
-enum-known-next c = search needs
-
-enum-told : tie.Need-enum-told
-enum-told c = search needs
-
 returns : tie.Need-returns
 returns c = subst (WordAt _ _ _) (c .enum-told .given .1) (c .before .before .word .ensures)
 
@@ -45,4 +33,5 @@ returns-2 c =
 pub line-end-spec : {M : Type 1} → statement M
 line-end-spec =
     tie.close
-    (tie.spec slice-aggregate-word word-requires enum-known-next enum-told returns add-t10 returns-2)
+    (tie.spec (λ c. search needs) (λ c κs. search needs) (λ c. search needs) (λ c. search needs) returns add-t10
+    returns-2)

@@ -23,12 +23,6 @@ loop-holds c = no-digit-yet _ _
 digit-requires : tie.Need-digit-requires Inv-loop μ-loop
 digit-requires c κs = tt
 
-enum-known-digit : tie.Need-enum-known-digit Inv-loop μ-loop
-enum-known-digit c = search needs
-
-enum-told : tie.Need-enum-told Inv-loop μ-loop
-enum-told c = search needs
-
 returns : tie.Need-returns Inv-loop μ-loop
 returns c =
     let told = c .before in
@@ -64,12 +58,6 @@ add-value c =
     let s = d .small in
     omega arith
 
-add-digits : tie.Need-add-digits Inv-loop μ-loop
-add-digits c = omega arith
-
-loop-less : tie.Need-loop-less Inv-loop μ-loop
-loop-less c = omega arith
-
 loop-again : tie.Need-loop-again Inv-loop μ-loop
 loop-again c =
     let here = c .before .before .before in
@@ -80,5 +68,5 @@ loop-again c =
 pub number-spec : {M : Type 1} → statement M
 number-spec =
     tie.close
-    (tie.spec Inv-loop μ-loop loop-holds digit-requires enum-known-digit enum-told returns returns-2 returns-3 returns-4
-    mul-value add-value add-digits loop-less loop-again)
+    (tie.spec Inv-loop μ-loop loop-holds digit-requires (λ c. search needs) (λ c. search needs) returns returns-2
+    returns-3 returns-4 mul-value add-value (λ c. omega arith) (λ c. omega arith) loop-again)

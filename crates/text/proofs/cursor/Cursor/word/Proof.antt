@@ -16,9 +16,6 @@ Inv-loop text word at line k₀ k-end k = (k ≤ length word) × (k-end ≡ leng
 abbrev μ-loop : tie.MeasureT-loop
 μ-loop text word at line k₀ k-end k = length word - k
 
-sub-if1 : tie.Need-sub-if1 Inv-loop μ-loop
-sub-if1 c = omega arith
-
 returns : tie.Need-returns Inv-loop μ-loop
 returns c =
     let text = c .before .args .text .now in
@@ -32,15 +29,6 @@ loop-holds c =
     let e : c .before .args .self .at + 0 ≡ c .before .args .self .at = omega arith in
     (omega arith, refl, omega arith, rw e refl)
 
-add-if2 : tie.Need-add-if2 Inv-loop μ-loop
-add-if2 c = omega arith
-
-shared-slice-read-if2 : tie.Need-shared-slice-read-if2 Inv-loop μ-loop
-shared-slice-read-if2 c = omega arith
-
-shared-slice-read-if2-2 : tie.Need-shared-slice-read-if2-2 Inv-loop μ-loop
-shared-slice-read-if2-2 c = omega arith
-
 returns-2 : tie.Need-returns-2 Inv-loop μ-loop
 returns-2 c =
     let at-loop = c .before .before .before .before in
@@ -48,12 +36,6 @@ returns-2 c =
     at-loop .loop .inv .3 ∙
     differs-here (start .args .text .now) (start .args .word .now) (start .args .self .at) (at-loop .loop .k)
     (omega arith) (omega arith) (c .if2 .taken)
-
-add-k : tie.Need-add-k Inv-loop μ-loop
-add-k c = omega arith
-
-loop-less : tie.Need-loop-less Inv-loop μ-loop
-loop-less c = omega arith
 
 loop-again : tie.Need-loop-again Inv-loop μ-loop
 loop-again c =
@@ -66,9 +48,6 @@ loop-again c =
           found-here (start .args .text .now) (start .args .word .now) (start .args .self .at) (at-loop .loop .k)
           (omega arith) (omega arith) (c .if2 .left),
     )
-
-add-t8 : tie.Need-add-t8 Inv-loop μ-loop
-add-t8 c = omega arith
 
 returns-3 : tie.Need-returns-3 Inv-loop μ-loop
 returns-3 c =
@@ -89,5 +68,5 @@ returns-3 c =
 pub word-spec : {M : Type 1} → statement M
 word-spec =
     tie.close
-    (tie.spec Inv-loop μ-loop sub-if1 returns loop-holds add-if2 shared-slice-read-if2 shared-slice-read-if2-2 returns-2
-    add-k loop-less loop-again add-t8 returns-3)
+    (tie.spec Inv-loop μ-loop (λ c. omega arith) returns loop-holds (λ c. omega arith) (λ c. omega arith)
+    (λ c. omega arith) returns-2 (λ c. omega arith) (λ c. omega arith) loop-again (λ c. omega arith) returns-3)

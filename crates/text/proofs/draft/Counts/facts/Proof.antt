@@ -6,18 +6,6 @@ use borrow.Author.Needs.{needs}
 use Rattle.text.specs.Holding.{soFar}
 use Rattle.text.proofs.draft.Counts.facts.Statement.{statement}
 
-enum-told : tie.Need-enum-told
-enum-told c = search needs
-
-cast-t4 : tie.Need-cast-t4
-cast-t4 c = search needs
-
-enum-told-2 : tie.Need-enum-told-2
-enum-told-2 c = search needs
-
-cast-t5 : tie.Need-cast-t5
-cast-t5 c = search needs
-
 returns : tie.Need-returns
 returns c = ap (soFar (c .before .before .args .self)) (sym (c .enum-told .given .1))
 
@@ -25,4 +13,6 @@ returns-2 : tie.Need-returns-2
 returns-2 c = ap (soFar (c .before .before .args .self)) (sym (c .enum-told2 .given .1))
 
 pub facts-spec : {M : Type 1} → statement M
-facts-spec = tie.close (tie.spec enum-told cast-t4 enum-told-2 cast-t5 returns returns-2)
+facts-spec =
+    tie.close
+    (tie.spec (λ c. search needs) (λ c. search needs) (λ c. search needs) (λ c. search needs) returns returns-2)

@@ -7,18 +7,6 @@ use borrow.Author.Needs.{needs}
 use Rattle.text.specs.Holding.{oneFactMore}
 use Rattle.text.proofs.draft.Counts.one_fact_more.Statement.{statement}
 
-enum-told : tie.Need-enum-told
-enum-told c = search needs
-
-add-read : tie.Need-add-read
-add-read c = search needs
-
-enum-told-2 : tie.Need-enum-told-2
-enum-told-2 c = search needs
-
-add-read-2 : tie.Need-add-read-2
-add-read-2 c = search needs
-
 returns : tie.Need-returns
 returns c = ap (oneFactMore (c .before .before .before .args .self)) (sym (c .before .enum-told .given .1))
 
@@ -26,4 +14,6 @@ returns-2 : tie.Need-returns-2
 returns-2 c = ap (oneFactMore (c .before .before .before .args .self)) (sym (c .before .enum-told2 .given .1))
 
 pub one-fact-more-spec : {M : Type 1} → statement M
-one-fact-more-spec = tie.close (tie.spec enum-told add-read enum-told-2 add-read-2 returns returns-2)
+one-fact-more-spec =
+    tie.close
+    (tie.spec (λ c. search needs) (λ c. search needs) (λ c. search needs) (λ c. search needs) returns returns-2)

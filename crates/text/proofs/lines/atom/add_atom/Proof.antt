@@ -1,6 +1,6 @@
--- `text::lines::atom::add_atom` refuses as the line's turn does: 4 where the schema or the table is full, 5 where `fits` says
--- so, and 6 where the search among the schema's rows finds the new one. The row is written before 6 is tested, and
--- touches nothing of the table but its own eight words.
+-- `text::lines::atom::add_atom` refuses as the line's turn does: 4 where the schema or the table is full, 5 where
+-- `fits` says so, and 6 where the search among the schema's rows finds the new one. The row is written before 6 is
+-- tested, and touches nothing of the table but its own eight words.
 use Rattle.text.proofs.lines.atom.add_atom.Tie as tie
 use Prim.Native.Nat.{ℕ, _+_, _≤_, _<_}
 use mathlib.Core.Path.{_≡_, refl, sym, _∙_}
@@ -72,9 +72,6 @@ found l =
 returns : tie.Need-returns
 returns c = (untouched _, λ d ns h s. schema-full d _ _ ns (let e = h .atoms in omega arith))
 
-add-if2 : tie.Need-add-if2
-add-if2 c = search needs
-
 returns-2 : tie.Need-returns-2
 returns-2 c = (
   untouched _,
@@ -87,9 +84,6 @@ fits-requires c κs =
     let h = c .before .before .before .before .before .before .before .pre .0 .holds in
     in-table (omega (arith, h .few .predicates)) (h .long)
 
-same-length : tie.Need-same-length
-same-length c = search needs
-
 returns-3 : tie.Need-returns-3
 returns-3 c =
     let f = c .before in (
@@ -98,12 +92,6 @@ returns-3 c =
           (let e = h .atoms in let q = h .closed in omega arith)
           (sym (atom-fits h (f .fits2 .ensures) (entry f .pre .1 .1) s) ∙ not-true _ (c .if3 .taken)),
     )
-
-next-row-requires : tie.Need-next-row-requires
-next-row-requires c κs = search needs
-
-cast-put-row : tie.Need-cast-put-row
-cast-put-row c = search needs
 
 put-row-requires : tie.Need-put-row-requires
 put-row-requires c κs =
@@ -122,9 +110,6 @@ put-row-requires c κs =
       ),
     )
 
-first-row-requires : tie.Need-first-row-requires
-first-row-requires c κs = search needs
-
 repeated-requires : tie.Need-repeated-requires
 repeated-requires c κs =
     let p = c .before .before .before .before in
@@ -134,16 +119,10 @@ repeated-requires c κs =
     let room = in-table (inside (fitting p)) (start p .pre .0 .holds .long) in
     (omega arith, omega arith)
 
-same-length-2 : tie.Need-same-length-2
-same-length-2 c = search needs
-
 returns-4 : tie.Need-returns-4
 returns-4 c =
     let p = written (c .before) in
     (touched p, λ d ns h s. put p d ns h s .repeats (found (c .before) ∙ c .if4 .taken))
-
-same-length-3 : tie.Need-same-length-3
-same-length-3 c = search needs
 
 returns-5 : tie.Need-returns-5
 returns-5 c =
@@ -153,5 +132,6 @@ returns-5 c =
 pub add-atom-spec : {M : Type 1} → statement M
 add-atom-spec =
     tie.close
-    (tie.spec returns add-if2 returns-2 fits-requires same-length returns-3 next-row-requires cast-put-row
-    put-row-requires first-row-requires repeated-requires same-length-2 returns-4 same-length-3 returns-5)
+    (tie.spec returns (λ c. search needs) returns-2 fits-requires (λ c. search needs) returns-3 (λ c κs. search needs)
+    (λ c. search needs) put-row-requires (λ c κs. search needs) repeated-requires (λ c. search needs) returns-4
+    (λ c. search needs) returns-5)

@@ -1,6 +1,6 @@
--- `text::lines::atom::add_fact` refuses as the line's turn does: 4 where the kind is full, 5 where `fits` says so, and 6
--- where the words of the new row don't come behind those of the row before. The row is written before 6 is tested, and
--- touches nothing of the table but its own eight words.
+-- `text::lines::atom::add_fact` refuses as the line's turn does: 4 where the kind is full, 5 where `fits` says so, and
+-- 6 where the words of the new row don't come behind those of the row before. The row is written before 6 is tested,
+-- and touches nothing of the table but its own eight words.
 use Rattle.text.proofs.lines.atom.add_fact.Tie as tie
 use Prim.Native.Nat.{ℕ, _+_, _-_, _≤_, _<_}
 use mathlib.Core.Path.{_≡_, refl, sym, _∙_}
@@ -82,9 +82,6 @@ order l d ns given =
     (rw row at found) ∙ put p d ns given .later (l .before .before .if3 .taken)
 
 -- ---- the answers
-facts-requires : tie.Need-facts-requires
-facts-requires c κs = search needs
-
 returns : tie.Need-returns
 returns c =
     let start = c .before .before .before .before .before in (
@@ -98,9 +95,6 @@ fits-requires c κs =
     let h = c .before .before .before .before .before .before .pre .0 .holds in
     in-table (omega (arith, h .few .predicates)) (h .long)
 
-same-length : tie.Need-same-length
-same-length c = search needs
-
 returns-2 : tie.Need-returns-2
 returns-2 c =
     let f = c .before in (
@@ -108,9 +102,6 @@ returns-2 c =
       λ d ns h s. misfit-refused (entry f .args .kind) h (facts f .facts .ensures) _ ns (below f)
           (sym (fact-fits h (f .fits2 .ensures) (entry f .pre .1 .1) s) ∙ not-true _ (c .if2 .taken)),
     )
-
-next-row-requires : tie.Need-next-row-requires
-next-row-requires c κs = search needs
 
 put-row-requires : tie.Need-put-row-requires
 put-row-requires c κs =
@@ -128,12 +119,6 @@ put-row-requires c κs =
       ),
     )
 
-sub-less-words : tie.Need-sub-less-words
-sub-less-words c = search needs
-
-add-less-words : tie.Need-add-less-words
-add-less-words c = search needs
-
 less-words-requires : tie.Need-less-words-requires
 less-words-requires c κs =
     let p = c .before .before .before .before .before in
@@ -142,9 +127,6 @@ less-words-requires c κs =
     let room = in-table (inside (fitting p)) (start p .pre .0 .holds .long) in
     (omega arith, omega arith)
 
-same-length-2 : tie.Need-same-length-2
-same-length-2 c = search needs
-
 returns-3 : tie.Need-returns-3
 returns-3 c =
     let p = written (c .before) in (
@@ -152,18 +134,12 @@ returns-3 c =
       λ d ns h s. put p d ns (h, s) .unordered (sym (order (c .before) d ns (h, s)) ∙ not-true _ (c .if4 .taken)),
     )
 
-same-length-3 : tie.Need-same-length-3
-same-length-3 c = search needs
-
 returns-4 : tie.Need-returns-4
 returns-4 c =
     let p = written (c .before) in (
       touched p,
       λ d ns h s. put p d ns (h, s) .taken (sym (order (c .before) d ns (h, s)) ∙ not-false _ (c .if4 .left)),
     )
-
-same-length-4 : tie.Need-same-length-4
-same-length-4 c = search needs
 
 returns-5 : tie.Need-returns-5
 returns-5 c =
@@ -177,6 +153,6 @@ returns-5 c =
 pub add-fact-spec : {M : Type 1} → statement M
 add-fact-spec =
     tie.close
-    (tie.spec facts-requires returns fits-requires same-length returns-2 next-row-requires put-row-requires
-    sub-less-words add-less-words less-words-requires same-length-2 returns-3 same-length-3 returns-4 same-length-4
-    returns-5)
+    (tie.spec (λ c κs. search needs) returns fits-requires (λ c. search needs) returns-2 (λ c κs. search needs)
+    put-row-requires (λ c. search needs) (λ c. search needs) less-words-requires (λ c. search needs) returns-3
+    (λ c. search needs) returns-4 (λ c. search needs) returns-5)

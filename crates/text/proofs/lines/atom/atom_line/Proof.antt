@@ -31,18 +31,6 @@ read : (a : tie.After-add-atom) → EntryLine (begun a .args .text .now) (begun 
 read a = subst (EntryLineAt _ _ _) (atom a .predicate .given .1) (line (atom a) .entry-line .ensures)
 
 -- ---- the answers
-slice-aggregate-entry-line : tie.Need-slice-aggregate-entry-line
-slice-aggregate-entry-line c = search needs
-
-entry-line-requires : tie.Need-entry-line-requires
-entry-line-requires c κs = search needs
-
-enum-known-predicate : tie.Need-enum-known-predicate
-enum-known-predicate c = search needs
-
-enum-told : tie.Need-enum-told
-enum-told c = search needs
-
 returns : tie.Need-returns
 returns c =
     let l = c .before .before .before in (
@@ -50,18 +38,6 @@ returns c =
       λ d h. no-line (atomLine (start l .args .role)) d _
           (subst (EntryLineAt _ _ _) (c .enum-told .given .1) (l .entry-line .ensures)),
     )
-
-slice-aggregate-add-atom : tie.Need-slice-aggregate-add-atom
-slice-aggregate-add-atom c = search needs
-
-add-atom-requires : tie.Need-add-atom-requires
-add-atom-requires c κs = search needs
-
-enum-known-check : tie.Need-enum-known-check
-enum-known-check c = search needs
-
-same-length : tie.Need-same-length
-same-length c = search needs
 
 returns-2 : tie.Need-returns-2
 returns-2 c =
@@ -71,17 +47,8 @@ returns-2 c =
           (a .add-atom .ensures .1 d (read a .ns) h (read a .listed)),
     )
 
-enum-told-2 : tie.Need-enum-told-2
-enum-told-2 c = search needs
-
-add-read : tie.Need-add-read
-add-read c = search needs
-
 add-read-2 : tie.Need-add-read-2
 add-read-2 c = omega (arith, begun (c .before .before .before .before .before) .pre .1 .0 .holds .few .atoms)
-
-same-length-2 : tie.Need-same-length-2
-same-length-2 c = search needs
 
 returns-3 : tie.Need-returns-3
 returns-3 c =
@@ -94,6 +61,6 @@ returns-3 c =
 pub atom-line-spec : {M : Type 1} → statement M
 atom-line-spec =
     tie.close
-    (tie.spec slice-aggregate-entry-line entry-line-requires enum-known-predicate enum-told returns
-    slice-aggregate-add-atom add-atom-requires enum-known-check same-length returns-2 enum-told-2 add-read add-read-2
-    same-length-2 returns-3)
+    (tie.spec (λ c. search needs) (λ c κs. search needs) (λ c. search needs) (λ c. search needs) returns
+    (λ c. search needs) (λ c κs. search needs) (λ c. search needs) (λ c. search needs) returns-2 (λ c. search needs)
+    (λ c. search needs) add-read-2 (λ c. search needs) returns-3)

@@ -31,18 +31,6 @@ abbrev grown : tie.After-add-fact → Counts
 grown a = oneFactMore (start a .args .counts) (start a .args .kind)
 
 -- ---- the answers
-slice-aggregate-entry-line : tie.Need-slice-aggregate-entry-line
-slice-aggregate-entry-line c = search needs
-
-entry-line-requires : tie.Need-entry-line-requires
-entry-line-requires c κs = search needs
-
-enum-known-predicate : tie.Need-enum-known-predicate
-enum-known-predicate c = search needs
-
-enum-told : tie.Need-enum-told
-enum-told c = search needs
-
 returns : tie.Need-returns
 returns c =
     let start = c .before .before .before .before .before .before .before in (
@@ -51,18 +39,6 @@ returns c =
           (subst (EntryLineAt _ _ _) (c .enum-told .given .1) (c .before .before .before .entry-line .ensures)),
     )
 
-slice-aggregate-add-fact : tie.Need-slice-aggregate-add-fact
-slice-aggregate-add-fact c = search needs
-
-add-fact-requires : tie.Need-add-fact-requires
-add-fact-requires c κs = search needs
-
-enum-known-check : tie.Need-enum-known-check
-enum-known-check c = search needs
-
-same-length : tie.Need-same-length
-same-length c = search needs
-
 returns-2 : tie.Need-returns-2
 returns-2 c =
     let a = c .before .before .before .before .before in (
@@ -70,15 +46,6 @@ returns-2 c =
       λ d h. atom-refused (factLine (start a .args .kind)) d (read a) (grown a) (a .add-fact .last .0) _
           (c .before .check .given .1) (a .add-fact .ensures .1 d (read a .ns) h (read a .listed)),
     )
-
-enum-told-2 : tie.Need-enum-told-2
-enum-told-2 c = search needs
-
-one-fact-more-requires : tie.Need-one-fact-more-requires
-one-fact-more-requires c κs = search needs
-
-same-length-2 : tie.Need-same-length-2
-same-length-2 c = search needs
 
 returns-3 : tie.Need-returns-3
 returns-3 c =
@@ -92,6 +59,6 @@ returns-3 c =
 pub fact-line-spec : {M : Type 1} → statement M
 fact-line-spec =
     tie.close
-    (tie.spec slice-aggregate-entry-line entry-line-requires enum-known-predicate enum-told returns
-    slice-aggregate-add-fact add-fact-requires enum-known-check same-length returns-2 enum-told-2 one-fact-more-requires
-    same-length-2 returns-3)
+    (tie.spec (λ c. search needs) (λ c κs. search needs) (λ c. search needs) (λ c. search needs) returns
+    (λ c. search needs) (λ c κs. search needs) (λ c. search needs) (λ c. search needs) returns-2 (λ c. search needs)
+    (λ c κs. search needs) (λ c. search needs) returns-3)

@@ -1,5 +1,5 @@
--- `text::lines::head::arity_line`: the line has no list, or it has too many arities or one too high, or they are put behind
--- the counts, and the code holds the draft behind the line.
+-- `text::lines::head::arity_line`: the line has no list, or it has too many arities or one too high, or they are put
+-- behind the counts, and the code holds the draft behind the line.
 use Rattle.text.proofs.lines.head.arity_line.Tie as tie
 use mathlib.Core.Path.{_≡_, sym, _∙_, ap, subst}
 use native.Mathlib.Omega.{arith}
@@ -49,21 +49,9 @@ low b =
     (ap (all (λ n. ltb n 5)) (sym (listed-take (read (lists b) .listed) (omega arith))) ∙ sym (b .all-below .ensures))
 
 -- ---- the answers
-slice-aggregate-numbers : tie.Need-slice-aggregate-numbers
-slice-aggregate-numbers c = search needs
-
-numbers-requires : tie.Need-numbers-requires
-numbers-requires c κs = search needs
-
 list-line-requires : tie.Need-list-line-requires
 list-line-requires c κs =
     list-placed (c .before .before .before .before .before .pre .0) _ _ (c .before .numbers .ensures)
-
-enum-known-count : tie.Need-enum-known-count
-enum-known-count c = search needs
-
-enum-told : tie.Need-enum-told
-enum-told c = search needs
 
 returns : tie.Need-returns
 returns c =
@@ -76,12 +64,6 @@ returns-2 c =
     let many = list .listed .counted in
     (untouched _, λ d h. line-refused arityLine d _ _ _ (list .is) 4 (too-many-predicates d (list .ns) (omega arith)))
 
-slice-aggregate-all-below : tie.Need-slice-aggregate-all-below
-slice-aggregate-all-below c = search needs
-
-all-below-requires : tie.Need-all-below-requires
-all-below-requires c κs = search needs
-
 returns-3 : tie.Need-returns-3
 returns-3 c =
     let list = read (lists (c .before)) in (
@@ -89,9 +71,6 @@ returns-3 c =
       λ d h. line-refused arityLine d _ _ _ (list .is) 4
           (arity-too-high d (list .ns) (low (c .before) ∙ not-true _ (c .if2 .taken))),
     )
-
-slice-aggregate-put-words : tie.Need-slice-aggregate-put-words
-slice-aggregate-put-words c = search needs
 
 put-words-requires : tie.Need-put-words-requires
 put-words-requires c κs =
@@ -108,9 +87,6 @@ put-words-requires c κs =
             (each-first (λ n. ltb n 5) _ _ (omega arith) all-below k l) in omega arith;
       },
     )
-
-same-length : tie.Need-same-length
-same-length c = search needs
 
 returns-4 : tie.Need-returns-4
 returns-4 c =
@@ -136,6 +112,6 @@ returns-4 c =
 pub arity-line-spec : {M : Type 1} → statement M
 arity-line-spec =
     tie.close
-    (tie.spec slice-aggregate-numbers numbers-requires list-line-requires enum-known-count enum-told returns returns-2
-    slice-aggregate-all-below all-below-requires returns-3 slice-aggregate-put-words put-words-requires same-length
-    returns-4)
+    (tie.spec (λ c. search needs) (λ c κs. search needs) list-line-requires (λ c. search needs) (λ c. search needs)
+    returns returns-2 (λ c. search needs) (λ c κs. search needs) returns-3 (λ c. search needs) put-words-requires
+    (λ c. search needs) returns-4)

@@ -9,15 +9,6 @@ use Rattle.text.proofs.HeldHeads.{end-refused, end-taken}
 use Rattle.text.proofs.LineTurns.{not-one, line-ends}
 use Rattle.text.proofs.lines.head.end_line.Statement.{statement}
 
-one-line-requires : tie.Need-one-line-requires
-one-line-requires c κs = search needs
-
-enum-known-next : tie.Need-enum-known-next
-enum-known-next c = search needs
-
-enum-told : tie.Need-enum-told
-enum-told c = search needs
-
 returns : tie.Need-returns
 returns c = λ d w closed.
     not-one endLine _ (takeLine d)
@@ -37,4 +28,4 @@ returns-2 c =
     )
 
 pub end-line-spec : {M : Type 1} → statement M
-end-line-spec = tie.close (tie.spec one-line-requires enum-known-next enum-told returns returns-2)
+end-line-spec = tie.close (tie.spec (λ c κs. search needs) (λ c. search needs) (λ c. search needs) returns returns-2)

@@ -1,5 +1,5 @@
--- `text::lines::head::schema_line`: there is no number, or the table has all the schemas that it may have, or the schema has
--- too many parameters, which is 4; else a schema without atoms is open behind the line.
+-- `text::lines::head::schema_line`: there is no number, or the table has all the schemas that it may have, or the
+-- schema has too many parameters, which is 4; else a schema without atoms is open behind the line.
 use Rattle.text.proofs.lines.head.schema_line.Tie as tie
 use Prim.Native.Nat.{_-_}
 use mathlib.Core.Path.{subst}
@@ -10,15 +10,6 @@ use Rattle.text.specs.ReadCode.{NumberLineAt}
 use Rattle.text.proofs.HeldHeads.{schema-many, params-many, schema-taken, schema-held}
 use Rattle.text.proofs.LineTurns.{no-line, line-refused, line-goes-on}
 use Rattle.text.proofs.lines.head.schema_line.Statement.{statement}
-
-number-line-requires : tie.Need-number-line-requires
-number-line-requires c κs = search needs
-
-enum-known-n : tie.Need-enum-known-n
-enum-known-n c = search needs
-
-enum-told : tie.Need-enum-told
-enum-told c = search needs
 
 returns : tie.Need-returns
 returns c = λ d w h.
@@ -36,9 +27,6 @@ returns-3 c =
     let read = subst (NumberLineAt _ _) (n .n .given .1) (n .before .before .number-line .ensures) in
     λ d w h. line-refused schemaLine d _ _ _ (read .is) 4 (params-many d _ (c .if2 .taken))
 
-cast-read : tie.Need-cast-read
-cast-read c = search needs
-
 returns-4 : tie.Need-returns-4
 returns-4 c =
     let n = c .before .before .before .before in
@@ -55,4 +43,5 @@ returns-4 c =
 pub schema-line-spec : {M : Type 1} → statement M
 schema-line-spec =
     tie.close
-    (tie.spec number-line-requires enum-known-n enum-told returns returns-2 returns-3 cast-read returns-4)
+    (tie.spec (λ c κs. search needs) (λ c. search needs) (λ c. search needs) returns returns-2 returns-3
+    (λ c. search needs) returns-4)

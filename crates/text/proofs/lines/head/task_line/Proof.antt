@@ -9,15 +9,6 @@ use Rattle.text.proofs.HeldHeads.{task-refused, task-taken, task-held}
 use Rattle.text.proofs.LineTurns.{not-one, line-goes-on}
 use Rattle.text.proofs.lines.head.task_line.Statement.{statement}
 
-one-line-requires : tie.Need-one-line-requires
-one-line-requires c κs = search needs
-
-enum-known-next : tie.Need-enum-known-next
-enum-known-next c = search needs
-
-enum-told : tie.Need-enum-told
-enum-told c = search needs
-
 returns : tie.Need-returns
 returns c = λ d w h.
     not-one taskLine _ (takeLine d)
@@ -35,4 +26,4 @@ returns-2 c =
     }
 
 pub task-line-spec : {M : Type 1} → statement M
-task-line-spec = tie.close (tie.spec one-line-requires enum-known-next enum-told returns returns-2)
+task-line-spec = tie.close (tie.spec (λ c κs. search needs) (λ c. search needs) (λ c. search needs) returns returns-2)

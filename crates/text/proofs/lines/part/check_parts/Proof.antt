@@ -1,5 +1,5 @@
--- `text::lines::part::check_parts` refuses as `closeSchema` does, test by test: what each test found is said of the draft
--- below, and the answers cite it.
+-- `text::lines::part::check_parts` refuses as `closeSchema` does, test by test: what each test found is said of the
+-- draft below, and the answers cite it.
 use Rattle.text.proofs.lines.part.check_parts.Tie as tie
 use Prim.Native.Nat.{ℕ, _≤_}
 use mathlib.Core.Path.{_≡_, sym, _∙_, ap}
@@ -61,9 +61,6 @@ module _ (c : tie.After-all-below) (d : Draft) (ns : List ℕ)
 returns : tie.Need-returns
 returns c = λ d ns h s. no-atoms d ns (let e = h .atoms in omega arith)
 
-first-row-requires : tie.Need-first-row-requires
-first-row-requires c κs = search needs
-
 all-named-requires : tie.Need-all-named-requires
 all-named-requires c κs =
     let start = c .before .before .before .before .before in
@@ -80,9 +77,6 @@ returns-3 c =
     let names = c .before .before .before in
     λ d ns h s. wrong-length d ns (some names d h) (named names d h ∙ not-false _ (c .before .before .if2 .left))
     (λ q. c .if3 .taken (let e = h .atoms in let n = s .counted in omega arith))
-
-all-below-requires : tie.Need-all-below-requires
-all-below-requires c κs = search needs
 
 returns-4 : tie.Need-returns-4
 returns-4 c =
@@ -118,5 +112,5 @@ returns-6 c =
 pub check-parts-spec : {M : Type 1} → statement M
 check-parts-spec =
     tie.close
-    (tie.spec returns first-row-requires all-named-requires returns-2 returns-3 all-below-requires returns-4
+    (tie.spec returns (λ c κs. search needs) all-named-requires returns-2 returns-3 (λ c κs. search needs) returns-4
     without-gap-requires returns-5 returns-6)

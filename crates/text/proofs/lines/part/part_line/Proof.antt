@@ -1,6 +1,6 @@
--- `text::lines::part::part_line`: the line has no list, or its parts don't close the schema, or they do. Then the parts go
--- into the schema's rows, its parameter count behind those of the schemas before, and the code holds the draft behind
--- it.
+-- `text::lines::part::part_line`: the line has no list, or its parts don't close the schema, or they do. Then the parts
+-- go into the schema's rows, its parameter count behind those of the schemas before, and the code holds the draft
+-- behind it.
 use Rattle.text.proofs.lines.part.part_line.Tie as tie
 use Rattle.text.specs.declared.draft.Check.the-variants as check
 use mathlib.Core.Path.{sym, _∙_, ap, subst}
@@ -66,38 +66,14 @@ held : (c : tie.After-put-parts) → Drafted (start c .args .table .now) (start 
 held c = start c .pre .1 .0
 
 -- ---- the answers
-slice-aggregate-listing : tie.Need-slice-aggregate-listing
-slice-aggregate-listing c = search needs
-
-listing-requires : tie.Need-listing-requires
-listing-requires c κs = search needs
-
 list-line-requires : tie.Need-list-line-requires
 list-line-requires c κs =
     list-placed (c .before .before .before .before .before .pre .0) _ _ (c .before .listing .ensures)
-
-enum-known-count : tie.Need-enum-known-count
-enum-known-count c = search needs
-
-enum-told : tie.Need-enum-told
-enum-told c = search needs
 
 returns : tie.Need-returns
 returns c =
     let none = c .before .before .list-line .ensures _ _ _ (c .before .before .before .before .listing .ensures) in
     (untouched _, λ d h. no-line partLine d _ (subst (ListLineAt _ _ _ _) (c .enum-told .given .1) none))
-
-slice-aggregate-check-parts : tie.Need-slice-aggregate-check-parts
-slice-aggregate-check-parts c = search needs
-
-check-parts-requires : tie.Need-check-parts-requires
-check-parts-requires c κs = search needs
-
-enum-known-check : tie.Need-enum-known-check
-enum-known-check c = search needs
-
-same-length : tie.Need-same-length
-same-length c = search needs
 
 returns-2 : tie.Need-returns-2
 unfolding takeLine
@@ -108,15 +84,6 @@ returns-2 c =
           (subst (PartsTurn d (list .ns)) (c .before .check .given .1)
           (c .before .before .before .check-parts .ensures d (list .ns) h (list .listed))),
     )
-
-enum-told-2 : tie.Need-enum-told-2
-enum-told-2 c = search needs
-
-first-row-requires : tie.Need-first-row-requires
-first-row-requires c κs = search needs
-
-slice-aggregate-put-parts : tie.Need-slice-aggregate-put-parts
-slice-aggregate-put-parts c = search needs
 
 put-parts-requires : tie.Need-put-parts-requires
 put-parts-requires c κs =
@@ -143,9 +110,6 @@ put-parts-requires c κs =
           (each-first (λ p. ltb p 16) (kept (lists k)) _ (omega arith) low i l) in omega arith,
     )
 
-add-at : tie.Need-add-at
-add-at c = search needs
-
 add-at-2 : tie.Need-add-at-2
 add-at-2 c =
     let few = held (c .before .before .before .before) .holds .few in
@@ -168,9 +132,6 @@ add-read c = let schemas = held (c .before .before .before .before .before) .hol
 
 add-read-2 : tie.Need-add-read-2
 add-read-2 c = let total = held (c .before .before .before .before .before .before) .holds .few .total in omega arith
-
-same-length-2 : tie.Need-same-length-2
-same-length-2 c = search needs
 
 returns-3 : tie.Need-returns-3
 unfolding takeLine
@@ -210,7 +171,7 @@ returns-3 c =
 pub part-line-spec : {M : Type 1} → statement M
 part-line-spec =
     tie.close
-    (tie.spec slice-aggregate-listing listing-requires list-line-requires enum-known-count enum-told returns
-    slice-aggregate-check-parts check-parts-requires enum-known-check same-length returns-2 enum-told-2
-    first-row-requires slice-aggregate-put-parts put-parts-requires add-at add-at-2 mul-table slice-write-table add-read
-    add-read-2 same-length-2 returns-3)
+    (tie.spec (λ c. search needs) (λ c κs. search needs) list-line-requires (λ c. search needs) (λ c. search needs)
+    returns (λ c. search needs) (λ c κs. search needs) (λ c. search needs) (λ c. search needs) returns-2
+    (λ c. search needs) (λ c κs. search needs) (λ c. search needs) put-parts-requires (λ c. search needs) add-at-2
+    mul-table slice-write-table add-read add-read-2 (λ c. search needs) returns-3)
