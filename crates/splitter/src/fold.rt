@@ -3,7 +3,8 @@ use crate::telling::refusal;
 use crate::telling::result;
 use blocks::FoldAnswer;
 ghost use mathlib.Core.Path.{_≡_};
-ghost use Rattle.task.specs.Answers.{toldNumber, toldPlace, toldValue};
+ghost use Rattle.splitter.specs.Telling.{Tells};
+ghost use Rattle.task.specs.Answers.{toldValue};
 ghost use Rattle.blocks.specs.Blocks.{foldOutcome};
 
 // Folds a list of steps of the split of a table's task. The answer is 0 for a result, else the refusal's number.
@@ -16,12 +17,10 @@ pub extern "C" fn splitter_fold(
     split_steps: &mut u64,
     steps: &mut u64,
 ) -> u32
-    ensures { λ r. ⌜ r ≡
-        toldNumber (foldOutcome (now (table .entry)) (now (split .entry)) (now (out .entry)) .told) ⌝ }
+    ensures { λ r. ⌜ Tells (foldOutcome (now (table .entry)) (now (split .entry)) (now (out .entry)) .told)
+        r (now (place .exit)) ⌝ }
     ensures { λ r. ⌜ now (out .exit) ≡
         foldOutcome (now (table .entry)) (now (split .entry)) (now (out .entry)) .buffer ⌝ }
-    ensures { λ r. ⌜ now (place .exit) ≡
-        toldPlace (foldOutcome (now (table .entry)) (now (split .entry)) (now (out .entry)) .told) ⌝ }
     ensures { λ r. ⌜ now («split_steps» .exit) ≡
         toldValue 0 (foldOutcome (now (table .entry)) (now (split .entry)) (now (out .entry)) .told) ⌝ }
     ensures { λ r. ⌜ now (steps .exit) ≡

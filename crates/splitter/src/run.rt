@@ -3,7 +3,8 @@ use crate::telling::refusal;
 use crate::telling::result;
 use task::RunAnswer;
 ghost use mathlib.Core.Path.{_≡_};
-ghost use Rattle.task.specs.Answers.{toldNumber, toldPlace, toldValue};
+ghost use Rattle.splitter.specs.Telling.{Tells};
+ghost use Rattle.task.specs.Answers.{toldValue};
 ghost use Rattle.task.specs.Run.{runOutcome};
 
 // Runs a list of steps in a state. The answer is 0 for a result, else the refusal's number.
@@ -17,12 +18,10 @@ pub extern "C" fn splitter_run(
     left: &mut u64,
     goal: &mut u64,
 ) -> u32
-    ensures { λ r. ⌜ r ≡
-        toldNumber (runOutcome (now (table .entry)) (now (steps .entry)) (now (state .entry)) records .told) ⌝ }
+    ensures { λ r. ⌜ Tells (runOutcome (now (table .entry)) (now (steps .entry)) (now (state .entry)) records .told)
+        r (now (place .exit)) ⌝ }
     ensures { λ r. ⌜ now (state .exit) ≡
         runOutcome (now (table .entry)) (now (steps .entry)) (now (state .entry)) records .buffer ⌝ }
-    ensures { λ r. ⌜ now (place .exit) ≡
-        toldPlace (runOutcome (now (table .entry)) (now (steps .entry)) (now (state .entry)) records .told) ⌝ }
     ensures { λ r. ⌜ now (left .exit) ≡
         toldValue 0 (runOutcome (now (table .entry)) (now (steps .entry)) (now (state .entry)) records .told) ⌝ }
     ensures { λ r. ⌜ now (goal .exit) ≡

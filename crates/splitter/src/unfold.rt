@@ -3,7 +3,8 @@ use crate::telling::refusal;
 use crate::telling::result;
 use blocks::UnfoldAnswer;
 ghost use mathlib.Core.Path.{_≡_};
-ghost use Rattle.task.specs.Answers.{toldNumber, toldPlace, toldValue};
+ghost use Rattle.splitter.specs.Telling.{Tells};
+ghost use Rattle.task.specs.Answers.{toldValue};
 ghost use Rattle.blocks.specs.Blocks.{unfoldOutcome};
 
 // Unfolds the steps of a table's task. The answer is 0 for a result, else the refusal's number.
@@ -15,12 +16,10 @@ pub extern "C" fn splitter_unfold(
     place: &mut u64,
     split_steps: &mut u64,
 ) -> u32
-    ensures { λ r. ⌜ r ≡
-        toldNumber (unfoldOutcome (now (table .entry)) (now (steps .entry)) (now (out .entry)) .told) ⌝ }
+    ensures { λ r. ⌜ Tells (unfoldOutcome (now (table .entry)) (now (steps .entry)) (now (out .entry)) .told)
+        r (now (place .exit)) ⌝ }
     ensures { λ r. ⌜ now (out .exit) ≡
         unfoldOutcome (now (table .entry)) (now (steps .entry)) (now (out .entry)) .buffer ⌝ }
-    ensures { λ r. ⌜ now (place .exit) ≡
-        toldPlace (unfoldOutcome (now (table .entry)) (now (steps .entry)) (now (out .entry)) .told) ⌝ }
     ensures { λ r. ⌜ now («split_steps» .exit) ≡
         toldValue 0 (unfoldOutcome (now (table .entry)) (now (steps .entry)) (now (out .entry)) .told) ⌝ }
 {

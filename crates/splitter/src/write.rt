@@ -3,7 +3,8 @@ use crate::telling::refusal;
 use crate::telling::result;
 use text::WriteAnswer;
 ghost use mathlib.Core.Path.{_≡_};
-ghost use Rattle.task.specs.Answers.{toldNumber, toldPlace, toldValue};
+ghost use Rattle.splitter.specs.Telling.{Tells};
+ghost use Rattle.task.specs.Answers.{toldValue};
 ghost use Rattle.text.specs.Outcomes.{writeOutcome};
 
 // Writes a table's task as text. The answer is 0 for a result, else the refusal's number.
@@ -14,9 +15,8 @@ pub extern "C" fn splitter_write(
     place: &mut u64,
     bytes: &mut u64,
 ) -> u32
-    ensures { λ r. ⌜ r ≡ toldNumber (writeOutcome (now (table .entry)) (now (text .entry)) .told) ⌝ }
+    ensures { λ r. ⌜ Tells (writeOutcome (now (table .entry)) (now (text .entry)) .told) r (now (place .exit)) ⌝ }
     ensures { λ r. ⌜ now (text .exit) ≡ writeOutcome (now (table .entry)) (now (text .entry)) .buffer ⌝ }
-    ensures { λ r. ⌜ now (place .exit) ≡ toldPlace (writeOutcome (now (table .entry)) (now (text .entry)) .told) ⌝ }
     ensures { λ r. ⌜ now (bytes .exit) ≡ toldValue 0 (writeOutcome (now (table .entry)) (now (text .entry)) .told) ⌝ }
 {
     *bytes = 0;

@@ -3,10 +3,9 @@
 use crate::checks::all_below;
 use crate::cursor::Behind;
 use crate::cursor::Cursor;
-use crate::cursor::Number;
 use crate::lists::Atom;
 use crate::lists::entry_line;
-use crate::lists::number_line;
+use crate::lists::one_line;
 use crate::put::put_byte;
 use crate::put::put_bytes;
 use crate::put::put_list;
@@ -124,12 +123,9 @@ fn last_line(text: &[u8], from: Cursor) -> PlanTurn
       ⌜ ((t : Task) (xs : List Step) (w : List ℕ) →
           PlanTurned t bs from xs (ended endLine (number (rest bs from))) w r w) ⌝ }
 {
-    let Number::Of(n, next) = number_line(text, from) else {
+    let Behind::At(next) = one_line(text, from) else {
         return PlanTurn::Refuse(3);
     };
-    if n != 1 {
-        return PlanTurn::Refuse(3);
-    }
     PlanTurn::Finish(next)
 }
 

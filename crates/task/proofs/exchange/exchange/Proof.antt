@@ -1,5 +1,5 @@
--- `exchange::exchange` meets its contract. Between the turns, inserting all adds into the state without the deletes
--- left gives the end, and the adds before `next` hold; the measure is how many deletes are left.
+-- `task::exchange::exchange` meets its contract. Between the turns, inserting all adds into the state without the
+-- deletes left gives the end, and the adds before `next` hold; the measure is how many deletes are left.
 use Prim.Native.Nat.{_-_}
 use mathlib.Core.Path.{_∙_}
 use native.Mathlib.Omega.{arith}

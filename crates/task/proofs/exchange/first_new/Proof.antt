@@ -1,5 +1,5 @@
--- `exchange::first_new` meets its contract. Between the turns the atoms from `from` to `k` hold; the measure is how
--- many are left.
+-- `task::exchange::first_new` meets its contract. Between the turns the atoms from `from` to `k` hold; the measure is
+-- how many are left.
 use Prim.Native.Nat.{_-_, _≤_}
 use mathlib.Core.Path.{sym, _∙_}
 use native.Mathlib.Omega.{arith}

@@ -1,4 +1,4 @@
--- `records::clear_from` meets its contract. Between the turns the words from `from` to `i` are 0 and those before
+-- `task::records::clear_from` meets its contract. Between the turns the words from `from` to `i` are 0 and those before
 -- `from` stand as found; the measure is what is left of the length.
 use Prim.Native.Nat.{_≤_, _-_}
 use native.Mathlib.Omega.{arith}

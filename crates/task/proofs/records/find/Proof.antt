@@ -1,5 +1,5 @@
--- `records::find` meets its contract. The invariant: lo and hi bracket the answer. The measure is hi - lo, which falls
--- in either arm, since the middle is at least lo and below hi.
+-- `task::records::find` meets its contract. The invariant: lo and hi bracket the answer. The measure is hi - lo, which
+-- falls in either arm, since the middle is at least lo and below hi.
 use Prim.Native.Nat.{ℕ, _+_, _-_, _/_}
 use native.Mathlib.Omega.{arith}
 use Rattle.task.proofs.Bracket.{Bracket, bracket-all, bracket-up, bracket-down, bracket-met}

@@ -1,4 +1,4 @@
--- `records::held` meets its contract: the row found has the number exactly where the fact holds.
+-- `task::records::held` meets its contract: the row found has the number exactly where the fact holds.
 use Rattle.task.proofs.RowsFound.{found-holds}
 use borrow.Author.Needs.{needs}
 use Rattle.task.proofs.records.held.Statement.{statement}

@@ -1,5 +1,5 @@
--- `records::move_down` meets its contract. Between the turns the words from `from` to `i` have come down and those
--- from `i` on stand as found; the measure is what is left up to `to`.
+-- `task::records::move_down` meets its contract. Between the turns the words from `from` to `i` have come down and
+-- those from `i` on stand as found; the measure is what is left up to `to`.
 use Prim.Native.Nat.{_≤_, _-_}
 use native.Mathlib.Omega.{arith}
 use Rattle.task.proofs.Moves.{Down, down-none, down-more}

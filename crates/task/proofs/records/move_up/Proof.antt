@@ -1,4 +1,4 @@
--- `records::move_up` meets its contract. Between the turns the words from `i` to `to` have gone up and those
+-- `task::records::move_up` meets its contract. Between the turns the words from `i` to `to` have gone up and those
 -- below `i + 5` stand as found; the measure is `i`.
 use Prim.Native.Nat.{_≤_}
 use native.Mathlib.Omega.{arith}

@@ -1,5 +1,5 @@
--- `records::replace` meets its contract: the rows between move up over row k, or down, and the new row's digits are
--- written.
+-- `task::records::replace` meets its contract: the rows between move up over row k, or down, and the new row's digits
+-- are written.
 use Rattle.task.specs.Records.{up, down}
 use borrow.Author.Needs.{needs}
 use Rattle.task.proofs.records.replace.Statement.{statement}

@@ -1,5 +1,5 @@
--- `running::role_end` meets its contract. Between the turns the atoms from `from` to `k` have the role; the measure is
--- how many are left up to `to`.
+-- `task::running::role_end` meets its contract. Between the turns the atoms from `from` to `k` have the role; the
+-- measure is how many are left up to `to`.
 use Prim.Native.Nat.{_-_}
 use mathlib.Core.Path.{_≡_, sym, _∙_}
 use native.Mathlib.Omega.{arith}

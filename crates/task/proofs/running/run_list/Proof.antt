@@ -1,5 +1,5 @@
--- `running::run_list` meets its contract. Between the steps, running those left from the state kept gives what running
--- all was to give; the measure is how many are left.
+-- `task::running::run_list` meets its contract. Between the steps, running those left from the state kept gives what
+-- running all was to give; the measure is how many are left.
 use Prim.Native.Nat.{_+_, _-_, _*_, _<_}
 use mathlib.Core.Path.{_≡_, _∙_}
 use mathlib.Core.Bool.{true}

@@ -1,5 +1,5 @@
--- `running::run_step` meets its contract: the step's atoms are parted by role, and its turn follows from the tests on
--- the parts; the exchange leaves the next state.
+-- `task::running::run_step` meets its contract: the step's atoms are parted by role, and its turn follows from the
+-- tests on the parts; the exchange leaves the next state.
 use mathlib.Core.Path.{refl}
 use borrow.Author.Tests.{not-true, not-false}
 use Rattle.task.specs.Turns.{Turned}

@@ -1,5 +1,5 @@
--- `running::run_steps` meets its contract: the list ends in one of three ways, and each leaves the last state's words
--- with zeros behind them and tells what the outcome tells.
+-- `task::running::run_steps` meets its contract: the list ends in one of three ways, and each leaves the last state's
+-- words with zeros behind them and tells what the outcome tells.
 use mathlib.Core.Path.{sym}
 use native.Mathlib.Omega.{arith}
 use Rattle.task.specs.Turns.{endedAs, recordsLeft}

@@ -1,5 +1,5 @@
--- `running::schema_starts` meets its contract. Between the turns the schemas that end by atom k have their ends; the
--- measure is how many atoms are left.
+-- `task::running::schema_starts` meets its contract. Between the turns the schemas that end by atom k have their ends;
+-- the measure is how many atoms are left.
 use Prim.Native.Nat.{_-_, _<_}
 use native.Mathlib.Omega.{arith}
 use Rattle.task.specs.Limits.{mostSchemas}

@@ -1,4 +1,4 @@
--- `sizes::absent` meets its contract.
+-- `task::sizes::absent` meets its contract.
 -- The invariant: the whole test is what is left of it from atom k on. The measure is how many atoms are left.
 use Prim.Native.Nat.{_-_, _≤_}
 use mathlib.Core.Path.{sym, _∙_, ap}

@@ -1,5 +1,5 @@
--- `sizes::size_with` meets its contract. Between the turns `total` is how long the state is that is left, with the
--- atoms passed; the measure is how many are left to pass.
+-- `task::sizes::size_with` meets its contract. Between the turns `total` is how long the state is that is left, with
+-- the atoms passed; the measure is how many are left to pass.
 use Prim.Native.Nat.{_-_}
 use mathlib.Core.Path.{sym, _∙_, ap}
 use mathlib.Core.Logic.{⊎-elim}

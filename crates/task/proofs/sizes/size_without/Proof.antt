@@ -1,4 +1,4 @@
--- `sizes::size_without` meets its contract. Between the turns `size` is how long the state is without the atoms
+-- `task::sizes::size_without` meets its contract. Between the turns `size` is how long the state is without the atoms
 -- passed; the measure is how many are left.
 use Prim.Native.Nat.{_-_}
 use mathlib.Core.Path.{sym, _∙_, ap}

@@ -1,4 +1,4 @@
--- `spans::all_hold` meets its contract.
+-- `task::spans::all_hold` meets its contract.
 -- The invariant: the whole test is what is left of it from atom k on. The measure is how many atoms are left.
 use Prim.Native.Nat.{_-_, _≤_}
 use mathlib.Core.Path.{_≡_}

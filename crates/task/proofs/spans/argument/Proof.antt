@@ -1,4 +1,4 @@
--- `spans::argument` meets its contract: an argument that the predicate has is a parameter of the step.
+-- `task::spans::argument` meets its contract: an argument that the predicate has is a parameter of the step.
 use Prim.Native.Nat.{ℕ}
 use mathlib.Core.Path.{sym, _∙_, ap}
 use mathlib.Core.Bool.{Bool, cond}

@@ -1,4 +1,4 @@
--- `spans::fact_number` meets its contract: an initial or goal atom's words are its record's, unused ones being 0.
+-- `task::spans::fact_number` meets its contract: an initial or goal atom's words are its record's, unused ones being 0.
 use Rattle.task.proofs.GroundWords.{fact-read}
 use Rattle.task.proofs.TableReads.{table-roomy}
 use borrow.Author.Needs.{needs}

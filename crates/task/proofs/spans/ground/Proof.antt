@@ -1,4 +1,4 @@
--- `spans::ground` meets its contract: the arguments that the predicate has are objects of the step, the others 0.
+-- `task::spans::ground` meets its contract: the arguments that the predicate has are objects of the step, the others 0.
 use native.Mathlib.Omega.{arith}
 use Rattle.task.proofs.GroundWords.{read-pred, read-inside, read-number}
 use Rattle.task.proofs.TableReads.{table-roomy}

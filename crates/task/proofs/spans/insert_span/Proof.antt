@@ -1,5 +1,5 @@
--- `spans::insert_span` meets its contract. Between the turns, inserting the atoms left gives what inserting all was to
--- give, so there is room for each that comes in; the measure is how many are left.
+-- `task::spans::insert_span` meets its contract. Between the turns, inserting the atoms left gives what inserting all
+-- was to give, so there is room for each that comes in; the measure is how many are left.
 use Prim.Native.Nat.{_-_}
 use native.Mathlib.Omega.{arith}
 use Rattle.task.proofs.GroundWords.{span-atom}

@@ -1,4 +1,4 @@
--- `lists::one_line`: there is no number, or it isn't 1, or the next line comes behind it.
+-- `text::lists::one_line`: there is no number, or it isn't 1, or the next line comes behind it.
 use Rattle.text.proofs.lists.one_line.Tie as tie
 use mathlib.Core.Path.{subst}
 use borrow.Author.Needs.{needs}

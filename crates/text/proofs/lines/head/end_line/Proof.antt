@@ -1,5 +1,5 @@
--- `lines::head::end_line`: the body isn't 1 and the line is refused with 3, or reading has come to its end with the
--- draft's task.
+-- `text::lines::head::end_line`: the body isn't 1 and the line is refused with 3, or reading has come to its end with
+-- the draft's task.
 use Rattle.text.proofs.lines.head.end_line.Tie as tie
 use mathlib.Core.Path.{refl, subst}
 use borrow.Author.Needs.{needs}

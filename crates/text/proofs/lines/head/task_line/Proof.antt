@@ -1,5 +1,5 @@
--- `lines::head::task_line`: the body isn't 1 and the line is refused with 3, or the code holds the draft behind it,
--- before the `objects` line.
+-- `text::lines::head::task_line`: the body isn't 1 and the line is refused with 3, or the code holds the draft behind
+-- it, before the `objects` line.
 use Rattle.text.proofs.lines.head.task_line.Tie as tie
 use mathlib.Core.Path.{refl, subst}
 use borrow.Author.Needs.{needs}
