@@ -15,7 +15,7 @@ use Rattle.task.specs.Table.{atomIn}
 use Rattle.words.proofs.Ranges.{or-false, or-assoc, any-last}
 use Rattle.words.proofs.Lists.{and-left, and-right, both-ft, bool-ext, false-if, In, any-in, map-in, upFrom-in}
 use Rattle.arcs.specs.Order.{givesArc, roleBefore, arc}
-use Rattle.arcs.specs.Code.{AreArcs, ArePreconditions, Joins, atomsIn, arcsBetween}
+use Rattle.arcs.specs.Stretches.{AreArcs, ArePreconditions, Joins, stretchIn, arcsBetween}
 use Rattle.words.specs.Sets.{member}
 use Rattle.words.proofs.BitSets.{member-zero}
 use Rattle.arcs.proofs.Stretches.{zeros-at, atoms-none, atoms-more}
@@ -173,28 +173,29 @@ module _ (a b : Atom) where
 -- ---- a stretch that grows by an atom
 module _ (w : List ℕ) (from : ℕ) where
   pub to-preconditions : (a : Atom) (to : ℕ) → from ≤ to → ArePreconditions w from to → (sets : List ℕ) →
-      Joins (arcsBetween (a ∷ []) (atomsIn w from to)) sets sets
-  unfolding atomsIn
+      Joins (arcsBetween (a ∷ []) (stretchIn w from to)) sets sets
+  unfolding stretchIn
   to-preconditions a to l h sets =
-      none-join a (atomsIn w from to) (λ b m.
+      none-join a (stretchIn w from to) (λ b m.
       let (k, i, e) = map-in (atomIn w) (upFrom from (to - from)) b m in
       let (x, y) = upFrom-in from (to - from) k i in
       to-precondition a b (ap (λ (c : Atom). c .role) e ∙ h k x (omega arith))) sets
 
-  pub to-more : (a : Atom) (j : ℕ) (x y z : List ℕ) → from ≤ j → Joins (arcsBetween (a ∷ []) (atomsIn w from j)) x y →
-      Joins (arcsBetween (a ∷ []) (atomIn w j ∷ [])) y z → Joins (arcsBetween (a ∷ []) (atomsIn w from (j + 1))) x z
+  pub to-more : (a : Atom) (j : ℕ) (x y z : List ℕ) → from ≤ j → Joins (arcsBetween (a ∷ []) (stretchIn w from j)) x y →
+      Joins (arcsBetween (a ∷ []) (atomIn w j ∷ [])) y z → Joins (arcsBetween (a ∷ []) (stretchIn w from (j + 1))) x z
   to-more a j x y z l h k =
-      joins-more (arcsBetween (a ∷ []) (atomsIn w from j)) (arcsBetween (a ∷ []) (atomIn w j ∷ []))
-      (arcsBetween (a ∷ []) (atomsIn w from (j + 1))) x y z h k
-      (λ p q. rw (atoms-more w from j l) (between-more-right a (atomsIn w from j) (atomIn w j) p q))
+      joins-more (arcsBetween (a ∷ []) (stretchIn w from j)) (arcsBetween (a ∷ []) (atomIn w j ∷ []))
+      (arcsBetween (a ∷ []) (stretchIn w from (j + 1))) x y z h k
+      (λ p q. rw (atoms-more w from j l) (between-more-right a (stretchIn w from j) (atomIn w j) p q))
 
-  pub from-none : (bs : List Atom) (sets : List ℕ) → Joins (arcsBetween (atomsIn w from from) bs) sets sets
+  pub from-none : (bs : List Atom) (sets : List ℕ) → Joins (arcsBetween (stretchIn w from from) bs) sets sets
   from-none bs sets =
-      joins-none (arcsBetween (atomsIn w from from) bs) sets (λ p q. rw (atoms-none w from) (between-none bs p q))
+      joins-none (arcsBetween (stretchIn w from from) bs) sets (λ p q. rw (atoms-none w from) (between-none bs p q))
 
-  pub from-more : (bs : List Atom) (i : ℕ) (x y z : List ℕ) → from ≤ i → Joins (arcsBetween (atomsIn w from i) bs) x y →
-      Joins (arcsBetween (atomIn w i ∷ []) bs) y z → Joins (arcsBetween (atomsIn w from (i + 1)) bs) x z
+  pub from-more : (bs : List Atom) (i : ℕ) (x y z : List ℕ) → from ≤ i →
+      Joins (arcsBetween (stretchIn w from i) bs) x y →
+      Joins (arcsBetween (atomIn w i ∷ []) bs) y z → Joins (arcsBetween (stretchIn w from (i + 1)) bs) x z
   from-more bs i x y z l h k =
-      joins-more (arcsBetween (atomsIn w from i) bs) (arcsBetween (atomIn w i ∷ []) bs)
-      (arcsBetween (atomsIn w from (i + 1)) bs) x y z h k
-      (λ p q. rw (atoms-more w from i l) (between-more (atomsIn w from i) (atomIn w i) bs p q))
+      joins-more (arcsBetween (stretchIn w from i) bs) (arcsBetween (atomIn w i ∷ []) bs)
+      (arcsBetween (stretchIn w from (i + 1)) bs) x y z h k
+      (λ p q. rw (atoms-more w from i l) (between-more (stretchIn w from i) (atomIn w i) bs p q))

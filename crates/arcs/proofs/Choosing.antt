@@ -14,7 +14,7 @@ use Rattle.task.specs.Task.{Atom}
 use Rattle.words.proofs.Lists.{and-left, and-right, and-both, bool-ext, both-ft, any-in, in-any, in-filter, filter-in}
 use Rattle.words.proofs.Lists.{in-upTo}
 use Rattle.arcs.specs.Order.{arc, preconditions, ready, better, best}
-use Rattle.arcs.specs.Code.{AreArcs, AreCounts}
+use Rattle.arcs.specs.Stretches.{AreArcs, AreCounts}
 use Rattle.words.specs.Sets.{SetBelow, member, members}
 use Rattle.words.proofs.BitSets.{member-beyond}
 

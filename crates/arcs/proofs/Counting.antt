@@ -14,7 +14,7 @@ use Rattle.task.specs.Task.{Atom, partCount, precondition}
 use Rattle.task.specs.Table.{atomIn}
 use Rattle.words.proofs.Lists.{length-upFrom}
 use Rattle.arcs.specs.Order.{preconditions}
-use Rattle.arcs.specs.Code.{AreCounts, atomsIn}
+use Rattle.arcs.specs.Stretches.{AreCounts, stretchIn}
 use Rattle.arcs.proofs.Stretches.{atoms-none, atoms-more}
 
 -- ---- parts
@@ -23,13 +23,13 @@ unfolding partCount
 part-count-append [] a = omega arith
 part-count-append (x ∷ xs) a = let e = part-count-append xs a in omega arith
 
-pub part-count-none : (w : List ℕ) (from : ℕ) → partCount (atomsIn w from from) ≡ 0
+pub part-count-none : (w : List ℕ) (from : ℕ) → partCount (stretchIn w from from) ≡ 0
 unfolding partCount
 part-count-none w from = ap partCount (atoms-none w from)
 
 pub part-count-more : (w : List ℕ) (from i : ℕ) → from ≤ i →
-    partCount (atomsIn w from (i + 1)) ≡ max (partCount (atomsIn w from i)) (suc (atomIn w i .part))
-part-count-more w from i l = ap partCount (atoms-more w from i l) ∙ part-count-append (atomsIn w from i) (atomIn w i)
+    partCount (stretchIn w from (i + 1)) ≡ max (partCount (stretchIn w from i)) (suc (atomIn w i .part))
+part-count-more w from i l = ap partCount (atoms-more w from i l) ∙ part-count-append (stretchIn w from i) (atomIn w i)
 
 -- ---- preconditions
 one-if : Bool → ℕ
@@ -69,25 +69,25 @@ tests-few p (x ∷ xs) = go (isTest p x) (tests-few p xs)
     go false e = omega arith
 
 module _ (w : List ℕ) (from : ℕ) where
-  pub counted-few : (i p : ℕ) → preconditions (atomsIn w from i) p ≤ i
-  unfolding atomsIn
+  pub counted-few : (i p : ℕ) → preconditions (stretchIn w from i) p ≤ i
+  unfolding stretchIn
   counted-few i p =
       let ks = upFrom from (i - from) in
-      omega (arith, tests-few p (atomsIn w from i), length-map ks (atomIn w), length-upFrom from (i - from))
+      omega (arith, tests-few p (stretchIn w from i), length-map ks (atomIn w), length-upFrom from (i - from))
 
-  pub counted-none : (counts : List ℕ) → ((p : ℕ) → getD counts p 0 ≡ 0) → AreCounts (atomsIn w from from) counts
+  pub counted-none : (counts : List ℕ) → ((p : ℕ) → getD counts p 0 ≡ 0) → AreCounts (stretchIn w from from) counts
   unfolding preconditions filter
   counted-none counts h p = h p ∙ sym (ap (λ (xs : List Atom). preconditions xs p) (atoms-none w from))
 
   grown : (i p : ℕ) → from ≤ i →
-      preconditions (atomsIn w from (i + 1)) p ≡ preconditions (atomsIn w from i) p + one-if (isTest p (atomIn w i))
+      preconditions (stretchIn w from (i + 1)) p ≡ preconditions (stretchIn w from i) p + one-if (isTest p (atomIn w i))
   grown i p l =
       ap (λ (xs : List Atom). preconditions xs p) (atoms-more w from i l)
-      ∙ tests-append p (atomsIn w from i) (atomIn w i)
+      ∙ tests-append p (stretchIn w from i) (atomIn w i)
 
-  module _ (counts : List ℕ) (i : ℕ) (l : from ≤ i) (h : AreCounts (atomsIn w from i) counts) where
+  module _ (counts : List ℕ) (i : ℕ) (l : from ≤ i) (h : AreCounts (stretchIn w from i) counts) where
     -- an atom that is no precondition
-    pub counted-same : eqb (atomIn w i .role) precondition ≡ false → AreCounts (atomsIn w from (i + 1)) counts
+    pub counted-same : eqb (atomIn w i .role) precondition ≡ false → AreCounts (stretchIn w from (i + 1)) counts
     unfolding one-if
     counted-same e p =
         let z : one-if (isTest p (atomIn w i)) ≡ 0 = rw e (go (eqb (atomIn w i .part) p)) in
@@ -99,14 +99,14 @@ module _ (w : List ℕ) (from : ℕ) where
 
     -- a precondition of part q
     pub counted-more : (q : ℕ) → eqb (atomIn w i .role) precondition ≡ true → q ≡ atomIn w i .part → q < length counts →
-        AreCounts (atomsIn w from (i + 1)) (set counts q (getD counts q 0 + 1))
+        AreCounts (stretchIn w from (i + 1)) (set counts q (getD counts q 0 + 1))
     unfolding one-if
     counted-more q e f m p = go (eqb q p) refl
       where
         v : ℕ
         v = getD counts q 0 + 1
 
-        go : (b : Bool) → eqb q p ≡ b → getD (set counts q v) p 0 ≡ preconditions (atomsIn w from (i + 1)) p
+        go : (b : Bool) → eqb q p ≡ b → getD (set counts q v) p 0 ≡ preconditions (stretchIn w from (i + 1)) p
         go true k =
             let z : one-if (isTest q (atomIn w i)) ≡ 1 = rw (e, eq-eqb (atomIn w i .part) q (sym f)) refl in
             rw (← eqb-true q p k) (omega (arith, h q, grown i q l, getD-set-same counts q v 0 m))

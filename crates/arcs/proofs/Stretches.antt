@@ -23,7 +23,7 @@ use Rattle.task.proofs.TableReads.{table-roomy}
 use Rattle.task.proofs.TablesByIndex.{table-frame, schemas-word, atom-at, atom-lies, start-suc}
 use Rattle.task.proofs.TablesByIndex.{start-end}
 use Rattle.task.proofs.SchemaWords.{part-small}
-use Rattle.arcs.specs.Code.{IsSchemaAtom, IsStretch, atomsIn}
+use Rattle.arcs.specs.Stretches.{IsSchemaAtom, IsStretch, stretchIn}
 
 -- what an array begins with
 pub zeros-at : (n i : ℕ) → _≡_ {A = ℕ} (getD (replicate n 0) i 0) 0
@@ -60,12 +60,13 @@ part-below w i a =
 pub stretch-atom : {w : List ℕ} {from to : ℕ} → IsStretch w from to → (i : ℕ) → i < to → IsSchemaAtom w i
 stretch-atom s i l = record { table = s .table; known = let k = s .known in omega arith }
 
-pub atoms-none : (w : List ℕ) (from : ℕ) → atomsIn w from from ≡ []
-unfolding atomsIn upFrom
+pub atoms-none : (w : List ℕ) (from : ℕ) → stretchIn w from from ≡ []
+unfolding stretchIn upFrom
 atoms-none w from = ap (λ (n : ℕ). map (atomIn w) (upFrom from n)) (let z : from - from ≡ 0 = omega arith in z)
 
-pub atoms-more : (w : List ℕ) (from i : ℕ) → from ≤ i → atomsIn w from (i + 1) ≡ atomsIn w from i ++ (atomIn w i ∷ [])
-unfolding atomsIn
+pub atoms-more : (w : List ℕ) (from i : ℕ) → from ≤ i →
+    stretchIn w from (i + 1) ≡ stretchIn w from i ++ (atomIn w i ∷ [])
+unfolding stretchIn
 atoms-more w from i l =
     let e : i + 1 - from ≡ suc (i - from) = omega arith in
     let q : from + (i - from) ≡ i = omega arith in
@@ -86,8 +87,8 @@ starts-ascend (c ∷ cs) (suc m) zero h = absurd (omega arith)
 starts-ascend (c ∷ cs) (suc m) (suc n) h = let e = starts-ascend cs m n (omega arith) in omega arith
 
 module _ (w : List ℕ) (h : isTable w ≡ true) (s : ℕ) (l : s < headIn w .schemas) where
-  pub schema-atoms : schemaAt (taskOf w) s .atoms ≡ atomsIn w (startOf (taskOf w) s) (startOf (taskOf w) (suc s))
-  unfolding atomsIn
+  pub schema-atoms : schemaAt (taskOf w) s .atoms ≡ stretchIn w (startOf (taskOf w) s) (startOf (taskOf w) (suc s))
+  unfolding stretchIn
   schema-atoms =
       let t = taskOf w in
       let fr = table-frame w h in

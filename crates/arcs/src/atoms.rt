@@ -6,7 +6,7 @@ ghost use Rattle.task.specs.Limits.{mostParts};
 ghost use Rattle.task.specs.Task.{precondition, addition};
 ghost use Rattle.task.specs.Table.{atomIn};
 ghost use Rattle.arcs.specs.Order.{roleBefore, givesArc};
-ghost use Rattle.arcs.specs.Code.{IsSchemaAtom};
+ghost use Rattle.arcs.specs.Stretches.{IsSchemaAtom};
 use task::Part;
 use task::layout::part_at;
 use task::layout::predicate_at;

@@ -5,8 +5,8 @@ ghost use mathlib.Core.List.{[], _∷_};
 ghost use lib.ListN.{length};
 ghost use Rattle.task.specs.Limits.{mostParts};
 ghost use Rattle.task.specs.Table.{atomIn};
-ghost use Rattle.arcs.specs.Code.{AreArcs, ArePreconditions, IsSchemaAtom, IsStretch, Joins};
-ghost use Rattle.arcs.specs.Code.{atomsIn, arcsBetween};
+ghost use Rattle.arcs.specs.Stretches.{AreArcs, ArePreconditions, IsSchemaAtom, IsStretch, Joins};
+ghost use Rattle.arcs.specs.Stretches.{stretchIn, arcsBetween};
 use crate::PartSets;
 use crate::atoms::gives_arc;
 use crate::atoms::is_addition;
@@ -56,7 +56,7 @@ fn add_from(table: &[u16], i: usize, from: usize, effects: usize, to: usize, bef
     requires { ⌜ (from ≤ effects) × (effects ≤ to) × ArePreconditions (now table) from effects ⌝ }
     requires { ⌜ length (now before) ≡ mostParts ⌝ }
     ensures { λ _. ⌜ length (now (before .exit)) ≡ mostParts ⌝ }
-    ensures { λ _. ⌜ Joins (arcsBetween (atomIn (now (table .entry)) i ∷ []) (atomsIn (now (table .entry)) from to))
+    ensures { λ _. ⌜ Joins (arcsBetween (atomIn (now (table .entry)) i ∷ []) (stretchIn (now (table .entry)) from to))
         (now (before .entry)) (now (before .exit)) ⌝ }
 {
     if is_addition(table, i) {
@@ -72,7 +72,7 @@ fn add_from(table: &[u16], i: usize, from: usize, effects: usize, to: usize, bef
 // For each part the set of parts that have an arc to it.
 pub fn arcs_of(table: &[u16], from: usize, to: usize) -> PartSets
     requires { ⌜ IsStretch (now table) from to ⌝ }
-    ensures { λ r. ⌜ AreArcs (atomsIn (now (table .entry)) from to) r ⌝ }
+    ensures { λ r. ⌜ AreArcs (stretchIn (now (table .entry)) from to) r ⌝ }
 {
     let effects = effects_of(table, from, to);
     let mut before = [0; MOST_PARTS];

@@ -7,7 +7,7 @@ ghost use Rattle.words.specs.Lists.{filter};
 ghost use Rattle.task.specs.Limits.{mostParts};
 ghost use Rattle.task.specs.Task.{Atom};
 ghost use Rattle.arcs.specs.Order.{ready, better, best};
-ghost use Rattle.arcs.specs.Code.{AreArcs, AreCounts, ChosenBelow, chosen};
+ghost use Rattle.arcs.specs.Stretches.{AreArcs, AreCounts, ChosenBelow, chosen};
 ghost use Rattle.words.specs.Sets.{SetBelow, member, members};
 use crate::PartCounts;
 use crate::PartSets;

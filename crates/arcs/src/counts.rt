@@ -3,7 +3,7 @@ ghost use Prim.Native.Nat.{_≤_};
 ghost use mathlib.Core.Path.{_≡_};
 ghost use Rattle.task.specs.Limits.{mostParts};
 ghost use Rattle.task.specs.Task.{partCount};
-ghost use Rattle.arcs.specs.Code.{AreCounts, IsStretch, atomsIn};
+ghost use Rattle.arcs.specs.Stretches.{AreCounts, IsStretch, stretchIn};
 use crate::PartCounts;
 use crate::atoms::is_precondition;
 use crate::atoms::part_of;
@@ -12,7 +12,7 @@ use task::limits::MOST_PARTS;
 // One more than the highest part number.
 pub fn part_count(table: &[u16], from: usize, to: usize) -> usize
     requires { ⌜ IsStretch (now table) from to ⌝ }
-    ensures { λ r. ⌜ r ≡ partCount (atomsIn (now (table .entry)) from to) ⌝ }
+    ensures { λ r. ⌜ r ≡ partCount (stretchIn (now (table .entry)) from to) ⌝ }
     ensures { λ r. ⌜ r ≤ mostParts ⌝ }
 {
     let mut count = 0;
@@ -30,7 +30,7 @@ pub fn part_count(table: &[u16], from: usize, to: usize) -> usize
 // The preconditions of each part.
 pub fn preconditions_of(table: &[u16], from: usize, to: usize) -> PartCounts
     requires { ⌜ IsStretch (now table) from to ⌝ }
-    ensures { λ r. ⌜ AreCounts (atomsIn (now (table .entry)) from to) r ⌝ }
+    ensures { λ r. ⌜ AreCounts (stretchIn (now (table .entry)) from to) r ⌝ }
 {
     let mut counts = [0; MOST_PARTS];
     let mut i = from;

@@ -5,7 +5,7 @@ ghost use lib.ListN.{length};
 ghost use Rattle.task.specs.Task.{Schema};
 ghost use Rattle.arcs.specs.Order.{orderOf};
 ghost use Rattle.task.specs.Limits.{mostParts};
-ghost use Rattle.arcs.specs.Code.{IsStretch, atomsIn, orderTold};
+ghost use Rattle.arcs.specs.Stretches.{IsStretch, stretchIn, orderTold};
 use crate::Order;
 use crate::before::arcs_of;
 use crate::choice::Choice;
@@ -20,7 +20,7 @@ use words::sets::without;
 // The order taken of the parts of the schema whose atoms are atoms `from` to `to - 1` of the table.
 pub fn order_of(table: &[u16], from: usize, to: usize) -> Order
     requires { ⌜ IsStretch (now table) from to ⌝ }
-    ensures { λ r. ⌜ ((s : Schema) → s .atoms ≡ atomsIn (now (table .entry)) from to → orderTold r ≡ orderOf s) ⌝ }
+    ensures { λ r. ⌜ ((s : Schema) → s .atoms ≡ stretchIn (now (table .entry)) from to → orderTold r ≡ orderOf s) ⌝ }
     ensures { λ r. ⌜ (r .count ≤ mostParts) × (length (r .parts) ≡ mostParts) ⌝ }
 {
     let before = arcs_of(table, from, to);

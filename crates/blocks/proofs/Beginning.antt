@@ -17,7 +17,7 @@ use Rattle.task.specs.Task.{Task}
 use Rattle.words.proofs.Lists.{in-upTo, upTo-in, upTo-suc}
 use Rattle.tokens.specs.Split.{firstOf}
 use Rattle.blocks.specs.Blocks.{beginner}
-use Rattle.blocks.specs.Code.{BlocksKept}
+use Rattle.blocks.specs.Unfolding.{BlocksKept}
 use Rattle.blocks.specs.FoldCode.{begunWord}
 use Rattle.blocks.proofs.Numbers.{first-step, first-mono}
 use Rattle.blocks.proofs.FoldBlock.{beginner-is}

@@ -10,12 +10,12 @@ use Rattle.task.specs.Answers.{Outcome, Check, refuseUnless, inOrder, refuseAt}
 use Rattle.task.specs.Table.{taskOf}
 use Rattle.task.specs.Run.{Step, stepsIn, badStep}
 use Rattle.task.proofs.Answers.{asFound, check-passes, check-refuses, refusal-stands, place-passes, place-refuses}
-use Rattle.tokens.specs.Code.{acceptedThen, RefusedAs}
+use Rattle.tokens.specs.Acceptance.{acceptedThen, RefusedAs}
 use Rattle.tokens.specs.Split.{splitTask}
 use Rattle.tokens.proofs.SplitOutcome.{accepted-passes}
 use Rattle.blocks.specs.Blocks.{Folding, folded, misfit, foldSteps, foldCheck, foldedSteps, listWords, fitsIn}
 use Rattle.blocks.specs.Blocks.{foldOutcome}
-use Rattle.blocks.specs.Code.{TableKept}
+use Rattle.blocks.specs.Unfolding.{TableKept}
 use Rattle.blocks.proofs.BlockAnswers.{foldedOver}
 
 -- the split steps lent

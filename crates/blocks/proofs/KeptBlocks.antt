@@ -23,8 +23,8 @@ use Rattle.task.proofs.BadSteps.{good-steps}
 use Rattle.words.specs.Sets.{member, members}
 use Rattle.tokens.specs.Split.{has, paramsOf, orders, firstOf}
 use Rattle.blocks.specs.Blocks.{paramsAt, partStep, block, unfoldSteps, listWords, fitsIn}
-use Rattle.blocks.specs.Code.{StepsKept, StepKept, objectsFor, partFrom, partsFrom, countFrom, sumFrom}
-use Rattle.blocks.specs.Code.{blocksFrom}
+use Rattle.blocks.specs.Unfolding.{StepsKept, StepKept, objectsFor, partFrom, partsFrom, countFrom, sumFrom}
+use Rattle.blocks.specs.Unfolding.{blocksFrom}
 use Rattle.blocks.proofs.Numbers.{first-mono}
 use Rattle.blocks.proofs.KeptLists.{length-words}
 use Rattle.blocks.proofs.Unfolded.{partsOf, length-unfold}

@@ -15,7 +15,7 @@ use Rattle.words.specs.Sets.{member, members}
 use Rattle.words.proofs.Ascending.{filter-le}
 use Rattle.blocks.specs.Blocks.{listWords}
 use Rattle.tokens.specs.Kept.{keptOwn}
-use Rattle.blocks.specs.Code.{objectsFor, partFrom, partsFrom, countFrom, sumFrom, blocksFrom}
+use Rattle.blocks.specs.Unfolding.{objectsFor, partFrom, partsFrom, countFrom, sumFrom, blocksFrom}
 
 -- what is made of the numbers below i, one more
 concatMap-more : {A : Type 0} (f : ℕ → List A) (i : ℕ) → concatMap f (upTo (i + 1)) ≡ concatMap f (upTo i) ++ f i

@@ -17,10 +17,10 @@ use Rattle.task.proofs.Tables.{of-table}
 use Rattle.task.proofs.StepWords.{params-few}
 use Rattle.tokens.specs.declared.measure.Sizes.{Sizes}
 use Rattle.tokens.specs.Split.{has, paramsOf, orders}
-use Rattle.tokens.specs.Code.{AcceptedKept}
+use Rattle.tokens.specs.Acceptance.{AcceptedKept}
 use Rattle.tokens.proofs.Places.{has-small, in-params, params-in}
 use Rattle.blocks.specs.Blocks.{paramsAt}
-use Rattle.blocks.specs.Code.{TableKept}
+use Rattle.blocks.specs.Unfolding.{TableKept}
 use Rattle.blocks.proofs.SplitParts.{few-schemas, few-splits, some-part, few-parts}
 
 -- a part has a parameter exactly if that stands among the part's parameters

@@ -13,7 +13,7 @@ use Rattle.words.proofs.Lists.{map-append, upTo-suc, filter-append}
 use Rattle.words.specs.Putting.{Puts}
 use Rattle.words.proofs.Puts.{put-on, puts-none, puts-is, puts-then, puts-word}
 use Rattle.words.specs.Sets.{member, members}
-use Rattle.blocks.specs.Code.{objectsFor}
+use Rattle.blocks.specs.Unfolding.{objectsFor}
 
 -- ---- words put one after another
 pub put-none : (lent : List ℕ) (to : ℕ) (xs : List ℕ) → xs ≡ [] → Puts lent to xs lent to

@@ -16,7 +16,7 @@ use Rattle.tokens.proofs.SplitAnswers.{AcceptedSplit, accepted-split}
 use Rattle.task.proofs.Answers.{told-by, left-by}
 use Rattle.words.specs.Lists.{over}
 use Rattle.tokens.specs.declared.measure.Sizes.{Sizes}
-use Rattle.tokens.specs.Code.{AcceptedKept}
+use Rattle.tokens.specs.Acceptance.{AcceptedKept}
 
 -- the words of a table, before it is written
 zeros-enough : (n : ℕ) → tableLength ≤ n → longEnough (replicate {A = ℕ} n 0) ≡ true

@@ -10,10 +10,10 @@ use Rattle.task.specs.Answers.{Outcome, Check, refuseUnless, inOrder, refuseAt}
 use Rattle.task.specs.Table.{taskOf}
 use Rattle.task.specs.Run.{badStep}
 use Rattle.task.proofs.Answers.{asFound, check-passes, check-refuses, refusal-stands, place-passes, place-refuses}
-use Rattle.tokens.specs.Code.{acceptedThen, RefusedAs}
+use Rattle.tokens.specs.Acceptance.{acceptedThen, RefusedAs}
 use Rattle.tokens.proofs.SplitOutcome.{accepted-passes}
 use Rattle.blocks.specs.Blocks.{listWords, fitsIn, unfoldOutcome}
-use Rattle.blocks.specs.Code.{TableKept}
+use Rattle.blocks.specs.Unfolding.{TableKept}
 use Rattle.blocks.proofs.BlockAnswers.{unfoldedOver, unfoldingOf}
 
 module _ (w steps out : List ℕ) where

@@ -17,7 +17,7 @@ use Rattle.words.specs.Sets.{SetBelow, members}
 use Rattle.tokens.specs.Split.{splitTask, firstOf}
 use Rattle.blocks.specs.declared.folding.Taken.{Taken}
 use Rattle.blocks.specs.Blocks.{beginner, Folding, folded, misfit}
-use Rattle.blocks.specs.Code.{BlocksKept}
+use Rattle.blocks.specs.Unfolding.{BlocksKept}
 use Rattle.task.specs.Bindings.{Bound, fits, bind, Held}
 
 -- ---- which block a split step begins

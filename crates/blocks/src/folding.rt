@@ -31,10 +31,10 @@ ghost use Rattle.task.specs.Run.{Step, badStep, badStepFound, stepsIn};
 ghost use Rattle.words.specs.Sets.{members};
 ghost use Rattle.tokens.specs.Split.{splitTask};
 ghost use Rattle.blocks.specs.Blocks.{foldSteps, folded, listWords};
-ghost use Rattle.blocks.specs.Code.{BlocksKept};
+ghost use Rattle.blocks.specs.Unfolding.{BlocksKept};
 ghost use Rattle.blocks.specs.FoldCode.{BeginsKept, SplitStepsKept, ObjectsJoin, givenObjects, keptFits, takenOf};
 ghost use Rattle.task.specs.Bindings.{Bound, fits, Held};
-ghost use Rattle.tokens.specs.Code.{AcceptedKept};
+ghost use Rattle.tokens.specs.Acceptance.{AcceptedKept};
 
 // For each schema of the split: which schema's block it begins, by that one's number and one; 0 for none.
 pub type Begins = [u16; MOST_SCHEMAS];

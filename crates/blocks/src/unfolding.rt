@@ -18,7 +18,7 @@ ghost use Rattle.task.specs.Limits.{mostParameters, mostParts, stepSize};
 ghost use Rattle.task.specs.Task.{Task};
 ghost use Rattle.task.specs.Run.{stepWords, stepsIn};
 ghost use Rattle.blocks.specs.Blocks.{listWords, unfoldSteps};
-ghost use Rattle.blocks.specs.Code.{StepKept, StepsKept, countFrom, objectsFor, partFrom, partsFrom};
+ghost use Rattle.blocks.specs.Unfolding.{StepKept, StepsKept, countFrom, objectsFor, partFrom, partsFrom};
 
 // The objects of the parameters in a set, ascending, are put from `to` on; the place behind them.
 fn put_objects(steps: &[u16], at: usize, own: u64, out: &mut [u16], to: usize) -> usize

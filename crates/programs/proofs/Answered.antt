@@ -23,7 +23,7 @@ use Rattle.task.proofs.TablesByIndex.{table-of, table-long}
 use Rattle.text.specs.Reading.{Reading, read, refusedAt}
 use Rattle.text.specs.Text.{write, readText}
 use Rattle.text.specs.Outcomes.{readDone, readOutcome, readAnswerTold, writeOutcome}
-use Rattle.text.specs.Code.{longestText}
+use Rattle.text.specs.TableLines.{longestText}
 use Rattle.text.proofs.Outcomes.{read-result, result-read, write-result, writtenOver}
 use Rattle.text.proofs.TaskRead.{read-fits}
 use Rattle.text.proofs.ReadLoop.{long-outcome}
@@ -32,7 +32,7 @@ use Rattle.tokens.specs.Split.{Splitting, circular, tooLarge, splitAs, split, s
 use Rattle.tokens.proofs.SplitOutcome.{refused-nine, refused-ten, split-refused as outcome-refused, split-done}
 use Rattle.programs.specs.Programs.{taken, refusal, printReading, printSplitting, splitProgram}
 use Rattle.task.proofs.Answers.{told-by, left-by, tells}
-use Rattle.programs.specs.Code.{Prints}
+use Rattle.programs.specs.Printing.{Prints}
 use Rattle.programs.proofs.Printed.{prints-same}
 
 -- ---- words of zeros, as a function has them before they are written

@@ -30,16 +30,16 @@ use Rattle.text.specs.Text.{readText}
 use Rattle.text.specs.Plan.{mostPlanSteps, readPlan, writePlan}
 use Rattle.text.specs.Outcomes.{planOutcome}
 use Rattle.text.specs.PlanCode.{mostSplitSteps, longestPlan}
-use Rattle.text.specs.Code.{longestText}
+use Rattle.text.specs.TableLines.{longestText}
 use Rattle.text.proofs.PlanSteps.{planWords-is}
 use Rattle.text.proofs.PlanAnswers.{answer-read, answer-refused}
 use Rattle.text.proofs.PlanWritten.{plan-fits}
 use Rattle.programs.specs.Programs.{taken, refusal, printReading, printSplitting, unfoldProgram}
-use Rattle.programs.specs.Code.{PlanSteps}
+use Rattle.programs.specs.Printing.{PlanSteps}
 use Rattle.programs.proofs.Answered.{split-refused}
 use Rattle.programs.proofs.Printed.{printed-within}
 use Rattle.blocks.proofs.SplitSteps.{the-given, unfolded-steps, unfolded-between}
-use Rattle.tokens.specs.Code.{RefusedAs}
+use Rattle.tokens.specs.Acceptance.{RefusedAs}
 
 -- bytes that hold every unfolding hold every text
 pub text-room : {n : ℕ} → longestPlan ≤ n → longestText ≤ n

@@ -9,11 +9,11 @@ use Rattle.words.specs.Lists.{over}
 use Rattle.words.proofs.Puts.{put-over}
 use Rattle.text.specs.Lines.{bytes, colon, newline, digitsWithin, digits, commaed, entryBytes, line}
 use Rattle.words.specs.Putting.{Puts}
-use Rattle.text.specs.Code.{longestText}
+use Rattle.text.specs.TableLines.{longestText}
 use Rattle.text.proofs.Digits.{digits-one, digits-more}
 use Rattle.text.proofs.DigitSteps.{at-most-five}
 use Rattle.programs.specs.Programs.{mostBytes, taken, refusal}
-use Rattle.programs.specs.Code.{Prints}
+use Rattle.programs.specs.Printing.{Prints}
 
 -- ---- what is put at the front is printed
 pub puts-prints : {lent text after : List ℕ} {n : ℕ} → 0 + length text ≤ length lent → Puts lent 0 text after n →

@@ -9,7 +9,7 @@ use lib.Seq.{take-all}
 use Rattle.task.specs.Task.{Task}
 use Rattle.text.specs.Reading.{read}
 use Rattle.text.specs.Text.{readText}
-use Rattle.text.specs.Code.{longestText}
+use Rattle.text.specs.TableLines.{longestText}
 use Rattle.text.proofs.TaskRead.{written-read, read-fits}
 use Rattle.text.proofs.LongestText.{text-most}
 use Rattle.programs.specs.Programs.{mostBytes, taken, printReading, splitProgram, unfoldProgram}

@@ -1,2 +1,2 @@
 pub mod Programs
-pub mod Code
+pub mod Printing

@@ -26,8 +26,8 @@ ghost use Rattle.blocks.specs.Blocks.{unfoldSteps};
 ghost use Rattle.text.specs.Plan.{readPlan, writePlan};
 ghost use Rattle.text.specs.PlanCode.{longestPlan};
 ghost use Rattle.programs.specs.Programs.{taken, printReading, printSplitting};
-ghost use Rattle.programs.specs.Code.{Prints, PlanSteps};
-ghost use Rattle.tokens.specs.Code.{AcceptedKept};
+ghost use Rattle.programs.specs.Printing.{Prints, PlanSteps};
+ghost use Rattle.tokens.specs.Acceptance.{AcceptedKept};
 
 // The words of 100 blocks of 16 parts.
 const BLOCK_WORDS: usize = MOST_PARTS * PLAN_WORDS;

@@ -15,9 +15,9 @@ ghost use Rattle.tokens.specs.Split.{split};
 ghost use Rattle.text.specs.Lines.{digitsWithin};
 ghost use Rattle.text.specs.Text.{write};
 ghost use Rattle.words.specs.Putting.{Puts};
-ghost use Rattle.text.specs.Code.{longestText};
+ghost use Rattle.text.specs.TableLines.{longestText};
 ghost use Rattle.programs.specs.Programs.{refusal, printSplitting};
-ghost use Rattle.programs.specs.Code.{Prints};
+ghost use Rattle.programs.specs.Printing.{Prints};
 
 // "Numbers have 1 to 5 digits".
 const MOST_DIGITS: usize = 5;

@@ -14,7 +14,7 @@ use Rattle.words.specs.Words.{wordsAt}
 use Rattle.words.proofs.Lists.{In, here, there, length-upTo}
 use Rattle.text.specs.Lines.{bytes, equals, colon, newline, digits, commaed, entryBytes, line}
 use Rattle.text.specs.Text.{keyName}
-use Rattle.text.specs.Code.{spaced, AtomInside, entryAt, atomKey, keyBytes, atomText, atomsText}
+use Rattle.text.specs.TableLines.{spaced, AtomInside, entryAt, atomKey, keyBytes, atomText, atomsText}
 use Rattle.text.proofs.DigitSteps.{at-most-five}
 use Rattle.text.proofs.Onwards.{onwards, onwards-all}
 

@@ -21,7 +21,7 @@ use Rattle.task.proofs.AtomsStand.{sized}
 use Rattle.text.specs.Lines.{Entry, newline, colon, digits, commaed, entryBytes, bytes}
 use Rattle.text.specs.Text.{roleKey, Line, taskLine, objectsLine, schemaLine, endLine, arityLine, partLine}
 use Rattle.text.specs.Text.{atomLine, writeLine, factEntry, atomEntry, schemaLines, write}
-use Rattle.text.specs.Code.{longestText}
+use Rattle.text.specs.TableLines.{longestText}
 use Rattle.text.proofs.DigitSteps.{digits-most}
 use Rattle.text.proofs.AtomLines.{Within, commaed-within}
 use Rattle.text.proofs.Parts.{count-below}

@@ -7,7 +7,7 @@ use native.Mathlib.Omega.{arith}
 use lib.ListN.{length, getD, length-append}
 use Rattle.words.specs.Lists.{upTo, upFrom, concatMap}
 use Rattle.text.specs.Lines.{comma, digits, commaed}
-use Rattle.text.specs.Code.{spaced}
+use Rattle.text.specs.TableLines.{spaced}
 
 -- the pieces k, k + 1, .., n - 1
 abbrev pub onwards : (ℕ → List ℕ) → ℕ → ℕ → List ℕ

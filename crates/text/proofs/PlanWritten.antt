@@ -21,7 +21,7 @@ use Rattle.task.proofs.BadSteps.{good-steps, steps-good}
 use Rattle.text.specs.Lines.{bytes, equals, colon, newline, digits, commaed, entryBytes, line}
 use Rattle.text.specs.Plan.{step, planKeyName, PlanLine, stepLine, endLine, writePlanLine, stepEntry, planLines}
 use Rattle.text.specs.Plan.{writePlan}
-use Rattle.text.specs.Code.{spaced}
+use Rattle.text.specs.TableLines.{spaced}
 use Rattle.text.specs.PlanCode.{stepText, mostSplitSteps, longestPlan}
 use Rattle.text.proofs.DigitSteps.{digits-most}
 use Rattle.text.proofs.AtomLines.{spaced-words, Within, commaed-within}

@@ -7,7 +7,7 @@ use mathlib.Core.List.{List, [], _∷_, _++_}
 use native.Mathlib.Omega.{arith}
 use lib.ListN.{length, length-append}
 use Rattle.text.specs.Lines.{bytes, newline, digits, commaed, line}
-use Rattle.text.specs.Code.{spaced, AtomInside, atomsText, schemaText}
+use Rattle.text.specs.TableLines.{spaced, AtomInside, atomsText, schemaText}
 
 -- ---- lines of a number, and of a list
 pub length-schemaLine : (params : ℕ) → length (line "schema" (digits params)) ≡ 8 + length (digits params)

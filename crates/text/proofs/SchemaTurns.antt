@@ -14,7 +14,7 @@ use Rattle.task.specs.Table.{taskOf, isTable}
 use Rattle.task.proofs.Tables.{startOf}
 use Rattle.task.proofs.TableReads.{table-roomy}
 use Rattle.task.proofs.TablesByIndex.{start-suc}
-use Rattle.text.specs.Code.{AtomInside, SchemaRun, schemaText}
+use Rattle.text.specs.TableLines.{AtomInside, SchemaRun, schemaText}
 use Rattle.text.proofs.TableAtoms.{frame, each-inside, start-most, run-long}
 use Rattle.text.proofs.TableText.{schemaLinesIn, schema-lines}
 

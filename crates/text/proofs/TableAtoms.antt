@@ -23,7 +23,7 @@ use Rattle.task.proofs.TableReads.{table-roomy}
 use Rattle.task.proofs.TablesPass.{table-words}
 use Rattle.task.proofs.TablesByIndex.{Frame, table-frame, schemas-word, atoms-word, init-word}
 use Rattle.task.proofs.TablesByIndex.{goal-word, start-suc, atom-at, schema-of-atom, atom-lies}
-use Rattle.text.specs.Code.{AtomInside, SchemaRun}
+use Rattle.text.specs.TableLines.{AtomInside, SchemaRun}
 
 -- "preconditions first, then adds, then deletes": no role of a schema's atom is above 2
 first-role : (a : Atom) (rest : List Atom) → rolesAscend (a ∷ rest) ≡ true → a .role ≤ 2

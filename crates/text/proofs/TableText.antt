@@ -20,7 +20,8 @@ use Rattle.text.specs.Lines.{digits, commaed, entryBytes, line}
 use Rattle.text.specs.Text.{Key, Line, taskLine, objectsLine, schemaLine, endLine, arityLine, partLine, atomLine}
 use Rattle.text.specs.Text.{initLine, goalLine, keyName, keyOf, roleKey, writeLine, factEntry, atomEntry}
 use Rattle.text.specs.Text.{schemaLines, taskLines, write}
-use Rattle.text.specs.Code.{spaced, entryAt, atomKey, atomText, atomsText, schemaText, schemasText, headText}
+use Rattle.text.specs.TableLines.{spaced, entryAt, atomKey, atomText, atomsText, schemaText, schemasText}
+use Rattle.text.specs.TableLines.{headText}
 use Rattle.text.proofs.Onwards.{onwards, onwards-all}
 use Rattle.text.proofs.AtomLines.{spaced-words}
 use Rattle.text.proofs.SchemaLines.{partsAt, schemaText-is}

@@ -18,8 +18,8 @@ use Rattle.task.proofs.Tables.{of-table}
 use Rattle.text.specs.Lines.{bytes, newline, digits, commaed, line}
 use Rattle.text.specs.Text.{endLine, writeLine, write}
 use Rattle.text.specs.Outcomes.{writeOutcome}
-use Rattle.text.specs.Code.{spaced, AtomInside, atomsText, headText, schemasText, factCount}
-use Rattle.text.specs.Code.{longestText}
+use Rattle.text.specs.TableLines.{spaced, AtomInside, atomsText, headText, schemasText, factCount}
+use Rattle.text.specs.TableLines.{longestText}
 use Rattle.text.proofs.TableAtoms.{each-inside}
 use Rattle.text.proofs.TableText.{write-table}
 use Rattle.task.proofs.TableReads.{table-roomy}

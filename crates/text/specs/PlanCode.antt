@@ -14,7 +14,7 @@ use Rattle.text.specs.declared.plan.PlanTurn.{PlanTurn}
 use Rattle.text.specs.Lines.{Taken, colon, newline, digits, commaed, bytes, equals}
 use Rattle.text.specs.Reading.{Reading, refusedAt, atEnd, lineAt}
 use Rattle.text.specs.Plan.{PlanLine, step, planKeyName, takePlanLine, mostPlanSteps}
-use Rattle.text.specs.Code.{spaced}
+use Rattle.text.specs.TableLines.{spaced}
 use Rattle.text.specs.ReadCode.{rest, Wrote, NextLine}
 use Rattle.task.specs.Limits.{mostParts, stepSize}
 

@@ -6,7 +6,7 @@ ghost use Prim.Native.Nat.{ℕ, _+_, _*_, _^_, _≤_, _<_};
 ghost use lib.ListN.{length};
 ghost use Rattle.text.specs.Lines.{comma, newline, digits, commaed};
 ghost use Rattle.words.specs.Putting.{Puts};
-ghost use Rattle.text.specs.Code.{spaced};
+ghost use Rattle.text.specs.TableLines.{spaced};
 
 // "Numbers have 1 to 5 digits".
 pub fn number_size(n: u16) -> usize

@@ -39,8 +39,8 @@ ghost use Rattle.task.specs.Table.{taskOf, isTable};
 ghost use Rattle.text.specs.Text.{write};
 ghost use Rattle.text.specs.Outcomes.{writeOutcome, writeAnswerTold};
 ghost use Rattle.words.specs.Putting.{Puts};
-ghost use Rattle.text.specs.Code.{AtomInside, keyBytes, atomText, atomsText, schemaText, headText, schemasText};
-ghost use Rattle.text.specs.Code.{SchemaRun, factCount};
+ghost use Rattle.text.specs.TableLines.{AtomInside, keyBytes, atomText, atomsText, schemaText, headText};
+ghost use Rattle.text.specs.TableLines.{schemasText, SchemaRun, factCount};
 ghost use Rattle.task.specs.Limits.{atomSize};
 
 // "role (0 precondition, 1 add, 2 delete, 3 initial, 4 goal)": the key of an atom's line, and its =.

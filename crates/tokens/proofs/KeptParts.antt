@@ -8,8 +8,8 @@ use lib.ListN.{length, getD, length-set}
 use Rattle.task.specs.declared.Part.{Part}
 use Rattle.words.proofs.Lists.{getD-map}
 use Rattle.words.specs.Sets.{member}
-use Rattle.arcs.specs.Code.{atomsIn}
-use Rattle.tokens.specs.Code.{partAt, OrderKept}
+use Rattle.arcs.specs.Stretches.{stretchIn}
+use Rattle.tokens.specs.Acceptance.{partAt, OrderKept}
 use Rattle.tokens.proofs.PartParameters.{inPart}
 use Rattle.task.specs.Limits.{mostSchemas, mostParts}
 use Rattle.tokens.specs.Kept.{keptWords, orderPlace, ownPlace, withField, keptPart, keptOwn}
@@ -29,7 +29,7 @@ module _ (w : List ℕ) (from to s : ℕ) (parts : List Part) (kept₀ : List �
 
   module _ (n p r : ℕ) (kept : List ℕ) (small : s < mostSchemas) (inside : n < mostParts)
       (wide : length kept ≡ keptWords) (is-part : p ≡ partAt parts n)
-      (is-own : (x : ℕ) → member r x ≡ inPart p x (atomsIn w from to))
+      (is-own : (x : ℕ) → member r x ≡ inPart p x (stretchIn w from to))
       (old : OrderKept w from to s n parts kept₀ kept) where
     abbrev one : List ℕ
     one = withField kept s (orderPlace + n) p
@@ -53,15 +53,15 @@ module _ (w : List ℕ) (from to s : ℕ) (parts : List Part) (kept₀ : List �
         field-put kept s (orderPlace + n) p wide (omega arith) (omega arith) ∙ is-part)
 
     own-more : (j : ℕ) → j < n + 1 → (x : ℕ) →
-        member (keptOwn both s j) x ≡ inPart (partAt parts j) x (atomsIn w from to)
-    own-more = up-to (λ j. (x : ℕ) → member (keptOwn both s j) x ≡ inPart (partAt parts j) x (atomsIn w from to))
+        member (keptOwn both s j) x ≡ inPart (partAt parts j) x (stretchIn w from to)
+    own-more = up-to (λ j. (x : ℕ) → member (keptOwn both s j) x ≡ inPart (partAt parts j) x (stretchIn w from to))
         (λ j k x. ap (λ (v : ℕ). member v x)
         (field-stays one s (ownPlace + n) r s (ownPlace + j) (omega arith) (omega arith) (λ e. omega arith) ∙
         field-stays kept s (orderPlace + n) p s (ownPlace + j) (omega arith) (omega arith) (λ e. omega arith)) ∙
         old .params j x k)
         (λ x. ap (λ (v : ℕ). member v x)
         (field-put one s (ownPlace + n) r (field-long kept s (orderPlace + n) p wide) (omega arith) (omega arith)) ∙
-        is-own x ∙ ap (λ (q : ℕ). inPart q x (atomsIn w from to)) is-part)
+        is-own x ∙ ap (λ (q : ℕ). inPart q x (stretchIn w from to)) is-part)
 
     pub order-more : OrderKept w from to s (n + 1) parts kept₀ both
     order-more = record {

@@ -16,7 +16,7 @@ use Rattle.words.proofs.Lists.{in-getD}
 use Rattle.task.proofs.AtomsStand.{noAtom}
 use Rattle.task.proofs.Tests.{SchemaTests, schema-tests}
 use Rattle.task.proofs.TablesByIndex.{table-frame, start-suc}
-use Rattle.arcs.specs.Code.{IsStretch, atomsIn}
+use Rattle.arcs.specs.Stretches.{IsStretch, stretchIn}
 use Rattle.task.proofs.SchemaWords.{part-small}
 use Rattle.arcs.proofs.OrderTaken.{OrderOf, orderOf-laws}
 use Rattle.arcs.proofs.Stretches.{schema-atoms, schema-stretch}
@@ -76,9 +76,9 @@ module _ {w : List ℕ} {s : ℕ} {kept : List ℕ} (K : SchemaKept w s kept) wh
         (subst (λ (n : ℕ). IsStretch w (firstAtom t s) n) (sym (stops ∙ ends))
         (schema-stretch w (K .table) s word-known))
 
-    pub kept-atoms : schemaAt t s .atoms ≡ atomsIn w from to
+    pub kept-atoms : schemaAt t s .atoms ≡ stretchIn w from to
     kept-atoms =
-        schema-atoms w (K .table) s word-known ∙ ap₂ (atomsIn w) (sym (begins ∙ starts)) (sym (stops ∙ ends))
+        schema-atoms w (K .table) s word-known ∙ ap₂ (stretchIn w) (sym (begins ∙ starts)) (sym (stops ∙ ends))
 
     pub stretch-small : to - from ≤ mostAtoms
     stretch-small =

@@ -25,10 +25,10 @@ use Rattle.task.proofs.TablesByIndex.{table-frame, atoms-word}
 use Rattle.arcs.specs.declared.Order.{Order}
 use Rattle.arcs.specs.Order.{orderOf}
 use Rattle.words.specs.Sets.{member}
-use Rattle.arcs.specs.Code.{atomsIn, orderTold}
+use Rattle.arcs.specs.Stretches.{stretchIn, orderTold}
 use Rattle.arcs.proofs.OrderTaken.{orderOf-laws}
 use Rattle.tokens.specs.Split.{has, isNone, orderAt, orEmpty, orders, parts, firstOf}
-use Rattle.tokens.specs.Code.{partAt, OrderKept}
+use Rattle.tokens.specs.Acceptance.{partAt, OrderKept}
 use Rattle.tokens.proofs.Accepted.{circularAt}
 use Rattle.tokens.proofs.AtomWords.{schema-fits}
 use Rattle.tokens.proofs.PartParameters.{inPart}
@@ -149,7 +149,7 @@ module _ (w : List ℕ) (h : isTable w ≡ true) where
       both = withField one 0 firstPlace 0
 
   module _ (s from to next : ℕ) (l : s < length (taskOf w .schemas)) (ends : to ≡ firstAtom (taskOf w) (suc s))
-      (atoms : schemaAt (taskOf w) s .atoms ≡ atomsIn w from to) (f : Order) (fits : f .count ≤ length (f .parts))
+      (atoms : schemaAt (taskOf w) s .atoms ≡ stretchIn w from to) (f : Order) (fits : f .count ≤ length (f .parts))
       (found : f .found ≡ true) (told : orderTold f ≡ orderOf (schemaAt (taskOf w) s))
       (goes-on : next ≡ firstOf (taskOf w) (s + 1)) (kept ordered : List ℕ)
       (new : OrderKept w from to s (f .count) (f .parts) (withField kept s countPlace (f .count)) ordered)

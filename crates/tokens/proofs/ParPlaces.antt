@@ -16,7 +16,7 @@ use Rattle.words.proofs.Lists.{bool-ext, and-left, any-in, in-any, in-upFrom, u
 use Rattle.task.proofs.States.{schemaFits-fits}
 use Rattle.words.specs.Sets.{member, members}
 use Rattle.tokens.specs.Split.{has, paramsOf, firstPosition, lastPosition, own, firstHere, lastHere, laterHere}
-use Rattle.tokens.specs.Code.{ParsHere}
+use Rattle.tokens.specs.Acceptance.{ParsHere}
 use Rattle.tokens.specs.declared.pars.Pars.{Pars}
 use Rattle.tokens.proofs.Places.{At, at-first, at-last, first-at, last-at, has-small}
 use Rattle.words.proofs.Sums.{eqb-turn, filter-filter}

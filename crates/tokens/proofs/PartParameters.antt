@@ -18,7 +18,7 @@ use Rattle.words.proofs.Lists.{and-right, any-in, map-in, upFrom-in}
 use Rattle.task.proofs.States.{names-in}
 use Rattle.task.proofs.TablesByIndex.{table-frame, schemas-word, start-suc, schema-of-atom, atom-lies}
 use Rattle.words.specs.Sets.{member}
-use Rattle.arcs.specs.Code.{IsStretch, atomsIn}
+use Rattle.arcs.specs.Stretches.{IsStretch, stretchIn}
 use Rattle.words.proofs.Ranges.{or-false, any-last}
 use Rattle.words.proofs.BitSets.{member-zero}
 use Rattle.arcs.proofs.Stretches.{zeros-at, stretch-atom, atoms-none, atoms-more}
@@ -32,43 +32,43 @@ abbrev pub inPart : ℕ → ℕ → List Atom → Bool
 inPart p x atoms = any (λ a. eqb p (a .part) && names x a) atoms
 
 module _ (w : List ℕ) (from p : ℕ) where
-  pub part-none : (x : ℕ) → member 0 x ≡ false → member 0 x ≡ inPart p x (atomsIn w from from)
+  pub part-none : (x : ℕ) → member 0 x ≡ false → member 0 x ≡ inPart p x (stretchIn w from from)
   unfolding any
   part-none x e = e ∙ sym (ap (inPart p x) (atoms-none w from))
 
   grown : (i x : ℕ) → from ≤ i →
-      inPart p x (atomsIn w from (i + 1)) ≡
-      inPart p x (atomsIn w from i) || (eqb p (atomIn w i .part) && names x (atomIn w i))
+      inPart p x (stretchIn w from (i + 1)) ≡
+      inPart p x (stretchIn w from i) || (eqb p (atomIn w i .part) && names x (atomIn w i))
   grown i x l =
       ap (inPart p x) (atoms-more w from i l) ∙
-      any-last (λ a. eqb p (a .part) && names x a) (atomsIn w from i) (atomIn w i)
+      any-last (λ a. eqb p (a .part) && names x a) (stretchIn w from i) (atomIn w i)
 
   -- an atom in the part
   pub part-more : (named r i q : ℕ) → from ≤ i → q ≡ atomIn w i .part → q ≡ p →
-      ((x : ℕ) → member named x ≡ inPart p x (atomsIn w from i)) →
+      ((x : ℕ) → member named x ≡ inPart p x (stretchIn w from i)) →
       ((x : ℕ) → member r x ≡ member named x || names x (atomIn w i)) →
-      (x : ℕ) → member r x ≡ inPart p x (atomsIn w from (i + 1))
+      (x : ℕ) → member r x ≡ inPart p x (stretchIn w from (i + 1))
   part-more named r i q l e f h g x =
       g x ∙ ap (λ (b : Bool). b || names x (atomIn w i)) (h x) ∙
-      ap (λ (b : Bool). inPart p x (atomsIn w from i) || (b && names x (atomIn w i)))
+      ap (λ (b : Bool). inPart p x (stretchIn w from i) || (b && names x (atomIn w i)))
       (sym (eq-eqb p (atomIn w i .part) (sym f ∙ e))) ∙
       sym (grown i x l)
 
   -- an atom in another part
   pub part-same : (named i q : ℕ) → from ≤ i → q ≡ atomIn w i .part → (q ≡ p → ⊥) →
-      ((x : ℕ) → member named x ≡ inPart p x (atomsIn w from i)) →
-      (x : ℕ) → member named x ≡ inPart p x (atomsIn w from (i + 1))
+      ((x : ℕ) → member named x ≡ inPart p x (stretchIn w from i)) →
+      (x : ℕ) → member named x ≡ inPart p x (stretchIn w from (i + 1))
   part-same named i q l e f h x =
-      h x ∙ sym (or-false (inPart p x (atomsIn w from i))) ∙
-      ap (λ (b : Bool). inPart p x (atomsIn w from i) || (b && names x (atomIn w i)))
+      h x ∙ sym (or-false (inPart p x (stretchIn w from i))) ∙
+      ap (λ (b : Bool). inPart p x (stretchIn w from i) || (b && names x (atomIn w i)))
       (sym (ne-eqb p (atomIn w i .part) (λ z. f (e ∙ sym z)))) ∙
       sym (grown i x l)
 
   -- parameters are below 12
-  pub part-small : (to x : ℕ) → IsStretch w from to → inPart p x (atomsIn w from to) ≡ true → x < mostParameters
-  unfolding atomsIn
+  pub part-small : (to x : ℕ) → IsStretch w from to → inPart p x (stretchIn w from to) ≡ true → x < mostParameters
+  unfolding stretchIn
   part-small to x s h =
-      let (a, i, e) = any-in (λ a. eqb p (a .part) && names x a) (atomsIn w from to) h in
+      let (a, i, e) = any-in (λ a. eqb p (a .part) && names x a) (stretchIn w from to) h in
       let (k, m, q) = map-in (atomIn w) (upFrom from (to - from)) a i in
       let l = upFrom-in from (to - from) k m .1 in
       let f = s .forward in
@@ -92,7 +92,7 @@ sets-stored P sets q r b k h p = go (eqb q p) refl
 module _ (w : List ℕ) (from : ℕ) where
   -- each part's set has the parameters that its atoms name
   abbrev pub Named : ℕ → List ℕ → Type 0
-  Named i sets = (p x : ℕ) → member (getD sets p 0) x ≡ inPart p x (atomsIn w from i)
+  Named i sets = (p x : ℕ) → member (getD sets p 0) x ≡ inPart p x (stretchIn w from i)
 
   pub named-nowhere : Named from (replicate mostParts 0)
   named-nowhere p x = ap (λ (n : ℕ). member n x) (zeros-at mostParts p) ∙ part-none w from p x (member-zero x)
@@ -101,7 +101,7 @@ module _ (w : List ℕ) (from : ℕ) where
       Named i sets → ((x : ℕ) → member r x ≡ member (getD sets q 0) x || names x (atomIn w i)) →
       Named (i + 1) (set sets q r)
   named-further i q r sets l e b h g =
-      sets-stored (λ p v. (x : ℕ) → member v x ≡ inPart p x (atomsIn w from (i + 1))) sets q r b
+      sets-stored (λ p v. (x : ℕ) → member v x ≡ inPart p x (stretchIn w from (i + 1))) sets q r b
       (part-more w from q (getD sets q 0) r i q l e refl (h q) g)
       (λ p z. part-same w from p (getD sets p 0) i q l e z (h p))
 

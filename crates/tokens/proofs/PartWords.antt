@@ -17,7 +17,7 @@ use Rattle.task.specs.Table.{atomIn, atomWords}
 use Rattle.words.proofs.Lists.{and-right, upTo-in, map-append, append-concatMap, filter-append, filter-none}
 use Rattle.words.proofs.Lists.{length-padded, filter-same}
 use Rattle.words.specs.Sets.{member, members, wordBits}
-use Rattle.arcs.specs.Code.{atomsIn}
+use Rattle.arcs.specs.Stretches.{stretchIn}
 use Rattle.words.proofs.BitSets.{member-zero}
 use Rattle.arcs.proofs.Stretches.{atoms-none, atoms-more}
 use Rattle.words.specs.Putting.{Puts}
@@ -100,26 +100,26 @@ module _ (own r p : ℕ) where
 
   module _ (w : List ℕ) (number from : ℕ) where
     abbrev pub oldUpTo : ℕ → List ℕ
-    oldUpTo i = concatMap (atomWords number) (oldIn own r p (atomsIn w from i))
+    oldUpTo i = concatMap (atomWords number) (oldIn own r p (stretchIn w from i))
 
     pub old-none : oldUpTo from ≡ []
     unfolding concatMap oldIn ofRole filter
     old-none = ap (λ (xs : List Atom). concatMap (atomWords number) (oldIn own r p xs)) (atoms-none w from)
 
-    old-step : (i : ℕ) → from ≤ i → oldIn own r p (atomsIn w from (i + 1)) ≡
-        oldIn own r p (atomsIn w from i) ++ keepIf (isHere (atomIn w i)) (renumbered own r (atomIn w i)) []
-    old-step i l = ap (oldIn own r p) (atoms-more w from i l) ∙ old-append (atomsIn w from i) (atomIn w i)
+    old-step : (i : ℕ) → from ≤ i → oldIn own r p (stretchIn w from (i + 1)) ≡
+        oldIn own r p (stretchIn w from i) ++ keepIf (isHere (atomIn w i)) (renumbered own r (atomIn w i)) []
+    old-step i l = ap (oldIn own r p) (atoms-more w from i l) ∙ old-append (stretchIn w from i) (atomIn w i)
 
     pub old-taken : (i : ℕ) → from ≤ i → isHere (atomIn w i) ≡ true →
         oldUpTo (i + 1) ≡ oldUpTo i ++ atomWords number (renumbered own r (atomIn w i))
     old-taken i l h =
         ap (concatMap (atomWords number)) (old-step i l) ∙
-        words-taken (atomWords number) (oldIn own r p (atomsIn w from i)) (renumbered own r (atomIn w i)) _ h
+        words-taken (atomWords number) (oldIn own r p (stretchIn w from i)) (renumbered own r (atomIn w i)) _ h
 
     pub old-left : (i : ℕ) → from ≤ i → isHere (atomIn w i) ≡ false → oldUpTo (i + 1) ≡ oldUpTo i
     old-left i l h =
         ap (concatMap (atomWords number)) (old-step i l) ∙
-        words-left (atomWords number) (oldIn own r p (atomsIn w from i)) (renumbered own r (atomIn w i)) _ h
+        words-left (atomWords number) (oldIn own r p (stretchIn w from i)) (renumbered own r (atomIn w i)) _ h
 
 -- ---- pars
 module _ (own par r number which : ℕ) where

@@ -12,7 +12,7 @@ use Rattle.task.specs.Task.{Schema, Task, schemaAtoms}
 use Rattle.task.specs.Table.{taskOf, isTable}
 use Rattle.task.proofs.TablesByIndex.{table-frame, arities-word, init-word, goal-word}
 use Rattle.tokens.specs.Split.{laterParts, sharedBound, maximum, parCount, splitTask, limitTests, withinLimits}
-use Rattle.tokens.specs.Code.{partSchemas, areFew, sizesFit, SizesBefore, SizesTold, areWithin}
+use Rattle.tokens.specs.Acceptance.{partSchemas, areFew, sizesFit, SizesBefore, SizesTold, areWithin}
 use Rattle.tokens.specs.declared.measure.Sizes.{Sizes}
 use Rattle.tokens.proofs.Predicates.{predicate-count}
 use Rattle.tokens.proofs.Sizes.{init-count, goal-count}

@@ -17,7 +17,7 @@ use Rattle.tokens.specs.Split.{orderAt, isNone, circular, tooLarge, spli
 use Rattle.tokens.specs.Split.{withinLimits, splitCheck, splitOutcome, Splitting}
 use Rattle.tokens.specs.declared.measure.Sizes.{Sizes}
 use Rattle.tokens.specs.declared.acceptance.Acceptance.{Acceptance}
-use Rattle.tokens.specs.Code.{acceptedThen, RefusedAs, AcceptedKept, AcceptanceTold}
+use Rattle.tokens.specs.Acceptance.{acceptedThen, RefusedAs, AcceptedKept, AcceptanceTold}
 use Rattle.task.proofs.Answers.{asFound, check-refuses, first-passes, first-refuses, same-refusal, refusal-stands}
 
 -- ---- what splitting gives, by what is found of the orders and the sizes

@@ -16,11 +16,11 @@ use Rattle.task.specs.Run.{schemaAt}
 use Rattle.task.specs.Table.{atomIn, taskOf}
 use Rattle.words.proofs.Lists.{append-concatMap, length-upTo, map-append, sum-append, upTo-suc}
 use Rattle.words.specs.Sets.{member, members, wordBits}
-use Rattle.arcs.specs.Code.{atomsIn}
+use Rattle.arcs.specs.Stretches.{stretchIn}
 use Rattle.arcs.proofs.Stretches.{atoms-none, atoms-more}
 use Rattle.tokens.specs.Split.{has, parts, laterParts, sharedBound, maximum, orders, lone, firstHere, lastHere}
 use Rattle.tokens.specs.Split.{laterHere, splitSchema}
-use Rattle.tokens.specs.Code.{ParsHere, partSchemas, areFew, SchemaSized, SizesBefore}
+use Rattle.tokens.specs.Acceptance.{ParsHere, partSchemas, areFew, SchemaSized, SizesBefore}
 use Rattle.tokens.specs.declared.pars.Pars.{Pars}
 use Rattle.tokens.specs.declared.measure.Measured.{Measured}
 use Rattle.tokens.specs.declared.measure.Sizes.{Sizes}
@@ -37,15 +37,15 @@ abbrev pub inPartCount : ℕ → List Atom → ℕ
 inPartCount p atoms = length (filter (λ a. eqb p (a .part)) atoms)
 
 module _ (w : List ℕ) (from p : ℕ) where
-  pub part-count-none : inPartCount p (atomsIn w from from) ≡ 0
+  pub part-count-none : inPartCount p (stretchIn w from from) ≡ 0
   unfolding filter
   part-count-none = ap (inPartCount p) (atoms-none w from)
 
   pub part-count-more : (i : ℕ) → from ≤ i →
-      inPartCount p (atomsIn w from (i + 1)) ≡ inPartCount p (atomsIn w from i) + one (eqb p (atomIn w i .part))
+      inPartCount p (stretchIn w from (i + 1)) ≡ inPartCount p (stretchIn w from i) + one (eqb p (atomIn w i .part))
   part-count-more i l =
       ap (inPartCount p) (atoms-more w from i l) ∙
-      filter-more (λ a. eqb p (a .part)) (atomsIn w from i) (atomIn w i)
+      filter-more (λ a. eqb p (a .part)) (stretchIn w from i) (atomIn w i)
 
 -- ---- a part of the split
 module _ {w : List ℕ} {s : ℕ} {kept : List ℕ} (K : SchemaKept w s kept) where
@@ -56,7 +56,7 @@ module _ {w : List ℕ} {s : ℕ} {kept : List ℕ} (K : SchemaKept w s kept) wh
   o = orders (taskOf w) s
 
   pub part-counted : {from to : ℕ} → from ≡ keptStart kept s → to ≡ keptEnd kept s → (p j : ℕ) → p ≡ keptPart kept s j →
-      j < keptCount kept s → (r : Pars) (old : ℕ) → ParsHere t s o j r → old ≡ inPartCount p (atomsIn w from to) →
+      j < keptCount kept s → (r : Pars) (old : ℕ) → ParsHere t s o j r → old ≡ inPartCount p (stretchIn w from to) →
       length (splitSchema t s o j .atoms) ≡
       old + 1 + length (members (r .later) wordBits) +
       cond (eqb (keptCount kept s) 1) 0

@@ -32,7 +32,7 @@ use Rattle.tokens.proofs.PartSplit.{part-words}
 use Rattle.tokens.proofs.SchemaRuns.{schemasUpTo, all-fewer}
 use Rattle.task.specs.Limits.{mostSchemas, mostPredicates, mostParts, mostParameters}
 use Rattle.tokens.specs.Kept.{keptStart, keptEnd, keptFirst, keptPart, keptOwn, SchemaKept}
-use Rattle.tokens.specs.Code.{AcceptedKept, partSchemas}
+use Rattle.tokens.specs.Acceptance.{AcceptedKept, partSchemas}
 use Rattle.tokens.specs.declared.measure.Sizes.{Sizes}
 use Rattle.tokens.specs.declared.part_atoms.PartTokens.{PartTokens}
 use Rattle.tokens.proofs.KeptSchemas.{before-step}

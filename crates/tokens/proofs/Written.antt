@@ -36,7 +36,7 @@ use Rattle.tokens.proofs.WellSplit.{part-of}
 use Rattle.tokens.proofs.PartSplit.{own-members}
 use Rattle.tokens.proofs.Splitting.{well, ordered, few-params}
 use Rattle.tokens.specs.Kept.{keptOwn}
-use Rattle.tokens.specs.Code.{AcceptedKept, partSchemas}
+use Rattle.tokens.specs.Acceptance.{AcceptedKept, partSchemas}
 use Rattle.tokens.specs.declared.measure.Sizes.{Sizes}
 
 module _ {w : List ℕ} {sizes : Sizes} {kept : List ℕ} (S : AcceptedKept w sizes kept) where
@@ -74,7 +74,7 @@ module _ {w : List ℕ} {sizes : Sizes} {kept : List ℕ} (S : AcceptedKept w si
   arities-written =
       let later = sizes .later in
       let old : t .arities ≡ aritiesIn w =
-      sym (ap (wordsAt w 6) (sym (arities-word w frame)) ∙
+      sym (ap (wordsAt w headWords) (sym (arities-word w frame)) ∙
       wordsAt-at w headWords (t .arities) (places w t (frame .sizes) (frame .tabled) .arities)) in
       let e = sym (S .sized .later) in
       let f = sym (S .sized .pars) in

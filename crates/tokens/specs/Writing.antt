@@ -12,12 +12,12 @@ use Rattle.task.specs.Task.{Atom, Task, precondition, addition, deletion}
 use Rattle.task.specs.Limits.{mostAtoms, mostParameters, atomSize}
 use Rattle.task.specs.Table.{atomWords, taskOf, aritiesIn}
 use Rattle.task.specs.Run.{ofRole, schemaAt}
-use Rattle.arcs.specs.Code.{IsStretch, atomsIn}
+use Rattle.arcs.specs.Stretches.{IsStretch, stretchIn}
 use Rattle.words.specs.Sets.{member, members, wordBits}
 use Rattle.tokens.specs.Split.{has, orders, parToken, token, required, handedOn, lone}
 use Rattle.tokens.specs.declared.part_atoms.PartPlace.{PartPlace}
 use Rattle.tokens.specs.Kept.{keptCount, keptOwn}
-use Rattle.tokens.specs.Code.{ParsHere}
+use Rattle.tokens.specs.Acceptance.{ParsHere}
 use Rattle.tokens.specs.declared.measure.Sizes.{Sizes}
 use Rattle.tokens.specs.declared.part_atoms.PartTokens.{PartTokens}
 use Rattle.tokens.specs.declared.part_atoms.RoleTokens.{RoleTokens}
@@ -47,7 +47,7 @@ parIn own par r x = token r (par + x) (newNumber own x ∷ [])
 -- its old atoms of role r
 abbrev pub oldWords : List ℕ → PartPlace → ℕ → List ℕ
 oldWords w here r =
-    concatMap (atomWords (here .number)) (oldIn (here .own) r (here .part .0) (atomsIn w (here .from) (here .to)))
+    concatMap (atomWords (here .number)) (oldIn (here .own) r (here .part .0) (stretchIn w (here .from) (here .to)))
 
 -- the pars of the parameters in a set
 abbrev pub parWords : PartPlace → ℕ → ℕ → List ℕ
@@ -79,7 +79,7 @@ mostPartWords = 3 * (atomSize * (mostAtoms + 1 + mostParameters))
 pub record PlaceOf (w : List ℕ) (s j : ℕ) (here : PartPlace) : Type 0 where
   pub stretch : IsStretch w (here .from) (here .to)
   pub short : here .to - here .from ≤ mostAtoms
-  pub atoms : atomsIn w (here .from) (here .to) ≡ schemaAt (taskOf w) s .atoms
+  pub atoms : stretchIn w (here .from) (here .to) ≡ schemaAt (taskOf w) s .atoms
   pub part : here .part .0 ≡ getD (orders (taskOf w) s) j 0
   pub params : here .params ≡ schemaAt (taskOf w) s .params
   pub few : here .params ≤ mostParameters

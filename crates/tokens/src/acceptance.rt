@@ -7,7 +7,7 @@ use crate::parts;
 use crate::parts::Circular;
 use task::Place;
 use task::limits::TABLE_WORDS;
-ghost use Rattle.tokens.specs.Code.{AcceptanceTold};
+ghost use Rattle.tokens.specs.Acceptance.{AcceptanceTold};
 ghost use mathlib.Core.Path.{_≡_};
 ghost use lib.ListN.{length};
 ghost use Rattle.tokens.specs.Kept.{keptWords};

@@ -8,7 +8,7 @@ ghost use Prim.Native.Nat.{_≤_, _<_};
 ghost use mathlib.Core.Path.{_≡_};
 ghost use lib.ListN.{length, getD};
 ghost use Rattle.task.specs.Table.{atomIn};
-ghost use Rattle.arcs.specs.Code.{IsSchemaAtom};
+ghost use Rattle.arcs.specs.Stretches.{IsSchemaAtom};
 ghost use Rattle.task.specs.Limits.{mostArity, mostParameters};
 
 // An atom has as many arguments as its predicate's arity.

@@ -28,9 +28,9 @@ ghost use lib.ListN.{length};
 ghost use lib.Dec.{eqb};
 ghost use Rattle.words.specs.Lists.{filter};
 ghost use Rattle.task.specs.Table.{taskOf, isTable};
-ghost use Rattle.arcs.specs.Code.{IsStretch, atomsIn};
+ghost use Rattle.arcs.specs.Stretches.{IsStretch, stretchIn};
 ghost use Rattle.tokens.specs.Split.{orders, splitSchema};
-ghost use Rattle.tokens.specs.Code.{SchemaSized, SizesTold, sizesFit, mostPartAtoms, areWithin};
+ghost use Rattle.tokens.specs.Acceptance.{SchemaSized, SizesTold, sizesFit, mostPartAtoms, areWithin};
 ghost use Rattle.task.specs.Limits.{mostParts, mostSchemas};
 ghost use Rattle.words.specs.Sets.{wordBits};
 ghost use Rattle.tokens.specs.Kept.{keptCount, PartsKept, SchemaKept};
@@ -55,7 +55,7 @@ pub struct Measured {
 // How many of the atoms `from` to `to - 1` are in a part.
 fn atoms_in(table: &[u16], from: usize, to: usize, part: Part) -> usize
     requires { ⌜ IsStretch (now table) from to ⌝ }
-    ensures { λ r. ⌜ r ≡ length (filter (λ a. eqb (part .0) (a .part)) (atomsIn (now (table .entry)) from to)) ⌝ }
+    ensures { λ r. ⌜ r ≡ length (filter (λ a. eqb (part .0) (a .part)) (stretchIn (now (table .entry)) from to)) ⌝ }
     ensures { λ r. ⌜ r ≤ to - from ⌝ }
 {
     let mut n = 0;

@@ -15,7 +15,7 @@ ghost use Rattle.task.specs.Task.{Task};
 ghost use Rattle.task.specs.Run.{schemaAt};
 ghost use Rattle.words.specs.Sets.{member};
 ghost use Rattle.tokens.specs.Split.{positions};
-ghost use Rattle.tokens.specs.Code.{ParsHere};
+ghost use Rattle.tokens.specs.Acceptance.{ParsHere};
 ghost use Rattle.task.specs.Limits.{mostParts, mostSchemas};
 ghost use Rattle.tokens.specs.Kept.{keptCount, keptOwn, ParamsKept};
 

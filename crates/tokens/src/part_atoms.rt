@@ -23,7 +23,7 @@ ghost use lib.ListN.{length};
 ghost use lib.Dec.{eqb};
 ghost use Rattle.words.specs.Lists.{padded};
 ghost use Rattle.task.specs.Table.{atomIn, atomWords};
-ghost use Rattle.arcs.specs.Code.{IsSchemaAtom, IsStretch};
+ghost use Rattle.arcs.specs.Stretches.{IsSchemaAtom, IsStretch};
 ghost use Rattle.tokens.specs.Split.{token};
 ghost use Rattle.words.specs.Putting.{Puts};
 ghost use Rattle.tokens.specs.Writing.{newNumber, renumbered, parIn, oldWords, parWords, roleWords, partWords};

@@ -24,9 +24,9 @@ ghost use Rattle.words.specs.Lists.{any, first, upTo};
 ghost use Rattle.task.specs.Task.{names};
 ghost use Rattle.task.specs.Table.{taskOf, isTable, atomIn};
 ghost use Rattle.words.specs.Sets.{member};
-ghost use Rattle.arcs.specs.Code.{IsSchemaAtom, IsStretch, atomsIn};
+ghost use Rattle.arcs.specs.Stretches.{IsSchemaAtom, IsStretch, stretchIn};
 ghost use Rattle.tokens.specs.Split.{isNone, orderAt};
-ghost use Rattle.tokens.specs.Code.{partAt, OrderKept, circularTold};
+ghost use Rattle.tokens.specs.Acceptance.{partAt, OrderKept, circularTold};
 ghost use Rattle.task.specs.Limits.{mostParts, mostSchemas, mostParameters};
 ghost use Rattle.task.specs.Turns.{firstAtom};
 ghost use Rattle.tokens.specs.Kept.{keptWords, PartsKept};
@@ -58,7 +58,7 @@ fn parameter_sets(table: &[u16], from: usize, to: usize) -> [u64; MOST_PARTS]
     ensures { λ r. ⌜ length r ≡ mostParts ⌝ }
     ensures { λ r. ⌜ ((p : ℕ) → getD r p 0 < 2 ^ mostParameters) ⌝ }
     ensures { λ r. ⌜ ((p x : ℕ) →
-        member (getD r p 0) x ≡ any (λ a. eqb p (a .part) && names x a) (atomsIn (now (table .entry)) from to)) ⌝ }
+        member (getD r p 0) x ≡ any (λ a. eqb p (a .part) && names x a) (stretchIn (now (table .entry)) from to)) ⌝ }
 {
     let mut sets = [0; MOST_PARTS];
     let mut i = from;

@@ -28,7 +28,7 @@ ghost use Rattle.words.specs.Putting.{Puts};
 ghost use Rattle.task.specs.Limits.{mostParts, mostSchemas};
 ghost use Rattle.words.specs.Words.{wordBound};
 ghost use Rattle.tokens.specs.Kept.{keptFirst, keptCount};
-ghost use Rattle.tokens.specs.Code.{AcceptedKept, partSchemas, AcceptedParts};
+ghost use Rattle.tokens.specs.Acceptance.{AcceptedKept, partSchemas, AcceptedParts};
 ghost use Rattle.tokens.specs.Writing.{PlaceOf, TokensOf, mostPartWords, setSizes};
 
 // The parameter counts of a schema's parts.

@@ -33,7 +33,7 @@ ghost use Rattle.task.specs.Table.{taskOf, isTable, atomWords, factWords, words
 ghost use Rattle.words.specs.Words.{wordsAt, wordBound};
 ghost use Rattle.tokens.specs.Split.{splitTask, token};
 ghost use Rattle.words.specs.Putting.{Puts};
-ghost use Rattle.tokens.specs.Code.{AcceptedKept};
+ghost use Rattle.tokens.specs.Acceptance.{AcceptedKept};
 ghost use Rattle.tokens.specs.Writing.{countWords, arityWords};
 
 // The six counts.

@@ -17,7 +17,7 @@ use Rattle.task.specs.Run.{Step, badStep, badStepFound}
 use Rattle.task.proofs.StepWords.{length-stepsIn}
 use Rattle.tokens.specs.Split.{splitTask}
 use Rattle.blocks.specs.Blocks.{folded, listWords, fitsIn, foldAnswerTold}
-use Rattle.blocks.specs.Code.{TableKept}
+use Rattle.blocks.specs.Unfolding.{TableKept}
 use Rattle.blocks.specs.FoldCode.{SplitStepsKept, takenOf}
 use Rattle.task.proofs.Answers.{both}
 use Rattle.blocks.proofs.KeptParts.{table-kept}

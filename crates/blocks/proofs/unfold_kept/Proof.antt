@@ -15,7 +15,7 @@ use Rattle.task.specs.Answers.{result}
 use Rattle.task.specs.Table.{taskOf}
 use Rattle.task.specs.Run.{badStep, badStepFound}
 use Rattle.blocks.specs.Blocks.{listWords, fitsIn, unfoldAnswerTold}
-use Rattle.blocks.specs.Code.{StepsKept}
+use Rattle.blocks.specs.Unfolding.{StepsKept}
 use Rattle.task.proofs.Answers.{both}
 use Rattle.blocks.proofs.BlockAnswers.{unfoldingOf}
 use Rattle.blocks.proofs.KeptBlocks.{room-for}

@@ -3,7 +3,7 @@
 use Rattle.programs.proofs.split_text.Tie as tie
 use native.Mathlib.Omega.{arith}
 use borrow.Author.Needs.{needs}
-use Rattle.text.specs.Code.{longestText}
+use Rattle.text.specs.TableLines.{longestText}
 use Rattle.programs.specs.Programs.{taken}
 use Rattle.programs.proofs.Answered.{TableRead, table-zeros, table-read, task-printed, refusal-printed}
 use Rattle.programs.proofs.Answered.{printsSplit, split-is}

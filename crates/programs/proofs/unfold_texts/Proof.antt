@@ -2,7 +2,7 @@
 -- printed; a refusal is the one that is printed.
 use Rattle.programs.proofs.unfold_texts.Tie as tie
 use native.Mathlib.Omega.{arith}
-use Rattle.text.specs.Code.{longestText}
+use Rattle.text.specs.TableLines.{longestText}
 use Rattle.text.specs.PlanCode.{longestPlan}
 use Rattle.programs.specs.Programs.{taken}
 use Rattle.programs.proofs.Answered.{TableRead, table-zeros, table-read, task-printed, refusal-printed}

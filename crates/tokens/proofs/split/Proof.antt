@@ -7,7 +7,7 @@ use borrow.Author.Needs.{needs}
 use Rattle.task.specs.Table.{longEnough}
 use Rattle.task.proofs.LongEnough.{too-short, long-enough, has-table-words}
 use Rattle.tokens.specs.Split.{splitAnswerTold}
-use Rattle.tokens.specs.Code.{AcceptedKept}
+use Rattle.tokens.specs.Acceptance.{AcceptedKept}
 use Rattle.tokens.proofs.SplitOutcome.{told-accepted, told-refused, split-short, split-refused, split-done}
 use Rattle.tokens.proofs.split.Statement.{statement}
 use Rattle.task.proofs.Answers.{both}

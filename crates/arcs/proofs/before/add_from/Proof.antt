@@ -8,7 +8,7 @@ use lib.ListN.{length}
 use borrow.Author.Tests.{eqb-true}
 use Rattle.task.specs.Task.{addition}
 use Rattle.task.specs.Table.{atomIn}
-use Rattle.arcs.specs.Code.{Joins, atomsIn, arcsBetween}
+use Rattle.arcs.specs.Stretches.{Joins, stretchIn, arcsBetween}
 use Rattle.arcs.proofs.ArcSets.{addition-joins, to-preconditions, to-more}
 use Rattle.arcs.proofs.Stretches.{stretch-atom}
 use Rattle.arcs.proofs.before.add_from.Statement.{statement}
@@ -17,7 +17,7 @@ use Rattle.arcs.proofs.before.add_from.Tie as tie
 abbrev Inv-loop : tie.InvT-loop
 Inv-loop table i from effects to before₀ j₀ before j =
     (from ≤ j) × (j ≤ to) × (length before ≡ 16) ×
-    Joins (arcsBetween (atomIn table i ∷ []) (atomsIn table from j)) before₀ before
+    Joins (arcsBetween (atomIn table i ∷ []) (stretchIn table from j)) before₀ before
 
 abbrev μ-loop : tie.MeasureT-loop
 μ-loop table i from effects to before₀ j₀ before j = to - j
@@ -32,7 +32,7 @@ returns c =
     let w = a .table .now in
     let added = sym (c .before .is-addition .ensures) ∙ c .if1 .taken in (
       s .pre .1 .1 .1,
-      addition-joins (atomIn w (a .i)) (atomsIn w (a .from) (a .to))
+      addition-joins (atomIn w (a .i)) (stretchIn w (a .from) (a .to))
           (eqb-true (atomIn w (a .i) .role) addition added) (a .before .now),
     )
 
@@ -75,7 +75,8 @@ returns-2 c =
     let w = a .table .now in
     let e : h .j ≡ a .to = omega arith in (
       h .inv .2,
-      subst (λ (n : ℕ). Joins (arcsBetween (atomIn w (a .i) ∷ []) (atomsIn w (a .from) n)) (a .before .now) (h .before))
+      subst (λ (n : ℕ). Joins (arcsBetween (atomIn w (a .i) ∷ []) (stretchIn w (a .from) n)) (a .before .now)
+          (h .before))
           e (h .inv .3),
     )
 

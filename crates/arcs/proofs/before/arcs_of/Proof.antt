@@ -4,7 +4,7 @@ use Prim.Native.Nat.{ℕ, _-_, _≤_}
 use mathlib.Core.Path.{_≡_, refl, subst}
 use native.Mathlib.Omega.{arith}
 use lib.ListN.{length, replicate}
-use Rattle.arcs.specs.Code.{Joins, atomsIn, arcsBetween}
+use Rattle.arcs.specs.Stretches.{Joins, stretchIn, arcsBetween}
 use Rattle.arcs.proofs.ArcSets.{from-none, from-more, all-joined}
 use Rattle.arcs.proofs.Stretches.{stretch-atom}
 use Rattle.arcs.proofs.before.arcs_of.Statement.{statement}
@@ -13,7 +13,7 @@ use Rattle.arcs.proofs.before.arcs_of.Tie as tie
 abbrev Inv-loop : tie.InvT-loop
 Inv-loop table from to effects before₀ i₀ before i =
     (from ≤ i) × (i ≤ to) × (length before ≡ 16) ×
-    Joins (arcsBetween (atomsIn table from i) (atomsIn table from to)) before₀ before
+    Joins (arcsBetween (stretchIn table from i) (stretchIn table from to)) before₀ before
 
 abbrev μ-loop : tie.MeasureT-loop
 μ-loop table from to effects before₀ i₀ before i = to - i
@@ -26,7 +26,7 @@ loop-holds c =
     let s = c .before .before in
     let a = s .args in
     let w = a .table .now in
-    let all = atomsIn w (a .from) (a .to) in
+    let all = stretchIn w (a .from) (a .to) in
     (omega arith, s .pre .forward, refl, from-none w (a .from) all (replicate 16 0))
 
 add-from-requires : tie.Need-add-from-requires Inv-loop μ-loop
@@ -42,7 +42,7 @@ loop-again c =
     let h = c .before .before .before .loop in
     let a = c .before .before .before .before .before .before .args in
     let w = a .table .now in
-    let all = atomsIn w (a .from) (a .to) in
+    let all = stretchIn w (a .from) (a .to) in
     let e = c .add-from .ensures in (
       omega arith,
       omega arith,
@@ -56,10 +56,10 @@ returns c =
     let h = c .before .loop in
     let a = c .before .before .before .before .args in
     let w = a .table .now in
-    let all = atomsIn w (a .from) (a .to) in
+    let all = stretchIn w (a .from) (a .to) in
     let e : h .i ≡ a .to = omega arith in
     all-joined all 16 (h .before)
-    (subst (λ (n : ℕ). Joins (arcsBetween (atomsIn w (a .from) n) all) (replicate 16 0) (h .before)) e (h .inv .3))
+    (subst (λ (n : ℕ). Joins (arcsBetween (stretchIn w (a .from) n) all) (replicate 16 0) (h .before)) e (h .inv .3))
 
 pub arcs-of-spec : {M : Type 1} → statement M
 arcs-of-spec =

@@ -7,7 +7,7 @@ use mathlib.Core.Path.{_≡_, sym, _∙_}
 use Rattle.task.specs.Task.{precondition}
 use Rattle.task.specs.Table.{atomIn}
 use Rattle.words.proofs.Loops.{run-more}
-use Rattle.arcs.specs.Code.{ArePreconditions}
+use Rattle.arcs.specs.Stretches.{ArePreconditions}
 use Rattle.arcs.proofs.Stretches.{stretch-atom}
 use Rattle.arcs.proofs.before.effects_of.Statement.{statement}
 use Rattle.arcs.proofs.before.effects_of.Tie as tie

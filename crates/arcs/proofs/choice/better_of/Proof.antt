@@ -3,7 +3,7 @@
 use mathlib.Core.Path.{ap, _∙_}
 use native.Mathlib.Omega.{arith}
 use borrow.Author.Needs.{needs}
-use Rattle.arcs.specs.Code.{chosen}
+use Rattle.arcs.specs.Stretches.{chosen}
 use Rattle.arcs.proofs.Choosing.{better-first, better-keeps, better-takes, only-below}
 use Rattle.arcs.proofs.choice.better_of.Statement.{statement}
 use Rattle.arcs.proofs.choice.better_of.Tie as tie

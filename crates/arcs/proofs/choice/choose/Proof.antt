@@ -3,7 +3,7 @@
 use Prim.Native.Nat.{ℕ, _≤_}
 use mathlib.Core.Path.{_≡_, sym, _∙_, subst}
 use native.Mathlib.Omega.{arith}
-use Rattle.arcs.specs.Code.{ChosenBelow, chosen}
+use Rattle.arcs.specs.Stretches.{ChosenBelow, chosen}
 use Rattle.arcs.proofs.Choosing.{FoundFrom, found-none, found-skip, found-take, found-all}
 use Rattle.arcs.proofs.choice.choose.Statement.{statement}
 use Rattle.arcs.proofs.choice.choose.Tie as tie

@@ -5,7 +5,7 @@ use mathlib.Core.Path.{_≡_, sym, _∙_, ap}
 use mathlib.Core.Logic.{⊎-elim}
 use native.Mathlib.Omega.{arith}
 use Rattle.task.specs.Task.{partCount}
-use Rattle.arcs.specs.Code.{atomsIn}
+use Rattle.arcs.specs.Stretches.{stretchIn}
 use Rattle.arcs.proofs.Counting.{part-count-none, part-count-more}
 use Rattle.arcs.proofs.Stretches.{stretch-atom}
 use Rattle.arcs.proofs.counts.part_count.Statement.{statement}
@@ -13,7 +13,7 @@ use Rattle.arcs.proofs.counts.part_count.Tie as tie
 
 abbrev Inv-loop : tie.InvT-loop
 Inv-loop table from to count₀ i₀ count i =
-    (from ≤ i) × (i ≤ to) × (count ≡ partCount (atomsIn table from i)) × (count ≤ 16)
+    (from ≤ i) × (i ≤ to) × (count ≡ partCount (stretchIn table from i)) × (count ≤ 16)
 
 abbrev μ-loop : tie.MeasureT-loop
 μ-loop table from to count₀ i₀ count i = to - i
@@ -45,7 +45,7 @@ returns c =
     let h = c .before .loop in
     let a = c .before .before .before .args in
     let e : h .i ≡ a .to = omega arith in
-    (h .inv .2 ∙ ap (λ (n : ℕ). partCount (atomsIn (a .table .now) (a .from) n)) e, h .inv .3)
+    (h .inv .2 ∙ ap (λ (n : ℕ). partCount (stretchIn (a .table .now) (a .from) n)) e, h .inv .3)
 
 pub part-count-spec : {M : Type 1} → statement M
 part-count-spec =

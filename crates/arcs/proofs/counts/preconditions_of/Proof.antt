@@ -6,7 +6,7 @@ use mathlib.Core.List.{List}
 use mathlib.Core.Logic.{⊎-elim}
 use native.Mathlib.Omega.{arith}
 use lib.ListN.{length, getD, replicate, length-set}
-use Rattle.arcs.specs.Code.{AreCounts, atomsIn}
+use Rattle.arcs.specs.Stretches.{AreCounts, stretchIn}
 use Rattle.arcs.proofs.Counting.{counted-none, counted-same, counted-more, counted-few}
 use Rattle.arcs.proofs.Stretches.{zeros-at, stretch-atom}
 use Rattle.arcs.proofs.counts.preconditions_of.Statement.{statement}
@@ -14,7 +14,7 @@ use Rattle.arcs.proofs.counts.preconditions_of.Tie as tie
 
 -- counts of the atoms before i
 abbrev Counted : List ℕ → ℕ → ℕ → List ℕ → Type 0
-Counted w from i counts = (length counts ≡ 16) × AreCounts (atomsIn w from i) counts
+Counted w from i counts = (length counts ≡ 16) × AreCounts (stretchIn w from i) counts
 
 abbrev Inv-loop : tie.InvT-loop
 Inv-loop table from to counts₀ i₀ counts i = (from ≤ i) × (i ≤ to) × Counted table from i counts
@@ -83,7 +83,7 @@ returns c =
     let h = c .before .loop in
     let a = c .before .before .before .args in
     let e : h .i ≡ a .to = omega arith in
-    subst (λ (n : ℕ). AreCounts (atomsIn (a .table .now) (a .from) n) (h .counts)) e (h .inv .2 .1)
+    subst (λ (n : ℕ). AreCounts (stretchIn (a .table .now) (a .from) n) (h .counts)) e (h .inv .2 .1)
 
 pub preconditions-of-spec : {M : Type 1} → statement M
 preconditions-of-spec =

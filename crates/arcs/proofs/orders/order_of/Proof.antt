@@ -8,7 +8,7 @@ use lib.ListN.{length, replicate, length-set}
 use borrow.Author.Needs.{needs}
 use Rattle.task.specs.declared.Part.{Part}
 use Rattle.task.specs.Task.{Atom}
-use Rattle.arcs.specs.Code.{AreArcs, AreCounts, atomsIn, chosen, orderTold}
+use Rattle.arcs.specs.Stretches.{AreArcs, AreCounts, stretchIn, chosen, orderTold}
 use Rattle.words.specs.Sets.{SetBelow}
 use Rattle.arcs.proofs.Placing.{Placed, placed-none, placed-more, placed-stuck, placed-all, order-is, below-all}
 use Rattle.arcs.proofs.Placing.{below-without}
@@ -18,7 +18,7 @@ use Rattle.arcs.proofs.orders.order_of.Tie as tie
 abbrev Inv-loop : tie.InvT-loop
 Inv-loop table from to before preconditions count parts₀ unplaced₀ placed₀ parts unplaced placed =
     (placed ≤ count) × (length parts ≡ 16) × SetBelow count unplaced ×
-    Placed (atomsIn table from to) count parts unplaced placed
+    Placed (stretchIn table from to) count parts unplaced placed
 
 abbrev μ-loop : tie.MeasureT-loop
 μ-loop table from to before preconditions count parts₀ unplaced₀ placed₀ parts unplaced placed = count - placed
@@ -28,7 +28,7 @@ abbrev Loop : Type 0
 Loop = tie.At-loop Inv-loop μ-loop
 
 abbrev atoms : tie.Start Inv-loop μ-loop → List Atom
-atoms s = atomsIn (s .args .table .now) (s .args .from) (s .args .to)
+atoms s = stretchIn (s .args .table .now) (s .args .from) (s .args .to)
 
 abbrev all : Loop → List Atom
 all l = atoms (l .before .before .before .before .before .before)

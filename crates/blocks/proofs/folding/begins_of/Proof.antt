@@ -8,7 +8,7 @@ use lib.ListN.{length, getD, length-set, set}
 use Rattle.words.specs.Lists.{upTo}
 use Rattle.task.specs.Task.{Task}
 use Rattle.blocks.specs.Blocks.{beginner}
-use Rattle.blocks.specs.Code.{BlocksKept}
+use Rattle.blocks.specs.Unfolding.{BlocksKept}
 use Rattle.blocks.specs.FoldCode.{begunWord}
 use Rattle.blocks.proofs.Beginning.{begins-none, first-small, begins-more}
 use Rattle.blocks.proofs.folding.begins_of.Statement.{statement}

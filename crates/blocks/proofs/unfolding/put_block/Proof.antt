@@ -15,7 +15,7 @@ use Rattle.blocks.proofs.KeptWords.{put-none, put-more, both-at}
 use Rattle.blocks.proofs.KeptLists.{part-long, parts-none, parts-more}
 use Rattle.blocks.proofs.unfolding.put_block.Statement.{statement}
 use Rattle.tokens.specs.Kept.{keptCount}
-use Rattle.blocks.specs.Code.{countFrom, partFrom, partsFrom}
+use Rattle.blocks.specs.Unfolding.{countFrom, partFrom, partsFrom}
 
 -- the parts before position j are put, up to `next`
 abbrev Put : List ℕ → List ℕ → ℕ → List ℕ → ℕ → ℕ → List ℕ → ℕ → Type 0

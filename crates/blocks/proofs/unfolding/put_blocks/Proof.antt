@@ -18,7 +18,7 @@ use Rattle.blocks.proofs.KeptLists.{words-none, words-append, length-pa
 use Rattle.blocks.proofs.KeptLists.{blocks-none, blocks-more, length-words}
 use Rattle.blocks.proofs.KeptBlocks.{step-kept, sum-is, blocks-are}
 use Rattle.blocks.proofs.unfolding.put_blocks.Statement.{statement}
-use Rattle.blocks.specs.Code.{countFrom, partsFrom, sumFrom, blocksFrom}
+use Rattle.blocks.specs.Unfolding.{countFrom, partsFrom, sumFrom, blocksFrom}
 
 -- the words of the first blocks
 abbrev wordsOf : List ℕ → List ℕ → ℕ → List ℕ

@@ -11,7 +11,7 @@ use Rattle.words.specs.Putting.{Puts}
 use Rattle.blocks.proofs.KeptWords.{put-none, put-next, both-at, objects-none, objects-more}
 use Rattle.blocks.proofs.KeptWords.{objects-same}
 use Rattle.blocks.proofs.unfolding.put_objects.Statement.{statement}
-use Rattle.blocks.specs.Code.{objectsFor}
+use Rattle.blocks.specs.Unfolding.{objectsFor}
 
 -- the objects of the parameters below p are put, up to `next`
 abbrev Put : List ℕ → ℕ → ℕ → List ℕ → ℕ → ℕ → List ℕ → ℕ → Type 0

@@ -14,7 +14,7 @@ use Rattle.blocks.proofs.KeptWords.{put-step}
 use borrow.Author.Needs.{needs}
 use Rattle.blocks.proofs.unfolding.put_part.Statement.{statement}
 use Rattle.tokens.specs.Kept.{keptFirst, keptOwn}
-use Rattle.blocks.specs.Code.{objectsFor, partFrom}
+use Rattle.blocks.specs.Unfolding.{objectsFor, partFrom}
 
 -- ---- what is known of the part: its schema and its parameters
 abbrev start : tie.After-first-of → tie.Start

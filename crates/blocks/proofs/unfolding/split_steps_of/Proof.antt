@@ -10,7 +10,7 @@ use Rattle.blocks.proofs.KeptLists.{sum-none, sum-more}
 use Rattle.blocks.proofs.KeptBlocks.{sum-is, step-kept}
 use Rattle.blocks.proofs.unfolding.split_steps_of.Statement.{statement}
 use Rattle.tokens.specs.Kept.{keptCount}
-use Rattle.blocks.specs.Code.{StepKept, countFrom, sumFrom}
+use Rattle.blocks.specs.Unfolding.{StepKept, countFrom, sumFrom}
 
 abbrev Inv-loop : tie.InvT-loop
 Inv-loop steps kept count total₀ i₀ total i =

@@ -14,7 +14,7 @@ use mathlib.Core.List.{List}
 use Rattle.task.specs.Table.{taskOf}
 use Rattle.task.proofs.Tables.{tableWords-is}
 use Rattle.tokens.proofs.SplitAnswers.{AcceptedSplit}
-use Rattle.blocks.specs.Code.{StepsKept}
+use Rattle.blocks.specs.Unfolding.{StepsKept}
 use Rattle.blocks.proofs.KeptParts.{table-kept}
 use Rattle.blocks.proofs.SplitWritten.{table-zeros, split-written}
 

@@ -5,7 +5,7 @@ use Prim.Native.Nat.{ℕ, _+_}
 use mathlib.Core.List.{List, [], _∷_, _++_}
 use lib.ListN.{getD}
 use Rattle.text.specs.Lines.{colon, newline, digits, commaed}
-use Rattle.text.specs.Code.{spaced}
+use Rattle.text.specs.TableLines.{spaced}
 use Rattle.text.specs.PlanCode.{stepText}
 use Rattle.words.proofs.Puts.{Going, going-start, going-left, going-room, going-on, going-last, byte-room}
 use Rattle.text.proofs.PlanWritten.{stepKey, stepText-is}

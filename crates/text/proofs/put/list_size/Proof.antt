@@ -5,7 +5,7 @@ use Prim.Native.Nat.{ℕ, _+_, _-_, _*_, _≤_, _<_}
 use mathlib.Core.Path.{_≡_, sym, _∙_, ap}
 use lib.ListN.{length}
 use Rattle.text.specs.Lines.{commaed}
-use Rattle.text.specs.Code.{spaced}
+use Rattle.text.specs.TableLines.{spaced}
 use Rattle.text.proofs.Onwards.{onwards, onwards-longer, onwards-short, listed, commaed-none, commaed-long}
 use Rattle.text.proofs.put.list_size.Statement.{statement}
 use Rattle.text.proofs.put.list_size.Tie as tie

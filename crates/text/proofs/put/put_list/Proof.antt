@@ -6,7 +6,7 @@ use mathlib.Core.Path.{_≡_, refl, sym, _∙_, ap}
 use mathlib.Core.List.{[], _++_}
 use lib.ListN.{length, getD}
 use Rattle.text.specs.Lines.{digits, commaed}
-use Rattle.text.specs.Code.{spaced}
+use Rattle.text.specs.TableLines.{spaced}
 use Rattle.words.proofs.Puts.{puts-length, puts-append, puts-same, Going, going-start, going-long, going-left}
 use Rattle.words.proofs.Puts.{going-room, going-on, going-end}
 use Rattle.text.proofs.Onwards.{onwards, onwards-next, onwards-none, listed, commaed-none, commaed-first}

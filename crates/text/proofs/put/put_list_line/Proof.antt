@@ -3,7 +3,7 @@
 use Prim.Native.Nat.{ℕ}
 use mathlib.Core.List.{List, [], _∷_, _++_}
 use Rattle.text.specs.Lines.{newline, commaed}
-use Rattle.text.specs.Code.{spaced}
+use Rattle.text.specs.TableLines.{spaced}
 use Rattle.words.proofs.Puts.{Going, first-room, going-start, going-room, going-on, going-last, byte-room}
 use borrow.Author.Needs.{needs}
 use Rattle.text.proofs.put.put_list_line.Statement.{statement}

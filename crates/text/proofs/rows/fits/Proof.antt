@@ -1,3 +1,5 @@
+-- `text::rows::fits` meets its contract.
+-- An unknown predicate fails, and so does a count that is not its arity; else the test is that of the arguments.
 use Rattle.task.specs.Layout.{arityIn}
 use mathlib.Core.Path.{sym, _∙_}
 use Prim.Native.Nat.{_-_}

@@ -1,6 +1,7 @@
 -- `text::rows::put_row` meets its contract.
 -- The eight words are those of the atom: at most four arguments, and zeros behind them (`row-words`). Each is below
 -- 2 ^ 16, as `put_words` requires: an argument by the contract, and 0 where there is none (`small-taken`).
+use Rattle.task.specs.Limits.{atomSize}
 use Prim.Native.Nat.{ℕ, _-_}
 use native.Mathlib.Omega.{arith}
 use borrow.Author.Needs.{needs}
@@ -42,7 +43,7 @@ returns c =
     let ns = take (args .count) (args .args .now) in
     let (schema, role, predicate, enough, few) = s .pre .1 .0 in
     let l = length-take-le (args .count) (args .args .now) enough in
-    subst (λ (xs : List ℕ). Wrote (args .table .now) (args .at) 8 (λ k. getD xs k 0) (put .put-words .last .0))
+    subst (λ (xs : List ℕ). Wrote (args .table .now) (args .at) atomSize (λ k. getD xs k 0) (put .put-words .last .0))
     (row-words (args .schema) (args .role) (args .predicate) ns (omega arith) _ _ _ _
     (first row .number-or-zero .ensures) (row .before .before .before .before .number-or-zero2 .ensures)
     (row .before .before .before .number-or-zero3 .ensures) (row .before .before .number-or-zero4 .ensures))

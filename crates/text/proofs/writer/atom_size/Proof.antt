@@ -6,7 +6,7 @@ use Prim.Native.Nat.{ℕ, _+_, _≤_}
 use mathlib.Core.Path.{_≡_, _∙_, ap}
 use lib.ListN.{length, getD}
 use Rattle.text.specs.Lines.{digits, commaed}
-use Rattle.text.specs.Code.{spaced, keyBytes}
+use Rattle.text.specs.TableLines.{spaced, keyBytes}
 use Rattle.text.proofs.DigitSteps.{at-most-five}
 use Rattle.text.proofs.AtomLines.{key-most, spaced-most, length-atomText, args-inside}
 use borrow.Author.Needs.{needs}

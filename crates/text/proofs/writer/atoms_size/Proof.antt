@@ -5,7 +5,7 @@ use native.Mathlib.Omega.{arith}
 use Prim.Native.Nat.{_+_, _-_, _*_, _≤_}
 use mathlib.Core.Path.{_≡_, ap}
 use lib.ListN.{length}
-use Rattle.text.specs.Code.{AtomInside, atomsText}
+use Rattle.text.specs.TableLines.{AtomInside, atomsText}
 use Rattle.text.proofs.Onwards.{onwards, onwards-longer, onwards-short}
 use Rattle.text.proofs.AtomLines.{atomLine, atoms-onwards}
 use Rattle.text.proofs.writer.atoms_size.Statement.{statement}

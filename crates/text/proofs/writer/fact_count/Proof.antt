@@ -1,6 +1,6 @@
 -- `text::writer::fact_count` meets its contract: the sum of two words.
 use native.Mathlib.Omega.{arith}
-use Rattle.text.specs.Code.{factCount}
+use Rattle.text.specs.TableLines.{factCount}
 use Rattle.task.proofs.TableReads.{counts-inside}
 use borrow.Author.Needs.{needs}
 use Rattle.text.proofs.writer.fact_count.Statement.{statement}

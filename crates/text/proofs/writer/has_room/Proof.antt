@@ -10,7 +10,7 @@ use borrow.Author.Tests.{le-leb}
 use Rattle.task.specs.Table.{taskOf}
 use Rattle.task.proofs.Tables.{of-table}
 use Rattle.text.specs.Text.{write}
-use Rattle.text.specs.Code.{longestText}
+use Rattle.text.specs.TableLines.{longestText}
 use Rattle.text.proofs.LongestText.{text-most}
 use borrow.Author.Needs.{needs}
 use Rattle.text.proofs.writer.has_room.Statement.{statement}

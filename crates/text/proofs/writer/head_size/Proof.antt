@@ -7,7 +7,8 @@ use mathlib.Core.Path.{_≡_, _∙_, ap}
 use mathlib.Core.List.{List}
 use lib.ListN.{length}
 use Rattle.text.specs.Lines.{commaed}
-use Rattle.text.specs.Code.{spaced, headText}
+use Rattle.text.specs.TableLines.{spaced, headText}
+use Rattle.task.specs.Limits.{headWords}
 use Rattle.task.proofs.TableReads.{counts-inside}
 use Rattle.text.proofs.WholeText.{length-headText, arities-inside, head-fits}
 use borrow.Author.Needs.{needs}
@@ -24,7 +25,7 @@ list-size-requires c κs =
     let e = c .word .ensures .0 in
     let l = length-headText w in
     let m = head-fits w table in
-    let a = ap (λ (n : ℕ). length (commaed (spaced w 6 1 n))) e in
+    let a = ap (λ (n : ℕ). length (commaed (spaced w headWords 1 n))) e in
     (λ k h. arities-inside w table k (omega arith), omega arith)
 
 shared-slice-read-number-size : tie.Need-shared-slice-read-number-size
@@ -48,7 +49,7 @@ sizes c =
     let l = length-headText w in
     let n = c .number-size .ensures in
     let predicates = listed c .before .word .ensures .0 in
-    let a = listed c .list-size .ensures ∙ ap (λ (n : ℕ). length (commaed (spaced w 6 1 n))) predicates in
+    let a = listed c .list-size .ensures ∙ ap (λ (n : ℕ). length (commaed (spaced w headWords 1 n))) predicates in
     (omega arith, head-fits w (listed c .before .before .before .pre))
 
 add-result-2 : tie.Need-add-result-2

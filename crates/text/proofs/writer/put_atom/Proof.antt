@@ -7,7 +7,7 @@ use mathlib.Core.Path.{_≡_, sym, _∙_, ap, subst}
 use mathlib.Core.List.{List, [], _∷_, _++_}
 use lib.ListN.{length, getD}
 use Rattle.text.specs.Lines.{colon, newline, digits, commaed}
-use Rattle.text.specs.Code.{spaced, keyBytes}
+use Rattle.text.specs.TableLines.{spaced, keyBytes}
 use Rattle.words.proofs.Puts.{puts-same, Going, first-room, going-start, going-room, going-on, going-last, byte-room}
 use Rattle.text.proofs.AtomLines.{argsAt, atomText-is, args-inside}
 use borrow.Author.Needs.{needs}

@@ -5,7 +5,7 @@ use native.Mathlib.Omega.{arith}
 use Prim.Native.Nat.{_+_, _-_, _*_, _≤_}
 use mathlib.Core.Path.{sym}
 use mathlib.Core.List.{_++_}
-use Rattle.text.specs.Code.{AtomInside, atomsText}
+use Rattle.text.specs.TableLines.{AtomInside, atomsText}
 use Rattle.words.proofs.Puts.{Going, going-start, going-long, going-left, going-room, going-on, going-end}
 use Rattle.text.proofs.Onwards.{onwards, onwards-next, onwards-none}
 use Rattle.text.proofs.AtomLines.{atomLine, atoms-onwards}

@@ -1,5 +1,6 @@
 -- `text::writer::put_head` meets its contract: its three lines are put one behind another. A lemma for each says what
 -- is still to come behind it.
+use Rattle.task.specs.Limits.{headWords}
 use Rattle.task.specs.Layout.{headIn}
 use native.Mathlib.Omega.{arith}
 use Prim.Native.Nat.{ℕ, _+_}
@@ -7,7 +8,7 @@ use mathlib.Core.Path.{_≡_, ap}
 use mathlib.Core.List.{List, [], _∷_, _++_}
 use lib.ListN.{length}
 use Rattle.text.specs.Lines.{bytes, newline, digits, commaed, line}
-use Rattle.text.specs.Code.{spaced, headText}
+use Rattle.text.specs.TableLines.{spaced, headText}
 use Rattle.words.proofs.Puts.{Going, puts-same, going-start, going-left, going-room, going-on, last-room, going-last}
 use Rattle.task.proofs.TableReads.{counts-inside}
 use Rattle.text.proofs.WholeText.{arityBytes, taskBytes, head-parts, arities-inside}
@@ -52,9 +53,10 @@ counted c = c .before .before .before .before .before
 
 predicates-read : (c : tie.After-slice-known3) →
     let w = start (opened c) .args .table .now in
-    commaed (spaced w 6 1 (counted (opened c) .word .result)) ≡ arityBytes w
+    commaed (spaced w headWords 1 (counted (opened c) .word .result)) ≡ arityBytes w
 predicates-read c =
-    ap (λ (n : ℕ). commaed (spaced (start (opened c) .args .table .now) 6 1 n)) (counted (opened c) .word .ensures .0)
+    ap (λ (n : ℕ). commaed (spaced (start (opened c) .args .table .now) headWords 1 n))
+    (counted (opened c) .word .ensures .0)
 
 word-requires : tie.Need-word-requires
 word-requires c κs =

@@ -5,7 +5,7 @@ use native.Mathlib.Omega.{arith}
 use Prim.Native.Nat.{ℕ}
 use mathlib.Core.Path.{_≡_, sym, ap}
 use lib.ListN.{length}
-use Rattle.text.specs.Code.{keyBytes}
+use Rattle.text.specs.TableLines.{keyBytes}
 use Rattle.text.proofs.AtomLines.{key-other}
 use Rattle.words.proofs.Puts.{puts-same}
 use borrow.Author.Needs.{needs}

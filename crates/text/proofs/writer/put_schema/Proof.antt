@@ -4,7 +4,7 @@ use native.Mathlib.Omega.{arith}
 use Prim.Native.Nat.{ℕ, _+_}
 use mathlib.Core.List.{List, _++_}
 use Rattle.text.specs.Lines.{bytes, digits, line}
-use Rattle.text.specs.Code.{atomsText, schemaText}
+use Rattle.text.specs.TableLines.{atomsText, schemaText}
 use Rattle.words.proofs.Puts.{Going, going-start, going-left, going-room, going-on, last-room, going-last}
 use Rattle.text.proofs.SchemaLines.{partsAt, schemaText-is, parts-inside}
 use borrow.Author.Needs.{needs}

@@ -8,7 +8,7 @@ use lib.ListN.{length}
 use Rattle.task.specs.Table.{taskOf}
 use Rattle.task.proofs.TableReads.{counts-inside}
 use Rattle.text.specs.Text.{write}
-use Rattle.text.specs.Code.{atomsText, headText, schemasText}
+use Rattle.text.specs.TableLines.{atomsText, headText, schemasText}
 use Rattle.words.proofs.Puts.{puts-same, Going, going-start, going-left, going-room, going-on, last-room, going-last}
 use Rattle.text.proofs.WholeText.{endBytes, factsText, write-by-words, facts-inside}
 use borrow.Author.Needs.{needs}

@@ -6,7 +6,7 @@ use Prim.Native.Nat.{_+_}
 use mathlib.Core.Path.{_≡_}
 use lib.ListN.{length}
 use Rattle.text.specs.Lines.{digits}
-use Rattle.text.specs.Code.{atomsText, schemaText}
+use Rattle.text.specs.TableLines.{atomsText, schemaText}
 use Rattle.text.proofs.SchemaLines.{partsAt, length-schemaText, parts-inside}
 use borrow.Author.Needs.{needs}
 use Rattle.text.proofs.writer.schema_size.Statement.{statement}

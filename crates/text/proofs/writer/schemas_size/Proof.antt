@@ -7,7 +7,7 @@ use Prim.Native.Nat.{ℕ, _+_, _-_, _≤_}
 use mathlib.Core.Path.{_≡_, ap}
 use mathlib.Core.List.{List}
 use lib.ListN.{length}
-use Rattle.text.specs.Code.{schemaText, schemasText}
+use Rattle.text.specs.TableLines.{schemaText, schemasText}
 use Rattle.text.proofs.TableText.{schemaLinesIn, schemas-onwards}
 use Rattle.text.proofs.SchemaTurns.{Turn, turn-first, read-inside, count-inside}
 use Rattle.text.proofs.SchemaTurns.{run-inside, atoms-inside, turn-lines, turn-next}

@@ -9,7 +9,7 @@ use lib.ListN.{length}
 use Rattle.task.specs.Table.{taskOf}
 use Rattle.task.proofs.TableReads.{counts-inside}
 use Rattle.text.specs.Text.{write}
-use Rattle.text.specs.Code.{atomsText}
+use Rattle.text.specs.TableLines.{atomsText}
 use Rattle.text.proofs.WholeText.{length-write, write-fits, facts-inside}
 use borrow.Author.Needs.{needs}
 use Rattle.text.proofs.writer.text_size.Statement.{statement}

@@ -15,7 +15,7 @@ use Rattle.task.specs.Task.{Task}
 use Rattle.task.specs.Table.{taskOf, longEnough, isTable}
 use Rattle.task.proofs.LongEnough.{too-short, long-enough, has-table-words}
 use Rattle.tokens.specs.Split.{isNone, orderAt}
-use Rattle.tokens.specs.Code.{AcceptanceTold, circularTold}
+use Rattle.tokens.specs.Acceptance.{AcceptanceTold, circularTold}
 use Rattle.tokens.proofs.SplitOutcome.{found-circular, found-large, found-split, refused-short, refused-no-table}
 use Rattle.tokens.proofs.SplitOutcome.{refused-nine, refused-ten}
 use Rattle.tokens.proofs.acceptance.keep_accepted.Statement.{statement}

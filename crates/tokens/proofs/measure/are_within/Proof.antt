@@ -8,7 +8,7 @@ use lib.Dec.{leb}
 use borrow.Author.Tests.{le-leb, lt-leb, not-true, not-false}
 use Rattle.words.specs.Lists.{every}
 use Rattle.tokens.proofs.measure.are_within.Statement.{statement}
-use Rattle.tokens.specs.Code.{areWithin}
+use Rattle.tokens.specs.Acceptance.{areWithin}
 use Rattle.task.specs.Limits.{mostPredicates, mostSchemas, mostSchemaAtoms, mostInitial, mostGoal}
 
 and-true : (b : Bool) → b && true ≡ b

@@ -7,7 +7,7 @@ use native.Mathlib.Omega.{arith}
 use lib.Dec.{eqb}
 use borrow.Author.Tests.{eq-eqb, ne-eqb}
 use Rattle.task.specs.Table.{atomIn}
-use Rattle.arcs.specs.Code.{atomsIn}
+use Rattle.arcs.specs.Stretches.{stretchIn}
 use Rattle.arcs.proofs.Stretches.{stretch-atom}
 use Rattle.words.proofs.Sums.{one, one-most}
 use Rattle.tokens.proofs.SplitSizes.{inPartCount, part-count-none, part-count-more}
@@ -16,7 +16,7 @@ use Rattle.tokens.proofs.measure.atoms_in.Tie as tie
 
 abbrev Inv-loop : tie.InvT-loop
 Inv-loop table from to part n₀ i₀ n i =
-    (from ≤ i) × (i ≤ to) × (n ≤ i - from) × (n ≡ inPartCount (part .0) (atomsIn table from i))
+    (from ≤ i) × (i ≤ to) × (n ≤ i - from) × (n ≡ inPartCount (part .0) (stretchIn table from i))
 
 abbrev μ-loop : tie.MeasureT-loop
 μ-loop table from to part n₀ i₀ n i = to - i
@@ -53,7 +53,7 @@ returns c =
     let s = c .before .before .before in
     let h = c .before .loop in
     let e : h .i ≡ s .args .to = omega arith in (
-      h .inv .3 ∙ ap (λ (k : ℕ). inPartCount (s .args .part .0) (atomsIn (s .args .table .now) (s .args .from) k)) e,
+      h .inv .3 ∙ ap (λ (k : ℕ). inPartCount (s .args .part .0) (stretchIn (s .args .table .now) (s .args .from) k)) e,
       omega arith,
     )
 

@@ -12,7 +12,7 @@ use borrow.Author.Tests.{le-leb, lt-leb}
 use Rattle.task.specs.Task.{schemaAtoms}
 use Rattle.task.specs.Table.{taskOf}
 use Rattle.tokens.specs.Split.{orders, splitSchema}
-use Rattle.tokens.specs.Code.{areFew, mostPartAtoms}
+use Rattle.tokens.specs.Acceptance.{areFew, mostPartAtoms}
 use Rattle.tokens.proofs.KeptSchema.{schema-small, count-small, kept-fits, kept-params, kept-order, counted}
 use Rattle.tokens.proofs.KeptSchema.{params-kept}
 use Rattle.tokens.proofs.SharedParameters.{shared-bounded}

@@ -8,7 +8,7 @@ use lib.ListN.{length}
 use Rattle.task.specs.Table.{taskOf}
 use Rattle.task.proofs.TableReads.{counts-inside}
 use Rattle.task.proofs.TablesByIndex.{table-frame, schemas-word}
-use Rattle.tokens.specs.Code.{SizesBefore}
+use Rattle.tokens.specs.Acceptance.{SizesBefore}
 use Rattle.tokens.proofs.KeptSchemas.{schemas-few}
 use Rattle.tokens.proofs.KeptSchema.{count-small, count-parts, count-some, schema-small, counted}
 use Rattle.tokens.proofs.SplitSizes.{sizes-none, sizes-more}

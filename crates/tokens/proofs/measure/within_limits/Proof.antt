@@ -9,7 +9,7 @@ use native.Mathlib.Omega.{arith}
 use lib.ListN.{length}
 use Rattle.task.specs.Layout.{headIn}
 use Rattle.task.proofs.TableReads.{counts-inside}
-use Rattle.tokens.specs.Code.{sizesFit, areWithin}
+use Rattle.tokens.specs.Acceptance.{sizesFit, areWithin}
 use Rattle.tokens.proofs.measure.within_limits.Statement.{statement}
 use Rattle.task.specs.Limits.{headWords}
 

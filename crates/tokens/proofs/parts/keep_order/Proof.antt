@@ -5,7 +5,7 @@ use Prim.Native.Nat.{ℕ, _+_, _-_, _≤_, _<_}
 use mathlib.Core.Path.{_≡_, subst, sym}
 use native.Mathlib.Omega.{arith}
 use lib.ListN.{length, getD}
-use Rattle.tokens.specs.Code.{OrderKept}
+use Rattle.tokens.specs.Acceptance.{OrderKept}
 use Rattle.tokens.proofs.KeptParts.{part-is, order-none, order-more}
 use Rattle.tokens.proofs.parts.keep_order.Statement.{statement}
 use mathlib.Core.List.{List}

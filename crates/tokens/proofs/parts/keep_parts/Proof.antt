@@ -15,10 +15,10 @@ use Rattle.task.specs.Run.{schemaAt}
 use Rattle.task.specs.Table.{taskOf, isTable}
 use Rattle.task.proofs.TableReads.{counts-inside}
 use Rattle.task.proofs.TablesByIndex.{table-frame, schemas-word}
-use Rattle.arcs.specs.Code.{IsStretch, atomsIn, orderTold}
+use Rattle.arcs.specs.Stretches.{IsStretch, stretchIn, orderTold}
 use Rattle.words.proofs.Ascending.{no-none}
 use Rattle.arcs.proofs.Stretches.{schema-atoms, schema-stretch}
-use Rattle.tokens.specs.Code.{circularTold, OrderKept}
+use Rattle.tokens.specs.Acceptance.{circularTold, OrderKept}
 use Rattle.tokens.proofs.KeptSchemas.{schemas-few, atoms-few, parts-none, parts-more, told-none, circular-here}
 use Rattle.tokens.proofs.KeptSchemas.{circular-nowhere, found-small, parts-few, first-more}
 use Rattle.tokens.proofs.parts.keep_parts.Statement.{statement}
@@ -92,9 +92,9 @@ module _ (i : Turn) (to : ℕ) (e : to ≡ firstAtom (task (i .before)) (suc (i 
       (subst (λ (n : ℕ). IsStretch (words l) (firstAtom (task l) (l .loop .s)) n) (sym e)
       (schema-stretch (words l) (is-table l) (l .loop .s) said))
 
-  atoms-are : schemaAt (task l) (l .loop .s) .atoms ≡ atomsIn (words l) (l .loop .from) to
+  atoms-are : schemaAt (task l) (l .loop .s) .atoms ≡ stretchIn (words l) (l .loop .from) to
   atoms-are =
-      schema-atoms (words l) (is-table l) (l .loop .s) said ∙ ap₂ (atomsIn (words l)) (sym (l .loop .inv .1)) (sym e)
+      schema-atoms (words l) (is-table l) (l .loop .s) said ∙ ap₂ (stretchIn (words l)) (sym (l .loop .inv .1)) (sym e)
 
 -- what is found of its order
 told : (c : tie.After-order-of Inv-loop μ-loop) →

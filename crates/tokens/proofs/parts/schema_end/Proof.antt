@@ -7,7 +7,7 @@ use native.Mathlib.Omega.{arith}
 use Rattle.task.specs.Layout.{headIn}
 use Rattle.task.specs.Table.{taskOf}
 use Rattle.task.proofs.TableReads.{counts-inside}
-use Rattle.arcs.specs.Code.{IsStretch}
+use Rattle.arcs.specs.Stretches.{IsStretch}
 use Rattle.arcs.proofs.Stretches.{atom-row, schema-stretch}
 use Rattle.tokens.proofs.PartParameters.{schema-known, ends-here, goes-on}
 use Rattle.tokens.proofs.parts.schema_end.Statement.{statement}

@@ -17,7 +17,7 @@ use Rattle.tokens.proofs.SchemaRuns.{schemasUpTo, schemas-more, schemas
 use Rattle.tokens.proofs.Splitting.{few-schemas, split-schemas, kept-number}
 use Rattle.tokens.proofs.schemas.all_parts.Statement.{statement}
 use Rattle.tokens.specs.Kept.{keptFirst}
-use Rattle.tokens.specs.Code.{partSchemas}
+use Rattle.tokens.specs.Acceptance.{partSchemas}
 use Rattle.tokens.specs.Writing.{mostPartWords}
 
 abbrev Inv-loop : tie.InvT-loop

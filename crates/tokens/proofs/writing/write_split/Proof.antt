@@ -131,7 +131,7 @@ content-put c =
 
 -- ---- where each of them ends
 record Headed (c : tie.After-head) : Type 0 where
-  ends : c .head .result ≡ 6
+  ends : c .head .result ≡ headWords
   long : length (headed c) ≡ length (begun c .args .out .now)
 
 head-ends : (c : tie.After-head) → Headed c

@@ -1,5 +1,5 @@
--- What the contracts of this crate's code speak of: sets of bits, stretches of a table's schema atoms, what is found of
--- each part, and the order that is handed back.
+-- What the contracts of this crate's code speak of: stretches of a table's schema atoms, what is found of each part,
+-- and the order that is handed back.
 use Prim.Native.Nat.{ℕ, _-_, _≤_, _<_}
 use mathlib.Core.Path.{_≡_}
 use mathlib.Core.Bool.{Bool, true, not, cond, _&&_, _||_}
@@ -18,10 +18,8 @@ use Rattle.arcs.specs.declared.choice.Choice.the-variants as choice
 use Rattle.arcs.specs.Order.{givesArc, arc, preconditions}
 use Rattle.words.specs.Sets.{member}
 
--- ---- sets of bits
-
 -- ---- atoms of a table
--- words of a table, and a schema atom of it: word 3 says how many there are
+-- words of a table, and a schema atom of it: its head says how many there are
 pub record IsSchemaAtom (w : List ℕ) (i : ℕ) : Type 0 where
   pub table : isTable w ≡ true
   pub known : i < headIn w .schemaAtoms
@@ -33,9 +31,9 @@ pub record IsStretch (w : List ℕ) (from to : ℕ) : Type 0 where
   pub known : to ≤ headIn w .schemaAtoms
 
 -- the atoms of a stretch
-unfoldable pub atomsIn : List ℕ → ℕ → ℕ → List Atom
+unfoldable pub stretchIn : List ℕ → ℕ → ℕ → List Atom
 unfolding upFrom atomIn
-atomsIn w from to = map (atomIn w) (upFrom from (to - from))
+stretchIn w from to = map (atomIn w) (upFrom from (to - from))
 
 -- each atom of a stretch is a precondition
 abbrev pub ArePreconditions : List ℕ → ℕ → ℕ → Type 0

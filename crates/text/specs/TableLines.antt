@@ -1,4 +1,4 @@
--- What the contracts of this crate's code name: bytes put into a lent text, and the lines of a table by its words.
+-- The lines of a table by its words, as the writer's contracts name them.
 use Prim.Native.Nat.{ℕ, zero, suc, _+_, _*_, _≤_, _<_}
 use mathlib.Core.Path.{_≡_}
 use mathlib.Core.List.{List, [], _∷_, _++_, map}

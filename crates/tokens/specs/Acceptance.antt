@@ -19,7 +19,7 @@ use Rattle.task.specs.declared.Place.{Place}
 use Rattle.task.specs.Run.{schemaAt}
 use Rattle.task.specs.Table.{taskOf, longEnough, isTable}
 use Rattle.words.specs.Sets.{member, wordBits}
-use Rattle.arcs.specs.Code.{atomsIn}
+use Rattle.arcs.specs.Stretches.{stretchIn}
 use Rattle.tokens.specs.Split.{has, laterParts, sharedBound, maximum, parCount, orders, firstHere, lastHere}
 use Rattle.tokens.specs.Split.{laterHere, splitSchema, splitTask, withinLimits, splitAs, split, splitCheck}
 use Rattle.tokens.specs.declared.pars.Pars.{Pars}
@@ -49,7 +49,7 @@ pub record OrderKept (w : List ℕ) (from to s n : ℕ) (parts : List Part) (kep
   pub stays : (k : ℕ) → k < keptRow * s + orderPlace → getD kept′ k 0 ≡ getD kept k 0
   pub part : (j : ℕ) → j < n → keptPart kept′ s j ≡ partAt parts j
   pub params : (j x : ℕ) → j < n →
-      member (keptOwn kept′ s j) x ≡ any (λ a. eqb (partAt parts j) (a .part) && names x a) (atomsIn w from to)
+      member (keptOwn kept′ s j) x ≡ any (λ a. eqb (partAt parts j) (a .part) && names x a) (stretchIn w from to)
 
 -- ---- sizes
 -- the schemas of the split that schema s becomes

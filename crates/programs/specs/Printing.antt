@@ -1,4 +1,4 @@
--- What the contracts of this crate's inner functions name.
+-- What is printed, as the contracts of this crate's inner functions name it.
 use Prim.Native.Nat.{ℕ, _≤_}
 use mathlib.Core.Path.{_≡_}
 use mathlib.Core.List.{List}
