@@ -1,13 +1,9 @@
-//! What unfolding and folding share: lists of M's steps and their unfoldings, and
-//! rows beside a plain copy.
-
-use std::hint::black_box;
+//! What unfolding and folding share: lists of M's steps and their unfoldings.
 
 use checks::step;
 use reference::run::STEP_WORDS;
 
 use crate::tasks::small;
-use crate::timing::{cells, medians, titles};
 
 /// A list of M's steps and its unfolding, three times as long.
 pub struct Lists {
@@ -46,25 +42,4 @@ pub fn lists() -> impl Iterator<Item = Lists> {
     let table = small().table;
     let lengths = [0, 1, 10, 100, 1_000, 10_000, 100_000, 333_333];
     lengths.into_iter().map(move |length| list(&table, length))
-}
-
-/// A heading with the cells of a plain copy.
-pub fn heading_and_copy(what: &str, unit: &str) {
-    println!("{} {:>12} {:>7}", titles(what, unit), "copy ns", "ratio");
-}
-
-/// Times both beside a plain copy of the words given, and prints a row with its
-/// time over the proved code's.
-pub fn row_and_copy(
-    what: &str,
-    units: usize,
-    words: &[u16],
-    mut reference: impl FnMut(),
-    mut proved: impl FnMut(),
-) {
-    let mut to = vec![0; words.len()];
-    let mut copy = || black_box(&mut to).copy_from_slice(black_box(words));
-    let [reference, proved, copy] = medians([&mut reference, &mut proved, &mut copy]);
-    let cells = cells(units, reference, proved);
-    println!("{what:<42} {cells} {copy:>12.0} {:>7.2}", copy / proved);
 }

@@ -1,4 +1,5 @@
-//! Splitting: a small, a usual and a large task, and how it grows with atoms.
+//! Splitting: a small, a usual and a large task, and how it grows with atoms,
+//! beside a plain copy of a table.
 
 use checks::read_table;
 use differential::splitting::split;
@@ -8,15 +9,16 @@ use reference::table::{Task, TABLE_WORDS};
 use reference::tokens;
 
 use crate::tasks::{small, usual, Named};
-use crate::timing::{heading, row};
+use crate::timing::{heading_and_copy, row_and_copy};
 
 fn bench_split(what: &str, table: &[u16]) {
     let mut expected = vec![7; TABLE_WORDS];
     let mut found = vec![7; TABLE_WORDS];
     let (schemas, atoms) = (table[2], table[3]);
-    row(
+    row_and_copy(
         &format!("{what}, {schemas} schemas, {atoms} atoms"),
         atoms.into(),
+        table,
         || reference::split(table, &mut expected).expect("a split"),
         || assert_eq!(split(table, &mut found)[0], 0),
     );
@@ -58,7 +60,7 @@ fn grown(schemas: usize, predicates: usize) -> Vec<u16> {
 }
 
 pub fn bench() {
-    heading("splitting", "atom");
+    heading_and_copy("splitting", "atom");
     for named in [small(), usual(), large()] {
         bench_split(&named.name, &named.table);
     }

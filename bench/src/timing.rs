@@ -1,5 +1,6 @@
 //! Medians of repeated calls, in a row of the table printed.
 
+use std::hint::black_box;
 use std::time::{Duration, Instant};
 
 /// A sample takes at least so long, and all samples of a slow call about so
@@ -64,4 +65,25 @@ pub fn cells(units: usize, reference: f64, proved: f64) -> String {
 pub fn row(what: &str, units: usize, mut reference: impl FnMut(), mut proved: impl FnMut()) {
     let [reference, proved] = medians([&mut reference, &mut proved]);
     println!("{what:<42} {}", cells(units, reference, proved));
+}
+
+/// A heading with the cells of a plain copy.
+pub fn heading_and_copy(what: &str, unit: &str) {
+    println!("{} {:>12} {:>7}", titles(what, unit), "copy ns", "ratio");
+}
+
+/// Times both beside a plain copy of the words given, and prints a row with its
+/// time over the proved code's.
+pub fn row_and_copy(
+    what: &str,
+    units: usize,
+    words: &[u16],
+    mut reference: impl FnMut(),
+    mut proved: impl FnMut(),
+) {
+    let mut to = vec![0; words.len()];
+    let mut copy = || black_box(&mut to).copy_from_slice(black_box(words));
+    let [reference, proved, copy] = medians([&mut reference, &mut proved, &mut copy]);
+    let cells = cells(units, reference, proved);
+    println!("{what:<42} {cells} {copy:>12.0} {:>7.2}", copy / proved);
 }

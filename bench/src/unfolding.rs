@@ -2,7 +2,8 @@
 
 use differential::unfolding::unfold;
 
-use crate::lists::{heading_and_copy, lists, row_and_copy};
+use crate::lists::lists;
+use crate::timing::{heading_and_copy, row_and_copy};
 
 pub fn bench() {
     heading_and_copy("unfolding", "step");
