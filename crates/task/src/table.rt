@@ -17,8 +17,8 @@ use crate::layout::schema_number;
 use crate::limits;
 use facts::facts_fit;
 use schemas::schemas_fit;
+use words::runs::many_zeros;
 use words::runs::word;
-use words::runs::zeros;
 
 // Whether each of the six counts is within its limits.
 fn counts_fit(table: &[u16]) -> bool
@@ -113,5 +113,5 @@ pub fn is_table(table: &[u16]) -> bool
     if !facts_fit(table, limits::GOAL as usize, facts, end) {
         return false;
     }
-    zeros(table, atom_base(table, end), limits::TABLE_WORDS)
+    many_zeros(table, atom_base(table, end), limits::TABLE_WORDS)
 }

@@ -9,4 +9,5 @@ pub mod JoinedWords
 pub mod BitSets
 pub mod SetMembers
 pub mod Loops
+pub mod Quarters
 pub mod Comparing

@@ -112,6 +112,12 @@ module _ {A : Type 0} where
   all-same p q [] h = refl
   all-same p q (x ∷ xs) h = ap₂ (λ (a b : Bool). a && b) (h x) (all-same p q xs h)
 
+  pub all-append : (p : A → Bool) (xs ys : List A) → all p (xs ++ ys) ≡ all p xs && all p ys
+  unfolding all
+  all-append p [] ys = refl
+  all-append p (x ∷ xs) ys =
+      ap (λ (b : Bool). p x && b) (all-append p xs ys) ∙ sym (and-assoc (p x) (all p xs) (all p ys))
+
   pub all-and : (p q : A → Bool) (xs : List A) → all (λ x. p x && q x) xs ≡ all p xs && all q xs
   all-and p q xs = bool-ext (all (λ x. p x && q x) xs) (all p xs && all q xs)
       (λ h. and-both _ _ (in-all p xs (λ x i. and-left (p x) (q x) (all-in (λ x. p x && q x) h i)))

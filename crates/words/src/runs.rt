@@ -1,6 +1,6 @@
 // Words in a row: one as a number, runs of them tested and compared.
 ghost use mathlib.Core.Path.{_≡_};
-ghost use Prim.Native.Nat.{_+_, _-_, _<_, _≤_};
+ghost use Prim.Native.Nat.{_+_, _-_, _*_, _<_, _≤_};
 ghost use lib.ListN.{length, getD};
 ghost use lib.Dec.{eqb, ltb};
 ghost use Rattle.words.specs.Lists.{all, any, eqList, lessList};
@@ -43,6 +43,37 @@ pub fn zeros(table: &[u16], from: usize, to: usize) -> bool
         i += 1;
     }
     joined == 0
+}
+
+// Whether the words of four stretches, one behind another, are all 0. They are joined side by side, so that the machine
+// fetches from four places at once.
+fn quarters_zero(table: &[u16], from: usize, quarter: usize) -> bool
+    requires { ⌜ from + 4 * quarter ≤ length (now table) ⌝ }
+    ensures { λ r. ⌜ r ≡ zerosAt (now (table .entry)) from (4 * quarter) ⌝ }
+{
+    let second = from + quarter;
+    let third = second + quarter;
+    let fourth = third + quarter;
+    let mut joined = 0;
+    let mut k = 0;
+    while k < quarter {
+        let front = word_at(table, from + k) | word_at(table, second + k);
+        joined |= front | word_at(table, third + k) | word_at(table, fourth + k);
+        k += 1;
+    }
+    joined == 0
+}
+
+// Whether many words from an index to another are all 0: a quarter beside the others, then the few that are left.
+pub fn many_zeros(table: &[u16], from: usize, to: usize) -> bool
+    requires { ⌜ (from ≤ to) × (to ≤ length (now table)) ⌝ }
+    ensures { λ r. ⌜ r ≡ zerosAt (now (table .entry)) from (to - from) ⌝ }
+{
+    let quarter = (to - from) / 4;
+    if !quarters_zero(table, from, quarter) {
+        return false;
+    }
+    zeros(table, from + 4 * quarter, to)
 }
 
 // Whether the words from an index to another are all below a bound.

@@ -168,9 +168,14 @@ atom-base-requires c κs =
     let r = room₄ (c .before .before .before .before .before .before .before) in
     (omega arith, omega (arith, end-is c))
 
-zeros-requires : tie.Need-zeros-requires
-unfolding tableWords
-zeros-requires c κs = start₆ (c .before .before) .pre
+many-zeros-requires : tie.Need-many-zeros-requires
+unfolding tableWords atomBase
+many-zeros-requires c κs =
+    let behind = c .before in
+    let schemas = behind .before .before .before .before .before .before .before in
+    let start = start₆ (behind .before) in
+    let k = counted (words start) (counts-pass (schemas .before .before .before .before .before .before)) in
+    (omega (arith, c .atom-base .ensures, end-is behind), start .pre)
 
 returns-7 : tie.Need-returns-7
 unfolding tableWords atomBase
@@ -182,7 +187,7 @@ returns-7 c =
     let start = start₆ (behind .before) in
     let used : c .before .atom-base .result ≡ wordsUsed (words start) = omega
     (arith, c .before .atom-base .ensures, end-is behind) in
-    c .zeros .ensures ∙ (ap (λ (n : ℕ). zerosAt (words start) n (tableWords - n)) used ∙
+    c .many-zeros .ensures ∙ (ap (λ (n : ℕ). zerosAt (words start) n (tableWords - n)) used ∙
     rest-decides (words start) (start .pre) (λ h. record {
       counts = counts-pass (numbers .before .before .before .before);
       arities = arities-pass (numbers .before .before);
@@ -199,4 +204,4 @@ is-table-spec =
     (tie.spec counts-fit-requires returns arities-fit-requires returns-2 numbers-fit-requires returns-3
     schemas-fit-requires returns-4 word-requires word-requires-2 (λ c. search needs) (λ c. search needs)
     facts-fit-requires returns-5 word-requires-3 add-end (λ c. search needs) facts-fit-requires-2 returns-6
-    atom-base-requires zeros-requires returns-7)
+    atom-base-requires many-zeros-requires returns-7)
