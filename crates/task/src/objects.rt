@@ -1,4 +1,4 @@
-// Words in a row, as the objects of a step and of a record are, and the few zeros behind them: tests of each.
+// Words in a row, as the objects of a record are, and the few zeros behind them: tests of each.
 use crate::Object;
 ghost use mathlib.Core.Path.{_≡_};
 ghost use Prim.Native.Nat.{_+_, _≤_};

@@ -7,19 +7,19 @@ use crate::layout::param_count;
 use crate::layout::schema_count;
 use crate::limits::MOST_PARAMETERS;
 use crate::limits::STEP_SIZE;
-use crate::objects::are_objects;
-use crate::objects::are_zero;
 use words::putting::copy;
+use words::putting::fill;
 use words::runs::wide;
 ghost use mathlib.Core.Path.{_≡_};
 ghost use mathlib.Core.Bool.{true};
-ghost use Prim.Native.Nat.{_*_, _≤_, _+_, _<_};
+ghost use Prim.Native.Nat.{ℕ, _*_, _≤_, _+_, _<_};
 ghost use lib.ListN.{length, getD};
 ghost use mathlib.Core.List.{_∷_};
 ghost use Rattle.words.specs.Lists.{put};
 ghost use Rattle.task.specs.Limits.{mostParameters, stepSize};
 ghost use Rattle.task.specs.Table.{taskOf, isTable};
 ghost use Rattle.task.specs.Run.{isStepAt, badStep, badStepFound};
+ghost use Rattle.task.specs.StepTests.{limitsFor, objectsThenZeros};
 
 // The schema of the step whose words begin at `at`.
 pub fn schema_at(steps: &[u16], at: usize) -> usize
@@ -47,10 +47,40 @@ pub fn put_step(out: &mut [u16], to: usize, schema: u16, objects: &[u16; MOST_PA
     copy(objects, 0, MOST_PARAMETERS, out, to + 1);
 }
 
+// What the words behind a step's schema must be below: an object below the count of objects, an unused word below 1.
+// The limits of a step with n parameters are the twelve that begin at 12 - n.
+pub type Limits = [u16; 2 * MOST_PARAMETERS];
+
+// The limits of the steps of a task with so many objects.
+pub fn limits_of(objects: u16) -> Limits
+    ensures { λ r. ⌜ r ≡ limitsFor objects ⌝ }
+{
+    let mut limits = [1; 2 * MOST_PARAMETERS];
+    fill(&mut limits, 0, MOST_PARAMETERS, objects);
+    limits
+}
+
+// Whether the words behind the schema of the step at `at` are so many objects, then zeros. All are compared before the
+// answer is taken, so that the machine can take several at once.
+pub fn are_within(steps: &[u16], at: usize, params: usize, limits: &Limits) -> bool
+    requires { ⌜ (at + stepSize ≤ length (now steps)) × (params ≤ mostParameters) ⌝ }
+    ensures { λ r. ⌜ ((objects : ℕ) → now (limits .entry) ≡ limitsFor objects →
+        r ≡ objectsThenZeros objects (now (steps .entry)) (at + 1) params) ⌝ }
+{
+    let mut beyond: u16 = 0;
+    for k in 0..MOST_PARAMETERS {
+        if limits[MOST_PARAMETERS - params + k] <= steps[at + 1 + k] {
+            beyond = 1;
+        }
+    }
+    beyond == 0
+}
+
 // Whether the list's words have a whole step of the task at index i.
-pub fn is_step(table: &[u16], steps: &[u16], i: usize) -> bool
+pub fn is_step(table: &[u16], steps: &[u16], i: usize, limits: &Limits) -> bool
     requires { ⌜ isTable (now table) ≡ true ⌝ }
     requires { ⌜ stepSize * i ≤ length (now steps) ⌝ }
+    requires { ⌜ now limits ≡ limitsFor (taskOf (now table) .objects) ⌝ }
     ensures { λ r. ⌜ r ≡ isStepAt (taskOf (now (table .entry))) (now (steps .entry)) i ⌝ }
 {
     let at = STEP_SIZE * i;
@@ -61,11 +91,7 @@ pub fn is_step(table: &[u16], steps: &[u16], i: usize) -> bool
     if schema_count(table) <= schema {
         return false;
     }
-    let params = param_count(table, schema);
-    if !are_objects(steps, at + 1, params, object_count(table)) {
-        return false;
-    }
-    are_zero(steps, at + 1 + params, STEP_SIZE - 1 - params)
+    are_within(steps, at, param_count(table, schema), limits)
 }
 
 // The first step that is none of this task, or incomplete: words left over begin one.
@@ -74,8 +100,9 @@ pub fn bad_step(table: &[u16], steps: &[u16]) -> BadStep
     ensures { λ r. ⌜ badStepFound r ≡ badStep (taskOf (now (table .entry))) (now (steps .entry)) ⌝ }
 {
     let begun = (steps.len() + STEP_SIZE - 1) / STEP_SIZE;
+    let limits = limits_of(object_count(table));
     for i in 0..begun {
-        if !is_step(table, steps, i) {
+        if !is_step(table, steps, i, &limits) {
             return BadStep::At(i as u64);
         }
     }

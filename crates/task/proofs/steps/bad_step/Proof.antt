@@ -1,41 +1,49 @@
 -- `task::steps::bad_step` meets its contract. The invariant of its loop: the steps before i are good. So one that is
 -- not is the first bad one, and with none left there is none. The measure is the number of steps begun, less i.
 use Prim.Native.Nat.{ℕ, _-_, _≤_, _<_}
-use mathlib.Core.Path.{_≡_, sym, _∙_}
+use mathlib.Core.Path.{_≡_, sym, _∙_, ap}
 use mathlib.Core.Bool.{true}
 use native.Mathlib.Omega.{arith}
 use borrow.Author.Count.{below-more}
 use borrow.Author.Tests.{not-true, not-false}
 use Rattle.task.specs.Table.{taskOf}
 use Rattle.task.specs.Run.{isStepAt, badStepFound}
+use Rattle.task.specs.StepTests.{limitsFor}
 use Rattle.task.proofs.BadSteps.{bad-step-at, no-bad-step}
 use Rattle.task.proofs.steps.bad_step.Statement.{statement}
 use Rattle.task.proofs.steps.bad_step.Tie as tie
 
 abbrev Inv-loop : tie.InvT-loop
-Inv-loop table steps begun i₀ i = (i ≤ begun) × ((k : ℕ) → k < i → isStepAt (taskOf table) steps k ≡ true)
+Inv-loop table steps begun limits i₀ i = (i ≤ begun) × ((k : ℕ) → k < i → isStepAt (taskOf table) steps k ≡ true)
 
 abbrev μ-loop : tie.MeasureT-loop
-μ-loop table steps begun i₀ i = begun - i
+μ-loop table steps begun limits i₀ i = begun - i
 
 loop-holds : tie.Need-loop-holds Inv-loop μ-loop
 loop-holds c = (omega arith, λ k l. absurd (omega arith))
 
+-- what was lent
+abbrev start : tie.At-loop Inv-loop μ-loop → tie.Start Inv-loop μ-loop
+start c = c .before .before .before .before .before
+
 is-step-requires : tie.Need-is-step-requires Inv-loop μ-loop
-is-step-requires c κs = (c .before .before .before .before .pre, omega arith)
+is-step-requires c κs =
+    let at-loop = c .before .before in
+    let made = at-loop .before in
+    (start at-loop .pre, (omega arith, made .limits-of .ensures ∙ ap limitsFor (made .before .object-count .ensures)))
 
 returns : tie.Need-returns Inv-loop μ-loop
 unfolding badStepFound
 returns c =
-    let start = c .before .before .before .before .before .before in
-    let at-loop = c .before .before .before in
-    let h = c .before .before .loop-test .taken in
-    sym (bad-step-at (taskOf (start .args .table .now)) (start .args .steps .now) (at-loop .loop .i) (omega arith)
-    (at-loop .loop .inv .1) (sym (c .before .is-step .ensures) ∙ not-true _ (c .if1 .taken)))
+    let at-loop = c .before .before .before .before in
+    let a = start at-loop .args in
+    let h = c .before .before .before .loop-test .taken in
+    sym (bad-step-at (taskOf (a .table .now)) (a .steps .now) (at-loop .loop .i) (omega arith) (at-loop .loop .inv .1)
+    (sym (c .before .is-step .ensures) ∙ not-true _ (c .if1 .taken)))
 
 loop-again : tie.Need-loop-again Inv-loop μ-loop
 loop-again c =
-    let at-loop = c .before .before .before in (
+    let at-loop = c .before .before .before .before in (
       omega arith,
       below-more _ _ (at-loop .loop .inv .1)
           (sym (c .before .is-step .ensures) ∙ not-false _ (c .if1 .left)),
@@ -44,12 +52,11 @@ loop-again c =
 returns-2 : tie.Need-returns-2 Inv-loop μ-loop
 unfolding badStepFound
 returns-2 c =
-    let start = c .before .before .before .before in
-    sym (no-bad-step (taskOf (start .args .table .now)) (start .args .steps .now)
-    (λ k l. c .before .loop .inv .1 k (omega arith)))
+    let a = start (c .before) .args in
+    sym (no-bad-step (taskOf (a .table .now)) (a .steps .now) (λ k l. c .before .loop .inv .1 k (omega arith)))
 
 pub bad-step-spec : {M : Type 1} → statement M
 bad-step-spec =
     tie.close
-    (tie.spec Inv-loop μ-loop (λ c. omega arith) (λ c. omega arith) loop-holds is-step-requires returns
-    (λ c. omega arith) (λ c. omega arith) loop-again returns-2)
+    (tie.spec Inv-loop μ-loop (λ c. omega arith) (λ c. omega arith) (λ c κs. c .before .before .pre) (λ c κs. tt)
+    loop-holds is-step-requires returns (λ c. omega arith) (λ c. omega arith) loop-again returns-2)
