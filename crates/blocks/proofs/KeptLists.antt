@@ -6,16 +6,15 @@ use native.Mathlib.Omega.{arith}
 use native.Mathlib.Decide.{decLe}
 use native.Mathlib.Numerals.{add-one}
 use lib.ListN.{length, getD, length-map, length-append}
-use Rattle.words.specs.Lists.{filter, concatMap, sum, upTo, upFrom}
-use Rattle.task.specs.Limits.{stepSize}
+use Rattle.words.specs.Lists.{concatMap, sum, upTo, upFrom}
+use Rattle.task.specs.Limits.{mostParameters, stepSize}
 use Rattle.task.specs.Run.{Step, stepWords}
 use Rattle.words.proofs.Lists.{map-in, append-concatMap, sum-append, map-append, length-upTo, upTo-suc, concatMap-in}
 use Rattle.task.proofs.StepWords.{StepSized, length-stepWords, length-steps}
-use Rattle.words.specs.Sets.{member, members}
-use Rattle.words.proofs.Ascending.{filter-le}
 use Rattle.blocks.specs.Blocks.{listWords}
 use Rattle.tokens.specs.Kept.{keptOwn}
-use Rattle.blocks.specs.Unfolding.{objectsFor, partFrom, partsFrom, countFrom, sumFrom, blocksFrom}
+use Rattle.blocks.specs.Unfolding.{partFrom, partsFrom, countFrom, sumFrom, blocksFrom}
+use Rattle.blocks.proofs.KeptWords.{objects-few}
 
 -- what is made of the numbers below i, one more
 concatMap-more : {A : Type 0} (f : ℕ → List A) (i : ℕ) → concatMap f (upTo (i + 1)) ≡ concatMap f (upTo i) ++ f i
@@ -40,13 +39,10 @@ words-append xs ys = append-concatMap stepWords xs ys
 -- ---- the parts of a step
 module _ (steps kept : List ℕ) (at : ℕ) where
   pub part-long : (j : ℕ) → length (stepWords (partFrom steps kept at j)) ≡ stepSize
-  unfolding partFrom objectsFor members
+  unfolding partFrom
   part-long j =
-      let set = keptOwn kept (getD steps at 0) j in
-      let n = length-map (filter (member set) (upTo 12)) (λ p. getD steps (at + 1 + p) 0) in
-      let m = filter-le (member set) (upTo 12) in
-      let l = length-upTo 12 in
-      length-stepWords (partFrom steps kept at j) (omega arith)
+      length-stepWords (partFrom steps kept at j)
+      (objects-few steps at (keptOwn kept (getD steps at 0) j) mostParameters)
 
   pub parts-none : listWords (partsFrom steps kept at 0) ≡ []
   unfolding listWords concatMap partsFrom upTo upFrom

@@ -1,17 +1,20 @@
--- The words of a part, as code puts them: its schema, the objects of its parameters one by one, then zeros.
-use Prim.Native.Nat.{ℕ, _+_, _-_}
+-- The words of a part, as code puts them: its schema, twelve zeros, and the objects of its parameters over them, one by
+-- one.
+use Prim.Native.Nat.{ℕ, zero, suc, _+_, _-_, _≤_}
 use mathlib.Core.Path.{_≡_, refl, sym, _∙_, ap, subst}
 use mathlib.Core.Bool.{Bool, true, false}
 use mathlib.Core.List.{List, [], _∷_, _++_, map, append-nil}
 use native.Mathlib.Omega.{arith}
 use native.Mathlib.Numerals.{add-one}
-use lib.ListN.{length, getD, set, replicate}
-use Rattle.words.specs.Lists.{filter, keepIf, upTo, upFrom, padded, put}
-use Rattle.task.specs.Limits.{stepSize}
+use lib.ListN.{length, getD, set, drop, replicate, length-map}
+use lib.Seq.{set-set}
+use Rattle.words.specs.Lists.{filter, keepIf, upTo, upFrom, padded, over, put}
+use Rattle.task.specs.Limits.{mostParameters}
 use Rattle.task.specs.Run.{stepWords}
-use Rattle.words.proofs.Lists.{map-append, upTo-suc, filter-append}
+use Rattle.words.proofs.Lists.{map-append, upTo-suc, filter-append, length-upTo}
+use Rattle.words.proofs.Ascending.{filter-le}
 use Rattle.words.specs.Putting.{Puts}
-use Rattle.words.proofs.Puts.{put-on, puts-none, puts-is, puts-then, puts-word}
+use Rattle.words.proofs.Puts.{put-on, put-before, puts-none, puts-is, puts-then, puts-word}
 use Rattle.words.specs.Sets.{member, members}
 use Rattle.blocks.specs.Unfolding.{objectsFor}
 
@@ -64,13 +67,53 @@ module _ (steps : List ℕ) (at own : ℕ) where
   unfolding keepIf
   objects-same p h = objects-step p false h ∙ append-nil (objects p)
 
+  -- no more where none from p on is
+  pub objects-end : (p d : ℕ) → ((k : ℕ) → p ≤ k → member own k ≡ false) → objects (p + d) ≡ objects p
+  objects-end p zero h = let e : p + 0 ≡ p = omega arith in ap objects e
+  objects-end p (suc d) h =
+      let e : p + suc d ≡ p + d + 1 = omega arith in
+      ap objects e ∙ (objects-same (p + d) (h (p + d) (omega arith)) ∙ objects-end p d h)
+
+  -- at most as many as there are parameters
+  pub objects-few : (n : ℕ) → length (objects n) ≤ n
+  unfolding objectsFor members
+  objects-few n =
+      let e = length-map (filter (member own) (upTo n)) object in
+      let f = filter-le (member own) (upTo n) in
+      let l = length-upTo n in
+      omega arith
+
 -- ---- a step's words, put in three pieces
-pub put-step : (out : List ℕ) (to next s : ℕ) (os : List ℕ) → next ≡ to + 1 + length os →
-    put (put (set out to s) (to + 1) os) next (replicate (to + stepSize - next) 0) ≡
+-- a run over the front of a longer one
+put-again : (w : List ℕ) (at : ℕ) (xs ys : List ℕ) → length xs ≤ length ys →
+    put (put w at ys) at xs ≡ put w at (over xs ys)
+unfolding over
+put-again w at [] ys h = refl
+put-again w at (x ∷ xs) [] h = absurd (omega arith)
+put-again w at (x ∷ xs) (y ∷ ys) h =
+    ap (λ (v : List ℕ). put v (suc at) xs)
+    (put-before (set w at y) at x (suc at) ys (omega arith)
+    ∙ ap (λ (v : List ℕ). put v (suc at) ys) (set-set w at y x))
+    ∙ put-again (set w at x) (suc at) xs ys (omega arith)
+
+-- over zeros they are padded
+over-zeros : (n : ℕ) (xs : List ℕ) → length xs ≤ n → over xs (replicate n 0) ≡ padded n xs
+unfolding over padded
+over-zeros n xs h = ap (λ (zs : List ℕ). xs ++ zs) (left (length xs) n h)
+  where
+    left : (k n : ℕ) → k ≤ n → drop {A = ℕ} k (replicate n 0) ≡ replicate (n - k) 0
+    left zero n h = let e : n ≡ n - 0 = omega arith in ap (λ (m : ℕ). replicate m 0) e
+    left (suc k) zero h = absurd (omega arith)
+    left (suc k) (suc n) h =
+        let e : n - k ≡ suc n - suc k = omega arith in
+        left k n (omega arith) ∙ ap (λ (m : ℕ). replicate m 0) e
+
+-- the schema, the zeros, and the objects over these
+pub put-step : (out : List ℕ) (to s : ℕ) (os : List ℕ) → length os ≤ mostParameters →
+    put (put (set out to s) (to + 1) (replicate mostParameters 0)) (to + 1) os ≡
     put out to (stepWords (record { schema = s; objects = os }))
-unfolding stepWords padded
-put-step out to next s os e =
-    let n : to + stepSize - next ≡ 12 - length os = omega arith in
-    put-on (set out to s) (to + 1) os next (replicate (to + stepSize - next) 0) e
-    ∙ (put-on out to (s ∷ []) (to + 1) (os ++ replicate (to + stepSize - next) 0) refl
-    ∙ ap (λ (k : ℕ). put out to (s ∷ (os ++ replicate k 0))) n)
+unfolding stepWords
+put-step out to s os h =
+    put-again (set out to s) (to + 1) os (replicate mostParameters 0) h
+    ∙ (ap (put (set out to s) (to + 1)) (over-zeros mostParameters os h)
+    ∙ put-on out to (s ∷ []) (to + 1) (padded mostParameters os) refl)

@@ -20,29 +20,28 @@ ghost use Rattle.task.specs.Run.{stepWords, stepsIn};
 ghost use Rattle.blocks.specs.Blocks.{listWords, unfoldSteps};
 ghost use Rattle.blocks.specs.Unfolding.{StepKept, StepsKept, countFrom, objectsFor, partFrom, partsFrom};
 
-// The objects of the parameters in a set, ascending, are put from `to` on; the place behind them.
-fn put_objects(steps: &[u16], at: usize, own: u64, out: &mut [u16], to: usize) -> usize
+// The objects of the parameters in a set, ascending, are put from `to` on.
+fn put_objects(steps: &[u16], at: usize, own: u64, out: &mut [u16], to: usize)
     requires { ⌜ at + stepSize ≤ length (now steps) ⌝ }
     requires { ⌜ to + mostParameters ≤ length (now out) ⌝ }
-    ensures { λ r. ⌜ r ≡ to + length (objectsFor (now (steps .entry)) at own mostParameters) ⌝ }
-    ensures { λ r. ⌜ r ≤ to + mostParameters ⌝ }
     ensures { λ _. ⌜ now (out .exit) ≡
         put (now (out .entry)) to (objectsFor (now (steps .entry)) at own mostParameters) ⌝ }
 {
     let mut next = to;
-    let mut p = 0;
-    while p < MOST_PARAMETERS {
+    for p in 0..MOST_PARAMETERS {
+        if sets::none_from(own, p) {
+            return;
+        }
         if sets::has(own, p) {
             let object = object_of(steps, at, Parameter(p as u16));
             out[next] = object.0;
             next += 1;
         }
-        p += 1;
     }
-    next
 }
 
-// "its parts in order, each with that step's objects": the part at position j, put from `to` on.
+// "its parts in order, each with that step's objects": the part at position j, put from `to` on. Its objects are put
+// over twelve zeros, so that as many are put for every part, and the machine can put several at once.
 fn put_part(steps: &[u16], at: usize, kept: &Kept, j: usize, out: &mut [u16], to: usize)
     requires { ⌜ StepKept (now steps) (now kept) at ⌝ }
     requires { ⌜ j < mostParts ⌝ }
@@ -52,8 +51,8 @@ fn put_part(steps: &[u16], at: usize, kept: &Kept, j: usize, out: &mut [u16], to
 {
     let s = schema_at(steps, at);
     out[to] = (first_of(kept, s) + j) as u16;
-    let next = put_objects(steps, at, own_at(kept, s, j), out, to + 1);
-    fill(out, next, to + STEP_SIZE - next, 0);
+    fill(out, to + 1, MOST_PARAMETERS, 0);
+    put_objects(steps, at, own_at(kept, s, j), out, to + 1);
 }
 
 // "A step's block is its parts in order": put from `to` on; the place behind it.

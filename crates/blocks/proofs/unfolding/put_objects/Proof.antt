@@ -1,79 +1,103 @@
 -- `blocks::unfolding::put_objects` meets its contract. The invariant: the objects of the parameters below p are put.
--- The measure is the parameters left.
+-- They are all where the set has no parameter from p on (`objects-end`). The measure is the parameters left.
 use Rattle.blocks.proofs.unfolding.put_objects.Tie as tie
 use Prim.Native.Nat.{ℕ, _+_, _-_, _≤_}
-use mathlib.Core.Path.{_≡_, sym, _∙_, ap, subst}
+use mathlib.Core.Path.{_≡_, sym, _∙_, ap}
 use mathlib.Core.List.{List, [], _∷_, _++_}
 use mathlib.Core.Logic.{⊎-elim}
 use native.Mathlib.Omega.{arith}
-use Rattle.words.proofs.Puts.{puts-length}
+use lib.ListN.{length}
+use Rattle.words.specs.Lists.{put}
+use Rattle.task.specs.Limits.{mostParameters}
+use Rattle.words.proofs.Puts.{puts-length, puts-same}
 use Rattle.words.specs.Putting.{Puts}
 use Rattle.blocks.proofs.KeptWords.{put-none, put-next, both-at, objects-none, objects-more}
-use Rattle.blocks.proofs.KeptWords.{objects-same}
+use Rattle.blocks.proofs.KeptWords.{objects-same, objects-end, objects-few}
 use Rattle.blocks.proofs.unfolding.put_objects.Statement.{statement}
 use Rattle.blocks.specs.Unfolding.{objectsFor}
 
--- the objects of the parameters below p are put, up to `next`
-abbrev Put : List ℕ → ℕ → ℕ → List ℕ → ℕ → ℕ → List ℕ → ℕ → Type 0
-Put steps at own out₀ to p out next = Puts out₀ to (objectsFor steps at own p) out next × (next ≤ to + p)
-
 abbrev Inv-loop : tie.InvT-loop
-Inv-loop steps at own out₀ to next₀ p₀ out next p = (p ≤ 12) × Put steps at own out₀ to p out next
+Inv-loop steps at own out₀ to next₀ p₀ out next p =
+    (p ≤ mostParameters) × Puts out₀ to (objectsFor steps at own p) out next
 
 abbrev μ-loop : tie.MeasureT-loop
-μ-loop steps at own out₀ to next₀ p₀ out next p = 12 - p
+μ-loop steps at own out₀ to next₀ p₀ out next p = mostParameters - p
+
+-- what was lent, and the objects of the parameters below p
+abbrev start : tie.At-loop Inv-loop μ-loop → tie.Start Inv-loop μ-loop
+start c = c .before .before .before
+
+abbrev objects : tie.Start Inv-loop μ-loop → ℕ → List ℕ
+objects c p = objectsFor (c .args .steps .now) (c .args .at) (c .args .own) p
 
 loop-holds : tie.Need-loop-holds Inv-loop μ-loop
 loop-holds c =
-    let a = c .before .before .args in
-    let e = objects-none (a .steps .now) (a .at) (a .own) in
-    (omega arith, (put-none (a .out .now) (a .to) (objectsFor (a .steps .now) (a .at) (a .own) 0) e, omega arith))
+    let s = c .before .before in
+    let a = s .args in
+    (omega arith, put-none (a .out .now) (a .to) (objects s 0) (objects-none (a .steps .now) (a .at) (a .own)))
 
-mul-out : tie.Need-mul-out Inv-loop μ-loop
-mul-out c = let e = puts-length (c .before .before .before .before .loop .inv .1 .0) in omega arith
+-- those that are put end at most p words from `to`, so there is room for one more
+reached : (c : tie.At-loop Inv-loop μ-loop) → let a = start c .args in
+    (length (c .loop .out) ≡ length (a .out .now)) × (c .loop .next ≤ a .to + c .loop .p)
+reached c =
+    let a = start c .args in
+    let h = c .loop .inv .1 in
+    let e = h .place in
+    let l = objects-few (a .steps .now) (a .at) (a .own) (c .loop .p) in
+    (puts-length h, omega arith)
 
-slice-write-out : tie.Need-slice-write-out Inv-loop μ-loop
-slice-write-out c = let e = puts-length (c .before .before .before .before .loop .inv .1 .0) in omega arith
-
-add-next : tie.Need-add-next Inv-loop μ-loop
-add-next c = let e = puts-length (c .before .before .before .before .loop .inv .1 .0) in omega arith
-
-loop-again : tie.Need-loop-again Inv-loop μ-loop
-loop-again c =
-    let h = c .before .before .before .loop in
-    let a = c .before .before .before .before .before .before .args in
-    let w = a .steps .now in
-    let test = sym (c .before .has .ensures) in
-    let P : List ℕ → ℕ → Type 0 = Put w (a .at) (a .own) (a .out .now) (a .to) (h .p + 1) in (
-      omega arith,
-      ⊎-elim
-          (λ x.
-          let o = x .1 .result .0 in
-          let e = objects-more w (a .at) (a .own) (h .p) (test ∙ x .0 .taken) in
-          let f = ap (λ (v : ℕ). objectsFor w (a .at) (a .own) (h .p) ++ (v ∷ [])) (sym (x .1 .ensures)) in
-          both-at P (x .2) (x .3)
-          (put-next (h .inv .1 .0) o (objectsFor w (a .at) (a .own) (h .p + 1)) (e ∙ f), omega arith))
-          (λ x.
-          let e = objects-same w (a .at) (a .own) (h .p) (test ∙ x .0 .left) in
-          let Q : List ℕ → Type 0 = λ xs. Puts (a .out .now) (a .to) xs (h .out) (h .next) in
-          both-at P (x .1) (x .2) (subst Q (sym e) (h .inv .1 .0), omega arith))
-          (c .if1 .came),
-    )
-
-same-length : tie.Need-same-length Inv-loop μ-loop
-same-length c = puts-length (c .before .loop .inv .1 .0)
+-- the objects of the parameters below p are all
+all-put : (c : tie.At-loop Inv-loop μ-loop) → objects (start c) (c .loop .p) ≡ objects (start c) mostParameters →
+    c .loop .out ≡ put (start c .args .out .now) (start c .args .to) (objects (start c) mostParameters)
+all-put c e = c .loop .inv .1 .words ∙ ap (put (start c .args .out .now) (start c .args .to)) e
 
 returns : tie.Need-returns Inv-loop μ-loop
 returns c =
-    let h = c .before .loop in
-    let a = c .before .before .before .before .args in
-    let e : h .p ≡ 12 = omega arith in
-    let (q, l) = subst (λ (p : ℕ). Put (a .steps .now) (a .at) (a .own) (a .out .now) (a .to) p (h .out) (h .next)) e
-    (h .inv .1) in
-    (q .place, (l, q .words))
+    let at-loop = c .before .before .before in
+    let a = start at-loop .args in
+    let p = at-loop .loop .p in
+    let e : p + (mostParameters - p) ≡ mostParameters = omega arith in
+    all-put at-loop (sym (objects-end (a .steps .now) (a .at) (a .own) p (mostParameters - p)
+    (c .before .none-from .ensures (c .if1 .taken))) ∙ ap (objects (start at-loop)) e)
+
+mul-out : tie.Need-mul-out Inv-loop μ-loop
+mul-out c = let e = reached (c .before .before .before .before .before .before) in omega arith
+
+slice-write-out : tie.Need-slice-write-out Inv-loop μ-loop
+slice-write-out c = let e = reached (c .before .before .before .before .before .before) in omega arith
+
+add-next : tie.Need-add-next Inv-loop μ-loop
+add-next c = let e = reached (c .before .before .before .before .before .before) in omega arith
+
+loop-again : tie.Need-loop-again Inv-loop μ-loop
+loop-again c =
+    let at-loop = c .before .before .before .before .before in
+    let h = at-loop .loop in
+    let s = start at-loop in
+    let a = s .args in
+    let w = a .steps .now in
+    let test = sym (c .before .has .ensures) in
+    let P : List ℕ → ℕ → Type 0 = Puts (a .out .now) (a .to) (objects s (h .p + 1)) in (
+      omega arith,
+      ⊎-elim
+          (λ x.
+          let e = objects-more w (a .at) (a .own) (h .p) (test ∙ x .0 .taken) in
+          let f = ap (λ (v : ℕ). objects s (h .p) ++ (v ∷ [])) (sym (x .1 .ensures)) in
+          both-at P (x .2) (x .3) (put-next (h .inv .1) (x .1 .result .0) (objects s (h .p + 1)) (e ∙ f)))
+          (λ x.
+          let e = objects-same w (a .at) (a .own) (h .p) (test ∙ x .0 .left) in
+          both-at P (x .1) (x .2) (puts-same (sym e) (h .inv .1)))
+          (c .if2 .came),
+    )
+
+returns-2 : tie.Need-returns-2 Inv-loop μ-loop
+returns-2 c =
+    let e : c .before .loop .p ≡ mostParameters = omega arith in
+    all-put (c .before) (ap (objects (start (c .before))) e)
 
 pub put-objects-spec : {M : Type 1} → statement M
 put-objects-spec =
     tie.close
-    (tie.spec Inv-loop μ-loop loop-holds (λ c κs. omega arith) (λ c. omega arith) (λ c κs. omega arith) mul-out
-    slice-write-out add-next (λ c. omega arith) (λ c. omega arith) loop-again same-length returns)
+    (tie.spec Inv-loop μ-loop loop-holds (λ c κs. omega arith) (λ c. reached (c .before .before .before) .0) returns
+    (λ c κs. omega arith) (λ c. omega arith) (λ c κs. omega arith) mul-out slice-write-out add-next (λ c. omega arith)
+    (λ c. omega arith) loop-again (λ c. reached (c .before) .0) returns-2)
