@@ -1,7 +1,7 @@
 -- The sets of arcs of a stretch of atoms. They grow by an atom at a time: first in the atoms that the arcs go to, which
 -- starts from a pair of atoms, then in those they come from. Joining is carried as a fact about every pair of parts.
-use Prim.Native.Nat.{ℕ, _+_, _-_, _≤_, _<_}
-use mathlib.Core.Path.{_≡_, refl, sym, _∙_, ap}
+use Prim.Native.Nat.{ℕ, zero, suc, _+_, _-_, _≤_, _<_}
+use mathlib.Core.Path.{_≡_, refl, sym, _∙_, ap, subst}
 use mathlib.Core.Bool.{Bool, true, false, not, _&&_, _||_}
 use mathlib.Core.List.{List, [], _∷_, _++_}
 use native.Mathlib.Omega.{arith}
@@ -9,11 +9,11 @@ use lib.ListN.{length, getD, set, replicate}
 use lib.Dec.{eqb}
 use lib.Seq.{getD-set-same, getD-set-other}
 use borrow.Author.Tests.{eqb-true, eqb-false, eq-eqb, ne-eqb, not-true}
-use Rattle.words.specs.Lists.{any, upFrom}
-use Rattle.task.specs.Task.{Atom, precondition, addition}
+use Rattle.words.specs.Lists.{any}
+use Rattle.task.specs.Task.{Atom, precondition, addition, deletion}
 use Rattle.task.specs.Table.{atomIn}
 use Rattle.words.proofs.Ranges.{or-false, or-assoc, any-last}
-use Rattle.words.proofs.Lists.{and-left, and-right, both-ft, bool-ext, false-if, In, any-in, map-in, upFrom-in}
+use Rattle.words.proofs.Lists.{and-left, and-right, both-ft, bool-ext, false-if, In, here, there, in-empty, any-in}
 use Rattle.arcs.specs.Order.{givesArc, roleBefore, arc}
 use Rattle.arcs.specs.Stretches.{AreArcs, ArePreconditions, Joins, stretchIn, arcsBetween}
 use Rattle.words.specs.Sets.{member}
@@ -96,6 +96,18 @@ from-addition a b e = rw e (go (eqb (a .pred) (b .pred)))
     go false = refl
     go true = refl
 
+-- nor does one go from an atom that is no precondition to one that is no add
+pub to-no-addition : (a b : Atom) → (a .role ≡ precondition → ⊥) → (b .role ≡ addition → ⊥) → givesArc a b ≡ false
+unfolding givesArc roleBefore
+to-no-addition a b f g =
+    rw (ne-eqb (a .role) precondition f, ne-eqb (b .role) addition g)
+    (go (eqb (a .pred) (b .pred)) (eqb (a .role) deletion))
+  where
+    go : (n x : Bool) → n && (x && false) ≡ false
+    go false x = refl
+    go true false = refl
+    go true true = refl
+
 none-join : (a : Atom) (bs : List Atom) → ((b : Atom) → In b bs → givesArc a b ≡ false) → (sets : List ℕ) →
     Joins (arcsBetween (a ∷ []) bs) sets sets
 unfolding arcsBetween any
@@ -172,21 +184,45 @@ module _ (a b : Atom) where
 
 -- ---- a stretch that grows by an atom
 module _ (w : List ℕ) (from : ℕ) where
-  pub to-preconditions : (a : Atom) (to : ℕ) → from ≤ to → ArePreconditions w from to → (sets : List ℕ) →
-      Joins (arcsBetween (a ∷ []) (stretchIn w from to)) sets sets
-  unfolding stretchIn
-  to-preconditions a to l h sets =
-      none-join a (stretchIn w from to) (λ b m.
-      let (k, i, e) = map-in (atomIn w) (upFrom from (to - from)) b m in
-      let (x, y) = upFrom-in from (to - from) k i in
-      to-precondition a b (ap (λ (c : Atom). c .role) e ∙ h k x (omega arith))) sets
-
   pub to-more : (a : Atom) (j : ℕ) (x y z : List ℕ) → from ≤ j → Joins (arcsBetween (a ∷ []) (stretchIn w from j)) x y →
       Joins (arcsBetween (a ∷ []) (atomIn w j ∷ [])) y z → Joins (arcsBetween (a ∷ []) (stretchIn w from (j + 1))) x z
   to-more a j x y z l h k =
       joins-more (arcsBetween (a ∷ []) (stretchIn w from j)) (arcsBetween (a ∷ []) (atomIn w j ∷ []))
       (arcsBetween (a ∷ []) (stretchIn w from (j + 1))) x y z h k
       (λ p q. rw (atoms-more w from j l) (between-more-right a (stretchIn w from j) (atomIn w j) p q))
+
+  -- no arc goes to the n atoms from j on
+  to-no-more : (a : Atom) (j n : ℕ) (x y : List ℕ) → from ≤ j →
+      ((k : ℕ) → j ≤ k → k < j + n → givesArc a (atomIn w k) ≡ false) →
+      Joins (arcsBetween (a ∷ []) (stretchIn w from j)) x y →
+      Joins (arcsBetween (a ∷ []) (stretchIn w from (j + n))) x y
+  to-no-more a j zero x y l f h =
+      let e : j ≡ j + 0 = omega arith in
+      subst (λ (k : ℕ). Joins (arcsBetween (a ∷ []) (stretchIn w from k)) x y) e h
+  to-no-more a j (suc n) x y l f h =
+      let e : j + n + 1 ≡ j + suc n = omega arith in
+      subst (λ (k : ℕ). Joins (arcsBetween (a ∷ []) (stretchIn w from k)) x y) e
+      (to-more a (j + n) x y y (omega arith) (to-no-more a j n x y l (λ k b c. f k b (omega arith)) h)
+      (none-join a (atomIn w (j + n) ∷ []) (λ b m. only b m (f (j + n) (omega arith) (omega arith))) y))
+    where
+      only : {c : Atom} (b : Atom) → In b (c ∷ []) → givesArc a c ≡ false → givesArc a b ≡ false
+      only b (here i) e = ap (givesArc a) i ∙ e
+      only b (there i) e = absurd (in-empty i)
+
+  pub to-rest : (a : Atom) (end to : ℕ) (x y : List ℕ) → from ≤ end → end ≤ to →
+      ((k : ℕ) → end ≤ k → k < to → givesArc a (atomIn w k) ≡ false) →
+      Joins (arcsBetween (a ∷ []) (stretchIn w from end)) x y →
+      Joins (arcsBetween (a ∷ []) (stretchIn w from to)) x y
+  to-rest a end to x y l m f h =
+      let e : end + (to - end) ≡ to = omega arith in
+      subst (λ (k : ℕ). Joins (arcsBetween (a ∷ []) (stretchIn w from k)) x y) e
+      (to-no-more a end (to - end) x y l (λ k b c. f k b (omega arith)) h)
+
+  pub to-preconditions : (a : Atom) (to : ℕ) → from ≤ to → ArePreconditions w from to → (sets : List ℕ) →
+      Joins (arcsBetween (a ∷ []) (stretchIn w from to)) sets sets
+  to-preconditions a to l h sets =
+      to-rest a from to sets sets (omega arith) l (λ k b c. to-precondition a (atomIn w k) (h k b c))
+      (λ p q. rw (atoms-none w from) (none-join a [] (λ b i. absurd (in-empty i)) sets p q))
 
   pub from-none : (bs : List Atom) (sets : List ℕ) → Joins (arcsBetween (stretchIn w from from) bs) sets sets
   from-none bs sets =

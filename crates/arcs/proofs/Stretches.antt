@@ -1,16 +1,17 @@
 -- Stretches of a table's schema atoms: where their words lie, their parts, and how a stretch grows by an atom.
 -- A schema's atoms are such a stretch.
 use Prim.Native.Nat.{ℕ, zero, suc, _+_, _-_, _≤_, _<_}
-use mathlib.Core.Path.{_≡_, refl, sym, _∙_, ap}
+use mathlib.Core.Path.{_≡_, refl, sym, _∙_, ap, subst}
 use mathlib.Core.Bool.{true}
 use mathlib.Core.List.{List, [], _∷_, _++_, map}
 use native.Mathlib.Omega.{arith}
+use native.Mathlib.Decide.{decLe}
 use lib.ListN.{length, getD, take, replicate, length-map}
 use lib.Seq.{ext-getD}
 use borrow.Author.Tests.{leb-true}
 use Rattle.words.specs.Lists.{sum, upFrom}
 use Rattle.task.specs.Layout.{headIn, atomTotal}
-use Rattle.task.specs.Task.{Atom, partCount, schemaFits, noSchema}
+use Rattle.task.specs.Task.{Atom, addition, partCount, schemaFits, noSchema}
 use Rattle.task.specs.Run.{schemaAt}
 use Rattle.task.specs.Table.{atomIn, schemaNumberIn, taskOf, isTable}
 use Rattle.task.specs.WordTests.{Roomy}
@@ -23,7 +24,7 @@ use Rattle.task.proofs.TableReads.{table-roomy}
 use Rattle.task.proofs.TablesByIndex.{table-frame, schemas-word, atom-at, atom-lies, start-suc}
 use Rattle.task.proofs.TablesByIndex.{start-end}
 use Rattle.task.proofs.SchemaWords.{part-small}
-use Rattle.arcs.specs.Stretches.{IsSchemaAtom, IsStretch, stretchIn}
+use Rattle.arcs.specs.Stretches.{IsSchemaAtom, IsStretch, NoAdditions, stretchIn}
 
 -- what an array begins with
 pub zeros-at : (n i : ℕ) → _≡_ {A = ℕ} (getD (replicate n 0) i 0) 0
@@ -59,6 +60,18 @@ part-below w i a =
 -- ---- stretches
 pub stretch-atom : {w : List ℕ} {from to : ℕ} → IsStretch w from to → (i : ℕ) → i < to → IsSchemaAtom w i
 stretch-atom s i l = record { table = s .table; known = let k = s .known in omega arith }
+
+-- what is left of a stretch
+pub stretch-rest : {w : List ℕ} {from to : ℕ} → IsStretch w from to → (i : ℕ) → i ≤ to → IsStretch w i to
+stretch-rest s i l = record { table = s .table; forward = l; known = s .known }
+
+-- no add among those from i on, nor just before them
+pub no-addition-before : (w : List ℕ) (i to : ℕ) → NoAdditions w i to → (atomIn w (i - 1) .role ≡ addition → ⊥) →
+    NoAdditions w (i - 1) to
+no-addition-before w i to h f k l m = elim (decLe i k) [
+  | yes a ↦ h k a m
+  | no a ↦ let e : i - 1 ≡ k = omega arith in subst (λ (n : ℕ). atomIn w n .role ≡ addition → ⊥) e f
+]
 
 pub atoms-none : (w : List ℕ) (from : ℕ) → stretchIn w from from ≡ []
 unfolding stretchIn upFrom

@@ -9,7 +9,7 @@ use lib.ListN.{getD, take}
 use lib.Dec.{eqb}
 use Rattle.words.specs.Lists.{any, upFrom}
 use Rattle.task.specs.Layout.{headIn}
-use Rattle.task.specs.Task.{Atom, precondition}
+use Rattle.task.specs.Task.{Atom, precondition, addition}
 use Rattle.task.specs.Table.{atomIn, isTable}
 use Rattle.task.specs.declared.Part.{Part}
 use Rattle.arcs.specs.declared.Order.{Order}
@@ -38,6 +38,10 @@ stretchIn w from to = map (atomIn w) (upFrom from (to - from))
 -- each atom of a stretch is a precondition
 abbrev pub ArePreconditions : List ℕ → ℕ → ℕ → Type 0
 ArePreconditions w from to = (k : ℕ) → from ≤ k → k < to → atomIn w k .role ≡ precondition
+
+-- no atom of a stretch is an add
+abbrev pub NoAdditions : List ℕ → ℕ → ℕ → Type 0
+NoAdditions w from to = (k : ℕ) → from ≤ k → k < to → atomIn w k .role ≡ addition → ⊥
 
 -- whether one of these atoms and one of others give an arc from part p to part q; the arcs of a list are those between
 -- it and itself

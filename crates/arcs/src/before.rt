@@ -5,7 +5,7 @@ ghost use mathlib.Core.List.{[], _∷_};
 ghost use lib.ListN.{length};
 ghost use Rattle.task.specs.Limits.{mostParts};
 ghost use Rattle.task.specs.Table.{atomIn};
-ghost use Rattle.arcs.specs.Stretches.{AreArcs, ArePreconditions, IsSchemaAtom, IsStretch, Joins};
+ghost use Rattle.arcs.specs.Stretches.{AreArcs, ArePreconditions, IsSchemaAtom, IsStretch, Joins, NoAdditions};
 ghost use Rattle.arcs.specs.Stretches.{stretchIn, arcsBetween};
 use crate::PartSets;
 use crate::atoms::gives_arc;
@@ -49,11 +49,36 @@ fn effects_of(table: &[u16], from: usize, to: usize) -> usize
     i
 }
 
-// The arcs from atom i join the sets: none comes from an add, and none goes to the preconditions before `effects`.
-fn add_from(table: &[u16], i: usize, from: usize, effects: usize, to: usize, before: &mut PartSets)
+// Where the deletes that a stretch ends with begin: no arc goes from a delete to one of them.
+fn deletes_of(table: &[u16], from: usize, to: usize) -> usize
+    requires { ⌜ IsStretch (now table) from to ⌝ }
+    ensures { λ r. ⌜ (from ≤ r) × (r ≤ to) × NoAdditions (now (table .entry)) r to ⌝ }
+{
+    let mut i = to;
+    while from < i {
+        if is_addition(table, i - 1) {
+            return i;
+        }
+        i -= 1;
+    }
+    i
+}
+
+// The arcs from atom i join the sets: none comes from an add, none goes to the preconditions before `effects`, and
+// only a precondition's go to the atoms from `deletes` on.
+fn add_from(
+    table: &[u16],
+    i: usize,
+    from: usize,
+    effects: usize,
+    deletes: usize,
+    to: usize,
+    before: &mut PartSets,
+)
     requires { ⌜ IsSchemaAtom (now table) i ⌝ }
     requires { ⌜ IsStretch (now table) from to ⌝ }
     requires { ⌜ (from ≤ effects) × (effects ≤ to) × ArePreconditions (now table) from effects ⌝ }
+    requires { ⌜ (effects ≤ deletes) × (deletes ≤ to) × NoAdditions (now table) deletes to ⌝ }
     requires { ⌜ length (now before) ≡ mostParts ⌝ }
     ensures { λ _. ⌜ length (now (before .exit)) ≡ mostParts ⌝ }
     ensures { λ _. ⌜ Joins (arcsBetween (atomIn (now (table .entry)) i ∷ []) (stretchIn (now (table .entry)) from to))
@@ -62,8 +87,13 @@ fn add_from(table: &[u16], i: usize, from: usize, effects: usize, to: usize, bef
     if is_addition(table, i) {
         return;
     }
+    let end = if is_precondition(table, i) {
+        to
+    } else {
+        deletes
+    };
     let mut j = effects;
-    while j < to {
+    while j < end {
         add_pair(table, i, j, before);
         j += 1;
     }
@@ -75,10 +105,11 @@ pub fn arcs_of(table: &[u16], from: usize, to: usize) -> PartSets
     ensures { λ r. ⌜ AreArcs (stretchIn (now (table .entry)) from to) r ⌝ }
 {
     let effects = effects_of(table, from, to);
+    let deletes = deletes_of(table, effects, to);
     let mut before = [0; MOST_PARTS];
     let mut i = from;
     while i < to {
-        add_from(table, i, from, effects, to, &mut before);
+        add_from(table, i, from, effects, deletes, to, &mut before);
         i += 1;
     }
     before
