@@ -11,7 +11,7 @@ use native.Mathlib.Decide.{decLe}
 use lib.Dec.{leb}
 use borrow.Author.Tests.{leb-true}
 use Rattle.words.specs.Lists.{upFrom}
-use Rattle.task.specs.Task.{sameAtom, distinct, rolesAscend, partCount, factLess, ascending}
+use Rattle.task.specs.Task.{deletion, sameAtom, distinct, rolesAscend, partCount, factLess, ascending}
 use Rattle.task.specs.Table.{atomIn, factIn}
 use Rattle.task.specs.WordTests.{atomsIn, factsIn, standsAgain, RolesRise}
 use Rattle.words.proofs.Lists.{and-left, and-right}
@@ -61,14 +61,14 @@ module _ (w : List ℕ) (i e : ℕ) where
     | no m ↦ ap (λ (is : List ℕ). ascending (map (factIn w) is)) (one-step i e (omega arith))
   ]
 
-  distinct-step : i < e → distinctLeft i ≡ not (standsAgain w i e) && distinctLeft (i + 1)
+  pub distinct-step : i < e → distinctLeft i ≡ not (standsAgain w i e) && distinctLeft (i + 1)
   unfolding distinct standsAgain
   distinct-step l =
       ap (λ (is : List ℕ). distinct (map (atomIn w) is)) (range-step i e l) ∙
       ap (λ (b : Bool). not b && distinctLeft (i + 1))
       (any-map (λ b. sameAtom (atomIn w i) b) (atomIn w) (upFrom (i + 1) (e - (i + 1))))
 
-  distinct-none : e ≤ i → distinctLeft i ≡ true
+  pub distinct-none : e ≤ i → distinctLeft i ≡ true
   unfolding distinct
   distinct-none l = ap (λ (is : List ℕ). distinct (map (atomIn w) is)) (range-done i e l)
 
@@ -111,6 +111,16 @@ module _ (w : List ℕ) (first e : ℕ) (h : rolesLeft w first e first ≡ true)
   roles-rise i j l m n =
       let z : i + (j - i) ≡ j = omega arith in
       subst (λ (k : ℕ). atomIn w i .role ≤ atomIn w k .role) z (later-role i (j - i) l (omega arith))
+
+  -- the last has no role behind deletes, so that none has
+  pub roles-known : (i : ℕ) → first ≤ i → i < e → atomIn w i .role ≤ deletion
+  roles-known i l m =
+      let last = first + (e - 1 - first) in
+      let z : last ≡ e - 1 = omega arith in
+      let low = leb-true (atomIn w last .role) deletion
+      (sym (roles-last w last e (omega arith)) ∙ ascend-from (e - 1 - first) (omega arith)) in
+      let up = roles-rise i last l (omega arith) (omega arith) in
+      omega arith
 
 -- ---- the highest part, from the last atom back
 module _ (w : List ℕ) (e : ℕ) where

@@ -69,15 +69,14 @@ module _ (w : List ℕ) (i j : ℕ) where
   abbrev lessArgs : Bool
   lessArgs = lessList (atomIn w i .args) (atomIn w j .args)
 
-  pub other-role : (atomIn w i .role ≡ atomIn w j .role → ⊥) → false ≡ sameAtom (atomIn w i) (atomIn w j)
+  -- another role or another predicate
+  pub other-atom : (atomIn w i .role ≡ atomIn w j .role → atomIn w i .pred ≡ atomIn w j .pred → ⊥) →
+      sameAtom (atomIn w i) (atomIn w j) ≡ false
   unfolding sameAtom
-  other-role h = sym (ap (λ (b : Bool). b && (eqb (atomIn w i .pred) (atomIn w j .pred) && sameArgs)) (ne-eqb _ _ h))
-
-  pub other-predicate : (atomIn w i .pred ≡ atomIn w j .pred → ⊥) → false ≡ sameAtom (atomIn w i) (atomIn w j)
-  unfolding sameAtom
-  other-predicate h = sym (false-if (sameAtom (atomIn w i) (atomIn w j)) (λ k.
+  other-atom h = false-if (sameAtom (atomIn w i) (atomIn w j)) (λ k.
       let role : Bool = eqb (atomIn w i .role) (atomIn w j .role) in
-      h (eqb-true _ _ (and-left (eqb (atomIn w i .pred) (atomIn w j .pred)) _ (and-right role _ k)))))
+      let pred : Bool = eqb (atomIn w i .pred) (atomIn w j .pred) in
+      h (eqb-true _ _ (and-left role _ k)) (eqb-true _ _ (and-left pred _ (and-right role _ k))))
 
   pub less-predicate : (atomIn w i .pred ≡ atomIn w j .pred → ⊥) → ltb (atomIn w i .pred) (atomIn w j .pred) ≡
       factLess (factIn w i) (factIn w j)

@@ -1,8 +1,8 @@
 -- Being a table, tested word by word: the tests of 'Task table' that inner functions make, one for each of them.
 -- proofs/WordTables.antt shows that together they say `isTable`.
-use Prim.Native.Nat.{ℕ, _+_, _-_, _≤_, _<_}
+use Prim.Native.Nat.{ℕ, _+_, _-_, _%_, _≤_, _<_}
 use mathlib.Core.Path.{_≡_}
-use mathlib.Core.Bool.{Bool, _&&_}
+use mathlib.Core.Bool.{Bool, true, _&&_}
 use mathlib.Core.List.{List, [], _∷_, map}
 use lib.ListN.{length}
 use lib.Dec.{eqb, ltb, leb}
@@ -14,6 +14,7 @@ use Rattle.task.specs.Task.{Atom, Fact, argsFit, sameAtom, partCount, no
 use Rattle.words.specs.Words.{wordsAt}
 use Rattle.task.specs.Table.{atomIn, schemaNumberIn, factIn, aritiesIn}
 use Rattle.words.specs.Words.{zerosAt}
+use Rattle.words.specs.Sets.{member}
 
 -- "objects N (1 to 1000), predicates P (1 to 400), schemas (0 to 200), schema atoms (at most 1000), initial atoms (at
 -- most 500), goal atoms (at most 100)"
@@ -60,6 +61,15 @@ numbersFit w = all (numberFits w) (upTo (headIn w .schemaAtoms))
 unfoldable pub standsAgain : List ℕ → ℕ → ℕ → Bool
 unfolding any upFrom sameAtom atomIn
 standsAgain w i end = any (λ j. sameAtom (atomIn w i) (atomIn w j)) (upFrom (i + 1) (end - (i + 1)))
+
+-- the number that stands for a predicate in a set, which has room for 64
+abbrev pub predicateBit : ℕ → ℕ
+predicateBit p = p % 64
+
+-- a set has the predicates of the atoms behind atom i, before an end, that have its role
+abbrev pub HoldsBehind : List ℕ → ℕ → ℕ → ℕ → Type 0
+HoldsBehind w i end set = (j : ℕ) → i < j → j < end → atomIn w i .role ≡ atomIn w j .role →
+    member set (predicateBit (atomIn w j .pred)) ≡ true
 
 -- the n atoms from atom i on
 abbrev pub atomsIn : List ℕ → ℕ → ℕ → List Atom

@@ -2,7 +2,6 @@
 use crate::layout::arguments;
 use crate::layout::arity;
 use crate::layout::predicate;
-use crate::layout::role;
 use crate::limits;
 use words::runs::all_below;
 use words::runs::less_words;
@@ -34,16 +33,14 @@ pub(crate) fn atom_fits(table: &[u16], i: usize, bound: usize) -> bool
     zeros(table, to, from + limits::MOST_ARITY)
 }
 
-// Whether two atoms have one role, one predicate and the same arguments; the first's predicate is known.
+// Whether two atoms of one role have one predicate and the same arguments; the first's predicate is known.
 pub(crate) fn same_atom(table: &[u16], i: usize, j: usize) -> bool
     requires { ⌜ Roomy (now table) ⌝ }
     requires { ⌜ (i < atomTotal (now table)) × (j < atomTotal (now table)) ⌝ }
     requires { ⌜ atomIn (now table) i .pred < headIn (now table) .predicates ⌝ }
+    requires { ⌜ atomIn (now table) i .role ≡ atomIn (now table) j .role ⌝ }
     ensures { λ r. ⌜ r ≡ sameAtom (atomIn (now (table .entry)) i) (atomIn (now (table .entry)) j) ⌝ }
 {
-    if role(table, i) != role(table, j) {
-        return false;
-    }
     let p = predicate(table, i);
     if p != predicate(table, j) {
         return false;

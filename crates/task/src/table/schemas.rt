@@ -10,6 +10,7 @@ use crate::layout::role;
 use crate::layout::schema_number;
 use crate::limits;
 use words::runs::word;
+use words::sets::has;
 use words::sets::has_all;
 use words::sets::joined_words;
 use words::sets::with;
@@ -23,7 +24,13 @@ ghost use Rattle.task.specs.Task.{distinct, rolesAscend, names, partCoun
 ghost use Rattle.task.specs.Table.{atomIn};
 ghost use Rattle.words.specs.Sets.{member};
 ghost use Rattle.task.specs.WordTests.{argWordsFit, numbersFit, schemaWordsFit, schemasFit, partsFit};
-ghost use Rattle.task.specs.WordTests.{standsAgain, atomsIn, Roomy, KnownIn, RolesRise, RunOf};
+ghost use Rattle.task.specs.WordTests.{standsAgain, predicateBit, atomsIn, Roomy, KnownIn, RolesRise};
+ghost use Rattle.task.specs.WordTests.{HoldsBehind, RunOf};
+
+// How many roles an atom of a schema may have, and how many numbers go into a set.
+const ROLES: usize = 3;
+
+const SET_BITS: usize = 64;
 
 // "preconditions first, then adds, then deletes", of the atoms from one index to another.
 fn roles_ascend(table: &[u16], first: usize, end: usize) -> bool
@@ -78,20 +85,52 @@ fn stands_again(table: &[u16], i: usize, end: usize) -> bool
     false
 }
 
-// "no atom twice in one role", of the atoms from one index to another.
+// The number that stands for the predicate of atom i in a set; some predicates share one.
+fn predicate_bit(table: &[u16], i: usize) -> usize
+    requires { ⌜ Roomy (now table) ⌝ }
+    requires { ⌜ i < atomTotal (now table) ⌝ }
+    ensures { λ r. ⌜ r ≡ predicateBit (atomIn (now (table .entry)) i .pred) ⌝ }
+{
+    predicate(table, i) % SET_BITS
+}
+
+// Whether atom i stands again behind it, up to an end. It is looked for only where the set of the predicates behind in
+// its role has its own, so that few atoms are compared.
+fn repeats(table: &[u16], i: usize, end: usize, bit: usize, behind: u64) -> bool
+    requires { ⌜ Roomy (now table) ⌝ }
+    requires { ⌜ (i < end) × (end ≤ atomTotal (now table)) ⌝ }
+    requires { ⌜ atomIn (now table) i .pred < headIn (now table) .predicates ⌝ }
+    requires { ⌜ RolesRise (now table) i end ⌝ }
+    requires { ⌜ bit ≡ predicateBit (atomIn (now table) i .pred) ⌝ }
+    requires { ⌜ HoldsBehind (now table) i end behind ⌝ }
+    ensures { λ r. ⌜ r ≡ standsAgain (now (table .entry)) i end ⌝ }
+{
+    if !has(behind, bit) {
+        return false;
+    }
+    stands_again(table, i, end)
+}
+
+// "no atom twice in one role", of the atoms from one index to another: from the last back, with the predicates behind
+// of each role in a set.
 fn atoms_differ(table: &[u16], first: usize, end: usize) -> bool
     requires { ⌜ Roomy (now table) ⌝ }
-    requires { ⌜ end ≤ atomTotal (now table) ⌝ }
+    requires { ⌜ (first ≤ end) × (end ≤ atomTotal (now table)) ⌝ }
     requires { ⌜ KnownIn (now table) first end ⌝ }
-    requires { ⌜ RolesRise (now table) first end ⌝ }
+    requires { ⌜ rolesAscend (atomsIn (now table) first (end - first)) ≡ true ⌝ }
     ensures { λ r. ⌜ r ≡ distinct (atomsIn (now (table .entry)) first (end - first)) ⌝ }
 {
-    let mut i = first;
-    while i < end {
-        if stands_again(table, i, end) {
+    let mut seen = [0; ROLES];
+    let mut i = end;
+    while first < i {
+        i -= 1;
+        let own = role(table, i);
+        let bit = predicate_bit(table, i);
+        let behind = seen[own];
+        if repeats(table, i, end, bit, behind) {
             return false;
         }
-        i += 1;
+        seen[own] = with(behind, bit);
     }
     true
 }

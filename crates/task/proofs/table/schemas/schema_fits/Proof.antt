@@ -14,7 +14,6 @@ use Rattle.task.specs.WordTests.{argWordsFit, atomsIn, schemaWordsFit, K
 use Rattle.words.proofs.Lists.{met-none, met-more}
 use Rattle.words.proofs.Ranges.{some-fails, last-decides, all-from}
 use Rattle.task.proofs.AtomWords.{args-fit-known}
-use Rattle.task.proofs.AtomRuns.{roles-rise}
 use Rattle.task.proofs.SchemaWords.{orderTests, schema-words}
 use borrow.Author.Needs.{needs}
 use Rattle.task.proofs.table.schemas.schema_fits.Statement.{statement}
@@ -105,9 +104,8 @@ atoms-differ-requires : tie.Need-atoms-differ-requires
 atoms-differ-requires c κs =
     let start = start₃ (c .before) in
     let roles = c .before .before in
-    let rise = roles-rise (words start) (start .args .first) (start .args .end)
-    (sym (roles .before .roles-ascend .ensures) ∙ not-false _ (roles .if4 .left)) in
-    (start .pre .0, (omega arith, (known c, rise)))
+    let rise = sym (roles .before .roles-ascend .ensures) ∙ not-false _ (roles .if4 .left) in
+    (start .pre .0, ((omega arith, omega arith), (known c, rise)))
 
 returns-6 : tie.Need-returns-6
 returns-6 c = fails (start₄ (c .before)) 5 (sym (c .before .atoms-differ .ensures) ∙ not-true _ (c .if6 .taken))
