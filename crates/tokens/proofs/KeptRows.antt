@@ -1,13 +1,25 @@
--- The words of the rows in which parts are kept: no two things stand at one place, so what is written at one place of
--- one row leaves every other thing, of that row and of the others.
+-- The words in which parts are kept: no two things stand at one place, so what is written at one place of one row
+-- leaves every other thing, of that row, of the others and behind them; and so does what is written of one part.
 use Prim.Native.Nat.{ℕ, _+_, _*_, _≤_, _<_}
-use mathlib.Core.Path.{_≡_, _∙_}
+use mathlib.Core.Path.{_≡_, _∙_, ap}
+use mathlib.Core.Bool.{Bool, cond}
 use mathlib.Core.List.{List}
 use native.Mathlib.Omega.{arith}
-use lib.ListN.{length, getD, length-set}
+use lib.ListN.{length, getD, set, length-set}
 use lib.Seq.{getD-set-same, getD-set-other}
-use Rattle.task.specs.Limits.{mostSchemas}
-use Rattle.tokens.specs.Kept.{keptRow, keptWords, field, withField}
+use borrow.Author.Tests.{lt-ltb, le-ltb}
+use Rattle.task.specs.Limits.{mostSchemas, mostSchemaAtoms}
+use Rattle.tokens.specs.Kept.{keptRow, keptWords, orderPlace, ownPlace, field, withField, partWord, ownWord}
+use Rattle.tokens.specs.Kept.{withPart, wordIn}
+
+-- a word inside the array, and behind it
+pub word-inside : (kept : List ℕ) (i : ℕ) → i < keptWords → wordIn kept i ≡ getD kept i 0
+unfolding wordIn
+word-inside kept i l = ap (λ (b : Bool). cond b (getD kept i 0) 0) (lt-ltb i keptWords l)
+
+pub word-behind : (kept : List ℕ) (i : ℕ) → keptWords ≤ i → wordIn kept i ≡ 0
+unfolding wordIn
+word-behind kept i l = ap (λ (b : Bool). cond b (getD kept i 0) 0) (le-ltb i keptWords l)
 
 -- a place in all is one place of one row
 one-place : (s k r i : ℕ) → k < keptRow → i < keptRow → keptRow * s + k ≡ keptRow * r + i → (s ≡ r) × (k ≡ i)
@@ -29,3 +41,29 @@ module _ (kept : List ℕ) (s k v : ℕ) where
   -- all that stands before it
   pub before-stays : (i : ℕ) → i < keptRow * s + k → getD (withField kept s k v) i 0 ≡ getD kept i 0
   before-stays i a = getD-set-other kept (keptRow * s + k) i v 0 (λ e. omega arith)
+
+  -- and all that stands behind the rows
+  pub behind-stays : (i : ℕ) → s ≤ mostSchemas → k < keptRow → orderPlace ≤ i →
+      getD (withField kept s k v) i 0 ≡ getD kept i 0
+  behind-stays i a b c = getD-set-other kept (keptRow * s + k) i v 0 (λ e. omega arith)
+
+-- ---- a part and its parameters, at the place of atom i
+module _ (kept : List ℕ) (i p r : ℕ) where
+  pub part-long : length (withPart kept i p r) ≡ length kept
+  part-long = length-set (set kept (orderPlace + i) p) (ownPlace + i) r ∙ length-set kept (orderPlace + i) p
+
+  pub other-stays : (k : ℕ) → (orderPlace + i ≡ k → ⊥) → (ownPlace + i ≡ k → ⊥) →
+      getD (withPart kept i p r) k 0 ≡ getD kept k 0
+  other-stays k a b =
+      getD-set-other (set kept (orderPlace + i) p) (ownPlace + i) k r 0 (λ e. b (omega arith)) ∙
+      getD-set-other kept (orderPlace + i) k p 0 (λ e. a (omega arith))
+
+  pub part-put : length kept ≡ keptWords → i < mostSchemaAtoms → partWord (withPart kept i p r) i ≡ p
+  part-put l a =
+      getD-set-other (set kept (orderPlace + i) p) (ownPlace + i) (orderPlace + i) r 0 (λ e. omega arith) ∙
+      getD-set-same kept (orderPlace + i) p 0 (omega arith)
+
+  pub own-put : length kept ≡ keptWords → i < mostSchemaAtoms → ownWord (withPart kept i p r) i ≡ r
+  own-put l a =
+      getD-set-same (set kept (orderPlace + i) p) (ownPlace + i) r 0
+      (omega (arith, length-set kept (orderPlace + i) p))

@@ -1,5 +1,6 @@
 -- What is kept of the parts grows schema by schema, as long as an order complies; and the first schema for which none
--- does is the circular one. A row is written behind those of earlier schemas, so these stay.
+-- does is the circular one. A row is written behind those of earlier schemas, and so are the parts: no schema has more
+-- parts than atoms. So what is kept of earlier schemas stays.
 use Prim.Native.Nat.{ℕ, suc, _+_, _-_, _*_, _≤_, _<_}
 use mathlib.Core.Path.{_≡_, sym, _∙_, ap, subst}
 use mathlib.Core.Bool.{Bool, true, false, cond}
@@ -9,36 +10,40 @@ use native.Mathlib.Omega.{arith}
 use native.Mathlib.Decide.{decLt}
 use native.Mathlib.Numerals.{add-one}
 use lib.ListN.{length, getD, take, length-map}
+use lib.Dec.{eqb}
 use lib.Seq.{getD-take, length-take-le}
-use borrow.Author.Tests.{leb-true}
+use borrow.Author.Tests.{eqb-true, leb-true}
 use Rattle.words.specs.Lists.{sum, filter, keepIf, head, first, upTo, upFrom}
 use Rattle.task.specs.Layout.{headIn}
-use Rattle.task.specs.Task.{Task, schemaAtoms, partCount}
+use Rattle.task.specs.Task.{Atom, Task, schemaAtoms, partCount}
 use Rattle.task.specs.Run.{schemaAt}
 use Rattle.task.specs.Table.{taskOf, isTable}
 use Rattle.task.specs.declared.Part.{Part}
 use Rattle.words.proofs.Lists.{getD-map, in-getD, upFrom-in, upTo-in, filter-append, filter-none, upFrom-append}
-use Rattle.words.proofs.Lists.{map-append, sum-append, upTo-suc}
-use Rattle.task.proofs.Tests.{schema-tests, task-tests}
+use Rattle.words.proofs.Lists.{map-append, sum-append, upTo-suc, in-eq, in-map, any-in, all-in, length-upTo}
+use Rattle.words.proofs.Ascending.{ascend-upTo, covered-few}
+use Rattle.task.proofs.Tests.{hasPart, schema-tests, task-tests}
 use Rattle.task.proofs.Tables.{of-table}
-use Rattle.task.proofs.TablesByIndex.{table-frame, atoms-word}
+use Rattle.task.proofs.TablesByIndex.{table-frame, atoms-word, start-suc}
+use Rattle.task.proofs.StartLaws.{start-rises}
 use Rattle.arcs.specs.declared.Order.{Order}
 use Rattle.arcs.specs.Order.{orderOf}
 use Rattle.words.specs.Sets.{member}
 use Rattle.arcs.specs.Stretches.{stretchIn, orderTold}
 use Rattle.arcs.proofs.OrderTaken.{orderOf-laws}
+use Rattle.arcs.proofs.Stretches.{schema-stretch}
 use Rattle.tokens.specs.Split.{has, isNone, orderAt, orEmpty, orders, parts, firstOf}
 use Rattle.tokens.specs.Acceptance.{partAt, OrderKept}
 use Rattle.tokens.proofs.Accepted.{circularAt}
 use Rattle.tokens.proofs.AtomWords.{schema-fits}
-use Rattle.tokens.proofs.PartParameters.{inPart}
+use Rattle.tokens.proofs.PartParameters.{inPart, schema-known}
 use Rattle.tokens.proofs.KeptParts.{part-is}
 use Rattle.task.specs.Limits.{mostParts, mostSchemas, mostSchemaAtoms}
 use Rattle.task.specs.Turns.{firstAtom}
 use Rattle.tokens.specs.Kept.{startPlace, firstPlace, countPlace, orderPlace, ownPlace, keptRow, keptWords, field}
-use Rattle.tokens.specs.Kept.{withField, keptStart, keptFirst, keptCount, keptPart, keptOwn}
-use Rattle.tokens.specs.Kept.{PartsKept}
-use Rattle.tokens.proofs.KeptRows.{field-long, field-put, field-stays, before-stays}
+use Rattle.tokens.specs.Kept.{withField, ownWord, wordIn, keptStart, keptFirst, keptCount, keptPart}
+use Rattle.tokens.specs.Kept.{keptOwn, PartsKept}
+use Rattle.tokens.proofs.KeptRows.{word-inside, field-long, field-put, field-stays, before-stays, behind-stays}
 
 -- ---- the parts of the schemas before one
 pub before-step : (t : Task) (s : ℕ) → firstOf t (suc s) ≡ firstOf t s + length (orders t s)
@@ -78,6 +83,9 @@ module _ (t : Task) (s : ℕ) (f : Order) (told : orderTold f ≡ orderOf (schem
   unfolding orders orderAt orEmpty
   told-order e = ap orEmpty (told-some e)
 
+  told-count : f .found ≡ true → f .count ≤ length (f .parts) → length (orders t s) ≡ f .count
+  told-count e l = ap length (told-order e) ∙ found-count f l
+
   -- each part found is one of the schema's
   pub found-small : f .found ≡ true → f .count ≤ length (f .parts) → partCount (schemaAt t s .atoms) ≤ mostParts →
       (j : ℕ) → j < f .count → partAt (f .parts) j < mostParts
@@ -92,8 +100,7 @@ module _ (t : Task) (s : ℕ) (f : Order) (told : orderTold f ≡ orderOf (schem
   pub first-more : f .found ≡ true → f .count ≤ length (f .parts) → (first : ℕ) → first ≡ firstOf t s →
       first + f .count ≡ firstOf t (s + 1)
   first-more e l first h =
-      let n = ap length (told-order e) ∙ found-count f l in
-      omega (arith, before-step t s, ap (firstOf t) (add-one s))
+      omega (arith, told-count e l, before-step t s, ap (firstOf t) (add-one s))
 
   told-taken : f .found ≡ true → orderOf (schemaAt t s) ≡ some (orders t s)
   told-taken e = told-some e ∙ ap some (sym (told-order e))
@@ -123,6 +130,43 @@ module _ (w : List ℕ) (h : isTable w ≡ true) where
       let b = parts-few s l in
       omega (arith, orderOf-laws (schemaAt (taskOf w) s) (orders (taskOf w) s) e .size)
 
+  -- "numbered without a gap": each part has an atom
+  parts-in-atoms : (s : ℕ) → s < length (taskOf w .schemas) →
+      partCount (schemaAt (taskOf w) s .atoms) ≤ length (schemaAt (taskOf w) s .atoms)
+  parts-in-atoms s l =
+      let t = taskOf w in
+      let atoms = schemaAt t s .atoms in
+      let n = partCount atoms in
+      let part : Atom → ℕ = λ a. a .part in
+      let filled = schema-tests (t .arities) (schemaAt t s) (schema-fits w h s l) .filled in
+      let few = covered-few (map part atoms) (upTo n) (ascend-upTo n) (λ p i.
+      let (a, k, e) = any-in (λ a. eqb p (a .part)) atoms (all-in (hasPart atoms) filled i) in
+      in-eq (eqb-true p (a .part) e) (in-map part k)) in
+      omega (arith, length-upTo n, length-map atoms part)
+
+  -- so the places of its parts end before the atoms of a later schema begin
+  pub parts-end : (r s : ℕ) → r < s → s ≤ length (taskOf w .schemas) →
+      orderOf (schemaAt (taskOf w) r) ≡ some (orders (taskOf w) r) →
+      firstAtom (taskOf w) r + length (orders (taskOf w) r) ≤ firstAtom (taskOf w) s
+  parts-end r s a b e =
+      let t = taskOf w in
+      let l : r < length (t .schemas) = omega arith in
+      let next = start-suc w (table-frame w h) r (schema-known w h r l) in
+      let most = parts-in-atoms r l in
+      let size = orderOf-laws (schemaAt t r) (orders t r) e .size in
+      omega (arith, start-rises w h (suc r) s a)
+
+  -- and before the last place for an atom
+  pub found-inside : (s : ℕ) → s < length (taskOf w .schemas) → (f : Order) →
+      orderTold f ≡ orderOf (schemaAt (taskOf w) s) → f .found ≡ true → f .count ≤ length (f .parts) →
+      firstAtom (taskOf w) s + f .count ≤ mostSchemaAtoms
+  found-inside s l f told e fits =
+      let t = taskOf w in
+      let n = told-count t s f told e fits in
+      let b = parts-end s (suc s) (omega arith) (omega arith) (told-taken t s f told e) in
+      let k = schema-stretch w h s (schema-known w h s l) .known in
+      omega (arith, atoms-few)
+
   -- ---- schema by schema
   pub parts-none : (kept : List ℕ) → length kept ≡ keptWords →
       PartsKept (taskOf w) 0 (withField (withField kept 0 startPlace 0) 0 firstPlace 0)
@@ -148,11 +192,12 @@ module _ (w : List ℕ) (h : isTable w ≡ true) where
       both : List ℕ
       both = withField one 0 firstPlace 0
 
-  module _ (s from to next : ℕ) (l : s < length (taskOf w .schemas)) (ends : to ≡ firstAtom (taskOf w) (suc s))
+  module _ (s from to next : ℕ) (l : s < length (taskOf w .schemas)) (begins : from ≡ firstAtom (taskOf w) s)
+      (ends : to ≡ firstAtom (taskOf w) (suc s))
       (atoms : schemaAt (taskOf w) s .atoms ≡ stretchIn w from to) (f : Order) (fits : f .count ≤ length (f .parts))
       (found : f .found ≡ true) (told : orderTold f ≡ orderOf (schemaAt (taskOf w) s))
       (goes-on : next ≡ firstOf (taskOf w) (s + 1)) (kept ordered : List ℕ)
-      (new : OrderKept w from to s (f .count) (f .parts) (withField kept s countPlace (f .count)) ordered)
+      (new : OrderKept w from to (f .count) (f .parts) (withField kept s countPlace (f .count)) ordered)
       (old : PartsKept (taskOf w) s kept) where
     abbrev t : Task
     t = taskOf w
@@ -174,20 +219,31 @@ module _ (w : List ℕ) (h : isTable w ≡ true) where
       | no m ↦ let e : s ≡ r = omega arith in subst P e b
     ]
 
+    few : s < mostSchemas
+    few = let n = schemas-few in omega arith
+
     -- what stood before the row's count still stands, and the row itself as the order was kept
     stays : (i : ℕ) → i < keptRow * s + countPlace → getD after i 0 ≡ getD kept i 0
     stays i k =
         before-stays begun (s + 1) firstPlace next i (omega arith) ∙
         before-stays ordered (s + 1) startPlace to i (omega arith) ∙
-        new .stays i (omega arith) ∙ before-stays kept s countPlace (f .count) i k
+        new .rows i (omega (arith, few)) ∙ before-stays kept s countPlace (f .count) i k
 
-    row-stays : (i : ℕ) → i < keptRow → field after s i ≡ field ordered s i
+    row-stays : (i : ℕ) → i < keptRow → field after s i ≡ field counted s i
     row-stays i k =
         before-stays begun (s + 1) firstPlace next (keptRow * s + i) (omega arith) ∙
-        before-stays ordered (s + 1) startPlace to (keptRow * s + i) (omega arith)
+        before-stays ordered (s + 1) startPlace to (keptRow * s + i) (omega arith) ∙
+        new .rows (keptRow * s + i) (omega (arith, few))
 
-    few : s < mostSchemas
-    few = let n = schemas-few in omega arith
+    -- what stands behind the rows still stands
+    begun-behind : (i : ℕ) → orderPlace ≤ i → getD after i 0 ≡ getD ordered i 0
+    begun-behind i k =
+        let n = few in
+        behind-stays begun (s + 1) firstPlace next i (omega arith) (omega arith) k ∙
+        behind-stays ordered (s + 1) startPlace to i (omega arith) (omega arith) k
+
+    counted-behind : (i : ℕ) → orderPlace ≤ i → getD counted i 0 ≡ getD kept i 0
+    counted-behind i k = behind-stays kept s countPlace (f .count) i (omega (arith, few)) (omega arith) k
 
     counted-long : length counted ≡ keptWords
     counted-long = field-long kept s countPlace (f .count) (old .long)
@@ -199,16 +255,13 @@ module _ (w : List ℕ) (h : isTable w ≡ true) where
     begun-long = field-long ordered (s + 1) startPlace to ordered-long
 
     here-count : length (orders t s) ≡ f .count
-    here-count = ap length (told-order t s f told found) ∙ found-count f fits
+    here-count = told-count t s f told found fits
 
     here-part : (j : ℕ) → j < f .count → partAt (f .parts) j ≡ getD (orders t s) j 0
     here-part j k = sym (ap (λ (o : List ℕ). getD o j 0) (told-order t s f told found) ∙ found-part f j fits k)
 
-    here-few : f .count ≤ mostParts
-    here-few = let e = here-count in let n = order-few s l (told-taken t s f told found) in omega arith
-
     here-params : (j x : ℕ) → j < f .count →
-        member (keptOwn ordered s j) x ≡ has (schemaAt t s) x (getD (orders t s) j 0)
+        member (ownWord ordered (from + j)) x ≡ has (schemaAt t s) x (getD (orders t s) j 0)
     unfolding has
     here-params j x k =
         new .params j x k ∙
@@ -238,30 +291,60 @@ module _ (w : List ℕ) (h : isTable w ≡ true) where
     counts-more : (r : ℕ) → r < s + 1 → keptCount after r ≡ length (orders t r)
     counts-more = up-to (λ r. keptCount after r ≡ length (orders t r))
         (λ r k. stays (keptRow * r + countPlace) (omega arith) ∙ old .count r k)
-        (row-stays countPlace (omega arith) ∙ new .stays (keptRow * s + countPlace) (omega arith) ∙
+        (row-stays countPlace (omega arith) ∙
         field-put kept s countPlace (f .count) (old .long) (omega (arith, few)) (omega arith) ∙ sym here-count)
+
+    -- the place of a part of an earlier schema
+    before : (r j : ℕ) → r < s → j < length (orders t r) → firstAtom t r + j < from
+    before r j m n = let e = parts-end r s m (omega arith) (old .taken r m) in omega arith
+
+    inside : from ≤ mostSchemaAtoms
+    inside = let k = schema-stretch w h s (schema-known w h s l) in omega (arith, k .forward, k .known, atoms-few)
+
+    -- of the words from `base` on: the one for such a part still stands, and the one for a part of schema s stands as
+    -- the order was kept
+    module _ (base : ℕ) (behind : orderPlace ≤ base) (in-words : base ≤ ownPlace) where
+      word-stays : (r j : ℕ) → r < s → j < length (orders t r) →
+          getD ordered (base + (firstAtom t r + j)) 0 ≡ getD counted (base + (firstAtom t r + j)) 0 →
+          wordIn after (base + (keptStart after r + j)) ≡ wordIn kept (base + (keptStart kept r + j))
+      word-stays r j m n e =
+          let at = base + (firstAtom t r + j) in
+          let k = before r j m n in
+          let q = inside in
+          ap (λ (b : ℕ). wordIn after (base + (b + j))) (starts-more r (omega arith)) ∙
+          word-inside after at (omega arith) ∙ begun-behind at (omega arith) ∙ e ∙
+          counted-behind at (omega arith) ∙ sym (word-inside kept at (omega arith)) ∙
+          ap (λ (b : ℕ). wordIn kept (base + (b + j))) (sym (old .start r (omega arith)))
+
+      word-here : (j : ℕ) → j < f .count →
+          wordIn after (base + (keptStart after s + j)) ≡ getD ordered (base + (from + j)) 0
+      word-here j k =
+          let q = found-inside s l f told found fits in
+          ap (λ (b : ℕ). wordIn after (base + (b + j))) (starts-more s (omega arith) ∙ sym begins) ∙
+          word-inside after (base + (from + j)) (omega arith) ∙ begun-behind (base + (from + j)) (omega arith)
 
     orders-more : (r : ℕ) → r < s + 1 → (j : ℕ) → j < length (orders t r) → keptPart after r j ≡ getD (orders t r) j 0
     orders-more = up-to (λ r. (j : ℕ) → j < length (orders t r) → keptPart after r j ≡ getD (orders t r) j 0)
         (λ r m j n.
-        let b = order-few r (omega arith) (old .taken r m) in
-        stays (keptRow * r + (orderPlace + j)) (omega arith) ∙ old .part r j m n)
+        word-stays orderPlace (omega arith) (omega arith) r j m n
+        (new .parts-before (firstAtom t r + j) (before r j m n)) ∙ old .part r j m n)
         (λ j n.
         let q = here-count in
-        let b = here-few in
-        row-stays (orderPlace + j) (omega arith) ∙ new .part j (omega arith) ∙ here-part j (omega arith))
+        word-here orderPlace (omega arith) (omega arith) j (omega arith) ∙ new .part j (omega arith) ∙
+        here-part j (omega arith))
 
     owns-more : (r : ℕ) → r < s + 1 → (j x : ℕ) → j < length (orders t r) →
         member (keptOwn after r j) x ≡ has (schemaAt t r) x (getD (orders t r) j 0)
     owns-more = up-to (λ r. (j x : ℕ) → j < length (orders t r) →
         member (keptOwn after r j) x ≡ has (schemaAt t r) x (getD (orders t r) j 0))
         (λ r m j x n.
-        let b = order-few r (omega arith) (old .taken r m) in
-        ap (λ (v : ℕ). member v x) (stays (keptRow * r + (ownPlace + j)) (omega arith)) ∙ old .params r j x m n)
+        ap (λ (v : ℕ). member v x)
+        (word-stays ownPlace (omega arith) (omega arith) r j m n
+        (new .owns-before (firstAtom t r + j) (before r j m n))) ∙ old .params r j x m n)
         (λ j x n.
         let q = here-count in
-        let b = here-few in
-        ap (λ (v : ℕ). member v x) (row-stays (ownPlace + j) (omega arith)) ∙ here-params j x (omega arith))
+        ap (λ (v : ℕ). member v x) (word-here ownPlace (omega arith) (omega arith) j (omega arith)) ∙
+        here-params j x (omega arith))
 
     pub parts-more : PartsKept t (s + 1) after
     parts-more = record {

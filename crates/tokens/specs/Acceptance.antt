@@ -27,7 +27,7 @@ use Rattle.tokens.specs.declared.measure.Sizes.{Sizes}
 use Rattle.tokens.specs.declared.measure.Measured.{Measured}
 use Rattle.tokens.specs.declared.parts.Circular.{Circular}
 use Rattle.tokens.specs.declared.acceptance.Acceptance.{Acceptance}
-use Rattle.tokens.specs.Kept.{orderPlace, keptRow, keptPart, keptOwn, PartsKept}
+use Rattle.tokens.specs.Kept.{orderPlace, partWord, ownWord, PartsKept}
 
 -- ---- parameters
 -- the parameters of the part at position j, and those of them whose par it requires, adds and deletes
@@ -42,14 +42,16 @@ pub record ParsHere (t : Task) (s : ℕ) (o : List ℕ) (j : ℕ) (r : Pars) : T
 abbrev pub partAt : List Part → ℕ → ℕ
 partAt parts j = getD (map (λ (p : Part). p .0) parts) j 0
 
--- once the first n parts found of schema s are kept: what stands before its row's order still stands, then the parts
--- and the parameters of each
-pub record OrderKept (w : List ℕ) (from to s n : ℕ) (parts : List Part) (kept kept′ : List ℕ) : Type 0 where
+-- once the first n parts found of the schema of atoms `from` to `to - 1` are kept: the rows and what stands at the
+-- places of earlier atoms still stand, then the parts and the parameters of each
+pub record OrderKept (w : List ℕ) (from to n : ℕ) (parts : List Part) (kept kept′ : List ℕ) : Type 0 where
   pub long : length kept′ ≡ length kept
-  pub stays : (k : ℕ) → k < keptRow * s + orderPlace → getD kept′ k 0 ≡ getD kept k 0
-  pub part : (j : ℕ) → j < n → keptPart kept′ s j ≡ partAt parts j
+  pub rows : (k : ℕ) → k < orderPlace → getD kept′ k 0 ≡ getD kept k 0
+  pub parts-before : (i : ℕ) → i < from → partWord kept′ i ≡ partWord kept i
+  pub owns-before : (i : ℕ) → i < from → ownWord kept′ i ≡ ownWord kept i
+  pub part : (j : ℕ) → j < n → partWord kept′ (from + j) ≡ partAt parts j
   pub params : (j x : ℕ) → j < n →
-      member (keptOwn kept′ s j) x ≡ any (λ a. eqb (partAt parts j) (a .part) && names x a) (stretchIn w from to)
+      member (ownWord kept′ (from + j)) x ≡ any (λ a. eqb (partAt parts j) (a .part) && names x a) (stretchIn w from to)
 
 -- ---- sizes
 -- the schemas of the split that schema s becomes

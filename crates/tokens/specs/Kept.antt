@@ -1,12 +1,13 @@
 -- What is kept of a table's parts, all in one array: a row for each schema, and one row more, for where the last one's
--- atoms end. No promise of an entry point cites these.
+-- atoms end; behind the rows the parts, and behind these their parameters. No promise of an entry point cites these.
 use Prim.Native.Nat.{ℕ, _+_, _*_, _≤_, _<_}
 use mathlib.Core.Path.{_≡_}
-use mathlib.Core.Bool.{true}
+use mathlib.Core.Bool.{true, cond}
 use mathlib.Core.List.{List}
 use mathlib.Core.Option.{some}
 use lib.ListN.{length, getD, set}
-use Rattle.task.specs.Limits.{mostSchemas, mostParts}
+use lib.Dec.{ltb}
+use Rattle.task.specs.Limits.{mostSchemas, mostSchemaAtoms}
 use Rattle.task.specs.Task.{Task}
 use Rattle.task.specs.Run.{schemaAt}
 use Rattle.task.specs.Table.{taskOf, isTable}
@@ -15,9 +16,9 @@ use Rattle.arcs.specs.Order.{orderOf}
 use Rattle.words.specs.Sets.{member}
 use Rattle.tokens.specs.Split.{has, orders, firstOf}
 
--- ---- the words of a row
--- where in a row each thing stands: the index of the schema's first atom, the split's number of its first part, how
--- many parts it has, their order, and the parameters of each
+-- ---- the words
+-- where in a row each thing stands: the index of the schema's first atom, the split's number of its first part, and how
+-- many parts it has
 abbrev pub startPlace : ℕ
 startPlace = 0
 
@@ -27,18 +28,20 @@ firstPlace = 1
 abbrev pub countPlace : ℕ
 countPlace = 2
 
+-- the words of a row
+abbrev pub keptRow : ℕ
+keptRow = 3
+
+-- where the parts begin, where their parameters begin, and how many words there are: a schema has no more parts than
+-- atoms, so the part at position j of its order stands at the place of its atom j
 abbrev pub orderPlace : ℕ
-orderPlace = 3
+orderPlace = keptRow * (mostSchemas + 1)
 
 abbrev pub ownPlace : ℕ
-ownPlace = orderPlace + mostParts
-
--- the words of a row, and of all rows
-abbrev pub keptRow : ℕ
-keptRow = ownPlace + mostParts
+ownPlace = orderPlace + mostSchemaAtoms
 
 abbrev pub keptWords : ℕ
-keptWords = keptRow * (mostSchemas + 1)
+keptWords = ownPlace + mostSchemaAtoms
 
 -- the word at place k of row s, and the array with another word there
 abbrev pub field : List ℕ → ℕ → ℕ → ℕ
@@ -46,6 +49,17 @@ field kept s k = getD kept (keptRow * s + k) 0
 
 abbrev pub withField : List ℕ → ℕ → ℕ → ℕ → List ℕ
 withField kept s k v = set kept (keptRow * s + k) v
+
+-- the part at the place of atom i, and its parameters as a set of bits
+abbrev pub partWord : List ℕ → ℕ → ℕ
+partWord kept i = getD kept (orderPlace + i) 0
+
+abbrev pub ownWord : List ℕ → ℕ → ℕ
+ownWord kept i = getD kept (ownPlace + i) 0
+
+-- the array with another part and other parameters there
+abbrev pub withPart : List ℕ → ℕ → ℕ → ℕ → List ℕ
+withPart kept i part own = set (set kept (orderPlace + i) part) (ownPlace + i) own
 
 -- of schema s: where its atoms begin, and where they end
 abbrev pub keptStart : List ℕ → ℕ → ℕ
@@ -61,12 +75,16 @@ keptFirst kept s = field kept s firstPlace
 abbrev pub keptCount : List ℕ → ℕ → ℕ
 keptCount kept s = field kept s countPlace
 
--- the part at position j of its order, and that part's parameters as a set of bits
+-- the word at place i, 0 behind the array: no table has a part there, and those who ask need not know it
+unfoldable pub wordIn : List ℕ → ℕ → ℕ
+wordIn kept i = cond (ltb i keptWords) (getD kept i 0) 0
+
+-- the part at position j of its order, and that part's parameters
 abbrev pub keptPart : List ℕ → ℕ → ℕ → ℕ
-keptPart kept s j = field kept s (orderPlace + j)
+keptPart kept s j = wordIn kept (orderPlace + (keptStart kept s + j))
 
 abbrev pub keptOwn : List ℕ → ℕ → ℕ → ℕ
-keptOwn kept s j = field kept s (ownPlace + j)
+keptOwn kept s j = wordIn kept (ownPlace + (keptStart kept s + j))
 
 -- ---- what the words say
 -- the first n schemas of a task are kept

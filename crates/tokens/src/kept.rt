@@ -1,17 +1,19 @@
-// What is kept of a table's parts, all in one array: a row for each schema, and one row more, for where the last one's
-// atoms end. A row has the index of the schema's first atom, the split's number of its first part, how many parts it
-// has, their order, and the parameters of each, a bit for each.
+// What is kept of a table's parts, all in one array. First a row for each schema, and one row more, for where the last
+// one's atoms end: the index of the schema's first atom, the split's number of its first part, and how many parts it
+// has. Then the parts, in order, and then the parameters of each, a bit for each. A schema has no more parts than atoms,
+// so its part at position j stands at the place of its atom j.
 use task::Part;
-use task::limits::MOST_PARTS;
+use task::limits::MOST_SCHEMA_ATOMS;
 use task::limits::MOST_SCHEMAS;
 use words::runs::wide;
 use words::sets::held;
 ghost use Prim.Native.Nat.{_+_, _≤_, _<_};
 ghost use mathlib.Core.Path.{_≡_};
-ghost use Rattle.task.specs.Limits.{mostParts, mostSchemas};
+ghost use Rattle.task.specs.Limits.{mostParts, mostSchemas, mostSchemaAtoms};
 ghost use Rattle.words.specs.Words.{wordBound};
-ghost use Rattle.tokens.specs.Kept.{startPlace, firstPlace, countPlace, orderPlace, ownPlace, keptRow, field};
-ghost use Rattle.tokens.specs.Kept.{withField, keptStart, keptEnd, keptFirst, keptCount, keptPart, keptOwn};
+ghost use Rattle.tokens.specs.Kept.{startPlace, firstPlace, countPlace, ownPlace, keptRow, field, withField};
+ghost use Rattle.tokens.specs.Kept.{withPart, wordIn, keptStart, keptEnd, keptFirst, keptCount, keptPart};
+ghost use Rattle.tokens.specs.Kept.{keptOwn};
 
 // Where in a row each thing stands.
 const START: usize = 0;
@@ -20,13 +22,14 @@ const FIRST: usize = 1;
 
 const COUNT: usize = 2;
 
-const ORDER: usize = 3;
+const KEPT_ROW: usize = 3;
 
-const OWN: usize = ORDER + MOST_PARTS;
+// Where the parts begin, and where their parameters do.
+const ORDER: usize = KEPT_ROW * (MOST_SCHEMAS + 1);
 
-const KEPT_ROW: usize = OWN + MOST_PARTS;
+const OWN: usize = ORDER + MOST_SCHEMA_ATOMS;
 
-pub const KEPT_WORDS: usize = KEPT_ROW * (MOST_SCHEMAS + 1);
+pub const KEPT_WORDS: usize = OWN + MOST_SCHEMA_ATOMS;
 
 pub type Kept = [u16; KEPT_WORDS];
 
@@ -78,12 +81,26 @@ pub fn count_of(kept: &Kept, s: usize) -> usize
     wide(word(kept, s, COUNT))
 }
 
+// The word for the part at position j of schema s, of the words that begin at `base`. Behind the array it is 0: no
+// table has a part there, and those who ask need not know it.
+fn of_part(kept: &Kept, base: usize, s: usize, j: usize) -> u16
+    requires { ⌜ base ≤ ownPlace ⌝ }
+    requires { ⌜ (s < mostSchemas) × (j < mostParts) ⌝ }
+    ensures { λ r. ⌜ r ≡ wordIn (now (kept .entry)) (base + (keptStart (now (kept .entry)) s + j)) ⌝ }
+{
+    let at = base + (wide(word(kept, s, START)) + j);
+    if KEPT_WORDS <= at {
+        return 0;
+    }
+    kept[at]
+}
+
 // The part at position j of their order.
 pub fn part_at(kept: &Kept, s: usize, j: usize) -> Part
     requires { ⌜ (s < mostSchemas) × (j < mostParts) ⌝ }
     ensures { λ r. ⌜ r .0 ≡ keptPart (now (kept .entry)) s j ⌝ }
 {
-    Part(word(kept, s, ORDER + j))
+    Part(of_part(kept, ORDER, s, j))
 }
 
 // The parameters of that part.
@@ -91,7 +108,7 @@ pub fn own_at(kept: &Kept, s: usize, j: usize) -> u64
     requires { ⌜ (s < mostSchemas) × (j < mostParts) ⌝ }
     ensures { λ r. ⌜ r ≡ keptOwn (now (kept .entry)) s j ⌝ }
 {
-    held(word(kept, s, OWN + j))
+    held(of_part(kept, OWN, s, j))
 }
 
 // A row begins: its schema's first atom, and the split's number of its first part.
@@ -113,13 +130,11 @@ pub(crate) fn keep_count(kept: &mut Kept, s: usize, count: usize)
     put(kept, s, COUNT, count as u16);
 }
 
-// The part at a position of their order, and its parameters.
-pub(crate) fn keep_part(kept: &mut Kept, s: usize, j: usize, part: Part, own: u64)
-    requires { ⌜ (s < mostSchemas) × (j < mostParts) ⌝ }
-    requires { ⌜ own < wordBound ⌝ }
-    ensures { λ _. ⌜ now (kept .exit) ≡
-        withField (withField (now (kept .entry)) s (orderPlace + j) (part .0)) s (ownPlace + j) own ⌝ }
+// A part and its parameters, at the place of atom i.
+pub(crate) fn keep_part(kept: &mut Kept, i: usize, part: Part, own: u64)
+    requires { ⌜ (i < mostSchemaAtoms) × (own < wordBound) ⌝ }
+    ensures { λ _. ⌜ now (kept .exit) ≡ withPart (now (kept .entry)) i (part .0) own ⌝ }
 {
-    put(kept, s, ORDER + j, part.0);
-    put(kept, s, OWN + j, own as u16);
+    kept[ORDER + i] = part.0;
+    kept[OWN + i] = own as u16;
 }

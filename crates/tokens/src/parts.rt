@@ -14,7 +14,7 @@ use task::limits::SCHEMA_ATOMS;
 use task::limits::SCHEMAS;
 use words::runs::word;
 use words::sets::with;
-ghost use Prim.Native.Nat.{ℕ, suc, _≤_, _<_, _^_};
+ghost use Prim.Native.Nat.{ℕ, suc, _+_, _≤_, _<_, _^_};
 ghost use mathlib.Core.Path.{_≡_};
 ghost use mathlib.Core.Bool.{true, _&&_, _||_};
 ghost use mathlib.Core.Option.{none};
@@ -27,7 +27,7 @@ ghost use Rattle.words.specs.Sets.{member};
 ghost use Rattle.arcs.specs.Stretches.{IsSchemaAtom, IsStretch, stretchIn};
 ghost use Rattle.tokens.specs.Split.{isNone, orderAt};
 ghost use Rattle.tokens.specs.Acceptance.{partAt, OrderKept, circularTold};
-ghost use Rattle.task.specs.Limits.{mostParts, mostSchemas, mostParameters};
+ghost use Rattle.task.specs.Limits.{mostParts, mostSchemaAtoms, mostParameters};
 ghost use Rattle.task.specs.Turns.{firstAtom};
 ghost use Rattle.tokens.specs.Kept.{keptWords, PartsKept};
 
@@ -89,14 +89,14 @@ pub fn schema_end(table: &[u16], s: usize, from: usize) -> usize
     i
 }
 
-// Keeps the order of schema s, and the parameters of the part at each position.
-fn keep_order(table: &[u16], from: usize, to: usize, s: usize, found: Order, kept: &mut Kept)
+// Keeps the order found of the parts of the atoms `from` to `to - 1`, and the parameters of the part at each position.
+fn keep_order(table: &[u16], from: usize, to: usize, found: Order, kept: &mut Kept)
     requires { ⌜ IsStretch (now table) from to ⌝ }
-    requires { ⌜ s < mostSchemas ⌝ }
+    requires { ⌜ from + found .count ≤ mostSchemaAtoms ⌝ }
     requires { ⌜ (found .count ≤ mostParts) × (length (found .parts) ≡ mostParts) ⌝ }
     requires { ⌜ length (now kept) ≡ keptWords ⌝ }
     requires { ⌜ ((j : ℕ) → j < found .count → partAt (found .parts) j < mostParts) ⌝ }
-    ensures { λ _. ⌜ OrderKept (now (table .entry)) from to s (found .count) (found .parts) (now (kept .entry))
+    ensures { λ _. ⌜ OrderKept (now (table .entry)) from to (found .count) (found .parts) (now (kept .entry))
         (now (kept .exit)) ⌝ }
 {
     let parts = found.parts;
@@ -106,7 +106,7 @@ fn keep_order(table: &[u16], from: usize, to: usize, s: usize, found: Order, kep
     while j < count {
         let part = parts[j];
         let named = sets[part.0 as usize];
-        keep_part(kept, s, j, part, named);
+        keep_part(kept, from + j, part, named);
         j += 1;
     }
 }
@@ -133,7 +133,7 @@ pub fn keep_parts(table: &[u16], kept: &mut Kept) -> Circular
             return Circular::At(s as u64);
         }
         keep_count(kept, s, found.count);
-        keep_order(table, from, to, s, found, kept);
+        keep_order(table, from, to, found, kept);
         from = to;
         first += found.count;
         s += 1;

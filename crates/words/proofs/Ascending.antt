@@ -10,7 +10,7 @@ use lib.ListN.{length}
 use lib.Dec.{eqb}
 use borrow.Author.Tests.{eqb-true, not-true, eq-eqb, ne-eqb}
 use Rattle.words.specs.Lists.{filter, keepIf, upTo, upFrom}
-use Rattle.words.proofs.Lists.{both-ft, In, here, there, in-filter, filter-in, upFrom-in}
+use Rattle.words.proofs.Lists.{both-ft, In, here, there, in-empty, in-filter, filter-in, upFrom-in}
 
 -- ---- results that may be missing
 pub some-inj : {A : Type 0} {x y : A} → some x ≡ some y → x ≡ y
@@ -115,3 +115,16 @@ others-one-less p (below {x = x} {xs = xs} l h) = go (eqb p x) refl (others-one-
         suc (length xs) ≤ suc (length (keepIf (not b) x (others p xs)))
     go true e k = omega (arith, others-all p xs (not-again (eqb-true p x e)))
     go false e k = omega arith
+
+-- ---- a list in which all of some ascending numbers stand is no shorter than they are
+pub covered-few : (ys xs : List ℕ) → Ascend xs → ((x : ℕ) → In x xs → In x ys) → length xs ≤ length ys
+covered-few [] [] a h = omega arith
+covered-few [] (x ∷ xs) a h = absurd (in-empty (h x (here refl)))
+covered-few (y ∷ ys) xs a h =
+    let k = covered-few ys (others y xs) (ascend-filter (λ q. not (eqb y q)) a)
+    (λ q i. let (j, n) = others-in y xs q i in behind n (h q j)) in
+    omega (arith, others-one-less y a)
+  where
+    behind : {q : ℕ} → (y ≡ q → ⊥) → In q (y ∷ ys) → In q ys
+    behind n (here e) = absurd (n (sym e))
+    behind n (there k) = k

@@ -2,23 +2,23 @@
 -- positions left.
 use Rattle.tokens.proofs.parts.keep_order.Tie as tie
 use Prim.Native.Nat.{ℕ, _+_, _-_, _≤_, _<_}
-use mathlib.Core.Path.{_≡_, subst, sym}
+use mathlib.Core.Path.{_≡_, subst, sym, _∙_}
 use native.Mathlib.Omega.{arith}
 use lib.ListN.{length, getD}
 use Rattle.tokens.specs.Acceptance.{OrderKept}
 use Rattle.tokens.proofs.KeptParts.{part-is, order-none, order-more}
 use Rattle.tokens.proofs.parts.keep_order.Statement.{statement}
 use mathlib.Core.List.{List}
-use Rattle.tokens.specs.Kept.{keptWords, orderPlace, ownPlace, withField}
-use Rattle.tokens.proofs.KeptRows.{field-long}
+use Rattle.tokens.specs.Kept.{keptWords}
+use Rattle.tokens.proofs.KeptRows.{part-long}
 use Rattle.task.specs.Limits.{mostParts}
 
 abbrev Inv-loop : tie.InvT-loop
-Inv-loop table from to s kept₀ parts count sets j₀ kept j =
-    (j ≤ count) × (length kept ≡ keptWords) × OrderKept table from to s j parts kept₀ kept
+Inv-loop table from to kept₀ parts count sets j₀ kept j =
+    (j ≤ count) × (length kept ≡ keptWords) × OrderKept table from to j parts kept₀ kept
 
 abbrev μ-loop : tie.MeasureT-loop
-μ-loop table from to s kept₀ parts count sets j₀ kept j = count - j
+μ-loop table from to kept₀ parts count sets j₀ kept j = count - j
 
 -- the places of a turn, one from the next
 abbrev start : tie.At-loop Inv-loop μ-loop → tie.Start Inv-loop μ-loop
@@ -53,7 +53,7 @@ loop-holds : tie.Need-loop-holds Inv-loop μ-loop
 loop-holds c =
     let s = c .before .before .before in
     let a = s .args in
-    let none = order-none (a .table .now) (a .from) (a .to) (a .s) (a .found .parts) (a .kept .now) in
+    let none = order-none (a .table .now) (a .from) (a .to) (a .found .parts) (a .kept .now) in
     (omega arith, s .pre .1 .1 .1 .0, none)
 
 cast-named : tie.Need-cast-named Inv-loop μ-loop
@@ -65,6 +65,11 @@ mul-named c = omega (arith, found c .small)
 array-read-named : tie.Need-array-read-named Inv-loop μ-loop
 array-read-named c = omega (arith, found c .small)
 
+add-keep-part : tie.Need-add-keep-part Inv-loop μ-loop
+add-keep-part c =
+    let t = c .before .before .before .loop-test .taken in
+    omega (arith, start (turn (c .before)) .pre .1 .0)
+
 keep-part-requires : tie.Need-keep-part-requires Inv-loop μ-loop
 keep-part-requires c κs =
     let p = c .before in
@@ -72,7 +77,7 @@ keep-part-requires c κs =
     let sets = turn (c .before) .before .parameter-sets in
     let f = s .pre .1 .1 .0 .0 in
     let t = c .before .before .before .loop-test .taken in
-    ((s .pre .1 .0, omega arith), omega (arith, sets .ensures .1 .0 (found-part p)))
+    (omega (arith, s .pre .1 .0), omega (arith, sets .ensures .1 .0 (found-part p)))
 
 add-j : tie.Need-add-j Inv-loop μ-loop
 add-j c = omega (arith, c .before .before .before .before .loop-test .taken)
@@ -91,15 +96,14 @@ loop-again c =
     let sets = turn (c .before .before) .before .parameter-sets in
     let part = found-part p in
     let own = getD (sets .result) part 0 in
-    let one = withField (h .kept) (a .s) (orderPlace + h .j) part in
     let kept = sym (c .keep-part .ensures) in (
       omega arith,
-      subst (λ (k : List ℕ). length k ≡ keptWords) kept (field-long one (a .s) (ownPlace + h .j) own
-          (field-long (h .kept) (a .s) (orderPlace + h .j) part (h .inv .1))),
-      subst (λ (k : List ℕ). OrderKept (a .table .now) (a .from) (a .to) (a .s) (h .j + 1) (a .found .parts)
+      subst (λ (k : List ℕ). length k ≡ keptWords) kept
+          (part-long (h .kept) (a .from + h .j) part own ∙ h .inv .1),
+      subst (λ (k : List ℕ). OrderKept (a .table .now) (a .from) (a .to) (h .j + 1) (a .found .parts)
           (a .kept .now) k) kept
-          (order-more (a .table .now) (a .from) (a .to) (a .s) (a .found .parts) (a .kept .now) (h .j) part own
-          (h .kept) (s .pre .1 .0) (omega arith) (h .inv .1) (part-is (a .found .parts) (h .j) (found p .inside))
+          (order-more (a .table .now) (a .from) (a .to) (a .found .parts) (a .kept .now) (h .j) part own
+          (h .kept) (omega (arith, s .pre .1 .0)) (h .inv .1) (part-is (a .found .parts) (h .j) (found p .inside))
           (sets .ensures .1 .1 part) (h .inv .2)),
     )
 
@@ -108,11 +112,11 @@ returns c =
     let a = start (c .before) .args in
     let h = c .before .loop in
     let e : h .j ≡ a .found .count = omega arith in
-    subst (λ (n : ℕ). OrderKept (a .table .now) (a .from) (a .to) (a .s) n (a .found .parts) (a .kept .now) (h .kept)) e
+    subst (λ (n : ℕ). OrderKept (a .table .now) (a .from) (a .to) n (a .found .parts) (a .kept .now) (h .kept)) e
     (h .inv .2)
 
 pub keep-order-spec : {M : Type 1} → statement M
 keep-order-spec =
     tie.close
     (tie.spec Inv-loop μ-loop parameter-sets-requires loop-holds (λ c. omega arith) (λ c. omega arith) cast-named
-    mul-named array-read-named keep-part-requires add-j loop-less loop-again returns)
+    mul-named array-read-named add-keep-part keep-part-requires add-j loop-less loop-again returns)

@@ -20,7 +20,7 @@ use Rattle.words.proofs.Ascending.{no-none}
 use Rattle.arcs.proofs.Stretches.{schema-atoms, schema-stretch}
 use Rattle.tokens.specs.Acceptance.{circularTold, OrderKept}
 use Rattle.tokens.proofs.KeptSchemas.{schemas-few, atoms-few, parts-none, parts-more, told-none, circular-here}
-use Rattle.tokens.proofs.KeptSchemas.{circular-nowhere, found-small, parts-few, first-more}
+use Rattle.tokens.proofs.KeptSchemas.{circular-nowhere, found-small, found-inside, parts-few, first-more}
 use Rattle.tokens.proofs.parts.keep_parts.Statement.{statement}
 use Rattle.task.specs.Limits.{mostParts, mostSchemas}
 use Rattle.task.specs.Task.{Task}
@@ -163,10 +163,12 @@ keep-order-requires c κs =
     let l = turn d .before in
     let to = ordered (c .before) .before .schema-end in
     let n = d .order-of .ensures .1 in
-    let yes = not-false (d .order-of .result .found) (c .before .before .before .if1 .left) in (
+    let yes = not-false (d .order-of .result .found) (c .before .before .before .if1 .left) in
+    let inside = found-inside (words l) (is-table l) (l .loop .s) (known (turn d)) (d .order-of .result) (told d) yes
+    (omega (arith, n .0, n .1)) in (
       stretch (turn d) (to .result) (to .ensures),
       (
-        few (turn d),
+        omega (arith, l .loop .inv .1),
         (
           n,
           (
@@ -212,13 +214,13 @@ loop-again c =
     let atoms = atoms-are (turn d) (to .result) (to .ensures) in
     let yes = not-false (f .found) (counting c .before .before .if1 .left) in
     let order = c .before .before .before .keep-order in
-    let kept = order .last .1 .1 .1 .1 .1 .0 in
-    let new = subst (λ (k : List ℕ). OrderKept w (h .from) (to .result) (h .s) (f .count) (f .parts) k kept)
+    let kept = order .last .1 .1 .1 .1 .0 in
+    let new = subst (λ (k : List ℕ). OrderKept w (h .from) (to .result) (f .count) (f .parts) k kept)
     (counting c .keep-count .ensures) (order .ensures) in
     let fits : f .count ≤ length (f .parts) = omega (arith, n .0, n .1) in
     let next = first-more (task l) (h .s) f (told d) yes fits (h .first) (h .inv .2) in
     let more = parts-more w (is-table l) (h .s) (h .from) (to .result) (h .first + f .count) (known (turn d))
-    (to .ensures) atoms f fits yes (told d) next (h .kept) kept new
+    (h .inv .1) (to .ensures) atoms f fits yes (told d) next (h .kept) kept new
     (h .inv .4) in (
       omega (arith, turn d .loop-test .taken),
       to .ensures ∙ ap (firstAtom (task l)) (sym (add-one (h .s))),
