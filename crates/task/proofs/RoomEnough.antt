@@ -13,7 +13,7 @@ use Rattle.task.specs.Task.{Fact, Task, addition, deletion}
 use Rattle.task.specs.Run.{Step, schemaAt, ground, ofRole, groundRole, applies, next, Running, outgrown, turn}
 use Rattle.task.specs.Run.{runFitting, runWithin, addSum}
 use Rattle.task.proofs.States.{Asc, asc-insertAll}
-use Rattle.task.proofs.SizeLaws.{removed-asc, few-inserted}
+use Rattle.task.proofs.SizeLaws.{remove-length, removed-asc, few-inserted}
 
 module _ (t : Task) (x : Step) {s : List Fact} (a : Asc s) where
   next-asc : Asc (next t s x)
@@ -24,6 +24,7 @@ module _ (t : Task) (x : Step) {s : List Fact} (a : Asc s) where
   unfolding next groundRole
   next-size =
       let l = few-inserted (groundRole t addition x) (groundRole t deletion x) a in
+      let m = remove-length (groundRole t deletion x) s in
       let e = length-map (ofRole addition (schemaAt t (x .schema) .atoms)) (ground (x .objects)) in
       omega arith
 

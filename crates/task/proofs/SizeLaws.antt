@@ -2,7 +2,7 @@
 -- comes in where it holds neither in what is left nor among those before it. Numbers stand for the atoms.
 use Prim.Native.Nat.{ℕ, suc, _+_, _-_, _/_, _≤_, _<_}
 use mathlib.Core.Path.{_≡_, refl, sym, _∙_, ap, ap₂}
-use mathlib.Core.Bool.{Bool, true, false, not, _&&_, _||_}
+use mathlib.Core.Bool.{Bool, true, false, not, _&&_, _||_, and-true}
 use mathlib.Core.List.{List, [], _∷_, _++_, map}
 use native.Mathlib.Omega.{arith}
 use lib.ListN.{length, length-map}
@@ -15,8 +15,9 @@ use Rattle.task.specs.Run.{holds, insertAll, removeAll, stateIn, roomIn,
 use Rattle.task.specs.Records.{recordNumber, Known}
 use Rattle.task.specs.Spans.{groundAt, groundSpan, SpanOf}
 use Rattle.words.proofs.Lists.{both-ft, bool-ext, In, here, there, map-in, map-append, upFrom-in, upFrom-last}
-use Rattle.words.proofs.Lists.{length-upFrom}
-use Rattle.task.proofs.States.{factEq-eq, eq-factEq, in-holds, Asc, asc-insertAll, asc-filter, Fits}
+use Rattle.words.proofs.Lists.{length-upFrom, all-in}
+use Rattle.words.proofs.Words.{and-false}
+use Rattle.task.proofs.States.{factEq-eq, eq-factEq, holds-in, in-holds, Asc, asc-insertAll, asc-filter, Fits}
 use Rattle.task.proofs.Tables.{of-table}
 use Rattle.task.proofs.Numbers.{number-fact}
 use Rattle.task.proofs.Rows.{state-kept}
@@ -116,6 +117,18 @@ stays-held fs s f r h e = e ∙ sym (removed-holds fs s f ∙ ap (λ (b : Bool).
 pub stays-missing : (fs s : List Fact) (f : Fact) → holds s f ≡ false → false ≡ holds (removeAll fs s) f
 stays-missing fs s f h = sym (removed-holds fs s f ∙ ap (λ (b : Bool). b && not (holds fs f)) h)
 
+-- one of those that all hold
+pub one-holds : (fs s : List Fact) (f : Fact) → all (holds s) fs ≡ true → not (holds fs f) ≡ false → true ≡ holds s f
+one-holds fs s f a h = sym (all-in (holds s) a (holds-in fs f (not-false (holds fs f) h)))
+
+pub goes-first : (fs s : List Fact) (f : Fact) (r : Bool) → not (holds fs f) ≡ true → r ≡ holds s f →
+    r ≡ holds (removeAll fs s) f
+goes-first fs s f r h e =
+    e ∙ sym (removed-holds fs s f ∙ (ap (λ (b : Bool). holds s f && b) h ∙ and-true (holds s f)))
+
+pub goes-again : (fs s : List Fact) (f : Fact) → not (holds fs f) ≡ false → false ≡ holds (removeAll fs s) f
+goes-again fs s f h = sym (removed-holds fs s f ∙ (ap (λ (b : Bool). holds s f && b) h ∙ and-false (holds s f)))
+
 pub comes-new : (fs s : List Fact) (f : Fact) (r : Bool) → not (holds fs f) ≡ true → r ≡ holds s f →
     not r ≡ not (holds (insertAll fs s) f)
 comes-new fs s f r h e = ap not (e ∙
@@ -195,27 +208,34 @@ unfolding removeAll
 removed-asc fs a = asc-filter (λ g. not (holds fs g)) a
 
 pub few-inserted : (fs gs : List Fact) {s : List Fact} → Asc s →
-    length (insertAll fs (removeAll gs s)) ≤ length s + length fs
-few-inserted fs gs {s} a =
-    let l = insertAll-length fs (removeAll gs s) (removed-asc gs a) .1 in
-    let m = remove-length gs s in
-    omega arith
+    length (insertAll fs (removeAll gs s)) ≤ length (removeAll gs s) + length fs
+few-inserted fs gs {s} a = insertAll-length fs (removeAll gs s) (removed-asc gs a) .1
 
 pub state-room : (w state : List ℕ) (n : ℕ) → isState (taskOf w) state n ≡ true → n ≤ length state / 5
 unfolding roomIn
 state-room w state n e = state-here (taskOf w) state n e .room
 
--- every atom that comes in fits
-pub all-fit : (w steps : List ℕ) (i a b : ℕ) (gs : List Fact) (state : List ℕ) (n : ℕ) → isTable w ≡ true →
+pub few-left : (w : List ℕ) (gs : List Fact) (state : List ℕ) (n : ℕ) →
+    length (removeAll gs (stateIn (taskOf w) state n)) ≤ n
+few-left w gs state n =
+    let m = remove-length gs (stateIn (taskOf w) state n) in
+    let d = length-stateIn (taskOf w) state n in
+    omega arith
+
+pub left-room : (w : List ℕ) (gs : List Fact) (state : List ℕ) (n : ℕ) {size : ℕ} → isState (taskOf w) state n ≡ true →
+    size ≡ length (removeAll gs (stateIn (taskOf w) state n)) → size ≤ length state / 5
+left-room w gs state n e q = let m = few-left w gs state n in let r = state-room w state n e in omega arith
+
+-- every atom that comes in fits, beside the records left or more
+pub all-fit : (w steps : List ℕ) (i a b : ℕ) (gs : List Fact) (state : List ℕ) (n size : ℕ) → isTable w ≡ true →
     isState (taskOf w) state n ≡ true →
-    b - a ≤ length state / 5 - n →
+    length (removeAll gs (stateIn (taskOf w) state n)) ≤ size → size ≤ length state / 5 →
+    b - a ≤ length state / 5 - size →
     true ≡ leb (length (insertAll (groundSpan w steps i a (b - a)) (removeAll gs (stateIn (taskOf w) state n))))
     (roomIn state)
 unfolding roomIn
-all-fit w steps i a b gs state n h e l =
+all-fit w steps i a b gs state n size h e left r l =
     let m = few-inserted (groundSpan w steps i a (b - a)) gs (state-asc w state n h e) in
     let c = length-span w steps i a (b - a) in
-    let d = length-stateIn (taskOf w) state n in
-    let r = state-room w state n e in
     sym (le-leb (length (insertAll (groundSpan w steps i a (b - a)) (removeAll gs (stateIn (taskOf w) state n))))
     (length state / 5) (omega arith))

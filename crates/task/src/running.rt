@@ -112,7 +112,7 @@ fn run_step(
     if !all_hold(table, start, add, steps, i, state, n) {
         return Turn::Missing;
     }
-    if !has_room(table, add, del, end, steps, i, state, n) {
+    if !has_room(table, start, add, del, end, steps, i, state, n) {
         return Turn::Outgrown;
     }
     Turn::Ran(exchange(table, add, del, end, steps, i, state, n))

@@ -61,27 +61,89 @@ fn stays(
     }
 }
 
-// How many records are left when the atoms from `from` to `to` go out.
+// Whether the atom with this number holds, where those from `start` to `add` do: one of these needs no search.
+fn holds_now(
+    table: &[u16],
+    start: usize,
+    add: usize,
+    steps: &[u16],
+    i: usize,
+    state: &[u16],
+    n: usize,
+    number: u64,
+) -> bool
+    requires { ⌜ SpanOf (now table) (now steps) i start add ⌝ }
+    requires { ⌜ isState (taskOf (now table)) (now state) n ≡ true ⌝ }
+    requires { ⌜ all (holds (stateIn (taskOf (now table)) (now state) n))
+        (groundSpan (now table) (now steps) i start (add - start)) ≡ true ⌝ }
+    ensures { λ r. ⌜ ((f : Fact) → Known (taskOf (now (table .entry))) (now (state .entry)) n f number →
+        r ≡ holds (stateIn (taskOf (now (table .entry))) (now (state .entry)) n) f) ⌝ }
+{
+    if absent(table, start, add, steps, i, number) {
+        held(state, n, number)
+    } else {
+        true
+    }
+}
+
+// Whether the atom with this number still holds when those from `del` to `k` have gone out, where those from `start` to
+// `add` hold.
+fn goes(
+    table: &[u16],
+    start: usize,
+    add: usize,
+    del: usize,
+    k: usize,
+    steps: &[u16],
+    i: usize,
+    state: &[u16],
+    n: usize,
+    number: u64,
+) -> bool
+    requires { ⌜ SpanOf (now table) (now steps) i start add ⌝ }
+    requires { ⌜ SpanOf (now table) (now steps) i del k ⌝ }
+    requires { ⌜ isState (taskOf (now table)) (now state) n ≡ true ⌝ }
+    requires { ⌜ all (holds (stateIn (taskOf (now table)) (now state) n))
+        (groundSpan (now table) (now steps) i start (add - start)) ≡ true ⌝ }
+    ensures { λ r. ⌜ ((f : Fact) → Known (taskOf (now (table .entry))) (now (state .entry)) n f number →
+        r ≡ holds (removeAll (groundSpan (now (table .entry)) (now (steps .entry)) i del (k - del))
+        (stateIn (taskOf (now (table .entry))) (now (state .entry)) n)) f) ⌝ }
+{
+    if absent(table, del, k, steps, i, number) {
+        holds_now(table, start, add, steps, i, state, n, number)
+    } else {
+        false
+    }
+}
+
+// How many records are left when the atoms from `del` to `end` go out, where those from `start` to `add` hold.
 fn size_without(
     table: &[u16],
-    from: usize,
-    to: usize,
+    start: usize,
+    add: usize,
+    del: usize,
+    end: usize,
     steps: &[u16],
     i: usize,
     state: &[u16],
     n: usize,
 ) -> usize
-    requires { ⌜ SpanOf (now table) (now steps) i from to ⌝ }
+    requires { ⌜ SpanOf (now table) (now steps) i start add ⌝ }
+    requires { ⌜ SpanOf (now table) (now steps) i del end ⌝ }
     requires { ⌜ isState (taskOf (now table)) (now state) n ≡ true ⌝ }
-    ensures { λ r. ⌜ r ≡ length (removeAll (groundSpan (now (table .entry)) (now (steps .entry)) i from (to - from))
+    requires { ⌜ all (holds (stateIn (taskOf (now table)) (now state) n))
+        (groundSpan (now table) (now steps) i start (add - start)) ≡ true ⌝ }
+    ensures { λ r. ⌜ r ≡ length (removeAll (groundSpan (now (table .entry)) (now (steps .entry)) i del (end - del))
         (stateIn (taskOf (now (table .entry))) (now (state .entry)) n)) ⌝ }
 {
     let mut size = n;
-    let mut k = from;
-    while k < to {
-        if stays(
+    let mut k = del;
+    while k < end {
+        if goes(
             table,
-            from,
+            start,
+            add,
+            del,
             k,
             steps,
             i,
@@ -170,9 +232,11 @@ fn size_with(
 }
 
 // Whether the lent words have room for the state that is left when the atoms from `del` to `end` go out and those from
-// `add` to `del` come in. Where they have room for every atom that comes in, nothing needs to be counted.
+// `add` to `del` come in, where those from `start` to `add` hold. Where there is room for every atom that comes in, be
+// it before or after the others have gone, nothing more needs to be counted.
 pub(crate) fn has_room(
     table: &[u16],
+    start: usize,
     add: usize,
     del: usize,
     end: usize,
@@ -181,9 +245,12 @@ pub(crate) fn has_room(
     state: &[u16],
     n: usize,
 ) -> bool
+    requires { ⌜ SpanOf (now table) (now steps) i start add ⌝ }
     requires { ⌜ SpanOf (now table) (now steps) i add del ⌝ }
     requires { ⌜ SpanOf (now table) (now steps) i del end ⌝ }
     requires { ⌜ isState (taskOf (now table)) (now state) n ≡ true ⌝ }
+    requires { ⌜ all (holds (stateIn (taskOf (now table)) (now state) n))
+        (groundSpan (now table) (now steps) i start (add - start)) ≡ true ⌝ }
     ensures { λ r. ⌜ r ≡ leb (length (insertAll (groundSpan (now (table .entry)) (now (steps .entry)) i add (del - add))
         (removeAll (groundSpan (now (table .entry)) (now (steps .entry)) i del (end - del))
         (stateIn (taskOf (now (table .entry))) (now (state .entry)) n)))) (roomIn (now (state .entry))) ⌝ }
@@ -192,6 +259,9 @@ pub(crate) fn has_room(
     if del - add <= room - n {
         return true;
     }
-    let size = size_without(table, del, end, steps, i, state, n);
+    let size = size_without(table, start, add, del, end, steps, i, state, n);
+    if del - add <= room - size {
+        return true;
+    }
     size_with(table, add, del, end, steps, i, state, n, size) <= room
 }

@@ -1,6 +1,6 @@
 -- `task::running::run_step` meets its contract: the step's atoms are parted by role, and its turn follows from the
 -- tests on the parts; the exchange leaves the next state.
-use mathlib.Core.Path.{refl}
+use mathlib.Core.Path.{refl, sym, _∙_}
 use borrow.Author.Tests.{not-true, not-false}
 use Rattle.task.specs.Turns.{Turned}
 use Rattle.task.proofs.StepSpans.{span-bounds}
@@ -71,10 +71,16 @@ has-room-requires : tie.Need-has-room-requires
 has-room-requires c κs =
     let at-role-end2 = c .before .before .before .before in
     let start = at-role-end2 .before .before .before .before .before in (
-      adds-are (parted at-role-end2),
+      preconditions-are (parted at-role-end2),
       (
-        deletes-are (parted at-role-end2),
-        start .pre .1 .1 .1 .1,
+        adds-are (parted at-role-end2),
+        (
+          deletes-are (parted at-role-end2),
+          (
+            start .pre .1 .1 .1 .1,
+            sym (c .before .before .all-hold .ensures) ∙ not-false _ (c .before .if1 .left),
+          ),
+        ),
       ),
     )
 

@@ -9,7 +9,6 @@ use borrow.Author.Tests.{not-true, not-false}
 use Rattle.task.specs.Table.{taskOf}
 use Rattle.task.specs.Run.{insertAll, removeAll, stateIn}
 use Rattle.task.specs.Spans.{groundSpan}
-use Rattle.task.proofs.StateWords.{length-stateIn}
 use Rattle.task.proofs.GroundWords.{span-atom}
 use Rattle.task.proofs.SpanLaws.{state-long, atom-known, insert-nothing}
 use Rattle.task.proofs.SizeLaws.{
@@ -18,6 +17,7 @@ use Rattle.task.proofs.SizeLaws.{
   size-grows,
   size-same,
   few-inserted,
+  few-left,
   CountedSo,
   count-start,
   count-turn,
@@ -71,7 +71,9 @@ add-total c =
     (start .args .end - start .args .del)) (state-asc _ _ _ (start .pre .0 .tabled) (start .pre .1 .1 .0)) in
     let s = length-span (start .args .table .now) (start .args .steps .now) (start .args .i) (start .args .add)
     (at-loop .loop .k - start .args .add) in
-    let n = length-stateIn (taskOf (start .args .table .now)) (start .args .state .now) (start .args .n) in
+    let n = few-left (start .args .table .now) (groundSpan (start .args .table .now) (start .args .steps .now)
+    (start .args .i) (start .args .del) (start .args .end - start .args .del)) (start .args .state .now)
+    (start .args .n) in
     let l = state-long _ _ _ (start .pre .0 .tabled) (start .pre .1 .1 .0) in
     let a = start .pre .0 .atoms _ (at-loop .loop .inv .from-first) (at-loop-test .loop-test .taken) .0 in
     let w = at-shared-slice-known .shared-slice-known .given 3 in

@@ -25,29 +25,31 @@ use Rattle.task.proofs.sizes.size_without.Statement.{statement}
 use Rattle.task.proofs.sizes.size_without.Tie as tie
 
 abbrev Inv-loop : tie.InvT-loop
-Inv-loop table from to steps i state n size₀ k₀ size k =
-    CountedSo table steps i (λ fs. removeAll fs (stateIn (taskOf table) state n)) from to k size
+Inv-loop table start add del end steps i state n size₀ k₀ size k =
+    CountedSo table steps i (λ fs. removeAll fs (stateIn (taskOf table) state n)) del end k size
 
 abbrev μ-loop : tie.MeasureT-loop
-μ-loop table from to steps i state n size₀ k₀ size k = to - k
+μ-loop table start add del end steps i state n size₀ k₀ size k = end - k
 
 loop-holds : tie.Need-loop-holds Inv-loop μ-loop
 loop-holds c =
     let start = c .before .before .before in
-    count-start _ _ _ _ _ _ _ (start .pre .0 .ordered) (sym (ap length (remove-nothing _) ∙ length-stateIn _ _ _))
+    count-start _ _ _ _ _ _ _ (start .pre .1 .0 .ordered) (sym (ap length (remove-nothing _) ∙ length-stateIn _ _ _))
 
 ground-requires : tie.Need-ground-requires Inv-loop μ-loop
 ground-requires c κs =
     let start = c .before .before .before .before .before in
-    span-atom _ _ _ _ _ (start .pre .0) _ (c .before .loop .inv .from-first) (c .loop-test .taken)
+    span-atom _ _ _ _ _ (start .pre .1 .0) _ (c .before .loop .inv .from-first) (c .loop-test .taken)
 
-stays-requires : tie.Need-stays-requires Inv-loop μ-loop
-stays-requires c κs =
+goes-requires : tie.Need-goes-requires Inv-loop μ-loop
+goes-requires c κs =
     let at-loop = c .before .before in
-    let start = at-loop .before .before .before .before in (
-      span-front (start .pre .0) _
-          (at-loop .loop .inv .from-first) (at-loop .loop .inv .to-last),
-      start .pre .1,
+    let p = at-loop .before .before .before .before .pre in (
+      p .0,
+      (
+        span-front (p .1 .0) _ (at-loop .loop .inv .from-first) (at-loop .loop .inv .to-last),
+        p .1 .1,
+      ),
     )
 
 sub-size : tie.Need-sub-size Inv-loop μ-loop
@@ -56,10 +58,10 @@ sub-size c =
     let at-loop-test = at-ground .before in
     let at-loop = at-loop-test .before in
     let start = at-loop .before .before .before .before in
-    let known = atom-known (span-atom _ _ _ _ _ (start .pre .0) _ (at-loop .loop .inv .from-first)
-    (at-loop-test .loop-test .taken)) (start .pre .1) (at-ground .ground .ensures) in
-    let e = size-goes _ _ _ (state-asc _ _ _ (start .pre .0 .tabled) (start .pre .1))
-    (sym (c .before .stays .ensures _ known) ∙ c .if1 .taken) in
+    let known = atom-known (span-atom _ _ _ _ _ (start .pre .1 .0) _ (at-loop .loop .inv .from-first)
+    (at-loop-test .loop-test .taken)) (start .pre .1 .1 .0) (at-ground .ground .ensures) in
+    let e = size-goes _ _ _ (state-asc _ _ _ (start .pre .1 .0 .tabled) (start .pre .1 .1 .0))
+    (sym (c .before .goes .ensures _ known) ∙ c .if1 .taken) in
     let z = at-loop .loop .inv .is in omega arith
 
 loop-again : tie.Need-loop-again Inv-loop μ-loop
@@ -68,14 +70,14 @@ loop-again c =
     let at-loop-test = at-ground .before in
     let at-loop = at-loop-test .before in
     let start = at-loop .before .before .before .before in
-    let known = atom-known (span-atom _ _ _ _ _ (start .pre .0) _ (at-loop .loop .inv .from-first)
-    (at-loop-test .loop-test .taken)) (start .pre .1) (at-ground .ground .ensures) in
+    let known = atom-known (span-atom _ _ _ _ _ (start .pre .1 .0) _ (at-loop .loop .inv .from-first)
+    (at-loop-test .loop-test .taken)) (start .pre .1 .1 .0) (at-ground .ground .ensures) in
     let z = at-loop .loop .inv .is in
-    ⊎-elim (λ v. let e = size-goes _ _ _ (state-asc _ _ _ (start .pre .0 .tabled) (start .pre .1))
-    (sym (c .before .stays .ensures _ known) ∙ v .0 .taken) in
+    ⊎-elim (λ v. let e = size-goes _ _ _ (state-asc _ _ _ (start .pre .1 .0 .tabled) (start .pre .1 .1 .0))
+    (sym (c .before .goes .ensures _ known) ∙ v .0 .taken) in
     count-turn _ _ _ _ (at-loop .loop .inv) (at-loop-test .loop-test .taken) (omega arith)) (λ v. let e =
-    size-stays _ _ _ (state-asc _ _ _ (start .pre .0 .tabled) (start .pre .1))
-    (sym (c .before .stays .ensures _ known) ∙ v .0 .left) in
+    size-stays _ _ _ (state-asc _ _ _ (start .pre .1 .0 .tabled) (start .pre .1 .1 .0))
+    (sym (c .before .goes .ensures _ known) ∙ v .0 .left) in
     count-turn _ _ _ _ (at-loop .loop .inv) (at-loop-test .loop-test .taken) (omega arith)) (c .if1 .came)
 
 returns : tie.Need-returns Inv-loop μ-loop
@@ -84,5 +86,5 @@ returns c = count-end _ _ _ _ (c .before .loop .inv) (c .loop-test .left)
 pub size-without-spec : {M : Type 1} → statement M
 size-without-spec =
     tie.close
-    (tie.spec Inv-loop μ-loop loop-holds ground-requires stays-requires sub-size (λ c. omega arith) (λ c. omega arith)
+    (tie.spec Inv-loop μ-loop loop-holds ground-requires goes-requires sub-size (λ c. omega arith) (λ c. omega arith)
     loop-again returns)
