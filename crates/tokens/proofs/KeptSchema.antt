@@ -11,9 +11,10 @@ use Rattle.words.specs.Lists.{upTo}
 use Rattle.task.specs.Layout.{headIn}
 use Rattle.task.specs.Task.{schemaFits, Task}
 use Rattle.task.specs.Run.{schemaAt}
-use Rattle.task.specs.Table.{taskOf}
+use Rattle.task.specs.Table.{taskOf, atomIn}
 use Rattle.words.proofs.Lists.{in-getD}
 use Rattle.task.proofs.AtomsStand.{noAtom}
+use Rattle.task.proofs.SchemaAtoms.{role-rises}
 use Rattle.task.proofs.Tests.{SchemaTests, schema-tests}
 use Rattle.task.proofs.TablesByIndex.{table-frame, start-suc}
 use Rattle.arcs.specs.Stretches.{IsStretch, stretchIn}
@@ -75,6 +76,12 @@ module _ {w : List ℕ} {s : ℕ} {kept : List ℕ} (K : SchemaKept w s kept) wh
         subst (λ (n : ℕ). IsStretch w n to) (sym (begins ∙ starts))
         (subst (λ (n : ℕ). IsStretch w (firstAtom t s) n) (sym (stops ∙ ends))
         (schema-stretch w (K .table) s word-known))
+
+    pub kept-rise : (j k : ℕ) → from ≤ j → j ≤ k → k < to → atomIn w j .role ≤ atomIn w k .role
+    kept-rise j k a b c =
+        let x = starts in
+        let y = ends in
+        role-rises w (K .table) s word-known j k (omega arith) b (omega arith)
 
     pub kept-atoms : schemaAt t s .atoms ≡ stretchIn w from to
     kept-atoms =

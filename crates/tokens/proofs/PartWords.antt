@@ -1,27 +1,31 @@
 -- The words of a part's atoms as its loops put them: one atom or one par further, a word run is longer by that atom's
--- words where the test takes it, and the same where it doesn't.
-use Prim.Native.Nat.{ℕ, _+_, _-_, _≤_, _<_}
+-- words where the test takes it, and the same where it doesn't. Roles ascend, so the atoms of one stand in a row: those
+-- before and behind it put nothing.
+use Prim.Native.Nat.{ℕ, zero, suc, _+_, _-_, _≤_, _<_}
 use mathlib.Core.Path.{_≡_, refl, sym, _∙_, ap, subst}
 use mathlib.Core.Bool.{Bool, true, false, _&&_}
 use mathlib.Core.List.{List, [], _∷_, _++_, map, append-nil}
 use native.Mathlib.Omega.{arith}
+use native.Mathlib.Decide.{decLt}
 use native.Mathlib.Numerals.{add-one}
 use lib.ListN.{length, getD, take, replicate, length-map}
 use lib.Seq.{take-suc, take-all}
 use lib.Dec.{eqb, ltb}
-use borrow.Author.Tests.{ltb-true, lt-ltb}
+use borrow.Author.Tests.{ltb-true, lt-ltb, ne-eqb}
 use Rattle.words.specs.Lists.{filter, keepIf, concatMap, upTo, padded}
-use Rattle.task.specs.Task.{Atom}
+use Rattle.task.specs.Task.{Atom, precondition}
 use Rattle.task.specs.Run.{ofRole}
 use Rattle.task.specs.Table.{atomIn, atomWords}
+use Rattle.task.specs.Turns.{RoleEnds}
 use Rattle.words.proofs.Lists.{and-right, upTo-in, map-append, append-concatMap, filter-append, filter-none}
 use Rattle.words.proofs.Lists.{length-padded, filter-same}
 use Rattle.words.specs.Sets.{member, members, wordBits}
-use Rattle.arcs.specs.Stretches.{stretchIn}
+use Rattle.arcs.specs.Stretches.{IsStretch, stretchIn}
 use Rattle.words.proofs.BitSets.{member-zero}
 use Rattle.arcs.proofs.Stretches.{atoms-none, atoms-more}
 use Rattle.words.specs.Putting.{Puts}
-use Rattle.tokens.specs.Writing.{newNumber, renumbered, oldIn, parIn}
+use Rattle.tokens.specs.Writing.{newNumber, renumbered, oldIn, oldWords, parIn, RoleBegins}
+use Rattle.tokens.specs.declared.part_atoms.PartPlace.{PartPlace}
 use Rattle.words.proofs.Puts.{puts-then}
 use Rattle.words.proofs.SetMembers.{members-more, filter-below}
 
@@ -120,6 +124,78 @@ module _ (own r p : ℕ) where
     old-left i l h =
         ap (concatMap (atomWords number)) (old-step i l) ∙
         words-left (atomWords number) (oldIn own r p (stretchIn w from i)) (renumbered own r (atomIn w i)) _ h
+
+    -- atoms that are not here put nothing
+    old-skips : (i n : ℕ) → from ≤ i → ((k : ℕ) → i ≤ k → k < i + n → isHere (atomIn w k) ≡ false) →
+        oldUpTo (i + n) ≡ oldUpTo i
+    old-skips i zero l h = ap oldUpTo (let e : i + 0 ≡ i = omega arith in e)
+    old-skips i (suc n) l h =
+        ap oldUpTo (let e : i + suc n ≡ i + n + 1 = omega arith in e) ∙
+        old-left (i + n) (omega arith) (h (i + n) (omega arith) (omega arith)) ∙
+        old-skips i n l (λ k a b. h k a (omega arith))
+
+-- ---- the old atoms of a role stand in a row
+pub roles-begin : {w : List ℕ} {here : PartPlace} → IsStretch w (here .from) (here .to) →
+    ((j k : ℕ) → here .from ≤ j → j ≤ k → k < here .to → atomIn w j .role ≤ atomIn w k .role) →
+    RoleBegins w here precondition (here .from)
+roles-begin s h = record {
+  stretch = s;
+  rise = h;
+  from = omega arith;
+  within = s .forward;
+  before = λ k a b. absurd (omega arith);
+  behind = λ k a b. omega arith;
+}
+
+module _ {w : List ℕ} {here : PartPlace} {r first : ℕ} (B : RoleBegins w here r first) where
+  abbrev upTo-atom : ℕ → List ℕ
+  upTo-atom = oldUpTo (here .own) r (here .part .0) w (here .number) (here .from)
+
+  not-here : (k : ℕ) → (r ≡ atomIn w k .role → ⊥) → isHere (here .own) r (here .part .0) (atomIn w k) ≡ false
+  not-here k n = ap (λ (b : Bool). b && eqb (here .part .0) (atomIn w k .part)) (ne-eqb r (atomIn w k .role) n)
+
+  -- none stands before the first
+  pub old-begun : upTo-atom first ≡ []
+  old-begun =
+      let n = first - here .from in
+      let l = B .from in
+      ap upTo-atom (let e : first ≡ here .from + n = omega arith in e) ∙
+      old-skips (here .own) r (here .part .0) w (here .number) (here .from) (here .from) n (omega arith)
+      (λ k a b. not-here k (λ e. let z = B .before k a (omega arith) in omega arith)) ∙
+      old-none (here .own) r (here .part .0) w (here .number) (here .from)
+
+  module _ {i : ℕ} (E : RoleEnds w first (here .to) r i) where
+    -- where they end the next role begins
+    pub next-begins : RoleBegins w here (r + 1) i
+    next-begins = record {
+      stretch = B .stretch;
+      rise = B .rise;
+      from = let a = B .from in let b = E .from in omega arith;
+      within = E .within;
+      before = λ k a b. elim (decLt k first) [
+        | yes m ↦ let z = B .before k a m in omega arith
+        | no m ↦ let z = E .has k (omega arith) b in omega arith
+      ];
+      behind = λ k a b.
+          let l = B .from in
+          let m = E .from in
+          let x = B .behind i m (omega arith) in
+          let y = B .rise i k (omega arith) a b in
+          elim (decLt r (atomIn w i .role)) [
+            | yes p ↦ omega arith
+            | no p ↦ absurd (E .stops (omega arith) (omega arith))
+          ];
+    }
+
+    -- and all of them were put
+    pub old-ended : oldWords w here r ≡ upTo-atom i
+    old-ended =
+        let n = here .to - i in
+        let l = next-begins .from in
+        let m = E .within in
+        ap upTo-atom (let e : here .to ≡ i + n = omega arith in e) ∙
+        old-skips (here .own) r (here .part .0) w (here .number) (here .from) i n l
+        (λ k a b. not-here k (λ e. let z = next-begins .behind k a (omega arith) in omega arith))
 
 -- ---- pars
 module _ (own par r number which : ℕ) where

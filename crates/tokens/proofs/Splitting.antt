@@ -36,7 +36,8 @@ use Rattle.tokens.specs.Acceptance.{AcceptedKept, partSchemas}
 use Rattle.tokens.specs.declared.measure.Sizes.{Sizes}
 use Rattle.tokens.specs.declared.part_atoms.PartTokens.{PartTokens}
 use Rattle.tokens.proofs.KeptSchemas.{before-step}
-use Rattle.tokens.proofs.KeptSchema.{kept-stretch, kept-atoms, stretch-small}
+use Rattle.tokens.proofs.KeptSchema.{kept-stretch, kept-rise, kept-atoms, stretch-small}
+use Rattle.tokens.proofs.PartWords.{roles-begin}
 
 -- a schema with an atom has a part
 some-count : (atoms : List Atom) → 1 ≤ length atoms → 1 ≤ partCount atoms
@@ -130,7 +131,7 @@ module _ {w : List ℕ} {sizes : Sizes} {kept : List ℕ} (S : AcceptedKept w si
           let a = arities-word w fr in
           let p = e₅ ∙ sym (params-at w fr s (omega arith)) in
           record {
-            stretch = kept-stretch schema-kept e₁ e₂;
+            roles = roles-begin (kept-stretch schema-kept e₁ e₂) (kept-rise schema-kept e₁ e₂);
             short = stretch-small schema-kept e₁ e₂;
             atoms = sym (kept-atoms schema-kept e₁ e₂);
             part = e₃ ∙ S .parts .part s j l h;

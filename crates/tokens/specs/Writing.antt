@@ -10,7 +10,7 @@ use Rattle.words.specs.Lists.{filter, concatMap, upTo}
 use Rattle.task.specs.Layout.{Head, headBlock, headIn}
 use Rattle.task.specs.Task.{Atom, Task, precondition, addition, deletion}
 use Rattle.task.specs.Limits.{mostAtoms, mostParameters, atomSize}
-use Rattle.task.specs.Table.{atomWords, taskOf, aritiesIn}
+use Rattle.task.specs.Table.{atomIn, atomWords, taskOf, aritiesIn}
 use Rattle.task.specs.Run.{ofRole, schemaAt}
 use Rattle.arcs.specs.Stretches.{IsStretch, stretchIn}
 use Rattle.words.specs.Sets.{member, members, wordBits}
@@ -42,6 +42,16 @@ parBound = 1000
 
 abbrev pub parIn : ℕ → ℕ → ℕ → ℕ → Atom
 parIn own par r x = token r (par + x) (newNumber own x ∷ [])
+
+-- ---- the atoms of one role
+-- of the atoms of a part's schema, whose roles ascend: atom i is the first that is in role r or a later one
+pub record RoleBegins (w : List ℕ) (here : PartPlace) (r i : ℕ) : Type 0 where
+  pub stretch : IsStretch w (here .from) (here .to)
+  pub rise : (j k : ℕ) → here .from ≤ j → j ≤ k → k < here .to → atomIn w j .role ≤ atomIn w k .role
+  pub from : here .from ≤ i
+  pub within : i ≤ here .to
+  pub before : (k : ℕ) → here .from ≤ k → k < i → atomIn w k .role < r
+  pub behind : (k : ℕ) → i ≤ k → k < here .to → r ≤ atomIn w k .role
 
 -- ---- a part's words
 -- its old atoms of role r
@@ -77,7 +87,7 @@ mostPartWords = 3 * (atomSize * (mostAtoms + 1 + mostParameters))
 -- ---- a part of the task
 -- the place of the part of schema s at position j of its order
 pub record PlaceOf (w : List ℕ) (s j : ℕ) (here : PartPlace) : Type 0 where
-  pub stretch : IsStretch w (here .from) (here .to)
+  pub roles : RoleBegins w here precondition (here .from)
   pub short : here .to - here .from ≤ mostAtoms
   pub atoms : stretchIn w (here .from) (here .to) ≡ schemaAt (taskOf w) s .atoms
   pub part : here .part .0 ≡ getD (orders (taskOf w) s) j 0

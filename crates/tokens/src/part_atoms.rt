@@ -17,17 +17,17 @@ use words::putting::four;
 use words::sets;
 ghost use Prim.Native.Nat.{_+_, _-_, _*_, _≤_, _<_};
 ghost use mathlib.Core.Path.{_≡_};
-ghost use mathlib.Core.Bool.{_&&_};
 ghost use mathlib.Core.List.{[], map};
 ghost use lib.ListN.{length};
 ghost use lib.Dec.{eqb};
 ghost use Rattle.words.specs.Lists.{padded};
 ghost use Rattle.task.specs.Table.{atomIn, atomWords};
-ghost use Rattle.arcs.specs.Stretches.{IsSchemaAtom, IsStretch};
+ghost use Rattle.task.specs.Task.{precondition};
+ghost use Rattle.arcs.specs.Stretches.{IsSchemaAtom};
 ghost use Rattle.tokens.specs.Split.{token};
 ghost use Rattle.words.specs.Putting.{Puts};
 ghost use Rattle.tokens.specs.Writing.{newNumber, renumbered, parIn, oldWords, parWords, roleWords, partWords};
-ghost use Rattle.tokens.specs.Writing.{parBound};
+ghost use Rattle.tokens.specs.Writing.{parBound, RoleBegins};
 ghost use Rattle.task.specs.Limits.{atomSize, mostArity, mostParameters};
 ghost use Rattle.words.specs.Sets.{wordBits};
 
@@ -57,6 +57,12 @@ struct RoleTokens {
     lone: bool,
     bare: u16,
     which: u64,
+}
+
+// How far a role is put: the place behind its atoms, and the schema's first old atom of a later role.
+struct Reached {
+    next: usize,
+    atom: usize,
 }
 
 // A parameter's number among those of the part.
@@ -106,36 +112,43 @@ fn old_atom(
     arguments(table, i, own, out, next)
 }
 
-// Whether an atom is in a role and in a part.
-fn is_here(table: &[u16], i: usize, role: u16, part: Part) -> bool
+// Whether an atom is in a role.
+fn is_of_role(table: &[u16], i: usize, role: u16) -> bool
     requires { ⌜ IsSchemaAtom (now table) i ⌝ }
-    ensures { λ r. ⌜ r ≡
-        eqb role (atomIn (now (table .entry)) i .role) && eqb (part .0) (atomIn (now (table .entry)) i .part) ⌝ }
+    ensures { λ r. ⌜ r ≡ eqb role (atomIn (now (table .entry)) i .role) ⌝ }
 {
-    if role == role_at(table, row_of(table, i)) {
-        part.0 == part_of(table, i).0
-    } else {
-        false
-    }
+    role == role_at(table, row_of(table, i))
 }
 
-// The old atoms of one role, in file order.
-fn old_atoms(table: &[u16], here: PartPlace, role: u16, out: &mut [u16], at: usize) -> usize
-    requires { ⌜ IsStretch (now table) (here .from) (here .to) ⌝ }
+// The old atoms of one role, in file order. Roles ascend, so those of the role stand in a row, from atom `first` on.
+fn old_atoms(
+    table: &[u16],
+    here: PartPlace,
+    role: u16,
+    first: usize,
+    out: &mut [u16],
+    at: usize,
+) -> Reached
+    requires { ⌜ RoleBegins (now table) here role first ⌝ }
     requires { ⌜ at + atomSize * (here .to - here .from) ≤ length (now out) ⌝ }
-    ensures { λ r. ⌜ Puts (now (out .entry)) at (oldWords (now (table .entry)) here role) (now (out .exit)) r ⌝ }
-    ensures { λ r. ⌜ r ≤ at + atomSize * (here .to - here .from) ⌝ }
+    ensures { λ r. ⌜ Puts (now (out .entry)) at (oldWords (now (table .entry)) here role)
+        (now (out .exit)) (r .next) ⌝ }
+    ensures { λ r. ⌜ r .next ≤ at + atomSize * (here .to - here .from) ⌝ }
+    ensures { λ r. ⌜ RoleBegins (now (table .entry)) here (role + 1) (r .atom) ⌝ }
 {
     let to = here.to;
     let mut next = at;
-    let mut i = here.from;
+    let mut i = first;
     while i < to {
-        if is_here(table, i, role, here.part) {
+        if !is_of_role(table, i, role) {
+            return Reached { next, atom: i };
+        }
+        if part_of(table, i).0 == here.part.0 {
             next = old_atom(table, i, here.own, here.number, role, out, next);
         }
         i += 1;
     }
-    next
+    Reached { next, atom: i }
 }
 
 // A bare token: procnone or a do.
@@ -185,29 +198,35 @@ fn par_atoms(here: PartPlace, role: u16, which: u64, out: &mut [u16], at: usize)
     next
 }
 
-// All atoms of one role.
+// All atoms of one role, of which the old ones begin at atom `first`.
 fn role_atoms(
     table: &[u16],
     here: PartPlace,
     role: u16,
+    first: usize,
     tokens: RoleTokens,
     out: &mut [u16],
     at: usize,
-) -> usize
-    requires { ⌜ IsStretch (now table) (here .from) (here .to) ⌝ }
+) -> Reached
+    requires { ⌜ RoleBegins (now table) here role first ⌝ }
     requires { ⌜ here .params ≤ mostParameters ⌝ }
     requires { ⌜ here .par < parBound ⌝ }
     requires { ⌜ at + atomSize * (here .to - here .from + 1 + here .params) ≤ length (now out) ⌝ }
     ensures { λ r. ⌜ Puts (now (out .entry)) at (roleWords (now (table .entry)) here role tokens)
-        (now (out .exit)) r ⌝ }
-    ensures { λ r. ⌜ r ≤ at + atomSize * (here .to - here .from + 1 + here .params) ⌝ }
+        (now (out .exit)) (r .next) ⌝ }
+    ensures { λ r. ⌜ r .next ≤ at + atomSize * (here .to - here .from + 1 + here .params) ⌝ }
+    ensures { λ r. ⌜ RoleBegins (now (table .entry)) here (role + 1) (r .atom) ⌝ }
 {
-    let next = old_atoms(table, here, role, out, at);
+    let old = old_atoms(table, here, role, first, out, at);
     if tokens.lone {
-        return next;
+        return old;
     }
-    let behind = bare_token(here.number, role, tokens.bare, out, next);
-    par_atoms(here, role, tokens.which, out, behind)
+    let behind = bare_token(here.number, role, tokens.bare, out, old.next);
+    let next = par_atoms(here, role, tokens.which, out, behind);
+    Reached {
+        next,
+        atom: old.atom,
+    }
 }
 
 // All atoms of the part's schema. The only part of a schema has tokens among its preconditions alone.
@@ -218,7 +237,7 @@ pub fn part_atoms(
     out: &mut [u16],
     at: usize,
 ) -> usize
-    requires { ⌜ IsStretch (now table) (here .from) (here .to) ⌝ }
+    requires { ⌜ RoleBegins (now table) here precondition (here .from) ⌝ }
     requires { ⌜ here .params ≤ mostParameters ⌝ }
     requires { ⌜ here .par < parBound ⌝ }
     requires { ⌜ at + 3 * (atomSize * (here .to - here .from + 1 + here .params)) ≤ length (now out) ⌝ }
@@ -240,7 +259,8 @@ pub fn part_atoms(
         bare: tokens.required,
         which: pars.last,
     };
-    let pre = role_atoms(table, here, PRECONDITION, required, out, at);
-    let add = role_atoms(table, here, ADDITION, added, out, pre);
-    role_atoms(table, here, DELETION, deleted, out, add)
+    let pre = role_atoms(table, here, PRECONDITION, here.from, required, out, at);
+    let add = role_atoms(table, here, ADDITION, pre.atom, added, out, pre.next);
+    let del = role_atoms(table, here, DELETION, add.atom, deleted, out, add.next);
+    del.next
 }

@@ -1,5 +1,5 @@
--- `tokens::part_atoms::part_atoms` meets its contract: the runs of the three roles make one. Each role takes at most a
--- third of the room.
+-- `tokens::part_atoms::part_atoms` meets its contract: the runs of the three roles make one. Each role begins at the
+-- atom that the one before it has reached, and takes at most a third of the room.
 use Rattle.tokens.proofs.part_atoms.part_atoms.Tie as tie
 use mathlib.Core.Path.{refl}
 use native.Mathlib.Omega.{arith}
@@ -27,7 +27,7 @@ role-atoms-requires-2 c κs =
     let s = begun (c .before .before .before) in
     let p = c .before .before .before .role-atoms .ensures in
     let m = s .pre .1 .1 .1 in
-    (s .pre .0, (s .pre .1 .0, (s .pre .1 .1 .0, omega (arith, puts-length (p .0), p .1))))
+    (p .1 .1, (s .pre .1 .0, (s .pre .1 .1 .0, omega (arith, puts-length (p .0), p .1 .0))))
 
 role-atoms-requires-3 : tie.Need-role-atoms-requires-3
 role-atoms-requires-3 c κs =
@@ -35,7 +35,9 @@ role-atoms-requires-3 c κs =
     let p = first (c .before .before .before) .role-atoms .ensures in
     let q = c .before .before .before .role-atoms2 .ensures in
     let m = s .pre .1 .1 .1 in
-    (s .pre .0, (s .pre .1 .0, (s .pre .1 .1 .0, omega (arith, puts-length (p .0), puts-length (q .0), p .1, q .1))))
+    let x = puts-length (p .0) in
+    let y = puts-length (q .0) in
+    (q .1 .1, (s .pre .1 .0, (s .pre .1 .1 .0, omega (arith, p .1 .0, q .1 .0))))
 
 returns : tie.Need-returns
 returns c =

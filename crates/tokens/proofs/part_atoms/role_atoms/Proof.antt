@@ -42,13 +42,13 @@ returns c =
     let o = c .before .before .before .old-atoms .ensures in (
       puts-is (o .0) refl refl _
           (ap (λ (b : Bool). old s ++ cond b [] (tokens s)) (c .if1 .taken) ∙ append-nil (old s)),
-      omega (arith, o .1),
+      (omega (arith, o .1 .0), o .1 .1),
     )
 
 bare-token-requires : tie.Need-bare-token-requires
 bare-token-requires c κs =
     let o = c .before .before .before .before .old-atoms .ensures in
-    omega (arith, puts-length (o .0), o .1, begun (c .before .before .before .before) .pre .1 .1 .1)
+    omega (arith, puts-length (o .0), o .1 .0, begun (c .before .before .before .before) .pre .1 .1 .1)
 
 par-atoms-requires : tie.Need-par-atoms-requires
 par-atoms-requires c κs =
@@ -56,7 +56,7 @@ par-atoms-requires c κs =
     let o = olds (c .before .before .before) .old-atoms .ensures in
     let b = c .before .before .before .bare-token .ensures in
     let m = s .pre .1 .1 .1 in
-    (s .pre .1 .0, (s .pre .1 .1 .0, omega (arith, puts-length (o .0), puts-length (b .0), o .1, b .1)))
+    (s .pre .1 .0, (s .pre .1 .1 .0, omega (arith, puts-length (o .0), puts-length (b .0), o .1 .0, b .1)))
 
 returns-2 : tie.Need-returns-2
 returns-2 c =
@@ -66,7 +66,7 @@ returns-2 c =
     let p = c .before .before .par-atoms .ensures in (
       puts-then (o .0) (puts-then (b .0) (p .0) (tokens s) refl) _
           (ap (λ (b : Bool). old s ++ cond b [] (tokens s)) (bare (c .before .before) .before .before .if1 .left)),
-      omega (arith, o .1, b .1, p .1),
+      (omega (arith, o .1 .0, b .1, p .1), o .1 .1),
     )
 
 pub role-atoms-spec : {M : Type 1} → statement M

@@ -33,7 +33,7 @@ part-atoms-requires c κs =
     let m = begun (c .before .before) .pre .1 .1 .1 in
     let u = p .short in
     let v = p .few in
-    (p .stretch, (p .few, (p .low, omega arith)))
+    (p .roles, (p .few, (p .low, omega arith)))
 
 returns : tie.Need-returns
 returns c =
