@@ -1,8 +1,8 @@
 -- A step's words against their limits: all are below them where the first are objects and the words behind them 0.
 use Prim.Native.Nat.{ℕ, zero, suc, _+_, _-_, _≤_, _<_}
 use mathlib.Core.Path.{_≡_, refl, sym, _∙_, ap, ap₂}
-use mathlib.Core.Bool.{Bool, _&&_, and-assoc, and-true}
-use mathlib.Core.List.{List, [], _∷_, _++_}
+use mathlib.Core.Bool.{Bool, _&&_, and-true}
+use mathlib.Core.List.{List, _++_}
 use native.Mathlib.Omega.{arith}
 use lib.ListN.{getD, replicate, getD-replicate, length-replicate, List·getD-append}
 use lib.Seq.{getD-append-add}
@@ -12,7 +12,7 @@ use Rattle.words.specs.Lists.{all, upFrom}
 use Rattle.words.specs.Words.{wordsAt}
 use Rattle.words.proofs.Lists.{upFrom-append}
 use Rattle.words.proofs.Words.{and-false}
-use Rattle.words.proofs.Ranges.{all-map}
+use Rattle.words.proofs.Ranges.{all-append, all-map}
 use Rattle.task.specs.Limits.{mostParameters}
 use Rattle.task.specs.StepTests.{limitsFor, objectsThenZeros}
 
@@ -33,11 +33,6 @@ within-joins beyond word limit h =
 below-one : (a : ℕ) → ltb a 1 ≡ eqb a 0
 below-one zero = lt-ltb 0 1 (omega arith) ∙ sym (eq-eqb 0 0 refl)
 below-one (suc a) = le-ltb (suc a) 1 (omega arith) ∙ sym (ne-eqb (suc a) 0 (λ e. let q = e in omega arith))
-
-all-append : (p : ℕ → Bool) (xs ys : List ℕ) → all p (xs ++ ys) ≡ all p xs && all p ys
-unfolding all
-all-append p [] ys = refl
-all-append p (x ∷ xs) ys = ap (_&&_ (p x)) (all-append p xs ys) ∙ sym (and-assoc (p x) (all p xs) (all p ys))
 
 -- a test of indices is one of the words that it looks at
 all-looked : (p q : ℕ → Bool) (w : List ℕ) (s i n : ℕ) → ((k : ℕ) → k < n → p (s + k) ≡ q (getD w (i + k) 0)) →

@@ -2,11 +2,10 @@
 -- The invariant: the test of all places is that the words joined so far are 0, and what is left of it from place k on,
 -- where a place is tested in all four quarters (`four-joined`). The test of all places is that of all words
 -- (`quarters-zero`). The measure is how many places are left.
-use Prim.Native.Nat.{ℕ, _+_, _-_}
-use mathlib.Core.Path.{_≡_, refl, sym, _∙_}
+use Prim.Native.Nat.{_-_}
+use mathlib.Core.Path.{_≡_, refl, _∙_}
 use mathlib.Core.Bool.{_&&_}
 use native.Mathlib.Omega.{arith}
-use lib.ListN.{getD}
 use lib.Dec.{eqb}
 use Rattle.words.specs.Lists.{all, upFrom}
 use Rattle.words.proofs.Ranges.{all-joins, all-joined}
