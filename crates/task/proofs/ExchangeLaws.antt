@@ -11,7 +11,7 @@ use borrow.Author.Tests.{not-true}
 use Rattle.words.specs.Lists.{all, upFrom}
 use Rattle.task.specs.Task.{Fact}
 use Rattle.task.specs.Run.{holds, insertAll, removeAll}
-use Rattle.task.specs.Spans.{groundAt, groundSpan}
+use Rattle.task.specs.Spans.{span}
 use Rattle.words.proofs.Lists.{both-ft, false-if, In, here, there, in-empty, in-eq, in-map, map-in, in-all, all-in}
 use Rattle.words.proofs.Lists.{in-upFrom, upFrom-in, in-filter, filter-in}
 use Rattle.task.proofs.States.{
@@ -75,29 +75,28 @@ same-end adds d s s′ a a′ p q fs =
     ]
 
 -- ---- spans, by membership
-module _ (w steps : List ℕ) (i : ℕ) where
-  pub in-span : (a b k : ℕ) → a ≤ k → k < b → In (groundAt w steps i k) (groundSpan w steps i a (b - a))
-  unfolding groundSpan
-  in-span a b k l m = in-map (groundAt w steps i) (in-upFrom a (b - a) k l (omega arith))
+module _ (g : ℕ → Fact) where
+  pub in-span : (a b k : ℕ) → a ≤ k → k < b → In (g k) (span g a b)
+  unfolding span
+  in-span a b k l m = in-map g (in-upFrom a (b - a) k l (omega arith))
 
-  pub span-in : (a b : ℕ) (f : Fact) → a ≤ b → In f (groundSpan w steps i a (b - a)) →
-      (k : ℕ) × (a ≤ k) × (k < b) × (f ≡ groundAt w steps i k)
-  unfolding groundSpan
-  span-in a b f l h =
-      let (k, j, e) = map-in (groundAt w steps i) (upFrom a (b - a)) f h in
+  pub span-in : (a b : ℕ) (f : Fact) → In f (span g a b) → (k : ℕ) × (a ≤ k) × (k < b) × (f ≡ g k)
+  unfolding span
+  span-in a b f h =
+      let (k, j, e) = map-in g (upFrom a (b - a)) f h in
       let (m, n) = upFrom-in a (b - a) k j in
       (k, m, omega arith, e)
 
   -- the atoms from a to b - 1 hold
   abbrev pub Held : List Fact → ℕ → ℕ → Type 0
-  Held s a b = (k : ℕ) → a ≤ k → k < b → In (groundAt w steps i k) s
+  Held s a b = (k : ℕ) → a ≤ k → k < b → In (g k) s
 
-  pub all-held : (s : List Fact) (a b : ℕ) → all (holds s) (groundSpan w steps i a (b - a)) ≡ true → Held s a b
-  all-held s a b h k l m = holds-in s (groundAt w steps i k) (all-in (holds s) h (in-span a b k l m))
+  pub all-held : (s : List Fact) (a b : ℕ) → all (holds s) (span g a b) ≡ true → Held s a b
+  all-held s a b h k l m = holds-in s (g k) (all-in (holds s) h (in-span a b k l m))
 
-  pub held-all : (s : List Fact) (a b : ℕ) → a ≤ b → Held s a b → all (holds s) (groundSpan w steps i a (b - a)) ≡ true
-  held-all s a b l h = in-all (holds s) (groundSpan w steps i a (b - a)) (λ f j.
-      let (k, m, n, e) = span-in a b f l j in
+  pub held-all : (s : List Fact) (a b : ℕ) → Held s a b → all (holds s) (span g a b) ≡ true
+  held-all s a b h = in-all (holds s) (span g a b) (λ f j.
+      let (k, m, n, e) = span-in a b f j in
       in-holds (in-eq e (h k m n)))
 
   pub held-join : (s : List Fact) (a b c : ℕ) → Held s a b → Held s b c → Held s a c
@@ -106,22 +105,22 @@ module _ (w steps : List ℕ) (i : ℕ) where
   pub held-none : (s : List Fact) (a : ℕ) → Held s a a
   held-none s a k l m = absurd (omega arith)
 
-  pub held-more : {s : List Fact} {a k : ℕ} → Held s a k → holds s (groundAt w steps i k) ≡ true → Held s a (k + 1)
+  pub held-more : {s : List Fact} {a k : ℕ} → Held s a k → holds s (g k) ≡ true → Held s a (k + 1)
   held-more {s} {a} {k} p h j l m = elim (decLt j k) [
     | yes x ↦ p j l x
     | no x ↦ let e : k ≡ j = omega arith in
-        subst (λ (y : ℕ). In (groundAt w steps i y) s) e (holds-in s (groundAt w steps i k) h)
+        subst (λ (y : ℕ). In (g y) s) e (holds-in s (g k) h)
   ]
 
   -- adds that hold need not come in
   pub rest-comes : (s : List Fact) → Asc s → (a b : ℕ) (count k : ℕ) → k ≡ a + count → k ≤ b → Held s a k →
-      insertAll (groundSpan w steps i k (b - k)) s ≡ insertAll (groundSpan w steps i a (b - a)) s
+      insertAll (span g k b) s ≡ insertAll (span g a b) s
   unfolding insertAll
   rest-comes s h a b zero k e l p =
       let z : k ≡ a = omega arith in
-      ap (λ (j : ℕ). insertAll (groundSpan w steps i j (b - j)) s) z
+      ap (λ (j : ℕ). insertAll (span g j b) s) z
   rest-comes s h a b (suc count) k e l p =
       rest-comes s h (a + 1) b count k (omega arith) l (λ j x y. p j (omega arith) y) ∙
-      sym (ap (λ (fs : List Fact). insertAll fs s) (span-more w steps i a b (omega arith)) ∙
-      ap (insertAll (groundSpan w steps i (a + 1) (b - (a + 1))))
-      (insert-present (groundAt w steps i a) s h (p a (omega arith) (omega arith))))
+      sym (ap (λ (fs : List Fact). insertAll fs s) (span-more g a b (omega arith)) ∙
+      ap (insertAll (span g (a + 1) b))
+      (insert-present (g a) s h (p a (omega arith) (omega arith))))

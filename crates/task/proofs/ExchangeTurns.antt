@@ -10,18 +10,19 @@ use lib.ListN.{length}
 use lib.Dec.{eqb}
 use borrow.Author.Tests.{not-true, not-false}
 use Rattle.words.specs.Lists.{all}
-use Rattle.task.specs.Task.{Fact}
-use Rattle.task.specs.Table.{taskOf, isTable}
-use Rattle.task.specs.Run.{holds, insert, insertAll, removeAll, stateIn, roomIn, isState}
-use Rattle.task.specs.Records.{recordNumber, Known, Keeps}
-use Rattle.task.specs.Spans.{groundAt, groundSpan, SpanOf}
+use Rattle.words.specs.Words.{wordsAt}
+use Rattle.task.specs.Task.{Fact, Task}
+use Rattle.task.specs.Run.{holds, insert, insertAll, removeAll, stateIn, roomIn}
+use Rattle.task.specs.Records.{Known, Keeps}
+use Rattle.task.specs.Spans.{span, UnderWay, AllHold, exchanged}
+use Rattle.task.specs.declared.spans.Spans.{Spans}
 use Rattle.task.specs.declared.exchange.New.{New}
 use Rattle.task.specs.Exchange.{FirstNew, ExchangedOne}
 use Rattle.words.proofs.Lists.{both-ft, In, here, in-eq}
 use Rattle.task.proofs.States.{holds-in, in-holds, dec-in, Asc, asc-insert, in-insert, insert-new, insert-old}
 use Rattle.task.proofs.Changes.{remove-nothing}
-use Rattle.task.proofs.SpanLaws.{span-more, span-end}
-use Rattle.task.proofs.SizeLaws.{span-absent, span-front, state-asc, removed-asc}
+use Rattle.task.proofs.SpanLaws.{span-more, span-end, facts-asc, with-state}
+use Rattle.task.proofs.SizeLaws.{span-absent, removed-asc}
 use Rattle.task.proofs.ExchangeLaws.{
   removed-in,
   in-removed,
@@ -38,199 +39,198 @@ use Rattle.task.proofs.ExchangeLaws.{
 }
 
 -- what is known as a delete is dealt with: the adds before the next one hold
-pub record Passed (w steps : List ℕ) (i add del next : ℕ) (found : List ℕ) (n : ℕ) : Type 0 where
-  pub span : SpanOf w steps i add del
-  pub from : add ≤ next
-  pub within : next ≤ del
-  pub state : isState (taskOf w) found n ≡ true
-  pub hold : all (holds (stateIn (taskOf w) found n)) (groundSpan w steps i add (next - add)) ≡ true
+pub record Passed (t : Task) (g : ℕ → Fact) (spans : Spans) (numbers : List ℕ) (next : ℕ) (found : List ℕ) (n : ℕ) :
+    Type 0 where
+  pub way : UnderWay t g spans numbers found n
+  pub from : spans .adds ≤ next
+  pub within : next ≤ spans .deletes
+  pub hold : AllHold t g (spans .adds) next found n
 
-module _ {w steps : List ℕ} {i add del next : ℕ} {found : List ℕ} {n : ℕ} (p : Passed w steps i add del next found n)
-    (k : ℕ) where
+module _ {t : Task} {g : ℕ → Fact} {spans : Spans} {numbers : List ℕ} {next : ℕ} {found : List ℕ} {n : ℕ}
+    (p : Passed t g spans numbers next found n) (k : ℕ) where
+  abbrev add : ℕ
+  add = spans .adds
+
+  abbrev del : ℕ
+  del = spans .deletes
+
   abbrev s : List Fact
-  s = stateIn (taskOf w) found n
+  s = stateIn t found n
 
   abbrev d : Fact
-  d = groundAt w steps i k
+  d = g k
 
   asc : Asc s
-  asc = state-asc w found n (p .span .tabled) (p .state)
+  asc = facts-asc (p .way)
 
   same-or-not : (x : Fact) → (x ≡ d) ⊎ (x ≡ d → ⊥)
   same-or-not x = elim (dec-in (d ∷ []) x) [ inl j ↦ inl (one-in j) | inr j ↦ inr (λ e. j (here e)) ]
 
-  pub not-there : holds s d ≡ false → ExchangedOne w steps i add del k found n found n next
+  pub not-there : holds s d ≡ false → ExchangedOne t g add del k found n found n next
   not-there e = record {
     from = p .from;
     within = p .within;
-    state = p .state;
+    state = p .way .is-state;
     hold = p .hold;
-    same = same-end (groundSpan w steps i add (del - add)) d s s asc asc
+    same = same-end (span g add del) d s s asc asc
         (λ x j. inr (j, λ q. both-ft (in-holds (in-eq (sym q) j)) e)) (λ x j q. inr j);
   }
 
-  module _ {fresh : New} (c : FirstNew w steps i next del found n fresh) where
+  module _ {fresh : New} (c : FirstNew t g numbers next del found n fresh) where
     abbrev new : ℕ
     new = fresh .atom
 
-    to-new : Held w steps i s add new
-    to-new = held-join w steps i s add next new (all-held w steps i s add next (p .hold))
-        (all-held w steps i s next new (c .hold))
+    to-new : Held g s add new
+    to-new = held-join g s add next new (all-held g s add next (p .hold))
+        (all-held g s next new (c .hold))
 
     from-add : add ≤ new
     from-add = let y = p .from in let z = c .from in omega arith
 
-    passed : SpanOf w steps i add new
-    passed = span-front (p .span) new from-add (c .within)
+    none-of : {f : Fact} {number : ℕ} → Known t found n f number →
+        all (λ a. not (eqb a number)) (wordsAt numbers add (new - add)) ≡ not (holds (span g add new) f)
+    none-of known = span-absent (p .way) add new (let y = p .way .deletes in let z = c .within in omega arith) known
 
     -- the delete is an add that holds
-    pub is-add : {number : ℕ} {r : Bool} → Known (taskOf w) found n d number →
-        r ≡ all (λ f. not (eqb (recordNumber f) number)) (groundSpan w steps i add (new - add)) → r ≡ false →
-        ExchangedOne w steps i add del k found n found n new
+    pub is-add : {number : ℕ} {r : Bool} → Known t found n d number →
+        r ≡ all (λ a. not (eqb a number)) (wordsAt numbers add (new - add)) → r ≡ false →
+        ExchangedOne t g add del k found n found n new
     is-add known e q =
-        let one = not-false (holds (groundSpan w steps i add (new - add)) d) (sym (e ∙ span-absent passed known) ∙ q) in
+        let one = not-false (holds (span g add new) d) (sym (e ∙ none-of known) ∙ q) in
         let (j, a, b, y) =
-        span-in w steps i add new d from-add (holds-in (groundSpan w steps i add (new - add)) d one) in
-        let u : In d (groundSpan w steps i add (del - add)) =
-        in-eq y (in-span w steps i add del j a (let z = c .within in omega arith)) in
+        span-in g add new d (holds-in (span g add new) d one) in
+        let u : In d (span g add del) =
+        in-eq y (in-span g add del j a (let z = c .within in omega arith)) in
         record {
           from = from-add;
           within = c .within;
-          state = p .state;
-          hold = held-all w steps i s add new from-add to-new;
-          same = same-end (groundSpan w steps i add (del - add)) d s s asc asc
+          state = p .way .is-state;
+          hold = held-all g s add new to-new;
+          same = same-end (span g add del) d s s asc asc
               (λ x j. elim (same-or-not x) [ inl z ↦ inl (in-eq z u) | inr z ↦ inr (j, z) ]) (λ x j z. inr j);
         }
 
     -- the delete is none of the adds passed, which hold after it has gone
-    others-hold : {number : ℕ} {r : Bool} → Known (taskOf w) found n d number →
-        r ≡ all (λ f. not (eqb (recordNumber f) number)) (groundSpan w steps i add (new - add)) → r ≡ true →
-        Held w steps i (removeAll (d ∷ []) s) add new
+    others-hold : {number : ℕ} {r : Bool} → Known t found n d number →
+        r ≡ all (λ a. not (eqb a number)) (wordsAt numbers add (new - add)) → r ≡ true →
+        Held g (removeAll (d ∷ []) s) add new
     others-hold known e q j a b =
-        let none = not-true (holds (groundSpan w steps i add (new - add)) d) (sym (e ∙ span-absent passed known) ∙ q) in
-        in-removed (d ∷ []) s (groundAt w steps i j) (to-new j a b) (λ z.
-        both-ft (in-holds (in-eq (sym (one-in z)) (in-span w steps i add new j a b))) none)
+        let none = not-true (holds (span g add new) d) (sym (e ∙ none-of known) ∙ q) in
+        in-removed (d ∷ []) s (g j) (to-new j a b) (λ z.
+        both-ft (in-holds (in-eq (sym (one-in z)) (in-span g add new j a b))) none)
 
     left-in : (x : Fact) → In x (removeAll (d ∷ []) s) → In x s × (x ≡ d → ⊥)
     left-in x j = let (y, z) = removed-in (d ∷ []) s x j in (y, λ q. z (here q))
 
-    pub goes-alone : {number : ℕ} {r : Bool} (out : List ℕ) (left : ℕ) → Known (taskOf w) found n d number →
-        r ≡ all (λ f. not (eqb (recordNumber f) number)) (groundSpan w steps i add (new - add)) → r ≡ true →
-        Keeps (taskOf w) out left (removeAll (d ∷ []) s) → ExchangedOne w steps i add del k found n out left new
+    pub goes-alone : {number : ℕ} {r : Bool} (out : List ℕ) (left : ℕ) → Known t found n d number →
+        r ≡ all (λ a. not (eqb a number)) (wordsAt numbers add (new - add)) → r ≡ true →
+        Keeps t out left (removeAll (d ∷ []) s) → ExchangedOne t g add del k found n out left new
     goes-alone out left known e q kept = record {
       from = from-add;
       within = c .within;
       state = kept .state;
-      hold = held-all w steps i (stateIn (taskOf w) out left) add new from-add
-          (subst (λ (u : List Fact). Held w steps i u add new) (sym (kept .facts)) (others-hold known e q));
+      hold = held-all g (stateIn t out left) add new
+          (subst (λ (u : List Fact). Held g u add new) (sym (kept .facts)) (others-hold known e q));
       same = λ fs.
-          ap (λ (u : List Fact). insertAll (groundSpan w steps i add (del - add)) (removeAll fs u)) (kept .facts) ∙
-          same-end (groundSpan w steps i add (del - add)) d s (removeAll (d ∷ []) s) asc (removed-asc (d ∷ []) asc)
+          ap (λ (u : List Fact). insertAll (span g add del) (removeAll fs u)) (kept .facts) ∙
+          same-end (span g add del) d s (removeAll (d ∷ []) s) asc (removed-asc (d ∷ []) asc)
           (λ x j. inr (left-in x j)) (λ x j z. inr (in-removed (d ∷ []) s x j (λ y. z (one-in y)))) fs;
     }
 
-    pub replaced-by : {number : ℕ} {r : Bool} (out : List ℕ) → Known (taskOf w) found n d number →
-        r ≡ all (λ f. not (eqb (recordNumber f) number)) (groundSpan w steps i add (new - add)) → r ≡ true → new < del →
-        Keeps (taskOf w) out n (insert (groundAt w steps i new) (removeAll (d ∷ []) s)) →
-        ExchangedOne w steps i add del k found n out n (new + 1)
+    pub replaced-by : {number : ℕ} {r : Bool} (out : List ℕ) → Known t found n d number →
+        r ≡ all (λ a. not (eqb a number)) (wordsAt numbers add (new - add)) → r ≡ true → new < del →
+        Keeps t out n (insert (g new) (removeAll (d ∷ []) s)) →
+        ExchangedOne t g add del k found n out n (new + 1)
     replaced-by out known e q y kept =
-        let a = groundAt w steps i new in
+        let a = g new in
         let rest = removeAll (d ∷ []) s in
-        let new-held : Held w steps i (insert a rest) add (new + 1) =
-        held-join w steps i (insert a rest) add new (new + 1)
-        (λ j u v. insert-old a rest (groundAt w steps i j) (others-hold known e q j u v))
+        let new-held : Held g (insert a rest) add (new + 1) =
+        held-join g (insert a rest) add new (new + 1)
+        (λ j u v. insert-old a rest (g j) (others-hold known e q j u v))
         (λ j u v. let z : new ≡ j = omega arith in
-        subst (λ (x : ℕ). In (groundAt w steps i x) (insert a rest)) z (insert-new a rest)) in
-        let u : In a (groundSpan w steps i add (del - add)) = in-span w steps i add del new from-add y in
+        subst (λ (x : ℕ). In (g x) (insert a rest)) z (insert-new a rest)) in
+        let u : In a (span g add del) = in-span g add del new from-add y in
         let z = from-add in
         record {
           from = omega arith;
           within = omega arith;
           state = kept .state;
-          hold = held-all w steps i (stateIn (taskOf w) out n) add (new + 1) (omega arith)
-              (subst (λ (x : List Fact). Held w steps i x add (new + 1)) (sym (kept .facts)) new-held);
+          hold = held-all g (stateIn t out n) add (new + 1)
+              (subst (λ (x : List Fact). Held g x add (new + 1)) (sym (kept .facts)) new-held);
           same = λ fs.
-              ap (λ (x : List Fact). insertAll (groundSpan w steps i add (del - add)) (removeAll fs x)) (kept .facts) ∙
-              same-end (groundSpan w steps i add (del - add)) d s (insert a rest) asc
+              ap (λ (x : List Fact). insertAll (span g add del) (removeAll fs x)) (kept .facts) ∙
+              same-end (span g add del) d s (insert a rest) asc
               (asc-insert a (removed-asc (d ∷ []) asc))
               (λ x j. elim (in-insert a rest x j) [ inl v ↦ inl (in-eq v u) | inr v ↦ inr (left-in x v) ])
               (λ x j v. inr (insert-old a rest x (in-removed (d ∷ []) s x j (λ m. v (one-in m))))) fs;
         }
 
 -- ---- all deletes, one after another
-pub record ExchangeSo (w steps : List ℕ) (i add del end : ℕ) (found : List ℕ) (n : ℕ) (state : List ℕ)
+pub record ExchangeSo (t : Task) (g : ℕ → Fact) (spans : Spans) (numbers found : List ℕ) (n : ℕ) (state : List ℕ)
     (left next k : ℕ) : Type 0 where
-  pub from-first : del ≤ k
-  pub to-last : k ≤ end
+  pub to-last : k ≤ spans .end
   pub size : length state ≡ length found
-  pub is-state : isState (taskOf w) state left ≡ true
-  pub from-add : add ≤ next
-  pub to-del : next ≤ del
-  pub hold : all (holds (stateIn (taskOf w) state left)) (groundSpan w steps i add (next - add)) ≡ true
-  pub same : insertAll (groundSpan w steps i add (del - add))
-      (removeAll (groundSpan w steps i k (end - k)) (stateIn (taskOf w) state left)) ≡
-      insertAll (groundSpan w steps i add (del - add))
-      (removeAll (groundSpan w steps i del (end - del)) (stateIn (taskOf w) found n))
+  pub passed : Passed t g spans numbers next state left
+  pub same : insertAll (span g (spans .adds) (spans .deletes))
+      (removeAll (span g k (spans .end)) (stateIn t state left)) ≡
+      exchanged t g spans found n
 
-pub exchange-start : (w steps : List ℕ) (i add del end : ℕ) (state : List ℕ) (n : ℕ) → add ≤ del → del ≤ end →
-    isState (taskOf w) state n ≡ true →
-    ExchangeSo w steps i add del end state n state n add del
-exchange-start w steps i add del end state n l m h = record {
-  from-first = omega arith;
-  to-last = m;
+pub exchange-start : {t : Task} {g : ℕ → Fact} {spans : Spans} {numbers state : List ℕ} {n : ℕ} →
+    UnderWay t g spans numbers state n →
+    ExchangeSo t g spans numbers state n state n (spans .adds) (spans .deletes)
+exchange-start {t} {g} {spans} {state = state} {n} u = record {
+  to-last = u .deletes;
   size = refl;
-  is-state = h;
-  from-add = omega arith;
-  to-del = l;
-  hold = held-all w steps i (stateIn (taskOf w) state n) add add (omega arith)
-      (held-none w steps i (stateIn (taskOf w) state n) add);
+  passed = record {
+    way = u;
+    from = omega arith;
+    within = u .adds;
+    hold = held-all g (stateIn t state n) (spans .adds) (spans .adds)
+        (held-none g (stateIn t state n) (spans .adds));
+  };
   same = refl;
 }
 
-module _ {w steps : List ℕ} {i add del end : ℕ} {found : List ℕ} {n : ℕ} {state : List ℕ} {left next k : ℕ}
-    (c : ExchangeSo w steps i add del end found n state left next k) where
-  pub exchange-turn : {out : List ℕ} {left′ next′ : ℕ} → k < end → length out ≡ length state →
-      ExchangedOne w steps i add del k state left out left′ next′ →
-      ExchangeSo w steps i add del end found n out left′ next′ (k + 1)
+module _ {t : Task} {g : ℕ → Fact} {spans : Spans} {numbers found : List ℕ} {n : ℕ} {state : List ℕ} {left next k : ℕ}
+    (c : ExchangeSo t g spans numbers found n state left next k) where
+  pub exchange-turn : {out : List ℕ} {left′ next′ : ℕ} → k < spans .end → length out ≡ length state →
+      ExchangedOne t g (spans .adds) (spans .deletes) k state left out left′ next′ →
+      ExchangeSo t g spans numbers found n out left′ next′ (k + 1)
   exchange-turn l z e = record {
-    from-first = let y = c .from-first in omega arith;
     to-last = omega arith;
     size = z ∙ c .size;
-    is-state = e .state;
-    from-add = e .from;
-    to-del = e .within;
-    hold = e .hold;
+    passed = record {
+      way = with-state (c .passed .way) (e .state);
+      from = e .from;
+      within = e .within;
+      hold = e .hold;
+    };
     same =
-        e .same (groundSpan w steps i (k + 1) (end - (k + 1))) ∙
-        (ap (λ (fs : List Fact). insertAll (groundSpan w steps i add (del - add))
-        (removeAll fs (stateIn (taskOf w) state left)))
-        (sym (span-more w steps i k end l)) ∙ c .same);
+        e .same (span g (k + 1) (spans .end)) ∙
+        (ap (λ (fs : List Fact). insertAll (span g (spans .adds) (spans .deletes))
+        (removeAll fs (stateIn t state left)))
+        (sym (span-more g k (spans .end) l)) ∙ c .same);
   }
 
   -- what is still to come in makes the end
-  pub rest-ends : isTable w ≡ true → end ≤ k →
-      insertAll (groundSpan w steps i next (del - next)) (stateIn (taskOf w) state left) ≡
-      insertAll (groundSpan w steps i add (del - add))
-      (removeAll (groundSpan w steps i del (end - del)) (stateIn (taskOf w) found n))
-  rest-ends h l =
-      let s = stateIn (taskOf w) state left in
-      let a = c .from-add in
-      rest-comes w steps i s (state-asc w state left h (c .is-state)) add del (next - add) next (omega arith)
-      (c .to-del) (all-held w steps i s add next (c .hold)) ∙
-      (ap (insertAll (groundSpan w steps i add (del - add))) (sym (remove-nothing s)) ∙
-      (ap (λ (fs : List Fact). insertAll (groundSpan w steps i add (del - add)) (removeAll fs s))
-      (sym (span-end w steps i k end l)) ∙ c .same))
+  pub rest-ends : spans .end ≤ k →
+      insertAll (span g next (spans .deletes)) (stateIn t state left) ≡ exchanged t g spans found n
+  rest-ends l =
+      let s = stateIn t state left in
+      let adds = span g (spans .adds) (spans .deletes) in
+      let p = c .passed in
+      let a = p .from in
+      rest-comes g s (facts-asc (p .way)) (spans .adds) (spans .deletes) (next - spans .adds) next (omega arith)
+      (p .within) (all-held g s (spans .adds) next (p .hold)) ∙
+      (ap (insertAll adds) (sym (remove-nothing s)) ∙
+      (ap (λ (fs : List Fact). insertAll adds (removeAll fs s)) (sym (span-end g k (spans .end) l)) ∙ c .same))
 
-  pub rest-room : isTable w ≡ true → end ≤ k →
-      length (insertAll (groundSpan w steps i add (del - add))
-      (removeAll (groundSpan w steps i del (end - del)) (stateIn (taskOf w) found n))) ≤ roomIn found →
-      length (insertAll (groundSpan w steps i next (del - next)) (stateIn (taskOf w) state left)) ≤ roomIn state
+  pub rest-room : spans .end ≤ k → length (exchanged t g spans found n) ≤ roomIn found →
+      length (insertAll (span g next (spans .deletes)) (stateIn t state left)) ≤ roomIn state
   unfolding roomIn
-  rest-room h l m = let e = ap length (rest-ends h l) in let z = c .size in omega arith
+  rest-room l m = let e = ap length (rest-ends l) in let z = c .size in omega arith
 
-  pub exchange-end : {out : List ℕ} {m : ℕ} → isTable w ≡ true → end ≤ k →
-      Keeps (taskOf w) out m (insertAll (groundSpan w steps i next (del - next)) (stateIn (taskOf w) state left)) →
-      Keeps (taskOf w) out m
-      (insertAll (groundSpan w steps i add (del - add))
-      (removeAll (groundSpan w steps i del (end - del)) (stateIn (taskOf w) found n)))
-  exchange-end h l kept = record { state = kept .state; facts = kept .facts ∙ rest-ends h l }
+  pub exchange-end : {out : List ℕ} {m : ℕ} → spans .end ≤ k →
+      Keeps t out m (insertAll (span g next (spans .deletes)) (stateIn t state left)) →
+      Keeps t out m (exchanged t g spans found n)
+  exchange-end l kept = record { state = kept .state; facts = kept .facts ∙ rest-ends l }

@@ -6,7 +6,8 @@ use mathlib.Core.Bool.{Bool, true, false, cond, _&&_}
 use mathlib.Core.List.{List, [], _∷_, map}
 use native.Mathlib.Omega.{arith}
 use native.Mathlib.Decide.{decLt}
-use lib.ListN.{length, getD, length-map, List·getD-eq-default}
+use lib.ListN.{length, getD, set, length-map, List·getD-eq-default}
+use lib.Seq.{getD-set-same, getD-set-other}
 use lib.Dec.{ltb, leb}
 use borrow.Author.Tests.{leb-true, ltb-true, lt-ltb, le-ltb}
 use Rattle.words.specs.Lists.{padded, eqList}
@@ -17,7 +18,7 @@ use Rattle.words.specs.Words.{wordsAt}
 use Rattle.task.specs.Table.{atomIn, schemaNumberIn, factIn, taskOf, isTable}
 use Rattle.task.specs.Run.{Step, schemaAt, ground, isStep, paramCount, stepIn, stepAt, stepWords, isStepAt}
 use Rattle.task.specs.Records.{inBase, recordNumber}
-use Rattle.task.specs.Spans.{groundAt, argumentIn, AtomOf, SpanOf}
+use Rattle.task.specs.Spans.{groundAt, groundFrom, argumentIn, AtomOf, SpanOf, NumbersOf}
 use Rattle.words.proofs.Lists.{and-left, and-right, In, all-in, in-eq, in-getD, getD-map, getD-mapped}
 use Rattle.task.proofs.Tests.{schema-tests, task-tests}
 use Rattle.task.proofs.States.{Fits, fitting-argsFit, IsStep, isStep-is, WellFormed, wellFormed-is, ground-fits}
@@ -275,3 +276,19 @@ span-atom w steps i a b s k l m = record {
   known = s .atoms k l m .0;
   own = s .atoms k l m .1;
 }
+
+-- ---- the numbers of a schema's atoms
+-- one more stands
+pub numbers-more : (w steps : List ℕ) (i start k : ℕ) (numbers : List ℕ) (number : ℕ) → start ≤ k →
+    k - start < length numbers → number ≡ recordNumber (groundAt w steps i k) →
+    NumbersOf (groundFrom w steps i start) (k - start) numbers →
+    NumbersOf (groundFrom w steps i start) (k + 1 - start) (set numbers (k - start) number)
+unfolding groundFrom
+numbers-more w steps i start k numbers number s l e h j m = elim (decLt j (k - start)) [
+  | yes x ↦ getD-set-other numbers (k - start) j number 0 (λ q. omega arith) ∙ h j x
+  | no x ↦
+      let q : k - start ≡ j = omega arith in
+      let z : k ≡ start + j = omega arith in
+      ap (λ (y : ℕ). getD (set numbers (k - start) number) y 0) (sym q) ∙
+      (getD-set-same numbers (k - start) number 0 l ∙ (e ∙ ap (λ (y : ℕ). recordNumber (groundAt w steps i y)) z))
+]

@@ -149,7 +149,7 @@ module _ (t : Task) (wf : wellFormed t ≡ true) (w : List ℕ) (n : ℕ) (s : L
   number-row k l = row-number w s (c .rows) k (let e = c .count in omega arith)
       (slight t wf (getD s k noFact) (fact-fits k l))
 
-  pub number-before-number : (i j : ℕ) → i < j → j < n → rowNumber w i < rowNumber w j
+  number-before-number : (i j : ℕ) → i < j → j < n → rowNumber w i < rowNumber w j
   number-before-number i j l m =
       let k : i < n = omega arith in
       let p = number-row i k in

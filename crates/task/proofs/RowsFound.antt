@@ -14,6 +14,7 @@ use Rattle.task.specs.Records.{
   RowsAscend,
   LowerBound,
   RowIs,
+  RowFor,
   MovedDown,
   MovedUp,
   Written,
@@ -22,23 +23,26 @@ use Rattle.task.specs.Records.{
 }
 use Rattle.words.proofs.Lists.{false-if, In}
 use Rattle.task.proofs.States.{holds-in, in-holds, argsFit-fitting, Fits}
-use Rattle.task.proofs.Rows.{Kept, state-kept, kept-keeps}
+use Rattle.task.proofs.Rows.{Kept, state-kept, kept-ascend, kept-keeps}
 use Rattle.task.proofs.RowsChanged.{insert-present}
-use Rattle.task.proofs.RowsMoved.{row-in, absent, taken-out, put-in}
+use Rattle.task.proofs.RowsMoved.{row-in, in-row, taken-out, put-in}
 
 pub row-is : {w : List ℕ} {n k number : ℕ} {r b : Bool} → RowIs w n k number r → r ≡ b → RowIs w n k number b
 row-is {w} {n} {k} {number} h e = subst (RowIs w n k number) e h
 
--- no row has the number, where the first that is not below it has another
-pub no-row : {w : List ℕ} {n number k : ℕ} → RowsAscend w n → LowerBound w n number k → RowIs w n k number false →
-    (i : ℕ) → i < n → rowNumber w i ≡ number → ⊥
-no-row {w} {n} {number} {k} a b r i l e = elim (decLt i k) [
-  | yes x ↦ let z = b .below i x in omega arith
+-- the first row that is not below the number has it, where one has it
+pub bound-row : {w : List ℕ} {n number k : ℕ} → RowsAscend w n → LowerBound w n number k → RowFor w n number k
+bound-row {w} {n} {number} {k} a b i l e = elim (decLt i k) [
+  | yes x ↦ let z = b .below i x in absurd (omega arith)
   | no x ↦
       let y = b .from k (omega arith) (omega arith) in
       let z = a k i (omega arith) l in
-      r .missed refl (omega arith) (omega arith)
+      (omega arith, omega arith)
 ]
+
+pub no-row : {w : List ℕ} {n number k : ℕ} → RowsAscend w n → LowerBound w n number k → RowIs w n k number false →
+    (i : ℕ) → i < n → rowNumber w i ≡ number → ⊥
+no-row a b r i l e = let (m, q) = bound-row a b i l e in r .missed refl m q
 
 module _ {t : Task} {w : List ℕ} {n : ℕ} {f : Fact} {number : ℕ} (d : Known t w n f number) where
   abbrev s : List Fact
@@ -53,12 +57,15 @@ module _ {t : Task} {w : List ℕ} {n : ℕ} {f : Fact} {number : ℕ} (d : Know
   found-in : {k : ℕ} → RowIs w n k number true → In f s
   found-in {k} r = let (l, e) = r .found refl in row-in t (d .task) w n s known-kept f number known-fits (d .is) k l e
 
-  missed-in : {k : ℕ} → LowerBound w n number k → RowIs w n k number false → In f s → ⊥
-  missed-in {k} b r = absent t (d .task) w n s known-kept f number known-fits (d .is) k b (r .missed refl)
+  pub row-holds : {k : ℕ} {r : Bool} → RowFor w n number k → RowIs w n k number r → r ≡ holds s f
+  row-holds {k} {r = true} b h = sym (in-holds (found-in h))
+  row-holds {k} {r = false} b h = sym (false-if (holds s f) (λ e.
+      let (i, l, q) = in-row t (d .task) w n s known-kept f number known-fits (d .is) (holds-in s f e) in
+      let (m, z) = b i l q in
+      h .missed refl m z))
 
   pub found-holds : {k : ℕ} {r : Bool} → LowerBound w n number k → RowIs w n k number r → r ≡ holds s f
-  found-holds {k} {r = true} b h = sym (in-holds (found-in h))
-  found-holds {k} {r = false} b h = sym (false-if (holds s f) (λ e. missed-in b h (holds-in s f e)))
+  found-holds b h = row-holds (bound-row (kept-ascend t (d .task) w n s known-kept) b) h
 
   pub row-out : {k : ℕ} {out : List ℕ} → RowIs w n k number true → MovedDown w (5 * k) (5 * (n - 1)) out →
       length out ≡ length w →

@@ -15,7 +15,7 @@ use Rattle.words.proofs.Lists.{In, in-eq, in-getD, getD-in, length-padded}
 use Rattle.task.proofs.States.{Fits}
 use Rattle.task.proofs.AtomsStand.{noFact}
 use Rattle.task.proofs.Numbers.{Small, small-padded, Slight, slight, number-fact, number-before}
-use Rattle.task.proofs.Rows.{Rows, Kept, fact-fits, number-row, number-before-number}
+use Rattle.task.proofs.Rows.{Rows, Kept, fact-fits, number-row}
 use Rattle.task.proofs.RowsChanged.{
   without,
   placed,
@@ -132,18 +132,6 @@ module _ (t : Task) (wf : wellFormed t ≡ true) (w : List ℕ) (n : ℕ) (s : L
       let (k, l, q) = getD-in noFact i in
       let m : k < n = (let z = c .count in omega arith) in
       (k, m, number-row t wf w n s c k m ∙ (ap recordNumber q ∙ e))
-
-  pub absent : (k : ℕ) → LowerBound w n number k → (k < n → rowNumber w k ≡ number → ⊥) → In f s → ⊥
-  absent k b x i = let (j, l, q) = in-row i in elim (decLt j k) [
-    | yes y ↦ let z = b .below j y in omega arith
-    | no y ↦ elim (decLt k j) [
-      | yes v ↦
-          let z = number-before-number t wf w n s c k j v l in
-          let u = b .from k (omega arith) (omega arith) in
-          omega arith
-      | no v ↦ let z : j ≡ k = omega arith in x (omega arith) (ap (rowNumber w) (sym z) ∙ q)
-    ]
-  ]
 
   pub taken-out : (k : ℕ) (out : List ℕ) → k < n → rowNumber w k ≡ number → MovedDown w (5 * k) (5 * (n - 1)) out →
       length out ≡ length w → Kept t out (n - 1) (removeAll (f ∷ []) s)

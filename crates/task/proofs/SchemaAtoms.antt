@@ -14,7 +14,7 @@ use Rattle.task.specs.Task.{Atom, Task, schemaFits, rolesAscend, noSchem
 use Rattle.task.specs.Table.{atomIn, schemaNumberIn, taskOf, isTable}
 use Rattle.task.specs.Run.{schemaAt}
 use Rattle.words.proofs.Lists.{and-left, and-right, all-in, in-getD, tabulate}
-use Rattle.task.proofs.Tests.{schema-tests, task-tests}
+use Rattle.task.proofs.Tests.{SchemaTests, schema-tests, task-tests}
 use Rattle.task.proofs.AtomsStand.{noAtom}
 use Rattle.task.proofs.Tables.{startOf, of-table}
 use Rattle.task.proofs.TablesByIndex.{table-frame, schemas-word, start-suc, start-end, atom-at, schema-of-atom}
@@ -85,13 +85,16 @@ module _ (w : List ℕ) (h : isTable w ≡ true) (s : ℕ) (l : s < headIn w .sc
       let z : startOf t s + (k - startOf t s) ≡ k = omega arith in
       ap (schemaNumberIn w) (sym z) ∙ schema-of-atom w fr s (k - startOf t s) l (place k a b .0)
 
-  roles-ascend : rolesAscend atoms ≡ true
-  unfolding schemaAt
-  roles-ascend =
+  tests : SchemaTests (t .arities) (getD (t .schemas) s noSchema)
+  tests =
       let c = task-tests t (of-table w h .0) in
       let n = schemas-word w (table-frame w h) in
       schema-tests (t .arities) (getD (t .schemas) s noSchema)
-      (all-in (schemaFits (t .arities)) (c .fit) (in-getD (t .schemas) s noSchema (omega arith))) .roles
+      (all-in (schemaFits (t .arities)) (c .fit) (in-getD (t .schemas) s noSchema (omega arith)))
+
+  roles-ascend : rolesAscend atoms ≡ true
+  unfolding schemaAt
+  roles-ascend = tests .roles
 
   pub role-rises : (j k : ℕ) → startOf t s ≤ j → j ≤ k → k < startOf t (suc s) → atomIn w j .role ≤ atomIn w k .role
   role-rises j k a b d =
@@ -107,5 +110,12 @@ module _ (w : List ℕ) (h : isTable w ≡ true) (s : ℕ) (l : s < headIn w .sc
       let r = last-role atoms roles-ascend (k - startOf t s) (place k a b .0) in
       omega arith
 
-  pub atoms-listed : map (atomIn w) (upFrom (startOf t s) (length atoms)) ≡ atoms
-  atoms-listed = tabulate (atomIn w) (startOf t s) atoms noAtom (λ k x. atom-at w (table-frame w h) s k l x)
+  pub atoms-listed : map (λ k. atomIn w (startOf t s + k)) (upFrom 0 (length atoms)) ≡ atoms
+  atoms-listed = tabulate (λ k. atomIn w (startOf t s + k)) 0 atoms noAtom (λ k x.
+      let e : startOf t s + (0 + k) ≡ startOf t s + k = omega arith in
+      ap (atomIn w) e ∙ atom-at w (table-frame w h) s k l x)
+
+  -- "A schema has 1 to 64 atoms"
+  pub few-atoms : length atoms ≤ 64
+  unfolding schemaAt
+  few-atoms = leb-true (length atoms) 64 (tests .few)

@@ -5,7 +5,7 @@ use mathlib.Core.Path.{_≡_, refl, sym, _∙_, ap, ap₂}
 use mathlib.Core.Bool.{Bool, true, false, not, _&&_, _||_, and-true}
 use mathlib.Core.List.{List, [], _∷_, _++_, map}
 use native.Mathlib.Omega.{arith}
-use lib.ListN.{length, length-map}
+use lib.ListN.{length, getD, length-map}
 use lib.Dec.{eqb, leb}
 use borrow.Author.Tests.{eqb-true, eq-eqb, not-true, not-false, le-leb}
 use Rattle.words.specs.Lists.{all, any, filter, keepIf, upFrom}
@@ -13,8 +13,10 @@ use Rattle.task.specs.Task.{Fact, Task, factEq, wellFormed}
 use Rattle.task.specs.Table.{taskOf, isTable}
 use Rattle.task.specs.Run.{holds, insertAll, removeAll, stateIn, roomIn, isState}
 use Rattle.task.specs.Records.{recordNumber, Known}
-use Rattle.task.specs.Spans.{groundAt, groundSpan, SpanOf}
-use Rattle.words.proofs.Lists.{both-ft, bool-ext, In, here, there, map-in, map-append, upFrom-in, upFrom-last}
+use Rattle.task.specs.Spans.{span, UnderWay, without, exchanged}
+use Rattle.task.specs.declared.spans.Spans.{Spans}
+use Rattle.words.specs.Words.{wordsAt}
+use Rattle.words.proofs.Lists.{both-ft, bool-ext, In, here, there, map-append, upFrom-in, upFrom-last}
 use Rattle.words.proofs.Lists.{length-upFrom, all-in}
 use Rattle.words.proofs.Words.{and-false}
 use Rattle.task.proofs.States.{factEq-eq, eq-factEq, holds-in, in-holds, Asc, asc-insertAll, asc-filter, Fits}
@@ -34,7 +36,7 @@ use Rattle.task.proofs.Changes.{
   insert-held,
   insertAll-length,
 }
-use Rattle.task.proofs.GroundWords.{ground-at-fits, span-atom}
+use Rattle.task.proofs.SpanLaws.{facts-asc, atom-known}
 
 -- ---- numbers for atoms
 module _ (t : Task) (wf : wellFormed t ≡ true) (f : Fact) (number : ℕ) (c : Fits t f) (e : recordNumber f ≡ number)
@@ -44,70 +46,48 @@ module _ (t : Task) (wf : wellFormed t ≡ true) (f : Fact) (number : ℕ) (c : 
         (λ h. eq-factEq f g (number-fact t wf f g c d (e ∙ sym (eqb-true (recordNumber g) number h))))
         (λ h. eq-eqb (recordNumber g) number (ap recordNumber (sym (factEq-eq f g h)) ∙ e))
 
-    none-holds : (gs : List Fact) → ((g : Fact) → In g gs → Fits t g) →
-        all (λ g. not (eqb (recordNumber g) number)) gs ≡ not (holds gs f)
+    none-holds : (g : ℕ → Fact) (numbers ks : List ℕ) →
+        ((k : ℕ) → In k ks → Fits t (g k) × (getD numbers k 0 ≡ recordNumber (g k))) →
+        all (λ a. not (eqb a number)) (map (λ k. getD numbers k 0) ks) ≡ not (holds (map g ks) f)
     unfolding all holds any
-    none-holds [] h = refl
-    none-holds (g ∷ gs) h =
-        ap₂ (λ (a b : Bool). not a && b) (number-is g (h g (here refl))) (none-holds gs (λ x i. h x (there i))) ∙
-        nor (factEq f g) (holds gs f)
+    none-holds g numbers [] h = refl
+    none-holds g numbers (k ∷ ks) h =
+        let (fits, is) = h k (here refl) in
+        ap₂ (λ (a b : Bool). not a && b) (ap (λ (a : ℕ). eqb a number) is ∙ number-is (g k) fits)
+        (none-holds g numbers ks (λ x i. h x (there i))) ∙
+        nor (factEq f (g k)) (holds (map g ks) f)
       where
         nor : (a b : Bool) → not a && not b ≡ not (a || b)
         nor true b = refl
         nor false b = refl
 
-span-fits : (w steps : List ℕ) (i a b : ℕ) → SpanOf w steps i a b → (f : Fact) →
-    In f (groundSpan w steps i a (b - a)) → Fits (taskOf w) f
-unfolding groundSpan
-span-fits w steps i a b s f h =
-    let (k, j, e) = map-in (groundAt w steps i) (upFrom a (b - a)) f h in
-    let (l, m) = upFrom-in a (b - a) k j in
-    let z = s .ordered in
-    rw e (ground-at-fits w steps i k (span-atom w steps i a b s k l (omega arith)))
+-- that none of the numbers is the atom's says that it is none of the atoms
+pub span-absent : {t : Task} {g : ℕ → Fact} {spans : Spans} {numbers state : List ℕ} {n : ℕ} →
+    UnderWay t g spans numbers state n → (a b : ℕ) → b ≤ spans .end → {f : Fact} {number : ℕ} →
+    Known t state n f number →
+    all (λ x. not (eqb x number)) (wordsAt numbers a (b - a)) ≡ not (holds (span g a b) f)
+unfolding span wordsAt
+span-absent {t} {g} {numbers = numbers} u a b l {f} {number} d =
+    none-holds t (d .task) f number (known-fits d) (d .is) g numbers (upFrom a (b - a)) (λ k i.
+    let (m, z) = upFrom-in a (b - a) k i in
+    let inside : k < _ = omega arith in (known-fits (atom-known u k inside), u .number k inside))
 
-pub span-absent : {w steps : List ℕ} {i a b : ℕ} {state : List ℕ} {n : ℕ} {f : Fact} {number : ℕ} →
-    SpanOf w steps i a b → Known (taskOf w) state n f number →
-    all (λ g. not (eqb (recordNumber g) number)) (groundSpan w steps i a (b - a)) ≡ not
-    (holds (groundSpan w steps i a (b - a)) f)
-span-absent {w} {steps} {i} {a} {b} {f = f} {number} s d =
-    none-holds (taskOf w) (d .task) f number (known-fits d) (d .is) (groundSpan w steps i a (b - a))
-    (span-fits w steps i a b s)
-
--- a shorter span
-pub span-front : {w steps : List ℕ} {i a b : ℕ} → SpanOf w steps i a b → (k : ℕ) → a ≤ k → k ≤ b → SpanOf w steps i a k
-span-front s k l m = record {
-  tabled = s .tabled;
-  stepped = s .stepped;
-  ordered = l;
-  atoms = λ j x y. s .atoms j x (omega arith);
-}
-
-pub span-back : {w steps : List ℕ} {i a b : ℕ} → SpanOf w steps i a b → (k : ℕ) → a ≤ k → k ≤ b → SpanOf w steps i k b
-span-back s k l m = record {
-  tabled = s .tabled;
-  stepped = s .stepped;
-  ordered = m;
-  atoms = λ j x y. s .atoms j (omega arith) y;
-}
-
-pub span-last : (w steps : List ℕ) (i a k : ℕ) → a ≤ k →
-    groundSpan w steps i a (k + 1 - a) ≡ groundSpan w steps i a (k - a) ++ (groundAt w steps i k ∷ [])
-unfolding groundSpan
-span-last w steps i a k l =
-    let g = groundAt w steps i in
+span-last : (g : ℕ → Fact) (a k : ℕ) → a ≤ k → span g a (k + 1) ≡ span g a k ++ (g k ∷ [])
+unfolding span
+span-last g a k l =
     let e : k + 1 - a ≡ suc (k - a) = omega arith in
     let z : a + (k - a) ≡ k = omega arith in
     ap (λ (n : ℕ). map g (upFrom a n)) e ∙
     (ap (map g) (upFrom-last a (k - a) ∙ ap (λ (j : ℕ). upFrom a (k - a) ++ (j ∷ [])) z) ∙
     map-append g (upFrom a (k - a)) (k ∷ []))
 
-pub span-first : (w steps : List ℕ) (i a : ℕ) → groundSpan w steps i a (a - a) ≡ []
-unfolding groundSpan upFrom
-span-first w steps i a = let e : a - a ≡ 0 = omega arith in ap (λ (n : ℕ). map (groundAt w steps i) (upFrom a n)) e
+span-first : (g : ℕ → Fact) (a : ℕ) → span g a a ≡ []
+unfolding span upFrom
+span-first g a = let e : a - a ≡ 0 = omega arith in ap (λ (n : ℕ). map g (upFrom a n)) e
 
-pub length-span : (w steps : List ℕ) (i a n : ℕ) → length (groundSpan w steps i a n) ≡ n
-unfolding groundSpan
-length-span w steps i a n = length-map (upFrom a n) (groundAt w steps i) ∙ length-upFrom a n
+length-span : (g : ℕ → Fact) (a b : ℕ) → length (span g a b) ≡ b - a
+unfolding span
+length-span g a b = length-map (upFrom a (b - a)) g ∙ length-upFrom a (b - a)
 
 -- ---- what stays and what comes
 pub stays-held : (fs s : List Fact) (f : Fact) (r : Bool) → holds s f ≡ true → r ≡ not (holds fs f) →
@@ -168,40 +148,36 @@ remove-length fs (g ∷ s) = go (not (holds fs g)) (remove-length fs s)
 
 -- ---- the loops' invariants
 -- `done` gives the state after the atoms from `from` to k, and `size` is how long it is
-pub record CountedSo (w steps : List ℕ) (i : ℕ) (done : List Fact → List Fact) (from to k size : ℕ) : Type 0 where
+pub record CountedSo (g : ℕ → Fact) (done : List Fact → List Fact) (from to k size : ℕ) : Type 0 where
   pub from-first : from ≤ k
   pub to-last : k ≤ to
-  pub is : size ≡ length (done (groundSpan w steps i from (k - from)))
+  pub is : size ≡ length (done (span g from k))
 
-module _ (w steps : List ℕ) (i : ℕ) (done : List Fact → List Fact) where
+module _ (g : ℕ → Fact) (done : List Fact → List Fact) where
   pub count-start : (from to size : ℕ) → from ≤ to → size ≡ length (done []) →
-      CountedSo w steps i done from to from size
+      CountedSo g done from to from size
   count-start from to size l e = record {
     from-first = omega arith;
     to-last = l;
-    is = e ∙ ap (λ (fs : List Fact). length (done fs)) (sym (span-first w steps i from));
+    is = e ∙ ap (λ (fs : List Fact). length (done fs)) (sym (span-first g from));
   }
 
   -- one turn, by what it does to the length
-  pub count-turn : {from to k size size′ : ℕ} → CountedSo w steps i done from to k size → k < to →
-      size′ ≡ length (done (groundSpan w steps i from (k - from) ++ (groundAt w steps i k ∷ []))) →
-      CountedSo w steps i done from to (k + 1) size′
+  pub count-turn : {from to k size size′ : ℕ} → CountedSo g done from to k size → k < to →
+      size′ ≡ length (done (span g from k ++ (g k ∷ []))) →
+      CountedSo g done from to (k + 1) size′
   count-turn {from} {to} {k} c l e = record {
     from-first = let z = c .from-first in omega arith;
     to-last = omega arith;
-    is = e ∙ ap (λ (fs : List Fact). length (done fs)) (sym (span-last w steps i from k (c .from-first)));
+    is = e ∙ ap (λ (fs : List Fact). length (done fs)) (sym (span-last g from k (c .from-first)));
   }
 
-  pub count-end : {from to k size : ℕ} → CountedSo w steps i done from to k size → to ≤ k →
-      size ≡ length (done (groundSpan w steps i from (to - from)))
+  pub count-end : {from to k size : ℕ} → CountedSo g done from to k size → to ≤ k →
+      size ≡ length (done (span g from to))
   count-end {from} {to} {k} c l =
       let z = c .to-last in
       let e : k ≡ to = omega arith in
-      c .is ∙ ap (λ (j : ℕ). length (done (groundSpan w steps i from (j - from)))) e
-
-pub state-asc : (w state : List ℕ) (n : ℕ) → isTable w ≡ true → isState (taskOf w) state n ≡ true →
-    Asc (stateIn (taskOf w) state n)
-state-asc w state n h e = state-kept (taskOf w) (of-table w h .0) state n e .state .asc
+      c .is ∙ ap (λ (j : ℕ). length (done (span g from j))) e
 
 pub removed-asc : (fs : List Fact) {s : List Fact} → Asc s → Asc (removeAll fs s)
 unfolding removeAll
@@ -211,31 +187,43 @@ pub few-inserted : (fs gs : List Fact) {s : List Fact} → Asc s →
     length (insertAll fs (removeAll gs s)) ≤ length (removeAll gs s) + length fs
 few-inserted fs gs {s} a = insertAll-length fs (removeAll gs s) (removed-asc gs a) .1
 
-pub state-room : (w state : List ℕ) (n : ℕ) → isState (taskOf w) state n ≡ true → n ≤ length state / 5
-unfolding roomIn
-state-room w state n e = state-here (taskOf w) state n e .room
+-- the state of a table's task
+pub state-asc : (w state : List ℕ) (n : ℕ) → isTable w ≡ true → isState (taskOf w) state n ≡ true →
+    Asc (stateIn (taskOf w) state n)
+state-asc w state n h e = state-kept (taskOf w) (of-table w h .0) state n e .state .asc
 
-pub few-left : (w : List ℕ) (gs : List Fact) (state : List ℕ) (n : ℕ) →
-    length (removeAll gs (stateIn (taskOf w) state n)) ≤ n
-few-left w gs state n =
-    let m = remove-length gs (stateIn (taskOf w) state n) in
-    let d = length-stateIn (taskOf w) state n in
-    omega arith
+-- ---- room
+module _ {t : Task} {g : ℕ → Fact} {spans : Spans} {numbers state : List ℕ} {n : ℕ}
+    (u : UnderWay t g spans numbers state n) where
+  pub state-room : n ≤ length state / 5
+  unfolding roomIn
+  state-room = state-here t state n (u .is-state) .room
 
-pub left-room : (w : List ℕ) (gs : List Fact) (state : List ℕ) (n : ℕ) {size : ℕ} → isState (taskOf w) state n ≡ true →
-    size ≡ length (removeAll gs (stateIn (taskOf w) state n)) → size ≤ length state / 5
-left-room w gs state n e q = let m = few-left w gs state n in let r = state-room w state n e in omega arith
+  pub few-left : length (without t g spans state n) ≤ n
+  few-left =
+      let m = remove-length (span g (spans .deletes) (spans .end)) (stateIn t state n) in
+      let d = length-stateIn t state n in
+      omega arith
 
--- every atom that comes in fits, beside the records left or more
-pub all-fit : (w steps : List ℕ) (i a b : ℕ) (gs : List Fact) (state : List ℕ) (n size : ℕ) → isTable w ≡ true →
-    isState (taskOf w) state n ≡ true →
-    length (removeAll gs (stateIn (taskOf w) state n)) ≤ size → size ≤ length state / 5 →
-    b - a ≤ length state / 5 - size →
-    true ≡ leb (length (insertAll (groundSpan w steps i a (b - a)) (removeAll gs (stateIn (taskOf w) state n))))
-    (roomIn state)
-unfolding roomIn
-all-fit w steps i a b gs state n size h e left r l =
-    let m = few-inserted (groundSpan w steps i a (b - a)) gs (state-asc w state n h e) in
-    let c = length-span w steps i a (b - a) in
-    sym (le-leb (length (insertAll (groundSpan w steps i a (b - a)) (removeAll gs (stateIn (taskOf w) state n))))
-    (length state / 5) (omega arith))
+  pub left-room : {size : ℕ} → size ≡ length (without t g spans state n) → size ≤ length state / 5
+  left-room e = let m = few-left in let r = state-room in omega arith
+
+  -- the adds that have come in make the state longer by one each at most
+  pub few-come : (k : ℕ) → length (insertAll (span g (spans .adds) k) (without t g spans state n)) ≤
+      n + (k - spans .adds)
+  few-come k =
+      let m = few-inserted (span g (spans .adds) k) (span g (spans .deletes) (spans .end)) (facts-asc u) in
+      let c = length-span g (spans .adds) k in
+      let l = few-left in
+      omega arith
+
+  -- every add fits, beside the records left or more
+  pub all-fit : {size : ℕ} → length (without t g spans state n) ≤ size → size ≤ length state / 5 →
+      spans .deletes - spans .adds ≤ length state / 5 - size →
+      true ≡ leb (length (exchanged t g spans state n)) (roomIn state)
+  unfolding roomIn
+  all-fit left r l =
+      let m = few-inserted (span g (spans .adds) (spans .deletes)) (span g (spans .deletes) (spans .end)) (facts-asc u)
+      in
+      let c = length-span g (spans .adds) (spans .deletes) in
+      sym (le-leb (length (exchanged t g spans state n)) (length state / 5) (omega arith))

@@ -5,57 +5,75 @@ use mathlib.Core.Path.{_≡_, refl, sym, _∙_, ap}
 use mathlib.Core.Bool.{true}
 use mathlib.Core.List.{List, [], _∷_, map}
 use native.Mathlib.Omega.{arith}
-use lib.ListN.{length}
+use lib.ListN.{length, getD}
 use borrow.Author.Tests.{leb-true}
 use Rattle.words.specs.Lists.{padded}
-use Rattle.task.specs.Task.{Fact, Task}
-use Rattle.task.specs.Table.{taskOf, isTable}
+use Rattle.task.specs.Limits.{mostAtoms}
+use Rattle.task.specs.Task.{Fact, Task, wellFormed}
 use Rattle.task.specs.Run.{insert, insertAll, stateIn, roomIn, isState}
 use Rattle.task.specs.Records.{inBase, recordNumber, rowNumber, RowsAscend, Known, Keeps}
-use Rattle.task.specs.Spans.{groundAt, groundSpan, AtomOf}
+use Rattle.task.specs.Spans.{span, UnderWay}
+use Rattle.task.specs.declared.spans.Spans.{Spans}
 use Rattle.words.proofs.Lists.{In, length-padded}
 use Rattle.words.proofs.Ranges.{range-step, range-done}
 use Rattle.task.proofs.Tests.{task-tests}
-use Rattle.task.proofs.States.{asc-insert}
-use Rattle.task.proofs.Tables.{of-table}
+use Rattle.task.proofs.States.{Asc, asc-insert}
 use Rattle.task.proofs.Numbers.{base-mono, small-padded, slight}
 use Rattle.task.proofs.Rows.{state-kept, kept-ascend, room-words}
 use Rattle.task.proofs.RowsMoved.{in-row}
 use Rattle.task.proofs.RowsFound.{known-kept, known-fits}
 use Rattle.task.proofs.Changes.{insert-missing, insertAll-length}
-use Rattle.task.proofs.GroundWords.{ground-args-fit}
 
 -- ---- spans
-module _ (w steps : List ℕ) (i : ℕ) where
-  pub span-more : (k to : ℕ) → k < to →
-      groundSpan w steps i k (to - k) ≡ groundAt w steps i k ∷ groundSpan w steps i (k + 1) (to - (k + 1))
-  unfolding groundSpan
-  span-more k to l = ap (map (groundAt w steps i)) (range-step k to l)
+module _ (g : ℕ → Fact) where
+  pub span-more : (k to : ℕ) → k < to → span g k to ≡ g k ∷ span g (k + 1) to
+  unfolding span
+  span-more k to l = ap (map g) (range-step k to l)
 
-  pub span-end : (k to : ℕ) → to ≤ k → groundSpan w steps i k (to - k) ≡ []
-  unfolding groundSpan
-  span-end k to l = ap (map (groundAt w steps i)) (range-done k to l)
+  pub span-end : (k to : ℕ) → to ≤ k → span g k to ≡ []
+  unfolding span
+  span-end k to l = ap (map g) (range-done k to l)
 
 -- ---- states
-pub state-long : (w state : List ℕ) (n : ℕ) → isTable w ≡ true → isState (taskOf w) state n ≡ true →
-    5 * n ≤ length state
-state-long w state n h e = state-kept (taskOf w) (of-table w h .0) state n e .room
+module _ (t : Task) (wf : wellFormed t ≡ true) (state : List ℕ) (n : ℕ) (h : isState t state n ≡ true) where
+  pub state-long : 5 * n ≤ length state
+  state-long = state-kept t wf state n h .room
 
-pub state-ascends : (w state : List ℕ) (n : ℕ) → isTable w ≡ true → isState (taskOf w) state n ≡ true →
-    RowsAscend state n
-state-ascends w state n h e =
-    let wf = of-table w h .0 in
-    kept-ascend (taskOf w) wf state n (stateIn (taskOf w) state n) (state-kept (taskOf w) wf state n e)
+  pub state-ascends : RowsAscend state n
+  state-ascends = kept-ascend t wf state n (stateIn t state n) (state-kept t wf state n h)
 
-pub atom-known : {w steps : List ℕ} {i k : ℕ} {state : List ℕ} {n number : ℕ} → AtomOf w steps i k →
-    isState (taskOf w) state n ≡ true →
-    number ≡ recordNumber (groundAt w steps i k) → Known (taskOf w) state n (groundAt w steps i k) number
-atom-known {w} {steps} {i} {k} o h e = record {
-  task = of-table w (o .tabled) .0;
-  state = h;
-  fits = ground-args-fit w steps i k o;
-  is = sym e;
-}
+module _ {t : Task} {g : ℕ → Fact} {spans : Spans} {numbers state : List ℕ} {n : ℕ}
+    (u : UnderWay t g spans numbers state n) where
+  pub rows-fit : 5 * n ≤ length state
+  rows-fit = state-long t (u .task) state n (u .is-state)
+
+  pub rows-ascend : RowsAscend state n
+  rows-ascend = state-ascends t (u .task) state n (u .is-state)
+
+  pub facts-asc : Asc (stateIn t state n)
+  facts-asc = state-kept t (u .task) state n (u .is-state) .state .asc
+
+  -- places among the numbers
+  pub few-before : {b : ℕ} → b ≤ spans .end → b ≤ mostAtoms
+  few-before l = let m = u .few in omega arith
+
+  pub adds-inside : spans .adds ≤ spans .end
+  adds-inside = let a = u .adds in let d = u .deletes in omega arith
+
+  pub atom-known : (k : ℕ) → k < spans .end → Known t state n (g k) (getD numbers k 0)
+  atom-known k l = record { task = u .task; state = u .is-state; fits = u .fit k l; is = sym (u .number k l) }
+
+  -- the step goes on with another state
+  pub with-state : {out : List ℕ} {m : ℕ} → isState t out m ≡ true → UnderWay t g spans numbers out m
+  with-state h = record {
+    task = u .task;
+    adds = u .adds;
+    deletes = u .deletes;
+    few = u .few;
+    fit = u .fit;
+    number = u .number;
+    is-state = h;
+  }
 
 pub known-small : {t : Task} {w : List ℕ} {n : ℕ} {f : Fact} {number : ℕ} → Known t w n f number →
     number < 72057594037927936
@@ -94,63 +112,60 @@ insert-more : (f : Fact) (fs s : List Fact) → insertAll (f ∷ fs) s ≡ inser
 unfolding insertAll
 insert-more f fs s = refl
 
-pub record InsertedSo (w steps : List ℕ) (i from to : ℕ) (found : List ℕ) (n : ℕ) (state : List ℕ) (left k : ℕ) : Type
-    0 where
-  pub from-first : from ≤ k
-  pub to-last : k ≤ to
+pub record InsertedSo (t : Task) (g : ℕ → Fact) (spans : Spans) (numbers : List ℕ) (from : ℕ) (found : List ℕ) (n : ℕ)
+    (state : List ℕ) (left k : ℕ) : Type 0 where
+  pub to-last : k ≤ spans .deletes
   pub size : length state ≡ length found
-  pub is-state : isState (taskOf w) state left ≡ true
-  pub same : insertAll (groundSpan w steps i k (to - k)) (stateIn (taskOf w) state left) ≡
-      insertAll (groundSpan w steps i from (to - from)) (stateIn (taskOf w) found n)
+  pub way : UnderWay t g spans numbers state left
+  pub same : insertAll (span g k (spans .deletes)) (stateIn t state left) ≡
+      insertAll (span g from (spans .deletes)) (stateIn t found n)
 
-pub insert-start : (w steps : List ℕ) (i from to : ℕ) (state : List ℕ) (n : ℕ) → from ≤ to →
-    isState (taskOf w) state n ≡ true →
-    InsertedSo w steps i from to state n state n from
-insert-start w steps i from to state n l h = record {
-  from-first = omega arith;
-  to-last = l;
-  size = refl;
-  is-state = h;
-  same = refl;
-}
+pub insert-start : {t : Task} {g : ℕ → Fact} {spans : Spans} {numbers state : List ℕ} {n : ℕ} →
+    UnderWay t g spans numbers state n → (from : ℕ) → from ≤ spans .deletes →
+    InsertedSo t g spans numbers from state n state n from
+insert-start u from l = record { to-last = l; size = refl; way = u; same = refl }
 
-module _ {w steps : List ℕ} {i from to : ℕ} {found : List ℕ} {n : ℕ} {state : List ℕ} {left k : ℕ}
-    (c : InsertedSo w steps i from to found n state left k) where
+module _ {t : Task} {g : ℕ → Fact} {spans : Spans} {numbers : List ℕ} {from : ℕ} {found : List ℕ} {n : ℕ}
+    {state : List ℕ} {left k : ℕ}
+    (c : InsertedSo t g spans numbers from found n state left k) where
   abbrev s : List Fact
-  s = stateIn (taskOf w) state left
+  s = stateIn t state left
 
   abbrev rest : List Fact
-  rest = groundSpan w steps i (k + 1) (to - (k + 1))
+  rest = span g (k + 1) (spans .deletes)
 
-  pub insert-turn : {out : List ℕ} {left′ : ℕ} → k < to → length out ≡ length state →
-      Keeps (taskOf w) out left′ (insert (groundAt w steps i k) s) →
-      InsertedSo w steps i from to found n out left′ (k + 1)
+  -- the add that comes next
+  pub next-known : k < spans .deletes → Known t state left (g k) (getD numbers k 0)
+  next-known l = atom-known (c .way) k (let m = c .way .deletes in omega arith)
+
+  pub insert-turn : {out : List ℕ} {left′ : ℕ} → k < spans .deletes → length out ≡ length state →
+      Keeps t out left′ (insert (g k) s) →
+      InsertedSo t g spans numbers from found n out left′ (k + 1)
   insert-turn l z h = record {
-    from-first = let y = c .from-first in omega arith;
     to-last = omega arith;
     size = z ∙ c .size;
-    is-state = h .state;
+    way = with-state (c .way) (h .state);
     same =
         ap (insertAll rest) (h .facts) ∙
-        (sym (insert-more (groundAt w steps i k) rest s) ∙
-        (ap (λ (fs : List Fact). insertAll fs s) (sym (span-more w steps i k to l)) ∙ c .same));
+        (sym (insert-more (g k) rest s) ∙
+        (ap (λ (fs : List Fact). insertAll fs s) (sym (span-more g k (spans .deletes) l)) ∙ c .same));
   }
 
-  pub insert-end : to ≤ k → Keeps (taskOf w) state left
-      (insertAll (groundSpan w steps i from (to - from)) (stateIn (taskOf w) found n))
+  pub insert-end : spans .deletes ≤ k →
+      Keeps t state left (insertAll (span g from (spans .deletes)) (stateIn t found n))
   insert-end l = record {
-    state = c .is-state;
+    state = c .way .is-state;
     facts =
         sym (insert-nothing s) ∙
-        (ap (λ (fs : List Fact). insertAll fs s) (sym (span-end w steps i k to l)) ∙ c .same);
+        (ap (λ (fs : List Fact). insertAll fs s) (sym (span-end g k (spans .deletes) l)) ∙ c .same);
   }
 
   -- what is still to come in fits, since all of it does
-  pub rest-fits : k < to → length (insertAll (groundSpan w steps i from (to - from)) (stateIn (taskOf w) found n)) ≤
-      roomIn found →
-      length (insertAll (groundAt w steps i k ∷ rest) s) ≤ roomIn state
+  pub rest-fits : k < spans .deletes →
+      length (insertAll (span g from (spans .deletes)) (stateIn t found n)) ≤ roomIn found →
+      length (insertAll (g k ∷ rest) s) ≤ roomIn state
   unfolding roomIn
   rest-fits l h =
-      let e = ap length (ap (λ (fs : List Fact). insertAll fs s) (sym (span-more w steps i k to l)) ∙ c .same) in
+      let e = ap length (ap (λ (fs : List Fact). insertAll fs s) (sym (span-more g k (spans .deletes) l)) ∙ c .same) in
       let z = c .size in
       omega arith

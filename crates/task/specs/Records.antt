@@ -43,6 +43,10 @@ pub record RowIs (w : List ℕ) (n k number : ℕ) (r : Bool) : Type 0 where
   pub found : r ≡ true → (k < n) × (rowNumber w k ≡ number)
   pub missed : r ≡ false → k < n → rowNumber w k ≡ number → ⊥
 
+-- row r has this number, where one of n rows has it
+abbrev pub RowFor : List ℕ → ℕ → ℕ → ℕ → Type 0
+RowFor w n number r = (i : ℕ) → i < n → rowNumber w i ≡ number → (r < n) × (rowNumber w r ≡ number)
+
 -- the words from a to b - 1 come from five further on, those before a and from b on stay
 pub record MovedDown (w : List ℕ) (a b : ℕ) (out : List ℕ) : Type 0 where
   pub before : (i : ℕ) → i < a → getD out i 0 ≡ getD w i 0

@@ -3,18 +3,19 @@ use crate::records::find;
 use crate::records::is_row;
 use crate::records::remove_row;
 use crate::records::replace;
-use crate::sizes::absent;
-use crate::spans::ground;
-use crate::spans::insert_span;
-ghost use mathlib.Core.Path.{_≡_};
-ghost use mathlib.Core.Bool.{true};
-ghost use Prim.Native.Nat.{_+_, _-_, _≤_, _<_};
+use crate::records::row_for;
+use crate::spans::Numbers;
+use crate::spans::Rows;
+use crate::spans::Spans;
+use crate::spans::absent;
+use crate::spans::insert_rest;
+ghost use Prim.Native.Nat.{ℕ, _≤_, _<_};
 ghost use lib.ListN.{length};
-ghost use Rattle.words.specs.Lists.{all};
-ghost use Rattle.task.specs.Table.{taskOf};
-ghost use Rattle.task.specs.Run.{holds, insertAll, removeAll, stateIn, roomIn, isState};
+ghost use Rattle.task.specs.Limits.{mostAtoms};
+ghost use Rattle.task.specs.Task.{Task, Fact};
+ghost use Rattle.task.specs.Run.{roomIn};
 ghost use Rattle.task.specs.Records.{Keeps};
-ghost use Rattle.task.specs.Spans.{groundSpan, AtomOf, SpanOf};
+ghost use Rattle.task.specs.Spans.{UnderWay, AllHold, exchanged};
 ghost use Rattle.task.specs.Exchange.{FirstNew, ExchangedOne};
 
 // How many records there are, and the first add that may still be missing.
@@ -23,84 +24,79 @@ pub struct Exchanged {
     pub next: usize,
 }
 
-// An atom of a step that does not hold: its place in the table, its number, and the row before which it is to come.
+// An add of a step that does not hold: its place among the numbers, and the row before which it is to come.
 pub struct New {
     pub atom: usize,
-    pub number: u64,
     pub row: usize,
 }
 
-// The first atom from `from` on, with the objects of step i, that does not hold, or `to`.
-fn first_new(
-    table: &[u16],
-    from: usize,
-    to: usize,
-    steps: &[u16],
-    i: usize,
-    state: &[u16],
-    n: usize,
-) -> New
-    requires { ⌜ SpanOf (now table) (now steps) i from to ⌝ }
-    requires { ⌜ isState (taskOf (now table)) (now state) n ≡ true ⌝ }
-    ensures { λ r. ⌜ FirstNew (now (table .entry)) (now (steps .entry)) i from to (now (state .entry)) n r ⌝ }
+// Where to look first for the row of a number: where the precondition with this number was found, if one has it.
+// Nothing is promised, since rows move as others come and go.
+fn row_seen(numbers: &Numbers, rows: &Rows, count: usize, number: u64) -> usize
+    requires { ⌜ count ≤ mostAtoms ⌝ }
 {
-    let mut k = from;
-    while k < to {
-        let number = ground(table, k, steps, i);
-        let row = find(state, n, number);
-        if !is_row(state, n, row, number) {
-            return New {
-                atom: k,
-                number,
-                row,
-            };
+    let mut k = 0;
+    while k < count {
+        if numbers[k] == number {
+            return rows[k];
         }
         k += 1;
     }
-    New {
-        atom: k,
-        number: 0,
-        row: 0,
-    }
+    0
 }
 
-// Takes atom k, a delete, out of the state, unless it is not there or an add that is there already, and puts the next
+// The first add from `from` on that does not hold, or the end of the adds.
+fn first_new(numbers: &Numbers, spans: Spans, from: usize, state: &[u16], n: usize) -> New
+    requires { ⌜ from ≤ spans .deletes ⌝ }
+    requires { ⌜ ((t : Task) × (g : ℕ → Fact) × UnderWay t g spans (now numbers) (now state) n) ⌝ }
+    ensures { λ r. ⌜ ((t : Task) (g : ℕ → Fact) → UnderWay t g spans (now (numbers .entry)) (now (state .entry)) n →
+        FirstNew t g (now (numbers .entry)) from (spans .deletes) (now (state .entry)) n r) ⌝ }
+{
+    let mut k = from;
+    while k < spans.deletes {
+        let number = numbers[k];
+        let row = find(state, n, number);
+        if !is_row(state, n, row, number) {
+            return New { atom: k, row };
+        }
+        k += 1;
+    }
+    New { atom: k, row: 0 }
+}
+
+// Takes the delete `k` out of the state, unless it is not there or an add that is there already, and puts the next
 // missing add from `next` on in its place.
 fn exchange_one(
-    table: &[u16],
+    numbers: &Numbers,
+    rows: &Rows,
+    spans: Spans,
     k: usize,
     next: usize,
-    add: usize,
-    del: usize,
-    steps: &[u16],
-    i: usize,
     state: &mut [u16],
     n: usize,
 ) -> Exchanged
-    requires { ⌜ AtomOf (now table) (now steps) i k ⌝ }
-    requires { ⌜ SpanOf (now table) (now steps) i add del ⌝ }
-    requires { ⌜ (add ≤ next) × (next ≤ del) ⌝ }
-    requires { ⌜ isState (taskOf (now table)) (now state) n ≡ true ⌝ }
-    requires { ⌜ all (holds (stateIn (taskOf (now table)) (now state) n))
-        (groundSpan (now table) (now steps) i add (next - add)) ≡ true ⌝ }
-    ensures { λ r. ⌜ ExchangedOne (now (table .entry)) (now (steps .entry)) i add del k (now (state .entry)) n
-        (now (state .exit)) (r .left) (r .next) ⌝ }
+    requires { ⌜ (k < spans .end) × (spans .adds ≤ next) × (next ≤ spans .deletes) ⌝ }
+    requires { ⌜ ((t : Task) × (g : ℕ → Fact) × UnderWay t g spans (now numbers) (now state) n) ⌝ }
+    ensures { λ r. ⌜ ((t : Task) (g : ℕ → Fact) → UnderWay t g spans (now (numbers .entry)) (now (state .entry)) n →
+        AllHold t g (spans .adds) next (now (state .entry)) n →
+        ExchangedOne t g (spans .adds) (spans .deletes) k (now (state .entry)) n (now (state .exit)) (r .left)
+        (r .next)) ⌝ }
 {
-    let out = ground(table, k, steps, i);
-    let row = find(state, n, out);
+    let out = numbers[k];
+    let row = row_for(state, n, row_seen(numbers, rows, spans.adds, out), out);
     if !is_row(state, n, row, out) {
         return Exchanged { left: n, next };
     }
-    let new = first_new(table, next, del, steps, i, state, n);
+    let new = first_new(numbers, spans, next, state, n);
     let atom = new.atom;
-    if !absent(table, add, atom, steps, i, out) {
+    if !absent(numbers, spans.adds, atom, out) {
         return Exchanged {
             left: n,
             next: atom,
         };
     }
-    if atom < del {
-        replace(state, row, new.row, new.number);
+    if atom < spans.deletes {
+        replace(state, row, new.row, numbers[atom]);
         return Exchanged {
             left: n,
             next: atom + 1,
@@ -113,37 +109,29 @@ fn exchange_one(
     }
 }
 
-// Takes the atoms from `del` to `end` out of the state and puts those from `add` to `del` in, where there is room for
-// what is left; returns how many records there are then.
+// Takes the deletes out of the state and puts the adds in, where there is room for what is left; returns how many
+// records there are then.
 pub(crate) fn exchange(
-    table: &[u16],
-    add: usize,
-    del: usize,
-    end: usize,
-    steps: &[u16],
-    i: usize,
+    numbers: &Numbers,
+    rows: &Rows,
+    spans: Spans,
     state: &mut [u16],
     n: usize,
 ) -> usize
-    requires { ⌜ SpanOf (now table) (now steps) i add del ⌝ }
-    requires { ⌜ SpanOf (now table) (now steps) i del end ⌝ }
-    requires { ⌜ isState (taskOf (now table)) (now state) n ≡ true ⌝ }
-    requires { ⌜ length (insertAll (groundSpan (now table) (now steps) i add (del - add))
-        (removeAll (groundSpan (now table) (now steps) i del (end - del)) (stateIn (taskOf (now table)) (now state) n)))
-        ≤ roomIn (now state) ⌝ }
-    ensures { λ r. ⌜ Keeps (taskOf (now (table .entry))) (now (state .exit)) r
-        (insertAll (groundSpan (now (table .entry)) (now (steps .entry)) i add (del - add))
-        (removeAll (groundSpan (now (table .entry)) (now (steps .entry)) i del (end - del))
-        (stateIn (taskOf (now (table .entry))) (now (state .entry)) n))) ⌝ }
+    requires { ⌜ ((t : Task) × (g : ℕ → Fact) × UnderWay t g spans (now numbers) (now state) n ×
+        (length (exchanged t g spans (now state) n) ≤ roomIn (now state))) ⌝ }
+    ensures { λ r. ⌜ ((t : Task) (g : ℕ → Fact) → UnderWay t g spans (now (numbers .entry)) (now (state .entry)) n →
+        Keeps t (now (state .exit)) r (exchanged t g spans (now (state .entry)) n)) ⌝ }
 {
+    let end = spans.end;
     let mut left = n;
-    let mut next = add;
-    let mut k = del;
+    let mut next = spans.adds;
+    let mut k = spans.deletes;
     while k < end {
-        let e = exchange_one(table, k, next, add, del, steps, i, state, left);
+        let e = exchange_one(numbers, rows, spans, k, next, state, left);
         left = e.left;
         next = e.next;
         k += 1;
     }
-    insert_span(table, next, del, steps, i, state, left)
+    insert_rest(numbers, spans, next, state, left)
 }

@@ -16,6 +16,7 @@ ghost use Rattle.task.specs.Records.{
   RowsAscend,
   LowerBound,
   RowIs,
+  RowFor,
   MovedDown,
   MovedUp,
   Written,
@@ -142,6 +143,19 @@ pub(crate) fn held(state: &[u16], n: usize, number: u64) -> bool
 {
     let k = find(state, n, number);
     is_row(state, n, k, number)
+}
+
+// A row with this number, where one of n ascending rows has it: the one to look at first, or what a search finds.
+pub(crate) fn row_for(state: &[u16], n: usize, first: usize, number: u64) -> usize
+    requires { ⌜ recordSize * n ≤ length (now state) ⌝ }
+    requires { ⌜ RowsAscend (now state) n ⌝ }
+    ensures { λ r. ⌜ RowFor (now (state .entry)) n number r ⌝ }
+{
+    if is_row(state, n, first, number) {
+        first
+    } else {
+        find(state, n, number)
+    }
 }
 
 // Takes row k out of n rows.

@@ -8,6 +8,7 @@ use crate::layout::schema_number;
 use crate::limits::ADDITION;
 use crate::limits::GOAL_ATOMS;
 use crate::limits::INITIAL_ATOMS;
+use crate::limits::MOST_ATOMS;
 use crate::limits::MOST_SCHEMAS;
 use crate::limits::PRECONDITION;
 use crate::limits::RECORD_SIZE;
@@ -16,8 +17,12 @@ use crate::limits::STEP_SIZE;
 use crate::records::clear_from;
 use crate::records::held;
 use crate::sizes::has_room;
+use crate::spans::Numbers;
+use crate::spans::Rows;
+use crate::spans::Spans;
 use crate::spans::all_hold;
 use crate::spans::fact_number;
+use crate::spans::ground_all;
 use words::runs::word;
 ghost use mathlib.Core.Path.{_≡_};
 ghost use mathlib.Core.Bool.{true};
@@ -40,7 +45,7 @@ ghost use Rattle.task.specs.Run.{
   runDone,
   runAnswerTold,
 };
-ghost use Rattle.task.specs.Limits.{mostSchemas, stepSize, recordSize};
+ghost use Rattle.task.specs.Limits.{mostSchemas, mostAtoms, stepSize, recordSize};
 ghost use Rattle.task.specs.Turns.{firstAtom, Starts, RoleEnds, Turned, endedAs, recordsLeft};
 
 // What a step does: it runs and leaves so many records, a precondition is missing, or the next state is outgrown.
@@ -89,7 +94,8 @@ fn role_end(table: &[u16], from: usize, to: usize, role: u16) -> usize
     k
 }
 
-// Runs step i, whose schema has the atoms from `start` to `end`: deletes go out, then adds come in.
+// Runs step i, whose schema has the atoms from `start` to `end`: deletes go out, then adds come in. Its numbers and the
+// rows of its preconditions stand in lent arrays.
 fn run_step(
     table: &[u16],
     start: usize,
@@ -98,24 +104,34 @@ fn run_step(
     i: usize,
     state: &mut [u16],
     n: usize,
+    numbers: &mut Numbers,
+    rows: &mut Rows,
 ) -> Turn
     requires { ⌜ isTable (now table) ≡ true ⌝ }
     requires { ⌜ isStepAt (taskOf (now table)) (now steps) i ≡ true ⌝ }
     requires { ⌜ start ≡ firstAtom (taskOf (now table)) (getD (now steps) (stepSize * i) 0) ⌝ }
     requires { ⌜ end ≡ firstAtom (taskOf (now table)) (suc (getD (now steps) (stepSize * i) 0)) ⌝ }
     requires { ⌜ isState (taskOf (now table)) (now state) n ≡ true ⌝ }
+    requires { ⌜ length (now numbers) ≡ mostAtoms ⌝ }
     ensures { λ r. ⌜ Turned (taskOf (now (table .entry))) (stepAt (taskOf (now (table .entry))) (now (steps .entry)) i)
         (now (state .entry)) n r (now (state .exit)) ⌝ }
+    ensures { λ _. ⌜ length (now (numbers .exit)) ≡ mostAtoms ⌝ }
 {
     let add = role_end(table, start, end, PRECONDITION);
     let del = role_end(table, add, end, ADDITION);
-    if !all_hold(table, start, add, steps, i, state, n) {
+    let spans = Spans {
+        adds: add - start,
+        deletes: del - start,
+        end: end - start,
+    };
+    ground_all(table, start, end, steps, i, numbers);
+    if !all_hold(numbers, spans, state, n, rows) {
         return Turn::Missing;
     }
-    if !has_room(table, start, add, del, end, steps, i, state, n) {
+    if !has_room(numbers, spans, state, n) {
         return Turn::Outgrown;
     }
-    Turn::Ran(exchange(table, add, del, end, steps, i, state, n))
+    Turn::Ran(exchange(numbers, rows, spans, state, n))
 }
 
 // Whether all goal atoms hold.
@@ -149,6 +165,8 @@ fn run_list(table: &[u16], starts: &[u16], steps: &[u16], state: &mut [u16], n: 
         (stateIn (taskOf (now (table .entry))) (now (state .entry)) n) ≡
         endedAs r (stateIn (taskOf (now (table .entry))) (now (state .exit)) (recordsLeft r)) ⌝ }
 {
+    let mut numbers = [0u64; MOST_ATOMS];
+    let mut rows = [0usize; MOST_ATOMS];
     let count = steps.len() / STEP_SIZE;
     let mut left = n;
     let mut i = 0;
@@ -156,7 +174,17 @@ fn run_list(table: &[u16], starts: &[u16], steps: &[u16], state: &mut [u16], n: 
         let schema = steps[STEP_SIZE * i] as usize;
         let start = starts[schema] as usize;
         let end = starts[schema + 1] as usize;
-        let turn = run_step(table, start, end, steps, i, state, left);
+        let turn = run_step(
+            table,
+            start,
+            end,
+            steps,
+            i,
+            state,
+            left,
+            &mut numbers,
+            &mut rows,
+        );
         match turn {
             Turn::Ran(m) => {
                 left = m;

@@ -1,156 +1,63 @@
 // The size of a step's next state, counted before anything is changed.
 use crate::limits::RECORD_SIZE;
 use crate::records::held;
-use crate::spans::ground;
+use crate::spans::Numbers;
+use crate::spans::Spans;
+use crate::spans::absent;
 ghost use mathlib.Core.Path.{_≡_};
 ghost use mathlib.Core.Bool.{true, not};
-ghost use Prim.Native.Nat.{_+_, _-_, _<_};
+ghost use Prim.Native.Nat.{ℕ, _≤_};
 ghost use lib.ListN.{length};
-ghost use lib.Dec.{eqb, leb};
-ghost use Rattle.words.specs.Lists.{all};
-ghost use Rattle.task.specs.Task.{Fact};
-ghost use Rattle.task.specs.Table.{taskOf};
-ghost use Rattle.task.specs.Run.{holds, insertAll, removeAll, stateIn, roomIn, isState};
-ghost use Rattle.task.specs.Records.{recordNumber, Known};
-ghost use Rattle.task.specs.Spans.{groundSpan, SpanOf};
+ghost use lib.Dec.{leb};
+ghost use Rattle.task.specs.Task.{Task, Fact};
+ghost use Rattle.task.specs.Run.{holds, insertAll, removeAll, stateIn, roomIn};
+ghost use Rattle.task.specs.Records.{Known};
+ghost use Rattle.task.specs.Spans.{span, UnderWay, AllHold, without, exchanged};
 
-// Whether none of the atoms from `from` to `to`, with the objects of step i, has this number.
-pub(crate) fn absent(
-    table: &[u16],
-    from: usize,
-    to: usize,
-    steps: &[u16],
-    i: usize,
-    number: u64,
-) -> bool
-    requires { ⌜ SpanOf (now table) (now steps) i from to ⌝ }
-    ensures { λ r. ⌜ r ≡ all (λ f. not (eqb (recordNumber f) number))
-        (groundSpan (now (table .entry)) (now (steps .entry)) i from (to - from)) ⌝ }
+// Whether the atom with this number holds, where the preconditions do: one of these needs no search.
+fn holds_now(numbers: &Numbers, spans: Spans, state: &[u16], n: usize, number: u64) -> bool
+    requires { ⌜ ((t : Task) × (g : ℕ → Fact) × UnderWay t g spans (now numbers) (now state) n) ⌝ }
+    ensures { λ r. ⌜ ((t : Task) (g : ℕ → Fact) → UnderWay t g spans (now (numbers .entry)) (now (state .entry)) n →
+        AllHold t g 0 (spans .adds) (now (state .entry)) n →
+        (f : Fact) → Known t (now (state .entry)) n f number → r ≡ holds (stateIn t (now (state .entry)) n) f) ⌝ }
 {
-    let mut k = from;
-    while k < to {
-        if ground(table, k, steps, i) == number {
-            return false;
-        }
-        k += 1;
-    }
-    true
-}
-
-// Whether the atom with this number still holds when those from `from` to `to` have gone out.
-fn stays(
-    table: &[u16],
-    from: usize,
-    to: usize,
-    steps: &[u16],
-    i: usize,
-    state: &[u16],
-    n: usize,
-    number: u64,
-) -> bool
-    requires { ⌜ SpanOf (now table) (now steps) i from to ⌝ }
-    requires { ⌜ isState (taskOf (now table)) (now state) n ≡ true ⌝ }
-    ensures { λ r. ⌜ ((f : Fact) → Known (taskOf (now (table .entry))) (now (state .entry)) n f number →
-        r ≡ holds (removeAll (groundSpan (now (table .entry)) (now (steps .entry)) i from (to - from))
-        (stateIn (taskOf (now (table .entry))) (now (state .entry)) n)) f) ⌝ }
-{
-    if held(state, n, number) {
-        absent(table, from, to, steps, i, number)
-    } else {
-        false
-    }
-}
-
-// Whether the atom with this number holds, where those from `start` to `add` do: one of these needs no search.
-fn holds_now(
-    table: &[u16],
-    start: usize,
-    add: usize,
-    steps: &[u16],
-    i: usize,
-    state: &[u16],
-    n: usize,
-    number: u64,
-) -> bool
-    requires { ⌜ SpanOf (now table) (now steps) i start add ⌝ }
-    requires { ⌜ isState (taskOf (now table)) (now state) n ≡ true ⌝ }
-    requires { ⌜ all (holds (stateIn (taskOf (now table)) (now state) n))
-        (groundSpan (now table) (now steps) i start (add - start)) ≡ true ⌝ }
-    ensures { λ r. ⌜ ((f : Fact) → Known (taskOf (now (table .entry))) (now (state .entry)) n f number →
-        r ≡ holds (stateIn (taskOf (now (table .entry))) (now (state .entry)) n) f) ⌝ }
-{
-    if absent(table, start, add, steps, i, number) {
+    if absent(numbers, 0, spans.adds, number) {
         held(state, n, number)
     } else {
         true
     }
 }
 
-// Whether the atom with this number still holds when those from `del` to `k` have gone out, where those from `start` to
-// `add` hold.
-fn goes(
-    table: &[u16],
-    start: usize,
-    add: usize,
-    del: usize,
-    k: usize,
-    steps: &[u16],
-    i: usize,
-    state: &[u16],
-    n: usize,
-    number: u64,
-) -> bool
-    requires { ⌜ SpanOf (now table) (now steps) i start add ⌝ }
-    requires { ⌜ SpanOf (now table) (now steps) i del k ⌝ }
-    requires { ⌜ isState (taskOf (now table)) (now state) n ≡ true ⌝ }
-    requires { ⌜ all (holds (stateIn (taskOf (now table)) (now state) n))
-        (groundSpan (now table) (now steps) i start (add - start)) ≡ true ⌝ }
-    ensures { λ r. ⌜ ((f : Fact) → Known (taskOf (now (table .entry))) (now (state .entry)) n f number →
-        r ≡ holds (removeAll (groundSpan (now (table .entry)) (now (steps .entry)) i del (k - del))
-        (stateIn (taskOf (now (table .entry))) (now (state .entry)) n)) f) ⌝ }
+// Whether the atom with this number still holds when the deletes before `k` have gone out, where the preconditions hold
+// before.
+fn goes(numbers: &Numbers, spans: Spans, k: usize, state: &[u16], n: usize, number: u64) -> bool
+    requires { ⌜ ((t : Task) × (g : ℕ → Fact) × UnderWay t g spans (now numbers) (now state) n) ⌝ }
+    requires { ⌜ k ≤ spans .end ⌝ }
+    ensures { λ r. ⌜ ((t : Task) (g : ℕ → Fact) → UnderWay t g spans (now (numbers .entry)) (now (state .entry)) n →
+        AllHold t g 0 (spans .adds) (now (state .entry)) n →
+        (f : Fact) → Known t (now (state .entry)) n f number →
+        r ≡ holds (removeAll (span g (spans .deletes) k) (stateIn t (now (state .entry)) n)) f) ⌝ }
 {
-    if absent(table, del, k, steps, i, number) {
-        holds_now(table, start, add, steps, i, state, n, number)
+    if absent(numbers, spans.deletes, k, number) {
+        holds_now(numbers, spans, state, n, number)
     } else {
         false
     }
 }
 
-// How many records are left when the atoms from `del` to `end` go out, where those from `start` to `add` hold.
-fn size_without(
-    table: &[u16],
-    start: usize,
-    add: usize,
-    del: usize,
-    end: usize,
-    steps: &[u16],
-    i: usize,
-    state: &[u16],
-    n: usize,
-) -> usize
-    requires { ⌜ SpanOf (now table) (now steps) i start add ⌝ }
-    requires { ⌜ SpanOf (now table) (now steps) i del end ⌝ }
-    requires { ⌜ isState (taskOf (now table)) (now state) n ≡ true ⌝ }
-    requires { ⌜ all (holds (stateIn (taskOf (now table)) (now state) n))
-        (groundSpan (now table) (now steps) i start (add - start)) ≡ true ⌝ }
-    ensures { λ r. ⌜ r ≡ length (removeAll (groundSpan (now (table .entry)) (now (steps .entry)) i del (end - del))
-        (stateIn (taskOf (now (table .entry))) (now (state .entry)) n)) ⌝ }
+// How many records are left when the deletes have gone out, where the preconditions hold before.
+fn size_without(numbers: &Numbers, spans: Spans, state: &[u16], n: usize) -> usize
+    requires { ⌜ ((t : Task) × (g : ℕ → Fact) × UnderWay t g spans (now numbers) (now state) n ×
+        AllHold t g 0 (spans .adds) (now state) n) ⌝ }
+    ensures { λ r. ⌜ ((t : Task) (g : ℕ → Fact) → UnderWay t g spans (now (numbers .entry)) (now (state .entry)) n →
+        AllHold t g 0 (spans .adds) (now (state .entry)) n →
+        r ≡ length (without t g spans (now (state .entry)) n)) ⌝ }
 {
+    let end = spans.end;
     let mut size = n;
-    let mut k = del;
+    let mut k = spans.deletes;
     while k < end {
-        if goes(
-            table,
-            start,
-            add,
-            del,
-            k,
-            steps,
-            i,
-            state,
-            n,
-            ground(table, k, steps, i),
-        ) {
+        if goes(numbers, spans, k, state, n, numbers[k]) {
             size -= 1;
         }
         k += 1;
@@ -158,72 +65,48 @@ fn size_without(
     size
 }
 
-// Whether the atom with this number is new when those from `del` to `end` have gone out and those from `add` to `k`
-// have come in.
-fn comes(
-    table: &[u16],
-    add: usize,
-    k: usize,
-    del: usize,
-    end: usize,
-    steps: &[u16],
-    i: usize,
-    state: &[u16],
-    n: usize,
-    number: u64,
-) -> bool
-    requires { ⌜ SpanOf (now table) (now steps) i add k ⌝ }
-    requires { ⌜ SpanOf (now table) (now steps) i del end ⌝ }
-    requires { ⌜ isState (taskOf (now table)) (now state) n ≡ true ⌝ }
-    ensures { λ r. ⌜ ((f : Fact) → Known (taskOf (now (table .entry))) (now (state .entry)) n f number →
-        r ≡ not (holds (insertAll (groundSpan (now (table .entry)) (now (steps .entry)) i add (k - add))
-        (removeAll (groundSpan (now (table .entry)) (now (steps .entry)) i del (end - del))
-        (stateIn (taskOf (now (table .entry))) (now (state .entry)) n))) f)) ⌝ }
+// Whether the atom with this number still holds when the deletes have gone out.
+fn stays(numbers: &Numbers, spans: Spans, state: &[u16], n: usize, number: u64) -> bool
+    requires { ⌜ ((t : Task) × (g : ℕ → Fact) × UnderWay t g spans (now numbers) (now state) n) ⌝ }
+    ensures { λ r. ⌜ ((t : Task) (g : ℕ → Fact) → UnderWay t g spans (now (numbers .entry)) (now (state .entry)) n →
+        (f : Fact) → Known t (now (state .entry)) n f number →
+        r ≡ holds (without t g spans (now (state .entry)) n) f) ⌝ }
 {
-    if absent(table, add, k, steps, i, number) {
-        !stays(table, del, end, steps, i, state, n, number)
+    if held(state, n, number) {
+        absent(numbers, spans.deletes, spans.end, number)
     } else {
         false
     }
 }
 
-// How many records there are when the atoms from `del` to `end` have gone out, which leaves `size`, and those from
-// `add` to `del` have come in.
-fn size_with(
-    table: &[u16],
-    add: usize,
-    del: usize,
-    end: usize,
-    steps: &[u16],
-    i: usize,
-    state: &[u16],
-    n: usize,
-    size: usize,
-) -> usize
-    requires { ⌜ SpanOf (now table) (now steps) i add del ⌝ }
-    requires { ⌜ SpanOf (now table) (now steps) i del end ⌝ }
-    requires { ⌜ isState (taskOf (now table)) (now state) n ≡ true ⌝ }
-    requires { ⌜ size ≡ length (removeAll (groundSpan (now table) (now steps) i del (end - del))
-        (stateIn (taskOf (now table)) (now state) n)) ⌝ }
-    ensures { λ r. ⌜ r ≡ length (insertAll (groundSpan (now (table .entry)) (now (steps .entry)) i add (del - add))
-        (removeAll (groundSpan (now (table .entry)) (now (steps .entry)) i del (end - del))
-        (stateIn (taskOf (now (table .entry))) (now (state .entry)) n))) ⌝ }
+// Whether the atom with this number is new when the deletes have gone out and the adds before `k` have come in.
+fn comes(numbers: &Numbers, spans: Spans, k: usize, state: &[u16], n: usize, number: u64) -> bool
+    requires { ⌜ ((t : Task) × (g : ℕ → Fact) × UnderWay t g spans (now numbers) (now state) n) ⌝ }
+    requires { ⌜ k ≤ spans .end ⌝ }
+    ensures { λ r. ⌜ ((t : Task) (g : ℕ → Fact) → UnderWay t g spans (now (numbers .entry)) (now (state .entry)) n →
+        (f : Fact) → Known t (now (state .entry)) n f number →
+        r ≡ not (holds (insertAll (span g (spans .adds) k) (without t g spans (now (state .entry)) n)) f)) ⌝ }
 {
+    if absent(numbers, spans.adds, k, number) {
+        !stays(numbers, spans, state, n, number)
+    } else {
+        false
+    }
+}
+
+// How many records there are when the deletes have gone out, which leaves `size`, and the adds have come in.
+fn size_with(numbers: &Numbers, spans: Spans, state: &[u16], n: usize, size: usize) -> usize
+    requires { ⌜ ((t : Task) × (g : ℕ → Fact) × UnderWay t g spans (now numbers) (now state) n ×
+        (size ≡ length (without t g spans (now state) n))) ⌝ }
+    ensures { λ r. ⌜ ((t : Task) (g : ℕ → Fact) → UnderWay t g spans (now (numbers .entry)) (now (state .entry)) n →
+        size ≡ length (without t g spans (now (state .entry)) n) →
+        r ≡ length (exchanged t g spans (now (state .entry)) n)) ⌝ }
+{
+    let to = spans.deletes;
     let mut total = size;
-    let mut k = add;
-    while k < del {
-        if comes(
-            table,
-            add,
-            k,
-            del,
-            end,
-            steps,
-            i,
-            state,
-            n,
-            ground(table, k, steps, i),
-        ) {
+    let mut k = spans.adds;
+    while k < to {
+        if comes(numbers, spans, k, state, n, numbers[k]) {
             total += 1;
         }
         k += 1;
@@ -231,37 +114,24 @@ fn size_with(
     total
 }
 
-// Whether the lent words have room for the state that is left when the atoms from `del` to `end` go out and those from
-// `add` to `del` come in, where those from `start` to `add` hold. Where there is room for every atom that comes in, be
-// it before or after the others have gone, nothing more needs to be counted.
-pub(crate) fn has_room(
-    table: &[u16],
-    start: usize,
-    add: usize,
-    del: usize,
-    end: usize,
-    steps: &[u16],
-    i: usize,
-    state: &[u16],
-    n: usize,
-) -> bool
-    requires { ⌜ SpanOf (now table) (now steps) i start add ⌝ }
-    requires { ⌜ SpanOf (now table) (now steps) i add del ⌝ }
-    requires { ⌜ SpanOf (now table) (now steps) i del end ⌝ }
-    requires { ⌜ isState (taskOf (now table)) (now state) n ≡ true ⌝ }
-    requires { ⌜ all (holds (stateIn (taskOf (now table)) (now state) n))
-        (groundSpan (now table) (now steps) i start (add - start)) ≡ true ⌝ }
-    ensures { λ r. ⌜ r ≡ leb (length (insertAll (groundSpan (now (table .entry)) (now (steps .entry)) i add (del - add))
-        (removeAll (groundSpan (now (table .entry)) (now (steps .entry)) i del (end - del))
-        (stateIn (taskOf (now (table .entry))) (now (state .entry)) n)))) (roomIn (now (state .entry))) ⌝ }
+// Whether the lent words have room for the state that is left when the deletes go out and the adds come in, where the
+// preconditions hold before. Where there is room for every add, be it before or after the deletes have gone, nothing
+// more needs to be counted.
+pub(crate) fn has_room(numbers: &Numbers, spans: Spans, state: &[u16], n: usize) -> bool
+    requires { ⌜ ((t : Task) × (g : ℕ → Fact) × UnderWay t g spans (now numbers) (now state) n ×
+        AllHold t g 0 (spans .adds) (now state) n) ⌝ }
+    ensures { λ r. ⌜ ((t : Task) (g : ℕ → Fact) → UnderWay t g spans (now (numbers .entry)) (now (state .entry)) n →
+        AllHold t g 0 (spans .adds) (now (state .entry)) n →
+        r ≡ leb (length (exchanged t g spans (now (state .entry)) n)) (roomIn (now (state .entry)))) ⌝ }
 {
     let room = state.len() / RECORD_SIZE;
-    if del - add <= room - n {
+    let adds = spans.deletes - spans.adds;
+    if adds <= room - n {
         return true;
     }
-    let size = size_without(table, start, add, del, end, steps, i, state, n);
-    if del - add <= room - size {
+    let size = size_without(numbers, spans, state, n);
+    if adds <= room - size {
         return true;
     }
-    size_with(table, add, del, end, steps, i, state, n, size) <= room
+    size_with(numbers, spans, state, n, size) <= room
 }

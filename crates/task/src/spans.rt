@@ -1,27 +1,46 @@
-// The ground atoms of a step: a step's objects for the parameters of an atom, and loops over atoms of one role.
+// The ground atoms of a step as numbers, worked out once from the table and the step's objects; and loops over those of
+// one role, which look at the numbers alone.
 use crate::Parameter;
 use crate::layout::arity_of;
 use crate::layout::row_of;
 use crate::limits::ARGUMENTS;
+use crate::limits::MOST_ATOMS;
 use crate::limits::PREDICATE;
 use crate::limits::STEP_SIZE;
-use crate::records::held;
+use crate::records::find;
+use crate::records::is_row;
 use crate::records::number_of;
 use crate::records::put_in;
 use crate::records::word;
 use crate::steps::object_of;
 ghost use mathlib.Core.Path.{_≡_};
-ghost use mathlib.Core.Bool.{true};
-ghost use Prim.Native.Nat.{_+_, _-_, _*_, _≤_, _<_};
+ghost use mathlib.Core.Bool.{true, not};
+ghost use Prim.Native.Nat.{ℕ, _+_, _-_, _*_, _≤_, _<_};
 ghost use lib.ListN.{length, getD};
+ghost use lib.Dec.{eqb};
 ghost use Rattle.words.specs.Lists.{all};
 ghost use Rattle.task.specs.Layout.{atomTotal};
-ghost use Rattle.task.specs.Table.{factIn, taskOf, isTable};
-ghost use Rattle.task.specs.Run.{holds, insertAll, stateIn, roomIn, isState};
+ghost use Rattle.task.specs.Task.{Task, Fact};
+ghost use Rattle.task.specs.Table.{factIn, isTable};
+ghost use Rattle.task.specs.Run.{holds, insertAll, stateIn, roomIn};
 ghost use Rattle.task.specs.Records.{recordNumber, Keeps};
-ghost use Rattle.task.specs.Limits.{stepSize};
-ghost use Rattle.words.specs.Words.{wordBound};
-ghost use Rattle.task.specs.Spans.{groundAt, groundSpan, argumentIn, AtomOf, SpanOf};
+ghost use Rattle.task.specs.Limits.{stepSize, mostAtoms};
+ghost use Rattle.words.specs.Words.{wordBound, wordsAt};
+ghost use Rattle.task.specs.Spans.{groundAt, groundFrom, span, argumentIn, AtomOf, SpanOf, NumbersOf, UnderWay};
+
+// The numbers of a step's ground atoms, in the table's order.
+pub type Numbers = [u64; MOST_ATOMS];
+
+// For each precondition the row at which it was found; rows move as others come and go, so that is where to look first.
+pub type Rows = [usize; MOST_ATOMS];
+
+// A step's ground atoms by role, as places among their numbers: the preconditions stand first, then come the adds, and
+// the deletes up to the end.
+pub struct Spans {
+    pub adds: usize,
+    pub deletes: usize,
+    pub end: usize,
+}
 
 // The argument at a word of the table with its object, or 0 where the predicate has no such argument.
 fn argument(table: &[u16], at: usize, used: bool, steps: &[u16], i: usize) -> u64
@@ -69,24 +88,36 @@ pub(crate) fn fact_number(table: &[u16], k: usize) -> u64
     )
 }
 
-// Whether all atoms from `from` to `to`, with the objects of step i, hold.
-pub(crate) fn all_hold(
+// Works out the numbers of the atoms from `start` to `end` with the objects of step i.
+pub(crate) fn ground_all(
     table: &[u16],
-    from: usize,
-    to: usize,
+    start: usize,
+    end: usize,
     steps: &[u16],
     i: usize,
-    state: &[u16],
-    n: usize,
-) -> bool
-    requires { ⌜ SpanOf (now table) (now steps) i from to ⌝ }
-    requires { ⌜ isState (taskOf (now table)) (now state) n ≡ true ⌝ }
-    ensures { λ r. ⌜ r ≡ all (holds (stateIn (taskOf (now (table .entry))) (now (state .entry)) n))
-        (groundSpan (now (table .entry)) (now (steps .entry)) i from (to - from)) ⌝ }
+    numbers: &mut Numbers,
+)
+    requires { ⌜ SpanOf (now table) (now steps) i start end ⌝ }
+    requires { ⌜ (end - start ≤ mostAtoms) × (length (now numbers) ≡ mostAtoms) ⌝ }
+    ensures { λ _. ⌜ (length (now (numbers .exit)) ≡ mostAtoms) ×
+        NumbersOf (groundFrom (now (table .entry)) (now (steps .entry)) i start) (end - start)
+        (now (numbers .exit)) ⌝ }
+{
+    let mut k = start;
+    while k < end {
+        numbers[k - start] = ground(table, k, steps, i);
+        k += 1;
+    }
+}
+
+// Whether none of the numbers from `from` to `to` is this one.
+pub(crate) fn absent(numbers: &Numbers, from: usize, to: usize, number: u64) -> bool
+    requires { ⌜ to ≤ mostAtoms ⌝ }
+    ensures { λ r. ⌜ r ≡ all (λ a. not (eqb a number)) (wordsAt (now (numbers .entry)) from (to - from)) ⌝ }
 {
     let mut k = from;
     while k < to {
-        if !held(state, n, ground(table, k, steps, i)) {
+        if numbers[k] == number {
             return false;
         }
         k += 1;
@@ -94,29 +125,50 @@ pub(crate) fn all_hold(
     true
 }
 
-// Puts the atoms from `from` to `to`, with the objects of step i, into a state with room for them, and returns how many
-// records there are then.
-pub(crate) fn insert_span(
-    table: &[u16],
+// Whether all preconditions hold; where they do, `rows` has the row of each.
+pub(crate) fn all_hold(
+    numbers: &Numbers,
+    spans: Spans,
+    state: &[u16],
+    n: usize,
+    rows: &mut Rows,
+) -> bool
+    requires { ⌜ ((t : Task) × (g : ℕ → Fact) × UnderWay t g spans (now numbers) (now state) n) ⌝ }
+    ensures { λ r. ⌜ ((t : Task) (g : ℕ → Fact) → UnderWay t g spans (now (numbers .entry)) (now (state .entry)) n →
+        r ≡ all (holds (stateIn t (now (state .entry)) n)) (span g 0 (spans .adds))) ⌝ }
+{
+    let mut k = 0;
+    while k < spans.adds {
+        let number = numbers[k];
+        let row = find(state, n, number);
+        if !is_row(state, n, row, number) {
+            return false;
+        }
+        rows[k] = row;
+        k += 1;
+    }
+    true
+}
+
+// Puts the adds from `from` on into a state with room for them, and returns how many records there are then.
+pub(crate) fn insert_rest(
+    numbers: &Numbers,
+    spans: Spans,
     from: usize,
-    to: usize,
-    steps: &[u16],
-    i: usize,
     state: &mut [u16],
     n: usize,
 ) -> usize
-    requires { ⌜ SpanOf (now table) (now steps) i from to ⌝ }
-    requires { ⌜ isState (taskOf (now table)) (now state) n ≡ true ⌝ }
-    requires { ⌜ length (insertAll (groundSpan (now table) (now steps) i from (to - from))
-        (stateIn (taskOf (now table)) (now state) n)) ≤ roomIn (now state) ⌝ }
-    ensures { λ r. ⌜ Keeps (taskOf (now (table .entry))) (now (state .exit)) r
-        (insertAll (groundSpan (now (table .entry)) (now (steps .entry)) i from (to - from))
-        (stateIn (taskOf (now (table .entry))) (now (state .entry)) n)) ⌝ }
+    requires { ⌜ from ≤ spans .deletes ⌝ }
+    requires { ⌜ ((t : Task) × (g : ℕ → Fact) × UnderWay t g spans (now numbers) (now state) n ×
+        (length (insertAll (span g from (spans .deletes)) (stateIn t (now state) n)) ≤ roomIn (now state))) ⌝ }
+    ensures { λ r. ⌜ ((t : Task) (g : ℕ → Fact) → UnderWay t g spans (now (numbers .entry)) (now (state .entry)) n →
+        Keeps t (now (state .exit)) r
+        (insertAll (span g from (spans .deletes)) (stateIn t (now (state .entry)) n))) ⌝ }
 {
     let mut left = n;
     let mut k = from;
-    while k < to {
-        left = put_in(state, left, ground(table, k, steps, i));
+    while k < spans.deletes {
+        left = put_in(state, left, numbers[k]);
         k += 1;
     }
     left

@@ -7,6 +7,7 @@ use Rattle.task.specs.Table.{factIn, taskOf}
 use Rattle.task.specs.Run.{holds, stateIn, goalMet}
 use Rattle.task.proofs.TableReads.{counts-inside}
 use Rattle.words.proofs.Loops.{AllLeft, all-yes, all-no, all-ends}
+use Rattle.task.proofs.Tables.{of-table}
 use Rattle.task.proofs.SpanLaws.{state-long, state-ascends}
 use Rattle.task.proofs.GoalLaws.{goal-known, goal-start}
 use Rattle.task.proofs.running.goal_met.Statement.{statement}
@@ -57,10 +58,8 @@ fact-number-requires c κs =
 held-requires : tie.Need-held-requires Inv-loop μ-loop
 held-requires c κs =
     let start = c .before .before .before .before .before .before .before .before in (
-      state-long _ _ _ (start .pre .0)
-          (start .pre .1),
-      state-ascends _ _ _ (start .pre .0)
-          (start .pre .1),
+      state-long _ (of-table _ (start .pre .0) .0) _ _ (start .pre .1),
+      state-ascends _ (of-table _ (start .pre .0) .0) _ _ (start .pre .1),
     )
 
 abbrev start : tie.After-held Inv-loop μ-loop → tie.Start Inv-loop μ-loop

@@ -1,11 +1,11 @@
 -- `task::running::run_list` meets its contract. Between the steps, running those left from the state kept gives what
--- running all was to give; the measure is how many are left.
+-- running all was to give, and the lent numbers stay 64; the measure is how many steps are left.
 use Prim.Native.Nat.{_+_, _-_, _*_, _<_}
-use mathlib.Core.Path.{_≡_, _∙_}
+use mathlib.Core.Path.{_≡_, refl, _∙_}
 use mathlib.Core.Bool.{true}
 use native.Mathlib.Omega.{arith}
-use lib.ListN.{getD}
-use Rattle.task.specs.Limits.{stepSize}
+use lib.ListN.{length, getD}
+use Rattle.task.specs.Limits.{stepSize, mostAtoms}
 use Rattle.task.specs.Table.{taskOf}
 use Rattle.task.specs.Run.{isStepAt}
 use Rattle.task.specs.Turns.{endedAs, recordsLeft}
@@ -26,11 +26,11 @@ use Rattle.task.proofs.running.run_list.Statement.{statement}
 use Rattle.task.proofs.running.run_list.Tie as tie
 
 abbrev Inv-loop : tie.InvT-loop
-Inv-loop table starts steps state₀ n count left₀ i₀ state left i =
-    RunSo (taskOf table) steps state₀ n count state left i
+Inv-loop table starts steps state₀ n numbers₀ rows₀ count left₀ i₀ state numbers rows left i =
+    RunSo (taskOf table) steps state₀ n count state left i × (length numbers ≡ mostAtoms)
 
 abbrev μ-loop : tie.MeasureT-loop
-μ-loop table starts steps state₀ n count left₀ i₀ state left i = count - i
+μ-loop table starts steps state₀ n numbers₀ rows₀ count left₀ i₀ state numbers rows left i = count - i
 
 abbrev start : tie.In-loop Inv-loop μ-loop → tie.Start Inv-loop μ-loop
 start c = c .before .before .before .before .before .before
@@ -46,7 +46,7 @@ below c = schema-below _ (start c .args .starts .now) _ _ (start c .pre .0) (sta
 loop-holds : tie.Need-loop-holds Inv-loop μ-loop
 loop-holds c =
     let start = c .before .before .before .before in
-    run-start _ _ _ _ (start .pre .1 .1 .1)
+    (run-start _ _ _ _ (start .pre .1 .1 .1), refl)
 
 cast-schema : tie.Need-cast-schema Inv-loop μ-loop
 cast-schema c =
@@ -104,7 +104,7 @@ cast-end c =
 
 run-step-requires : tie.Need-run-step-requires Inv-loop μ-loop
 run-step-requires c κs =
-    let at-loop-test = c .before .before .before .before in
+    let at-loop-test = c .before .before .before .before .before .before in
     let at-loop = at-loop-test .before in
     let start′ = at-loop .before .before .before .before .before in
     let start = start′ in
@@ -116,7 +116,7 @@ run-step-requires c κs =
           start-found _ (start .args .starts .now) _ _ (start .pre .0) (start .pre .1 .0 .1) good,
           (
             end-found _ (start .args .starts .now) _ _ (start .pre .0) (start .pre .1 .0 .1) good,
-            at-loop .loop .inv .is-state,
+            (at-loop .loop .inv .0 .is-state, at-loop .loop .inv .1),
           ),
         ),
       ),
@@ -125,47 +125,50 @@ run-step-requires c κs =
 loop-again : tie.Need-loop-again Inv-loop μ-loop
 loop-again c =
     let at-run-step = c .before .before .before .before .before in
-    let at-loop-test = at-run-step .before .before .before .before .before in
-    let at-loop = at-loop-test .before in
-    run-turn (at-loop .loop .inv) _ _ (at-loop-test .loop-test .taken) (at-run-step .run-step .kept .1 .1 .1 .1 .1 .0)
-    (at-run-step .run-step .ensures) (c .before .turn .given .1)
+    let at-loop-test = at-run-step .before .before .before .before .before .before .before in
+    let at-loop = at-loop-test .before in (
+      run-turn (at-loop .loop .inv .0) _ _ (at-loop-test .loop-test .taken)
+          (at-run-step .run-step .kept .1 .1 .1 .1 .1 .0) (at-run-step .run-step .ensures .0)
+          (c .before .turn .given .1),
+      at-run-step .run-step .ensures .1,
+    )
 
 same-length : tie.Need-same-length Inv-loop μ-loop
 same-length c =
     let at-run-step = c .before .before .before .before in
-    let at-loop = at-run-step .before .before .before .before .before .before in
-    at-run-step .run-step .kept .1 .1 .1 .1 .1 .0 ∙ at-loop .loop .inv .size
+    let at-loop = at-run-step .before .before .before .before .before .before .before .before in
+    at-run-step .run-step .kept .1 .1 .1 .1 .1 .0 ∙ at-loop .loop .inv .0 .size
 
 returns : tie.Need-returns Inv-loop μ-loop
 unfolding recordsLeft endedAs
 returns c =
     let at-run-step = c .before .before .before .before in
-    let at-loop-test = at-run-step .before .before .before .before .before in
+    let at-loop-test = at-run-step .before .before .before .before .before .before .before in
     let at-loop = at-loop-test .before in
-    run-missing (at-loop .loop .inv) _ (at-loop-test .loop-test .taken) (at-run-step .run-step .ensures)
+    run-missing (at-loop .loop .inv .0) _ (at-loop-test .loop-test .taken) (at-run-step .run-step .ensures .0)
     (c .enum-told .given .1)
 
 same-length-2 : tie.Need-same-length-2 Inv-loop μ-loop
 same-length-2 c =
     let at-run-step = c .before .before .before .before in
-    let at-loop = at-run-step .before .before .before .before .before .before in
-    at-run-step .run-step .kept .1 .1 .1 .1 .1 .0 ∙ at-loop .loop .inv .size
+    let at-loop = at-run-step .before .before .before .before .before .before .before .before in
+    at-run-step .run-step .kept .1 .1 .1 .1 .1 .0 ∙ at-loop .loop .inv .0 .size
 
 returns-2 : tie.Need-returns-2 Inv-loop μ-loop
 unfolding recordsLeft endedAs
 returns-2 c =
     let at-run-step = c .before .before .before .before in
-    let at-loop-test = at-run-step .before .before .before .before .before in
+    let at-loop-test = at-run-step .before .before .before .before .before .before .before in
     let at-loop = at-loop-test .before in
-    run-outgrown (at-loop .loop .inv) _ (at-loop-test .loop-test .taken) (at-run-step .run-step .ensures)
+    run-outgrown (at-loop .loop .inv .0) _ (at-loop-test .loop-test .taken) (at-run-step .run-step .ensures .0)
     (c .enum-told2 .given .1)
 
 same-length-3 : tie.Need-same-length-3 Inv-loop μ-loop
-same-length-3 c = c .before .loop .inv .size
+same-length-3 c = c .before .loop .inv .0 .size
 
 returns-3 : tie.Need-returns-3 Inv-loop μ-loop
 unfolding recordsLeft endedAs
-returns-3 c = (c .before .loop .inv .is-state, run-ended (c .before .loop .inv) (c .loop-test .left))
+returns-3 c = (c .before .loop .inv .0 .is-state, run-ended (c .before .loop .inv .0) (c .loop-test .left))
 
 pub run-list-spec : {M : Type 1} → statement M
 run-list-spec =

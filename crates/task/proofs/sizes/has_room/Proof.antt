@@ -12,42 +12,36 @@ use borrow.Author.Needs.{needs}
 use Rattle.task.proofs.sizes.has_room.Statement.{statement}
 use Rattle.task.proofs.sizes.has_room.Tie as tie
 
-sub-if1-2 : tie.Need-sub-if1-2
-sub-if1-2 c =
-    let start = c .before .before .before in
-    state-room _ _ _ (start .pre .1 .1 .1 .0)
+sub-adds : tie.Need-sub-adds
+sub-adds c = c .before .before .pre .2 .adds
+
+sub-if1 : tie.Need-sub-if1
+sub-if1 c = state-room (c .before .before .pre .2)
 
 returns : tie.Need-returns
-returns c =
-    let start = c .before .before .before .before in
-    let p = start .pre .1 .1 in
-    all-fit _ _ _ _ _ _ _ _ _ (start .pre .0 .tabled) (p .1 .0) (few-left _ _ _ _) (state-room _ _ _ (p .1 .0))
-    (c .if1 .taken)
+returns c = λ t g u a. all-fit u (few-left u) (state-room u) (c .if1 .taken)
+
+sub-if2 : tie.Need-sub-if2
+sub-if2 c = let (t, g, u, a) = c .before .before .before .before .pre in left-room u (c .size-without .ensures t g u a)
 
 returns-2 : tie.Need-returns-2
-returns-2 c =
-    let size = c .before .size-without .ensures in
-    let p = c .before .before .before .before .before .before .pre in
-    all-fit _ _ _ _ _ _ _ _ _ (p .0 .tabled) (p .1 .1 .1 .0) (omega arith) (left-room _ _ _ _ (p .1 .1 .1 .0) size)
-    (c .if2 .taken)
-
-sub-if2-2 : tie.Need-sub-if2-2
-sub-if2-2 c =
-    let start = c .before .before .before .before .before in
-    left-room _ _ _ _ (start .pre .1 .1 .1 .0) (c .size-without .ensures)
+returns-2 c = λ t g u a.
+    let e = c .before .size-without .ensures t g u a in
+    all-fit u (omega arith) (left-room u e) (c .if2 .taken)
 
 size-with-requires : tie.Need-size-with-requires
 size-with-requires c κs =
-    let p = c .before .before .before .before .before .before .pre .1 in
-    (p .0, (p .1 .0, (p .1 .1 .0, c .before .size-without .ensures)))
+    let (t, g, u, a) = c .before .before .before .before .before .pre in
+    (t, g, u, c .before .size-without .ensures t g u a)
 
 returns-3 : tie.Need-returns-3
 unfolding roomIn
-returns-3 c =
-    let start = c .before .before .before .before .before .before .before in
-    ap (λ (m : ℕ). leb m (roomIn (start .args .state .now))) (c .size-with .ensures)
+returns-3 c = λ t g u a.
+    let start = c .before .before .before .before .before .before in
+    ap (λ (m : ℕ). leb m (roomIn (start .args .state .now)))
+    (c .size-with .ensures t g u (c .before .before .size-without .ensures t g u a))
 
 pub has-room-spec : {M : Type 1} → statement M
 has-room-spec =
     tie.close
-    (tie.spec (λ c. search needs) sub-if1-2 returns (λ c κs. search needs) (λ c. search needs) sub-if2-2 returns-2 size-with-requires returns-3)
+    (tie.spec sub-adds sub-if1 returns (λ c κs. search needs) sub-if2 returns-2 size-with-requires returns-3)

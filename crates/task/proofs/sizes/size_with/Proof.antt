@@ -1,106 +1,98 @@
--- `task::sizes::size_with` meets its contract. Between the turns `total` is how long the state is that is left, with
--- the atoms passed; the measure is how many are left to pass.
-use Prim.Native.Nat.{_-_}
-use mathlib.Core.Path.{sym, _∙_, ap}
+-- `task::sizes::size_with` meets its contract. Between the turns `total` is how long the state is that the deletes
+-- left, with the adds passed; the measure is how many are left to pass.
+use Prim.Native.Nat.{ℕ, _-_, _<_}
+use mathlib.Core.Path.{_≡_, sym, _∙_, ap}
+use mathlib.Core.Bool.{not}
 use mathlib.Core.Logic.{⊎-elim}
 use native.Mathlib.Omega.{arith}
 use lib.ListN.{length}
 use borrow.Author.Tests.{not-true, not-false}
-use Rattle.task.specs.Table.{taskOf}
-use Rattle.task.specs.Run.{insertAll, removeAll, stateIn}
-use Rattle.task.specs.Spans.{groundSpan}
-use Rattle.task.proofs.GroundWords.{span-atom}
-use Rattle.task.proofs.SpanLaws.{state-long, atom-known, insert-nothing}
+use Rattle.task.specs.Limits.{mostAtoms}
+use Rattle.task.specs.Task.{Fact, Task}
+use Rattle.task.specs.Run.{holds, insertAll}
+use Rattle.task.specs.Spans.{span, UnderWay, without}
+use Rattle.task.proofs.SpanLaws.{rows-fit, facts-asc, few-before, atom-known, insert-nothing}
 use Rattle.task.proofs.SizeLaws.{
-  span-front,
-  length-span,
   size-grows,
   size-same,
-  few-inserted,
-  few-left,
+  few-come,
   CountedSo,
   count-start,
   count-turn,
   count-end,
-  state-asc,
   removed-asc,
 }
 use Rattle.task.proofs.sizes.size_with.Statement.{statement}
 use Rattle.task.proofs.sizes.size_with.Tie as tie
 
 abbrev Inv-loop : tie.InvT-loop
-Inv-loop table add del end steps i state n size total₀ k₀ total k =
-    CountedSo table steps i (λ fs. insertAll fs
-    (removeAll (groundSpan table steps i del (end - del)) (stateIn (taskOf table) state n))) add del k total
+Inv-loop numbers spans state n size to total₀ k₀ total k =
+    (t : Task) (g : ℕ → Fact) → UnderWay t g spans numbers state n → size ≡ length (without t g spans state n) →
+    CountedSo g (λ fs. insertAll fs (without t g spans state n)) (spans .adds) (spans .deletes) k total
 
 abbrev μ-loop : tie.MeasureT-loop
-μ-loop table add del end steps i state n size total₀ k₀ total k = del - k
+μ-loop numbers spans state n size to total₀ k₀ total k = to - k
 
 loop-holds : tie.Need-loop-holds Inv-loop μ-loop
-loop-holds c =
-    let start = c .before .before .before in
-    count-start _ _ _ _ _ _ _ (start .pre .0 .ordered) (start .pre .1 .1 .1 ∙ ap length (sym (insert-nothing _)))
+loop-holds c = λ t g u e. count-start g _ _ _ _ (u .adds) (e ∙ ap length (sym (insert-nothing _)))
 
-ground-requires : tie.Need-ground-requires Inv-loop μ-loop
-ground-requires c κs =
-    let start = c .before .before .before .before .before in
-    span-atom _ _ _ _ _ (start .pre .0) _ (c .before .loop .inv .from-first) (c .loop-test .taken)
+-- in a turn k is the place of an add
+abbrev start : tie.In-loop Inv-loop μ-loop → tie.Start Inv-loop μ-loop
+start c = c .before .before .before
+
+inside : (c : tie.In-loop Inv-loop μ-loop) → c .before .loop .k < mostAtoms
+inside c =
+    let (t, g, u, e) = start c .pre in
+    let m = few-before u (u .deletes) in
+    let l = c .loop-test .taken in
+    omega arith
 
 comes-requires : tie.Need-comes-requires Inv-loop μ-loop
 comes-requires c κs =
-    let at-loop = c .before .before in
-    let start = at-loop .before .before .before .before in (
-      span-front (start .pre .0) _
-          (at-loop .loop .inv .from-first) (at-loop .loop .inv .to-last),
-      (
-        start .pre .1 .0,
-        start .pre .1 .1 .0,
-      ),
-    )
+    let (t, g, u, e) = start (c .before) .pre in
+    ((t, g, u), let m = u .deletes in let l = c .before .loop-test .taken in omega arith)
+
+-- what was asked is whether add k is new
+asked : (c : tie.After-comes Inv-loop μ-loop) → let turn = c .before .before in
+    let x = start turn .args in
+    let k = turn .before .loop .k in
+    (t : Task) (g : ℕ → Fact) → UnderWay t g (x .spans) (x .numbers .now) (x .state .now) (x .n) →
+    c .comes .result ≡
+    not (holds (insertAll (span g (x .spans .adds) k) (without t g (x .spans) (x .state .now) (x .n))) (g k))
+asked c t g u =
+    let turn = c .before .before in
+    let m = u .deletes in
+    let l = turn .loop-test .taken in
+    c .comes .ensures t g u _ (atom-known u (turn .before .loop .k) (omega arith))
 
 add-total : tie.Need-add-total Inv-loop μ-loop
 add-total c =
-    let at-loop-test = c .before .before .before in
-    let at-loop = at-loop-test .before in
-    let at-shared-slice-known = at-loop .before .before .before in
-    let start = at-shared-slice-known .before in
-    let z = at-loop .loop .inv .is in
-    let b = few-inserted (groundSpan (start .args .table .now) (start .args .steps .now) (start .args .i)
-    (start .args .add) (at-loop .loop .k - start .args .add))
-    (groundSpan (start .args .table .now) (start .args .steps .now) (start .args .i) (start .args .del)
-    (start .args .end - start .args .del)) (state-asc _ _ _ (start .pre .0 .tabled) (start .pre .1 .1 .0)) in
-    let s = length-span (start .args .table .now) (start .args .steps .now) (start .args .i) (start .args .add)
-    (at-loop .loop .k - start .args .add) in
-    let n = few-left (start .args .table .now) (groundSpan (start .args .table .now) (start .args .steps .now)
-    (start .args .i) (start .args .del) (start .args .end - start .args .del)) (start .args .state .now)
-    (start .args .n) in
-    let l = state-long _ _ _ (start .pre .0 .tabled) (start .pre .1 .1 .0) in
-    let a = start .pre .0 .atoms _ (at-loop .loop .inv .from-first) (at-loop-test .loop-test .taken) .0 in
-    let w = at-shared-slice-known .shared-slice-known .given 3 in
-    omega (arith, start .good)
+    let turn = c .before .before .before in
+    let (t, g, u, e) = start turn .pre in
+    let z = turn .before .loop .inv t g u e .is in
+    let b = few-come u (turn .before .loop .k) in
+    let l = rows-fit u in
+    let k = inside turn in
+    omega (arith, start turn .good)
 
 loop-again : tie.Need-loop-again Inv-loop μ-loop
-loop-again c =
-    let at-ground = c .before .before in
-    let at-loop-test = at-ground .before in
-    let at-loop = at-loop-test .before in
-    let start = at-loop .before .before .before .before in
-    let known = atom-known (span-atom _ _ _ _ _ (start .pre .0) _ (at-loop .loop .inv .from-first)
-    (at-loop-test .loop-test .taken)) (start .pre .1 .1 .0) (at-ground .ground .ensures) in
-    let z = at-loop .loop .inv .is in
-    ⊎-elim (λ v. let e = size-grows _ _ _
-    (removed-asc _ (state-asc _ _ _ (start .pre .0 .tabled) (start .pre .1 .1 .0)))
-    (not-true _ (sym (c .before .comes .ensures _ known) ∙ v .0 .taken)) in
-    count-turn _ _ _ _ (at-loop .loop .inv) (at-loop-test .loop-test .taken) (omega arith)) (λ v. let e =
-    size-same _ _ _ (removed-asc _ (state-asc _ _ _ (start .pre .0 .tabled) (start .pre .1 .1 .0)))
-    (not-false _ (sym (c .before .comes .ensures _ known) ∙ v .0 .left)) in
-    count-turn _ _ _ _ (at-loop .loop .inv) (at-loop-test .loop-test .taken) (omega arith)) (c .if1 .came)
+loop-again c = λ t g u e.
+    let turn = c .before .before .before in
+    let so = turn .before .loop .inv t g u e in
+    let z = so .is in
+    let l = turn .loop-test .taken in
+    let q = sym (asked (c .before) t g u) in
+    let asc = removed-asc _ (facts-asc u) in
+    ⊎-elim
+    (λ v. let y = size-grows _ _ _ asc (not-true _ (q ∙ v .0 .taken)) in count-turn g _ so l (omega arith))
+    (λ v. let y = size-same _ _ _ asc (not-false _ (q ∙ v .0 .left)) in count-turn g _ so l (omega arith))
+    (c .if1 .came)
 
 returns : tie.Need-returns Inv-loop μ-loop
-returns c = count-end _ _ _ _ (c .before .loop .inv) (c .loop-test .left)
+returns c = λ t g u e. count-end g _ (c .before .loop .inv t g u e) (c .loop-test .left)
 
 pub size-with-spec : {M : Type 1} → statement M
 size-with-spec =
     tie.close
-    (tie.spec Inv-loop μ-loop loop-holds ground-requires comes-requires add-total (λ c. omega arith) (λ c. omega arith)
-    loop-again returns)
+    (tie.spec Inv-loop μ-loop loop-holds (λ c. omega (arith, inside c)) inside comes-requires add-total
+    (λ c. omega arith) (λ c. omega arith) loop-again returns)
