@@ -1,13 +1,14 @@
 -- `task::sizes::holds_now` meets its contract.
 -- An atom that is one of those that hold does (`one-holds`); any other is looked for.
 use mathlib.Core.Path.{sym, _∙_}
-use Rattle.task.proofs.SpanLaws.{rows-fit, rows-ascend, few-before, adds-inside}
+use native.Mathlib.Omega.{arith}
+use Rattle.task.proofs.SpanLaws.{rows-fit, rows-ascend, adds-inside}
 use Rattle.task.proofs.SizeLaws.{span-absent, one-holds}
 use Rattle.task.proofs.sizes.holds_now.Statement.{statement}
 use Rattle.task.proofs.sizes.holds_now.Tie as tie
 
 absent-requires : tie.Need-absent-requires
-absent-requires c κs = let (t, g, u) = c .before .pre in few-before u (adds-inside u)
+absent-requires c κs = let (t, g, u) = c .before .pre in omega arith
 
 held-requires : tie.Need-held-requires
 held-requires c κs = let (t, g, u) = c .before .before .before .pre in (rows-fit u, rows-ascend u)
