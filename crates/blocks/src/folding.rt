@@ -19,25 +19,36 @@ use tokens::kept::own_at;
 use tokens::measure::Sizes;
 use tokens::writing::write_split;
 use words::sets;
-ghost use Prim.Native.Nat.{_+_, _*_, _≤_, _<_};
+ghost use Prim.Native.Nat.{ℕ, _+_, _*_, _≤_, _<_};
 ghost use mathlib.Core.Path.{_≡_};
 ghost use mathlib.Core.List.{List};
 ghost use lib.ListN.{length, getD};
 ghost use Rattle.words.specs.Lists.{over};
-ghost use Rattle.task.specs.Limits.{mostParameters, mostSchemas, stepSize};
+ghost use Rattle.task.specs.Limits.{mostParameters, mostParts, mostSchemas, stepSize};
 ghost use Rattle.task.specs.Task.{Task};
 ghost use Rattle.task.specs.Table.{taskOf};
 ghost use Rattle.task.specs.Run.{Step, badStep, badStepFound, stepsIn};
 ghost use Rattle.words.specs.Sets.{members};
-ghost use Rattle.tokens.specs.Split.{splitTask};
+ghost use Rattle.tokens.specs.Split.{splitTask, firstOf};
+ghost use Rattle.tokens.specs.Kept.{keptCount};
 ghost use Rattle.blocks.specs.Blocks.{foldSteps, folded, listWords};
 ghost use Rattle.blocks.specs.Unfolding.{BlocksKept};
+ghost use Rattle.blocks.specs.FoldCode.{ParamsNoted, OriginsKept, PartNoted, PartsNoted, originWords};
 ghost use Rattle.blocks.specs.FoldCode.{BeginsKept, SplitStepsKept, ObjectsJoin, givenObjects, keptFits, takenOf};
 ghost use Rattle.task.specs.Bindings.{Bound, fits, Held};
 ghost use Rattle.tokens.specs.Acceptance.{AcceptedKept};
 
 // For each schema of the split: which schema's block it begins, by that one's number and one; 0 for none.
 pub type Begins = [u16; MOST_SCHEMAS];
+
+// For each schema of the split: how many parameters it has.
+pub type Params = [u16; MOST_SCHEMAS];
+
+// For each parameter of each schema of the task: the word of a block at which the first part that has the parameter
+// gives its object.
+const ORIGIN_WORDS: usize = MOST_PARAMETERS * MOST_SCHEMAS;
+
+pub type Origins = [u16; ORIGIN_WORDS];
 
 // What a list is taken apart into: so many steps; or the step that fits no block is told, or the step count where the
 // last block is unfinished.
@@ -58,6 +69,75 @@ pub fn begins_of(kept: &Kept, schemas: u16) -> Begins
         begins[first] = s + 1;
     }
     begins
+}
+
+// How many parameters each schema of the split has.
+pub fn params_of(kept: &Kept, schemas: u16) -> Params
+    requires { ⌜ ((t : Task) × BlocksKept t (now kept) × (schemas ≡ length (t .schemas))) ⌝ }
+    ensures { λ r. ⌜ ((t : Task) → BlocksKept t (now (kept .entry)) → schemas ≡ length (t .schemas) →
+        ParamsNoted t (firstOf t (length (t .schemas))) r) ⌝ }
+{
+    let mut params = [0; MOST_SCHEMAS];
+    for s in 0..schemas {
+        note_params(kept, s as usize, &mut params);
+    }
+    params
+}
+
+// Those of the parts of schema s are noted.
+fn note_params(kept: &Kept, s: usize, params: &mut Params)
+    requires { ⌜ ((t : Task) × BlocksKept t (now kept) × (s < length (t .schemas)) ×
+        ParamsNoted t (firstOf t s) (now params)) ⌝ }
+    ensures { λ _. ⌜ ((t : Task) → BlocksKept t (now (kept .entry)) → s < length (t .schemas) →
+        ParamsNoted t (firstOf t s) (now (params .entry)) → ParamsNoted t (firstOf t (s + 1)) (now (params .exit))) ⌝ }
+{
+    let first = first_of(kept, s);
+    let parts = count_of(kept, s);
+    for j in 0..parts {
+        params[first + j] = sets::size(own_at(kept, s, j)) as u16;
+    }
+}
+
+// Where a block gives the object of each parameter of its schema.
+pub fn origins_of(kept: &Kept, schemas: u16) -> Origins
+    requires { ⌜ schemas ≤ mostSchemas ⌝ }
+    requires { ⌜ ((s : ℕ) → s < schemas → keptCount (now kept) s ≤ mostParts) ⌝ }
+    ensures { λ r. ⌜ OriginsKept (now (kept .entry)) schemas r ⌝ }
+{
+    let mut origins = [0; ORIGIN_WORDS];
+    for s in 0..schemas {
+        note_origins(kept, s as usize, &mut origins);
+    }
+    origins
+}
+
+// Those of the parameters of schema s are noted, from its last part to its first, so that the first that has one
+// stands.
+fn note_origins(kept: &Kept, s: usize, origins: &mut Origins)
+    requires { ⌜ (s < mostSchemas) × (keptCount (now kept) s ≤ mostParts) ⌝ }
+    requires { ⌜ length (now origins) ≡ originWords ⌝ }
+    ensures { λ _. ⌜ PartsNoted (now (kept .entry)) s 0 (now (origins .entry)) (now (origins .exit)) ⌝ }
+{
+    let mut j = count_of(kept, s);
+    while 0 < j {
+        j -= 1;
+        note_part(own_at(kept, s, j), s, j, origins);
+    }
+}
+
+// Those of the part at position j, as it gives them.
+fn note_part(own: u64, s: usize, j: usize, origins: &mut Origins)
+    requires { ⌜ (s < mostSchemas) × (j < mostParts) ⌝ }
+    requires { ⌜ length (now origins) ≡ originWords ⌝ }
+    ensures { λ _. ⌜ PartNoted own s j mostParameters (now (origins .entry)) (now (origins .exit)) ⌝ }
+{
+    let mut next = STEP_SIZE * j + 1;
+    for p in 0..MOST_PARAMETERS {
+        if sets::has(own, p) {
+            origins[MOST_PARAMETERS * s + p] = next as u16;
+            next += 1;
+        }
+    }
 }
 
 // The schema whose block the step whose words begin at `at` can begin: its number and one, 0 for none.
