@@ -1,10 +1,11 @@
 -- Folding by the moves that code makes: a block is begun, goes on part after part, and is complete past its last part.
 use Rattle.blocks.specs.declared.folding.Taken.the-variants as taken
+use Rattle.blocks.specs.declared.folding.Judged.the-variants as judged
 use Prim.Native.Nat.{ℕ, suc, _+_, _<_}
 use mathlib.Core.Path.{_≡_, refl, sym, _∙_, ap}
 use mathlib.Core.Bool.{Bool, true, false, cond}
 use mathlib.Core.List.{List, [], _∷_}
-use mathlib.Core.Option.{none, some}
+use mathlib.Core.Option.{Option, none, some}
 use native.Mathlib.Omega.{arith}
 use lib.ListN.{length, replicate}
 use lib.Dec.{eqb}
@@ -16,7 +17,7 @@ use Rattle.tokens.specs.Split.{orders}
 use Rattle.blocks.specs.declared.folding.Taken.{Taken}
 use Rattle.blocks.specs.Blocks.{paramsAt, Folding, folded, misfit, prepend, beginner, Stage, outside, inside}
 use Rattle.blocks.specs.Blocks.{begun, stageFor, fitsAt, lastAt, advanced, completed, foldEnd, foldFrom}
-use Rattle.blocks.specs.FoldCode.{takenOf}
+use Rattle.blocks.specs.FoldCode.{takenOf, judgedOf}
 use Rattle.blocks.proofs.FoldBlock.{fold-off, fold-move, fold-finish}
 use Rattle.task.specs.Bindings.{Bound, bind}
 
@@ -36,18 +37,46 @@ after-one n x (folded xs) =
     let e : n + suc (length xs) ≡ n + 1 + length xs = omega arith in ap (λ (n : ℕ). taken.Whole n) e
 after-one n x (misfit i) = refl
 
--- and back: what is taken apart tells what the list folds to
-pub taken-is-whole : (f : Folding) (n : ℕ) → takenOf f ≡ taken.Whole n →
-    (xs : List Step) × (f ≡ folded xs) × (n ≡ length xs)
-unfolding takenOf
-taken-is-whole (folded xs) n e = (xs, refl, cc)
-taken-is-whole (misfit i) n e = absurd (let z : _≡_ {A = ℕ} 0 1 = cc in omega arith)
+-- ---- how a list is judged: by its first bad step, or else by what it is taken apart into
+pub judged-bad : (b : Option ℕ) (f : Folding) (i : ℕ) → b ≡ some i → judged.Bad i ≡ judgedOf b f
+unfolding judgedOf
+judged-bad b f i e = sym (ap (λ (c : Option ℕ). judgedOf c f) e)
 
-pub taken-is-misfit : (f : Folding) (i : ℕ) → takenOf f ≡ taken.Misfit i → f ≡ misfit i
-unfolding takenOf
-taken-is-misfit (folded xs) i e = absurd (let z : _≡_ {A = ℕ} 0 1 = cc in omega arith)
-taken-is-misfit (misfit k) i e = cc
+pub judged-whole : (b : Option ℕ) (f : Folding) (n : ℕ) → b ≡ none → taken.Whole n ≡ takenOf f →
+    judged.Whole n ≡ judgedOf b f
+unfolding judgedOf takenOf
+judged-whole (some i) f n e h = absurd (let z : _≡_ {A = ℕ} 0 1 = cc in omega arith)
+judged-whole none (folded xs) n e h = let z : n ≡ length xs = cc in ap (λ (k : ℕ). judged.Whole k) z
+judged-whole none (misfit i) n e h = absurd (let z : _≡_ {A = ℕ} 0 1 = cc in omega arith)
 
+pub judged-misfit : (b : Option ℕ) (f : Folding) (i : ℕ) → b ≡ none → taken.Misfit i ≡ takenOf f →
+    judged.Misfit i ≡ judgedOf b f
+unfolding judgedOf takenOf
+judged-misfit (some k) f i e h = absurd (let z : _≡_ {A = ℕ} 0 1 = cc in omega arith)
+judged-misfit none (folded xs) i e h = absurd (let z : _≡_ {A = ℕ} 0 1 = cc in omega arith)
+judged-misfit none (misfit k) i e h = let z : i ≡ k = cc in ap (λ (k : ℕ). judged.Misfit k) z
+
+-- and back: the judgement tells what the list folds to
+pub is-bad : (b : Option ℕ) (f : Folding) (i : ℕ) → judged.Bad i ≡ judgedOf b f → b ≡ some i
+unfolding judgedOf
+is-bad (some k) f i e = let z : k ≡ i = cc in ap (λ (n : ℕ). some n) z
+is-bad none (folded xs) i e = absurd (let z : _≡_ {A = ℕ} 0 1 = cc in omega arith)
+is-bad none (misfit k) i e = absurd (let z : _≡_ {A = ℕ} 0 1 = cc in omega arith)
+
+pub is-whole : (b : Option ℕ) (f : Folding) (n : ℕ) → judged.Whole n ≡ judgedOf b f →
+    (b ≡ none) × ((xs : List Step) × (f ≡ folded xs) × (n ≡ length xs))
+unfolding judgedOf
+is-whole (some k) f n e = absurd (let z : _≡_ {A = ℕ} 0 1 = cc in omega arith)
+is-whole none (folded xs) n e = (refl, (xs, refl, cc))
+is-whole none (misfit k) n e = absurd (let z : _≡_ {A = ℕ} 0 1 = cc in omega arith)
+
+pub is-misfit : (b : Option ℕ) (f : Folding) (i : ℕ) → judged.Misfit i ≡ judgedOf b f → (b ≡ none) × (f ≡ misfit i)
+unfolding judgedOf
+is-misfit (some k) f i e = absurd (let z : _≡_ {A = ℕ} 0 1 = cc in omega arith)
+is-misfit none (folded xs) i e = absurd (let z : _≡_ {A = ℕ} 0 1 = cc in omega arith)
+is-misfit none (misfit k) i e = let z : k ≡ i = cc in (refl, ap (λ (n : ℕ). misfit n) z)
+
+-- ---- moves of folding
 -- a list that folds behind a step folds to that step and more
 pub prepended : (x : Step) (f : Folding) (xs : List Step) → prepend x f ≡ folded xs →
     (ys : List Step) × (f ≡ folded ys) × (xs ≡ x ∷ ys)

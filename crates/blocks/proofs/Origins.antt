@@ -4,26 +4,26 @@ use Prim.Native.Nat.{ℕ, zero, suc, _+_, _*_, _≤_, _<_}
 use mathlib.Core.Path.{_≡_, refl, sym, _∙_, ap, subst}
 use mathlib.Core.Bool.{Bool, true, false}
 use mathlib.Core.List.{List}
-use mathlib.Core.Logic.{inl, inr}
+use mathlib.Core.Logic.{_⊎_, inl, inr}
 use native.Mathlib.Omega.{arith}
 use native.Mathlib.Decide.{ℕ-discrete}
-use native.Mathlib.Numerals.{add-one}
 use lib.ListN.{length, getD, set, length-set}
 use lib.Seq.{getD-set-same, getD-set-other}
+use borrow.Author.Count.{below-more}
+use Rattle.words.specs.Lists.{upTo}
 use Rattle.words.specs.Sets.{member, members}
-use Rattle.words.proofs.Lists.{bool-cases, both-ft, no-ft}
+use Rattle.words.proofs.Ascending.{filter-le}
+use Rattle.words.proofs.Lists.{bool-cases, both-ft, length-upTo}
 use Rattle.words.proofs.SetMembers.{size-none, size-more}
-use Rattle.words.proofs.Sums.{one, one-most}
+use Rattle.words.proofs.Sums.{one}
 use Rattle.tokens.specs.Kept.{keptCount, keptOwn}
-use Rattle.blocks.specs.FoldCode.{originPlace, originWords, wordIn, NoneBefore, OriginsKept, PartNoted, PartsNoted}
+use Rattle.blocks.specs.FoldCode.{originPlace, wordIn, NoneBefore, OriginsKept, PartNoted, PartsNoted}
 
 -- ---- the parameters of one part
 -- of those below p it has at most p
 pub few-below : (own p : ℕ) → length (members own p) ≤ p
-few-below own zero = omega (arith, size-none own)
-few-below own (suc p) =
-    let e = ap (λ (n : ℕ). length (members own n)) (sym (add-one p)) ∙ size-more own p in
-    omega (arith, few-below own p, one-most (member own p))
+unfolding members
+few-below own p = omega (arith, filter-le (member own) (upTo p), length-upTo p)
 
 module _ (own s j : ℕ) where
   pub part-start : (before : List ℕ) → PartNoted own s j 0 before before
@@ -112,3 +112,33 @@ origins-more {kept} {before} {after} s h n = record {
     Noted : (p i : ℕ) → p < 12 → ℕ → Type 0
     Noted p i a q = i < keptCount kept q → member (keptOwn kept q i) p ≡ true → NoneBefore kept q p 0 i →
         getD after (originPlace q p) 0 ≡ wordIn (keptOwn kept q i) i p
+
+-- ---- where the first part that has a parameter stands
+-- the first number that a test takes, up to one that it takes
+least : (f : ℕ → Bool) (j : ℕ) → f j ≡ true →
+    (i : ℕ) × (i ≤ j) × (f i ≡ true) × ((k : ℕ) → 0 ≤ k → k < i → f k ≡ false)
+least f j h = elim (below j) [
+  | inl none-below ↦ (j, omega arith, h, λ k a l. none-below k l)
+  | inr found ↦ let (i, l, e, n) = found in (i, omega arith, e, n)
+]
+  where
+    below : (n : ℕ) →
+        ((k : ℕ) → k < n → f k ≡ false) ⊎
+        ((i : ℕ) × (i < n) × (f i ≡ true) × ((k : ℕ) → 0 ≤ k → k < i → f k ≡ false))
+    below zero = inl (λ k l. absurd (omega arith))
+    below (suc n) = elim (below n) [
+      | inr found ↦ inr (let (i, l, e, m) = found in (i, omega arith, e, m))
+      | inl none-below ↦ elim (bool-cases (f n)) [
+        | inl e ↦ inr (n, omega arith, e, λ k a l. none-below k l)
+        | inr e ↦ inl (λ k l. below-more (λ k. f k ≡ false) n none-below e k (omega arith))
+      ]
+    ]
+
+-- a parameter's object stands at or before any part that has it
+pub origin-small : {kept origins : List ℕ} {n : ℕ} → OriginsKept kept n origins → (s p j : ℕ) → s < n → p < 12 →
+    j < keptCount kept s → member (keptOwn kept s j) p ≡ true → getD origins (originPlace s p) 0 < 13 * j + 13
+origin-small {kept} {origins} O s p j l m c h =
+    let (i, a, e, f) = least (λ k. member (keptOwn kept s k) p) j h in
+    let w = O .first s p i l m (omega arith) e f in
+    let q = few-below (keptOwn kept s i) p in
+    omega arith

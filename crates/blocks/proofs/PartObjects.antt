@@ -1,23 +1,23 @@
 -- The objects of a part among a step's words, parameter after parameter: one in the part's set is the part's next, and
 -- at any other nothing is read.
-use Prim.Native.Nat.{ℕ, suc, _+_, _-_, _≤_, _<_}
+use Prim.Native.Nat.{ℕ, zero, suc, _+_, _-_, _≤_, _<_}
 use mathlib.Core.Path.{_≡_, refl, sym, _∙_, ap, ap₂}
 use mathlib.Core.Bool.{Bool, true, false, _&&_}
-use mathlib.Core.List.{List, [], _∷_}
-use mathlib.Core.Option.{none, some}
+use mathlib.Core.List.{List, [], _∷_, _++_, map}
 use native.Mathlib.Omega.{arith}
 use native.Mathlib.Numerals.{add-one}
-use lib.ListN.{length, getD, set}
+use native.Mathlib.Decide.{decLt}
+use lib.ListN.{length, getD, List·getD-append}
+use lib.Seq.{getD-append-add}
 use lib.Dec.{eqb}
-use borrow.Author.Tests.{eq-eqb, ne-eqb, le-leb, lt-leb}
-use Rattle.words.specs.Lists.{filter, keepIf, upTo, upFrom}
+use Rattle.words.specs.Lists.{filter, keepIf, upTo, upFrom, eqList}
 use Rattle.words.specs.Words.{wordsAt}
+use Rattle.words.specs.Sets.{member, members}
 use Rattle.words.proofs.Lists.{upFrom-in, filter-none}
 use Rattle.words.proofs.Words.{wordsAt-next}
-use Rattle.words.specs.Sets.{member, members}
-use Rattle.blocks.specs.FoldCode.{givenObjects, keptFits}
-use Rattle.task.specs.Limits.{stepSize}
-use Rattle.task.specs.Bindings.{Bound, agrees, fits, bind}
+use Rattle.words.proofs.SetMembers.{members-more, size-none, size-more}
+use Rattle.words.proofs.Sums.{one}
+use Rattle.blocks.specs.FoldCode.{givenObjects}
 
 -- the parameters of a set from p on
 unfoldable pub paramsFrom : ℕ → ℕ → List ℕ
@@ -50,6 +50,15 @@ objects-all steps at own =
     let e : at + 1 ≡ at + 1 + 0 = omega arith in
     ap₂ (λ (i : ℕ) (ps : List ℕ). wordsAt steps i (length ps)) e (params-all own)
 
+-- whether they are what v gives the parameters
+abbrev pub sameFrom : List ℕ → ℕ → ℕ → (ℕ → ℕ) → ℕ → ℕ → Bool
+sameFrom steps at own v k p = eqList (objectsFrom steps at k own p) (map v (paramsFrom own p))
+
+pub same-all : (steps : List ℕ) (at own : ℕ) (v : ℕ → ℕ) →
+    eqList (givenObjects steps at own) (map v (members own 12)) ≡ sameFrom steps at own v 0 0
+same-all steps at own v =
+    ap₂ (λ (os ps : List ℕ). eqList os (map v ps)) (objects-all steps at own) (params-all own)
+
 module _ (steps : List ℕ) (at k own p : ℕ) (l : p < 12) where
   -- p is in the set
   module _ (h : member own p ≡ true) where
@@ -66,17 +75,11 @@ module _ (steps : List ℕ) (at k own p : ℕ) (l : p < 12) where
         ∙ (wordsAt-next steps (at + 1 + k) n
         ∙ ap (λ (i : ℕ). getD steps (at + 1 + k) 0 ∷ wordsAt steps i n) e)
 
-    pub fits-in : (b : Bound) → fits b (paramsFrom own p) (objectsFrom steps at k own p) ≡
-        agrees (getD b p none) (getD steps (at + 1 + k) 0) &&
-        fits b (paramsFrom own (p + 1)) (objectsFrom steps at (k + 1) own (p + 1))
-    unfolding fits
-    fits-in b = ap₂ (fits b) params-in objects-in
-
-    pub bind-in : (b : Bound) → bind b (paramsFrom own p) (objectsFrom steps at k own p) ≡
-        bind (set b p (some (getD steps (at + 1 + k) 0))) (paramsFrom own (p + 1))
-        (objectsFrom steps at (k + 1) own (p + 1))
-    unfolding bind
-    bind-in b = ap₂ (bind b) params-in objects-in
+    pub same-in : (v : ℕ → ℕ) →
+        sameFrom steps at own v k p ≡
+        eqb (getD steps (at + 1 + k) 0) (v p) && sameFrom steps at own v (k + 1) (p + 1)
+    unfolding eqList
+    same-in v = ap₂ (λ (os ps : List ℕ). eqList os (map v ps)) objects-in params-in
 
   -- p is not in the set
   module _ (h : member own p ≡ false) where
@@ -88,13 +91,8 @@ module _ (steps : List ℕ) (at k own p : ℕ) (l : p < 12) where
     unfolding objectsFrom
     objects-out = ap (λ (ps : List ℕ). wordsAt steps (at + 1 + k) (length ps)) params-out
 
-    pub fits-out : (b : Bound) → fits b (paramsFrom own p) (objectsFrom steps at k own p) ≡
-        fits b (paramsFrom own (p + 1)) (objectsFrom steps at k own (p + 1))
-    fits-out b = ap₂ (fits b) params-out objects-out
-
-    pub bind-out : (b : Bound) → bind b (paramsFrom own p) (objectsFrom steps at k own p) ≡
-        bind b (paramsFrom own (p + 1)) (objectsFrom steps at k own (p + 1))
-    bind-out b = ap₂ (bind b) params-out objects-out
+    pub same-out : (v : ℕ → ℕ) → sameFrom steps at own v k p ≡ sameFrom steps at own v k (p + 1)
+    same-out v = ap₂ (λ (os ps : List ℕ). eqList os (map v ps)) objects-out params-out
 
 -- ---- where the set has no number from p on, nothing is left
 module _ (steps : List ℕ) (at k own p : ℕ) (h : (k : ℕ) → p ≤ k → member own k ≡ false) where
@@ -106,13 +104,9 @@ module _ (steps : List ℕ) (at k own p : ℕ) (h : (k : ℕ) → p ≤ k → me
   unfolding objectsFrom wordsAt upFrom
   objects-end = ap (λ (ps : List ℕ). wordsAt steps (at + 1 + k) (length ps)) params-end
 
-  pub fits-end : (b : Bound) → fits b (paramsFrom own p) (objectsFrom steps at k own p) ≡ true
-  unfolding fits
-  fits-end b = ap₂ (fits b) params-end objects-end
-
-  pub bind-end : (b : Bound) → bind b (paramsFrom own p) (objectsFrom steps at k own p) ≡ b
-  unfolding bind
-  bind-end b = ap₂ (bind b) params-end objects-end
+  pub same-end : (v : ℕ → ℕ) → sameFrom steps at own v k p ≡ true
+  unfolding eqList
+  same-end v = ap₂ (λ (os ps : List ℕ). eqList os (map v ps)) objects-end params-end
 
 -- ---- behind the last parameter nothing is left
 module _ (steps : List ℕ) (at k own : ℕ) where
@@ -120,36 +114,44 @@ module _ (steps : List ℕ) (at k own : ℕ) where
   unfolding objectsFrom wordsAt upFrom
   objects-none = ap (λ (ps : List ℕ). wordsAt steps (at + 1 + k) (length ps)) (params-none own)
 
-  pub fits-none : (b : Bound) → fits b (paramsFrom own 12) (objectsFrom steps at k own 12) ≡ true
-  unfolding fits
-  fits-none b = ap₂ (fits b) (params-none own) objects-none
+  pub same-none : (v : ℕ → ℕ) → sameFrom steps at own v k 12 ≡ true
+  unfolding eqList
+  same-none v = ap₂ (λ (os ps : List ℕ). eqList os (map v ps)) objects-none (params-none own)
 
-  pub bind-none : (b : Bound) → bind b (paramsFrom own 12) (objectsFrom steps at k own 12) ≡ b
-  unfolding bind
-  bind-none b = ap₂ (bind b) (params-none own) objects-none
+-- ---- the parameter at index k of a set's has k before it
+module _ (own n k : ℕ) where
+  abbrev last : List ℕ
+  last = keepIf (member own n) n []
 
--- ---- whether a list goes on with a part
-module _ (steps : List ℕ) (at number own : ℕ) (b : Bound) where
-  abbrev agreeing : Bool
-  agreeing = fits b (members own 12) (givenObjects steps at own)
+  more-at : getD (members own (suc n)) k 0 ≡ getD (members own n ++ last) k 0
+  more-at = ap (λ (xs : List ℕ). getD xs k 0) (ap (members own) (sym (add-one n)) ∙ members-more own n)
 
-  -- it has ended
-  pub fits-short : length steps < at + stepSize → keptFits steps at number own b ≡ false
-  unfolding keptFits
-  fits-short l =
-      ap (λ (c : Bool). c && (eqb (getD steps at 0) number && agreeing)) (lt-leb (at + stepSize) (length steps) l)
+  last-at : k < length (members own (suc n)) → length (members own n) ≤ k →
+      (getD (members own (suc n)) k 0 ≡ n) × (length (members own n) ≡ k)
+  unfolding keepIf
+  last-at l q = go (member own n) refl
+    where
+      size : length (members own (suc n)) ≡ length (members own n) + one (member own n)
+      size = ap (λ (m : ℕ). length (members own m)) (sym (add-one n)) ∙ size-more own n
 
-  -- another schema comes
-  pub fits-other : at + stepSize ≤ length steps → (getD steps at 0 ≡ number → ⊥) →
-      keptFits steps at number own b ≡ false
-  unfolding keptFits
-  fits-other l n =
-      ap₂ (λ (c d : Bool). c && (d && agreeing)) (le-leb (at + stepSize) (length steps) l)
-      (ne-eqb (getD steps at 0) number n)
+      go : (b : Bool) → member own n ≡ b → (getD (members own (suc n)) k 0 ≡ n) × (length (members own n) ≡ k)
+      go true e =
+          let f : one (member own n) ≡ 1 = ap one e in
+          let z : k ≡ length (members own n) + 0 = omega (arith, size) in (
+            more-at
+                ∙ (ap₂ (λ (b : Bool) (i : ℕ). getD (members own n ++ keepIf b n []) i 0) e z
+                ∙ getD-append-add (members own n) (n ∷ []) 0 0),
+            omega arith,
+          )
+      go false e = let f : one (member own n) ≡ 0 = ap one e in absurd (omega (arith, size))
 
-  -- this one comes, and the objects decide
-  pub fits-same : at + stepSize ≤ length steps → getD steps at 0 ≡ number → keptFits steps at number own b ≡ agreeing
-  unfolding keptFits
-  fits-same l e =
-      ap₂ (λ (c d : Bool). c && (d && agreeing)) (le-leb (at + stepSize) (length steps) l)
-      (eq-eqb (getD steps at 0) number e)
+pub before-at : (own n k : ℕ) → k < length (members own n) → length (members own (getD (members own n) k 0)) ≡ k
+before-at own zero k l = absurd (omega (arith, size-none own))
+before-at own (suc n) k l = elim (decLt k (length (members own n))) [
+  | yes q ↦
+      ap (λ (p : ℕ). length (members own p)) (more-at own n k ∙ List·getD-append (members own n) (last own n k) 0 k q)
+      ∙ before-at own n k q
+  | no q ↦
+      let (e, f) = last-at own n k l (omega arith) in
+      ap (λ (p : ℕ). length (members own p)) e ∙ f
+]

@@ -52,8 +52,8 @@ module _ {t : Task} {kept : List ℕ} (K : BlocksKept t kept) (s j : ℕ) (l : s
       omega arith
 
   -- its parameters are counted
-  pub params-more : {params : List ℕ} (n k : ℕ) → n ≡ firstOf t s + j → k ≡ length (members (keptOwn kept s j) wordBits) →
-      ParamsNoted t n params → ParamsNoted t (n + 1) (set params n k)
+  pub params-more : {params : List ℕ} (n k : ℕ) → n ≡ firstOf t s + j →
+      k ≡ length (members (keptOwn kept s j) wordBits) → ParamsNoted t n params → ParamsNoted t (n + 1) (set params n k)
   params-more {params} n k e f h = record {
     long = length-set params n k ∙ h .long;
     count = λ x y. elim (ℕ-discrete x n) [
@@ -66,7 +66,7 @@ module _ {t : Task} {kept : List ℕ} (K : BlocksKept t kept) (s j : ℕ) (l : s
   }
 
 -- those of the parts of schema s end where those of the next schema begin
-pub params-next : {t : Task} {params : List ℕ} (s n : ℕ) → n ≡ firstOf t s + length (orders t s) → ParamsNoted t n params →
-    ParamsNoted t (firstOf t (s + 1)) params
+pub params-next : {t : Task} {params : List ℕ} (s n : ℕ) → n ≡ firstOf t s + length (orders t s) →
+    ParamsNoted t n params → ParamsNoted t (firstOf t (s + 1)) params
 params-next {t} {params} s n e h =
     subst (λ (k : ℕ). ParamsNoted t k params) (e ∙ (sym (first-step t s) ∙ ap (firstOf t) (sym (add-one s)))) h

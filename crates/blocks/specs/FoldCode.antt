@@ -1,25 +1,27 @@
 -- What folding's code looks up of a split and keeps while it goes over a list of split steps, and what its inner
 -- functions promise, by the words that they read. No promise of an entry point cites these.
 use Rattle.blocks.specs.declared.folding.Taken.the-variants as taken
-use Prim.Native.Nat.{ℕ, _+_, _*_, _≤_, _<_}
+use Rattle.blocks.specs.declared.folding.Judged.the-variants as judged
+use Prim.Native.Nat.{ℕ, _+_, _*_, _/_, _≤_, _<_}
 use mathlib.Core.Path.{_≡_}
 use mathlib.Core.Bool.{Bool, true, false, _&&_}
 use mathlib.Core.List.{List, map}
 use mathlib.Core.Option.{Option, none, some}
 use lib.ListN.{length, getD}
-use lib.Dec.{eqb, leb}
-use Rattle.words.specs.Lists.{upTo}
-use Rattle.task.specs.Limits.{mostParameters, mostSchemas, stepSize}
-use Rattle.task.specs.Task.{Task}
+use lib.Dec.{eqb}
+use Rattle.words.specs.Lists.{upTo, eqList}
+use Rattle.words.specs.Sets.{member, members}
 use Rattle.words.specs.Words.{wordsAt}
-use Rattle.task.specs.Run.{badStep, paramCount}
-use Rattle.words.specs.Sets.{SetBelow, member, members}
-use Rattle.tokens.specs.Split.{splitTask, firstOf}
+use Rattle.task.specs.Limits.{mostParameters, mostSchemas, stepSize}
+use Rattle.task.specs.Task.{Task, wellFormed}
+use Rattle.task.specs.Run.{Step, paramCount, stepAt, isStepAt, stepsIn, badStep}
+use Rattle.task.specs.StepTests.{limitsFor}
+use Rattle.tokens.specs.Split.{orders, splitTask, firstOf}
 use Rattle.tokens.specs.Kept.{keptCount, keptOwn}
 use Rattle.blocks.specs.declared.folding.Taken.{Taken}
-use Rattle.blocks.specs.Blocks.{beginner, Folding, folded, misfit}
+use Rattle.blocks.specs.declared.folding.Judged.{Judged}
+use Rattle.blocks.specs.Blocks.{partStep, beginner, Folding, folded, misfit, foldSteps}
 use Rattle.blocks.specs.Unfolding.{BlocksKept}
-use Rattle.task.specs.Bindings.{Bound, fits, bind, Held}
 
 -- ---- which block a split step begins
 -- as a word: the schema's number and one, 0 for none
@@ -27,10 +29,10 @@ unfoldable pub begunWord : Option ℕ → ℕ
 begunWord none = 0
 begunWord (some s) = s + 1
 
--- for each schema of the split
+-- for each number, one of a schema of the split or not
 pub record BeginsKept (t : Task) (begins : List ℕ) : Type 0 where
-  pub word : (k : ℕ) → k < firstOf t (length (t .schemas)) →
-      getD begins k 0 ≡ begunWord (beginner t k (upTo (length (t .schemas))))
+  pub long : length begins ≡ mostSchemas
+  pub word : (k : ℕ) → getD begins k 0 ≡ begunWord (beginner t k (upTo (length (t .schemas))))
 
 -- ---- how many parameters the first n schemas of the split have
 pub record ParamsNoted (t : Task) (n : ℕ) (params : List ℕ) : Type 0 where
@@ -74,30 +76,83 @@ pub record PartsNoted (kept : List ℕ) (s j : ℕ) (before after : List ℕ) : 
       getD after (originPlace s p) 0 ≡ wordIn (keptOwn kept s i) i p
   pub stays : (k : ℕ) → k < originPlace s 0 → getD after k 0 ≡ getD before k 0
 
--- ---- a list of split steps, judged by 12 against the split, with what is kept of the task's parts
-pub record SplitStepsKept (t : Task) (steps kept begins : List ℕ) : Type 0 where
-  pub blocks : BlocksKept t kept
-  pub good : badStep (splitTask t) steps ≡ none
-  pub begun : BeginsKept t begins
+-- ---- the step of a block
+-- the object that the block which begins at a word gives for parameter p of schema s
+abbrev pub objectIn : List ℕ → List ℕ → ℕ → ℕ → ℕ → ℕ
+objectIn steps origins begin s p = getD steps (begin + getD origins (originPlace s p) 0) 0
 
--- ---- one split step among the words
+-- those that it gives for parameters
+abbrev pub objectsIn : List ℕ → List ℕ → ℕ → ℕ → List ℕ → List ℕ
+objectsIn steps origins begin s ps = map (objectIn steps origins begin s) ps
+
+-- the step of schema s, with n parameters, that it is, if it is a block of that schema
+abbrev pub gathered : List ℕ → List ℕ → ℕ → ℕ → ℕ → Step
+gathered steps origins begin s n = record { schema = s; objects = objectsIn steps origins begin s (upTo n) }
+
+-- that of the block which begins at split step i
+abbrev pub stepFrom : Task → List ℕ → List ℕ → ℕ → ℕ → Step
+stepFrom t steps origins i s = gathered steps origins (stepSize * i) s (paramCount t s)
+
 -- the objects that the step whose words begin at a place gives to a set of parameters, ascending
 unfoldable pub givenObjects : List ℕ → ℕ → ℕ → List ℕ
 givenObjects steps at own = wordsAt steps (at + 1) (length (members own mostParameters))
 
--- they have joined those found
-abbrev pub ObjectsJoin : List ℕ → ℕ → ℕ → ℕ → List ℕ → ℕ → List ℕ → Type 0
-ObjectsJoin steps at own bound found bound′ found′ =
-    (b : Bound) → Held b bound found → SetBelow (length b) own →
-    Held (bind b (members own mostParameters) (givenObjects steps at own)) bound′ found′
+-- whether what stands at position j of that block is a step of the split, and that step's part there
+unfoldable pub isPart : Task → List ℕ → List ℕ → ℕ → ℕ → ℕ → Bool
+unfolding isStepAt stepAt partStep eqList
+isPart t steps origins i s j =
+    let y = stepAt (splitTask t) steps (i + j) in
+    let z = partStep t (stepFrom t steps origins i s) j in
+    isStepAt (splitTask t) steps (i + j) && (eqb (y .schema) (z .schema) && eqList (y .objects) (z .objects))
 
--- there is such a step, of this number, and its objects agree with those found
-unfoldable pub keptFits : List ℕ → ℕ → ℕ → ℕ → Bound → Bool
-keptFits steps at number own b =
-    leb (at + stepSize) (length steps) &&
-    (eqb (getD steps at 0) number && fits b (members own mostParameters) (givenObjects steps at own))
+-- so many parts stand there, up to the first that doesn't
+pub record PartsFit (t : Task) (steps origins : List ℕ) (i s r : ℕ) : Type 0 where
+  pub few : r ≤ length (orders t s)
+  pub fit : (j : ℕ) → j < r → isPart t steps origins i s j ≡ true
+  pub stops : r < length (orders t s) → isPart t steps origins i s r ≡ false
+
+-- ---- what is known of a split
+-- to tell its steps: how many schemas it has and their parameters, and the limits of a step's words
+pub record StepsKnown (t : Task) (params limits : List ℕ) : Type 0 where
+  pub well : wellFormed (splitTask t) ≡ true
+  pub few : firstOf t (length (t .schemas)) ≤ mostSchemas
+  pub counts : ParamsNoted t (firstOf t (length (t .schemas))) params
+  pub bounds : limits ≡ limitsFor (t .objects)
+
+-- and its blocks
+pub record BlocksKnown (t : Task) (kept params origins limits : List ℕ) : Type 0 where
+  pub blocks : BlocksKept t kept
+  pub known : StepsKnown t params limits
+  pub origin : OriginsKept kept (length (t .schemas)) origins
+
+-- the steps of a list before one of them are the split's
+abbrev pub GoodBefore : Task → List ℕ → ℕ → Type 0
+GoodBefore t steps i = (k : ℕ) → k < i → isStepAt (splitTask t) steps k ≡ true
+
+-- a list of split steps, judged by 12 against the split, with what is known of its blocks
+pub record SplitStepsKept (t : Task) (steps kept begins origins : List ℕ) : Type 0 where
+  pub blocks : BlocksKept t kept
+  pub good : badStep (splitTask t) steps ≡ none
+  pub begun : BeginsKept t begins
+  pub origin : OriginsKept kept (length (t .schemas)) origins
 
 -- ---- what a list is taken apart into: so many steps, or a misfit
 unfoldable pub takenOf : Folding → Taken
 takenOf (folded xs) = taken.Whole (length xs)
 takenOf (misfit i) = taken.Misfit i
+
+-- up to which step it was taken apart, of so many
+unfoldable pub reachedBy : ℕ → Taken → ℕ
+reachedBy count (taken.Whole n) = count
+reachedBy count (taken.Misfit i) = i
+
+-- the steps up to there are the split's, and if all are, the answer is right
+pub record TakenTold (t : Task) (steps : List ℕ) (r : Taken) : Type 0 where
+  pub good : GoodBefore t steps (reachedBy (length steps / stepSize) r)
+  pub right : badStep (splitTask t) steps ≡ none → r ≡ takenOf (foldSteps t (stepsIn (splitTask t) steps))
+
+-- ---- the judgement of a list: 12 before 14
+unfoldable pub judgedOf : Option ℕ → Folding → Judged
+judgedOf (some i) f = judged.Bad i
+judgedOf none (folded xs) = judged.Whole (length xs)
+judgedOf none (misfit i) = judged.Misfit i

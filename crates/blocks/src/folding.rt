@@ -1,42 +1,45 @@
 // Folding: a list of split steps is taken apart into whole blocks; it looks at schemas and objects, not at states.
 use task::BadStep;
 use task::Parameter;
-use task::bindings::Found;
-use task::bindings::agrees_with;
-use task::bindings::note;
+use task::layout::object_count;
+use task::layout::param_count;
+use task::layout::schema_count;
 use task::limits::MOST_PARAMETERS;
 use task::limits::MOST_SCHEMAS;
 use task::limits::STEP_SIZE;
-use task::limits::TABLE_WORDS;
-use task::steps::bad_step;
+use task::steps::Limits;
+use task::steps::are_within;
+use task::steps::limits_of;
 use task::steps::object_of;
-use task::steps::put_step;
 use task::steps::schema_at;
 use tokens::kept::Kept;
 use tokens::kept::count_of;
 use tokens::kept::first_of;
 use tokens::kept::own_at;
 use tokens::measure::Sizes;
-use tokens::writing::write_split;
+use words::putting::fill;
+use words::runs::wide;
 use words::sets;
 ghost use Prim.Native.Nat.{ℕ, _+_, _*_, _≤_, _<_};
 ghost use mathlib.Core.Path.{_≡_};
+ghost use mathlib.Core.Bool.{true};
 ghost use mathlib.Core.List.{List};
 ghost use lib.ListN.{length, getD};
-ghost use Rattle.words.specs.Lists.{over};
+ghost use Rattle.words.specs.Lists.{eqList, over, put};
+ghost use Rattle.words.specs.Sets.{member, members};
 ghost use Rattle.task.specs.Limits.{mostParameters, mostParts, mostSchemas, stepSize};
 ghost use Rattle.task.specs.Task.{Task};
 ghost use Rattle.task.specs.Table.{taskOf};
-ghost use Rattle.task.specs.Run.{Step, badStep, badStepFound, stepsIn};
-ghost use Rattle.words.specs.Sets.{members};
-ghost use Rattle.tokens.specs.Split.{splitTask, firstOf};
+ghost use Rattle.task.specs.Run.{Step, stepWords, isStepAt, badStep, badStepFound, stepsIn};
+ghost use Rattle.tokens.specs.Split.{orders, splitTask, firstOf};
 ghost use Rattle.tokens.specs.Kept.{keptCount};
-ghost use Rattle.blocks.specs.Blocks.{foldSteps, folded, listWords};
-ghost use Rattle.blocks.specs.Unfolding.{BlocksKept};
-ghost use Rattle.blocks.specs.FoldCode.{ParamsNoted, OriginsKept, PartNoted, PartsNoted, originWords};
-ghost use Rattle.blocks.specs.FoldCode.{BeginsKept, SplitStepsKept, ObjectsJoin, givenObjects, keptFits, takenOf};
-ghost use Rattle.task.specs.Bindings.{Bound, fits, Held};
 ghost use Rattle.tokens.specs.Acceptance.{AcceptedKept};
+ghost use Rattle.blocks.specs.Blocks.{foldSteps, folded, listWords};
+ghost use Rattle.blocks.specs.Unfolding.{BlocksKept, TableKept};
+ghost use Rattle.blocks.specs.FoldCode.{BeginsKept, ParamsNoted, originPlace, originWords, OriginsKept};
+ghost use Rattle.blocks.specs.FoldCode.{PartNoted, PartsNoted, objectIn, objectsIn, gathered, givenObjects};
+ghost use Rattle.blocks.specs.FoldCode.{isPart, PartsFit, StepsKnown, BlocksKnown, GoodBefore, SplitStepsKept};
+ghost use Rattle.blocks.specs.FoldCode.{reachedBy, TakenTold, judgedOf};
 
 // For each schema of the split: which schema's block it begins, by that one's number and one; 0 for none.
 pub type Begins = [u16; MOST_SCHEMAS];
@@ -55,6 +58,13 @@ pub type Origins = [u16; ORIGIN_WORDS];
 pub enum Taken {
     Whole(u64),
     Misfit(u64),
+}
+
+// How it is judged: by the first step that is none of the split, or else by what it is taken apart into.
+pub enum Judged {
+    Whole(u64),
+    Misfit(u64),
+    Bad(u64),
 }
 
 // Which schema's block each schema of the split begins.
@@ -142,30 +152,35 @@ fn note_part(own: u64, s: usize, j: usize, origins: &mut Origins)
 
 // The schema whose block the step whose words begin at `at` can begin: its number and one, 0 for none.
 fn begun_at(steps: &[u16], at: usize, begins: &Begins) -> usize
-    requires { ⌜ (at < length (now steps)) × (getD (now steps) at 0 < mostSchemas) ⌝ }
-    requires { ⌜ getD (now begins) (getD (now steps) at 0) 0 ≤ mostSchemas ⌝ }
+    requires { ⌜ (at < length (now steps)) × (length (now begins) ≡ mostSchemas) ⌝ }
     ensures { λ r. ⌜ r ≡ getD (now (begins .entry)) (getD (now (steps .entry)) at 0) 0 ⌝ }
 {
-    begins[schema_at(steps, at)] as usize
+    let number = schema_at(steps, at);
+    if MOST_SCHEMAS <= number {
+        return 0;
+    }
+    wide(begins[number])
 }
 
-// "folding's list is judged by 12 against the split task": the first bad step, of a table whose split is accepted and
-// kept.
-pub fn bad_split_step(table: &[u16], kept: &Kept, sizes: Sizes, steps: &[u16]) -> BadStep
-    requires { ⌜ AcceptedKept (now table) sizes (now kept) ⌝ }
-    ensures { λ r. ⌜ badStepFound r ≡ badStep (splitTask (taskOf (now (table .entry)))) (now (steps .entry)) ⌝ }
+// The object that the block which begins at the word `begin` gives for parameter p of schema s.
+fn object_in(steps: &[u16], origins: &Origins, begin: usize, s: usize, p: usize) -> u16
+    requires { ⌜ (s < mostSchemas) × (p < mostParameters) ⌝ }
+    requires { ⌜ begin + getD (now origins) (originPlace s p) 0 < length (now steps) ⌝ }
+    ensures { λ r. ⌜ r ≡ objectIn (now (steps .entry)) (now (origins .entry)) begin s p ⌝ }
 {
-    let mut split = [0u16; TABLE_WORDS];
-    write_split(table, kept, sizes, &mut split);
-    bad_step(&split, steps)
+    steps[begin + wide(origins[MOST_PARAMETERS * s + p])]
 }
 
-// Whether the objects of the step whose words begin at `at` agree with those found for a part's parameters: those of
-// the set, ascending, are the part's own from 0 on.
-fn agree(steps: &[u16], at: usize, own: u64, bound: u64, found: &Found) -> bool
+// Whether the objects of the step whose words begin at `at` are those that its block gives for a part's parameters:
+// those of the set, ascending, are the part's own from 0 on. In the first part that has a parameter its object is
+// compared with itself.
+fn agree(steps: &[u16], origins: &Origins, begin: usize, at: usize, s: usize, own: u64) -> bool
     requires { ⌜ at + stepSize ≤ length (now steps) ⌝ }
-    ensures { λ r. ⌜ ((b : Bound) → Held b bound (now (found .entry)) →
-        r ≡ fits b (members own mostParameters) (givenObjects (now (steps .entry)) at own)) ⌝ }
+    requires { ⌜ s < mostSchemas ⌝ }
+    requires { ⌜ ((p : ℕ) → p < mostParameters → member own p ≡ true →
+        begin + getD (now origins) (originPlace s p) 0 < length (now steps)) ⌝ }
+    ensures { λ r. ⌜ r ≡ eqList (givenObjects (now (steps .entry)) at own)
+        (objectsIn (now (steps .entry)) (now (origins .entry)) begin s (members own mostParameters)) ⌝ }
 {
     let mut k = 0;
     for p in 0..MOST_PARAMETERS {
@@ -173,8 +188,7 @@ fn agree(steps: &[u16], at: usize, own: u64, bound: u64, found: &Found) -> bool
             return true;
         }
         if sets::has(own, p) {
-            let object = object_of(steps, at, Parameter(k));
-            if !agrees_with(bound, found, Parameter(p as u16), object) {
+            if object_of(steps, at, Parameter(k)).0 != object_in(steps, origins, begin, s, p) {
                 return false;
             }
             k += 1;
@@ -183,101 +197,242 @@ fn agree(steps: &[u16], at: usize, own: u64, bound: u64, found: &Found) -> bool
     true
 }
 
-// The objects join those found: the set of parameters that have one then.
-fn join(steps: &[u16], at: usize, own: u64, bound: u64, found: &mut Found) -> u64
-    requires { ⌜ at + stepSize ≤ length (now steps) ⌝ }
-    requires { ⌜ length (now found) ≡ mostParameters ⌝ }
-    ensures { λ r. ⌜ ObjectsJoin (now (steps .entry)) at own bound (now (found .entry)) r (now (found .exit)) ⌝ }
+// Whether what stands at position j of the block that begins at split step i is a step of the split, the part of schema
+// s there, and agrees with the parts before it.
+fn part_fits(
+    steps: &[u16],
+    i: usize,
+    s: usize,
+    j: usize,
+    kept: &Kept,
+    params: &Params,
+    origins: &Origins,
+    limits: &Limits,
+) -> bool
+    requires { ⌜ ((t : Task) × BlocksKnown t (now kept) (now params) (now origins) (now limits) ×
+        (s < length (t .schemas)) × (j < length (orders t s)) × (stepSize * (i + j) ≤ length (now steps))) ⌝ }
+    ensures { λ r. ⌜ ((t : Task) →
+        BlocksKnown t (now (kept .entry)) (now (params .entry)) (now (origins .entry)) (now (limits .entry)) →
+        s < length (t .schemas) → j < length (orders t s) →
+        r ≡ isPart t (now (steps .entry)) (now (origins .entry)) i s j) ⌝ }
 {
-    let mut known = bound;
-    let mut k = 0;
-    for p in 0..MOST_PARAMETERS {
-        if sets::none_from(own, p) {
-            return known;
-        }
-        if sets::has(own, p) {
-            let object = object_of(steps, at, Parameter(k));
-            note(found, Parameter(p as u16), object);
-            known = sets::with(known, p);
-            k += 1;
-        }
-    }
-    known
-}
-
-// Whether the list goes on, from word `at`, with the part of this number, and its objects agree with those found.
-fn goes_on(steps: &[u16], at: usize, number: usize, own: u64, bound: u64, found: &Found) -> bool
-    requires { ⌜ at ≤ length (now steps) ⌝ }
-    ensures { λ r. ⌜ ((b : Bound) → Held b bound (now (found .entry)) →
-        r ≡ keptFits (now (steps .entry)) at number own b) ⌝ }
-{
+    let at = STEP_SIZE * (i + j);
     if steps.len() - at < STEP_SIZE {
         return false;
     }
+    let number = first_of(kept, s) + j;
     if schema_at(steps, at) != number {
         return false;
     }
-    agree(steps, at, own, bound, found)
+    if !are_within(steps, at, wide(params[number]), limits) {
+        return false;
+    }
+    agree(steps, origins, STEP_SIZE * i, at, s, own_at(kept, s, j))
 }
 
-// "Folding stops at the first step in any block that disagrees."
-pub fn take_apart(steps: &[u16], kept: &Kept, begins: &Begins) -> Taken
-    requires { ⌜ ((t : Task) × SplitStepsKept t (now steps) (now kept) (now begins)) ⌝ }
-    ensures { λ r. ⌜ ((t : Task) → SplitStepsKept t (now (steps .entry)) (now (kept .entry)) (now (begins .entry)) →
-        r ≡ takenOf (foldSteps t (stepsIn (splitTask t) (now (steps .entry))))) ⌝ }
+// How many parts of schema s stand from split step i on, up to the first that doesn't.
+fn parts_fit(
+    steps: &[u16],
+    i: usize,
+    s: usize,
+    kept: &Kept,
+    params: &Params,
+    origins: &Origins,
+    limits: &Limits,
+) -> usize
+    requires { ⌜ ((t : Task) × BlocksKnown t (now kept) (now params) (now origins) (now limits) ×
+        (s < length (t .schemas)) × (stepSize * i ≤ length (now steps))) ⌝ }
+    ensures { λ r. ⌜ ((t : Task) →
+        BlocksKnown t (now (kept .entry)) (now (params .entry)) (now (origins .entry)) (now (limits .entry)) →
+        s < length (t .schemas) → PartsFit t (now (steps .entry)) (now (origins .entry)) i s r) ⌝ }
+{
+    let parts = count_of(kept, s);
+    for j in 0..parts {
+        if !part_fits(steps, i, s, j, kept, params, origins, limits) {
+            return j;
+        }
+    }
+    parts
+}
+
+// "Folding stops at the first step in any block that disagrees." Here it also stops at one that isn't the split's.
+fn take_apart(
+    steps: &[u16],
+    kept: &Kept,
+    begins: &Begins,
+    params: &Params,
+    origins: &Origins,
+    limits: &Limits,
+) -> Taken
+    requires { ⌜ ((t : Task) × BlocksKnown t (now kept) (now params) (now origins) (now limits) ×
+        BeginsKept t (now begins)) ⌝ }
+    ensures { λ r. ⌜ ((t : Task) →
+        BlocksKnown t (now (kept .entry)) (now (params .entry)) (now (origins .entry)) (now (limits .entry)) →
+        BeginsKept t (now (begins .entry)) → TakenTold t (now (steps .entry)) r) ⌝ }
 {
     let count = steps.len() / STEP_SIZE;
     let mut taken: u64 = 0;
     let mut i = 0;
-    'list: loop {
-        if i == count {
-            break 'list Taken::Whole(taken);
-        }
+    while i < count {
         let begun = begun_at(steps, STEP_SIZE * i, begins);
         if begun == 0 {
-            break 'list Taken::Misfit(i as u64);
+            return Taken::Misfit(i as u64);
         }
         let s = begun - 1;
-        let parts = count_of(kept, s);
-        let mut found = [0; MOST_PARAMETERS];
-        let mut bound: u64 = 0;
-        let mut j = 0;
-        while j < parts {
-            let at = STEP_SIZE * i;
-            let own = own_at(kept, s, j);
-            if !goes_on(steps, at, first_of(kept, s) + j, own, bound, &found) {
-                break 'list Taken::Misfit(i as u64);
-            }
-            bound = join(steps, at, own, bound, &mut found);
-            i += 1;
-            j += 1;
+        let fit = parts_fit(steps, i, s, kept, params, origins, limits);
+        let end = i + fit;
+        if fit < count_of(kept, s) {
+            return Taken::Misfit(end as u64);
         }
+        i = end;
         taken += 1;
+    }
+    Taken::Whole(taken)
+}
+
+// Up to which step a list was taken apart, of so many.
+fn reached(taken: Taken, count: usize) -> usize
+    ensures { λ r. ⌜ r ≡ reachedBy count taken ⌝ }
+{
+    match taken {
+        Taken::Whole(_) => count,
+        Taken::Misfit(i) => i as usize,
+    }
+}
+
+// Whether the list's words have a whole step of the split at index i, of a split with so many schemas.
+fn is_split_step(steps: &[u16], i: usize, splits: usize, params: &Params, limits: &Limits) -> bool
+    requires { ⌜ stepSize * i ≤ length (now steps) ⌝ }
+    requires { ⌜ ((t : Task) × StepsKnown t (now params) (now limits) ×
+        (splits ≡ firstOf t (length (t .schemas)))) ⌝ }
+    ensures { λ r. ⌜ ((t : Task) → StepsKnown t (now (params .entry)) (now (limits .entry)) →
+        splits ≡ firstOf t (length (t .schemas)) → r ≡ isStepAt (splitTask t) (now (steps .entry)) i) ⌝ }
+{
+    let at = STEP_SIZE * i;
+    if steps.len() - at < STEP_SIZE {
+        return false;
+    }
+    let number = schema_at(steps, at);
+    if splits <= number {
+        return false;
+    }
+    are_within(steps, at, wide(params[number]), limits)
+}
+
+// The first bad step of a list of which the steps before one are the split's.
+fn bad_from(steps: &[u16], from: usize, splits: usize, params: &Params, limits: &Limits) -> BadStep
+    requires { ⌜ ((t : Task) × StepsKnown t (now params) (now limits) ×
+        (splits ≡ firstOf t (length (t .schemas)))) ⌝ }
+    ensures { λ r. ⌜ ((t : Task) → StepsKnown t (now (params .entry)) (now (limits .entry)) →
+        splits ≡ firstOf t (length (t .schemas)) → GoodBefore t (now (steps .entry)) from →
+        badStepFound r ≡ badStep (splitTask t) (now (steps .entry))) ⌝ }
+{
+    let begun = (steps.len() + STEP_SIZE - 1) / STEP_SIZE;
+    let mut i = from;
+    while i < begun {
+        if !is_split_step(steps, i, splits, params, limits) {
+            return BadStep::At(i as u64);
+        }
+        i += 1;
+    }
+    BadStep::Nowhere
+}
+
+// "folding's list is judged by 12 against the split task", and taken apart: in one pass, and only where it stops before
+// the list's end the steps behind are judged by 12 alone.
+pub fn judge(
+    table: &[u16],
+    kept: &Kept,
+    sizes: Sizes,
+    steps: &[u16],
+    begins: &Begins,
+    origins: &Origins,
+) -> Judged
+    requires { ⌜ AcceptedKept (now table) sizes (now kept) ⌝ }
+    requires { ⌜ BeginsKept (taskOf (now table)) (now begins) ⌝ }
+    requires { ⌜ OriginsKept (now kept) (length (taskOf (now table) .schemas)) (now origins) ⌝ }
+    ensures { λ r. ⌜ r ≡ judgedOf (badStep (splitTask (taskOf (now (table .entry)))) (now (steps .entry)))
+        (foldSteps (taskOf (now (table .entry)))
+        (stepsIn (splitTask (taskOf (now (table .entry)))) (now (steps .entry)))) ⌝ }
+{
+    let params = params_of(kept, schema_count(table));
+    let limits = limits_of(object_count(table));
+    let taken = take_apart(steps, kept, begins, &params, origins, &limits);
+    let bad = bad_from(
+        steps,
+        reached(taken, steps.len() / STEP_SIZE),
+        sizes.schemas,
+        &params,
+        &limits,
+    );
+    if let BadStep::At(i) = bad {
+        return Judged::Bad(i);
+    }
+    match taken {
+        Taken::Whole(found) => Judged::Whole(found),
+        Taken::Misfit(i) => Judged::Misfit(i),
+    }
+}
+
+// "schema, one object per parameter, zeros": the step of schema s, with so many parameters, whose block begins at the
+// word `begin` is put from `to` on.
+fn put_gathered(
+    steps: &[u16],
+    origins: &Origins,
+    begin: usize,
+    s: usize,
+    params: usize,
+    out: &mut [u16],
+    to: usize,
+)
+    requires { ⌜ (s < mostSchemas) × (params ≤ mostParameters) ⌝ }
+    requires { ⌜ to + stepSize ≤ length (now out) ⌝ }
+    requires { ⌜ ((p : ℕ) → p < params → begin + getD (now origins) (originPlace s p) 0 < length (now steps)) ⌝ }
+    ensures { λ _. ⌜ now (out .exit) ≡ put (now (out .entry)) to
+        (stepWords (gathered (now (steps .entry)) (now (origins .entry)) begin s params)) ⌝ }
+{
+    out[to] = s as u16;
+    fill(out, to + 1, MOST_PARAMETERS, 0);
+    for p in 0..params {
+        out[to + 1 + p] = object_in(steps, origins, begin, s, p);
     }
 }
 
 // "Folding takes a list apart into whole blocks": their steps, of a list that is taken apart wholly.
-pub fn put_folded(steps: &[u16], kept: &Kept, begins: &Begins, out: &mut [u16])
-    requires { ⌜ ((t : Task) × (xs : List Step) × SplitStepsKept t (now steps) (now kept) (now begins) ×
-        (foldSteps t (stepsIn (splitTask t) (now steps)) ≡ folded xs) × (stepSize * length xs ≤ length (now out))) ⌝ }
-    ensures { λ _. ⌜ ((t : Task) (xs : List Step) →
-        SplitStepsKept t (now (steps .entry)) (now (kept .entry)) (now (begins .entry)) →
-        foldSteps t (stepsIn (splitTask t) (now (steps .entry))) ≡ folded xs →
+pub fn put_folded(
+    table: &[u16],
+    steps: &[u16],
+    kept: &Kept,
+    begins: &Begins,
+    origins: &Origins,
+    out: &mut [u16],
+)
+    requires { ⌜ TableKept (now table) (now kept) ⌝ }
+    requires { ⌜ ((xs : List Step) ×
+        SplitStepsKept (taskOf (now table)) (now steps) (now kept) (now begins) (now origins) ×
+        (foldSteps (taskOf (now table)) (stepsIn (splitTask (taskOf (now table))) (now steps)) ≡ folded xs) ×
+        (stepSize * length xs ≤ length (now out))) ⌝ }
+    ensures { λ _. ⌜ ((xs : List Step) →
+        foldSteps (taskOf (now (table .entry)))
+        (stepsIn (splitTask (taskOf (now (table .entry)))) (now (steps .entry))) ≡ folded xs →
         now (out .exit) ≡ over (listWords xs) (now (out .entry))) ⌝ }
 {
     let count = steps.len() / STEP_SIZE;
     let mut next = 0;
     let mut i = 0;
     while i < count {
-        let s = begun_at(steps, STEP_SIZE * i, begins) - 1;
-        let parts = count_of(kept, s);
-        let mut found = [0; MOST_PARAMETERS];
-        let mut bound: u64 = 0;
-        for j in 0..parts {
-            bound = join(steps, STEP_SIZE * i, own_at(kept, s, j), bound, &mut found);
-            i += 1;
-        }
-        put_step(out, next, s as u16, &found);
+        let begin = STEP_SIZE * i;
+        let s = begun_at(steps, begin, begins) - 1;
+        put_gathered(
+            steps,
+            origins,
+            begin,
+            s,
+            param_count(table, s as u16),
+            out,
+            next,
+        );
+        i += count_of(kept, s);
         next += STEP_SIZE;
     }
 }

@@ -62,7 +62,10 @@ returns c = λ t K e.
     let h = c .before .loop in
     let l = c .loop-test .left in
     let z : h .s ≡ length (t .schemas) = omega arith in
-    record { word = λ k m. h .inv .2 t K e k ∙ ap (λ (n : ℕ). begunWord (beginner t k (upTo n))) z }
+    record {
+      long = h .inv .1;
+      word = λ k. h .inv .2 t K e k ∙ ap (λ (n : ℕ). begunWord (beginner t k (upTo n))) z;
+    }
 
 pub begins-of-spec : {M : Type 1} → statement M
 begins-of-spec =

@@ -2,8 +2,7 @@
 -- noted. The measure is the parts before it.
 use Rattle.blocks.proofs.folding.note_origins.Tie as tie
 use Prim.Native.Nat.{ℕ, _-_, _≤_}
-use mathlib.Core.Path.{_≡_, sym, _∙_, subst}
-use mathlib.Core.List.{List}
+use mathlib.Core.Path.{_≡_, _∙_, subst}
 use native.Mathlib.Omega.{arith}
 use Rattle.blocks.specs.FoldCode.{PartNoted, PartsNoted}
 use Rattle.blocks.proofs.Origins.{parts-start, parts-more}

@@ -21,7 +21,9 @@ abbrev μ-loop : tie.MeasureT-loop
 μ-loop own s j origins₀ next₀ p₀ origins next p = 12 - p
 
 loop-holds : tie.Need-loop-holds Inv-loop μ-loop
-loop-holds c = let a = c .args in (omega arith, (next-first (a .own) (a .j), part-start (a .own) (a .s) (a .j) (a .origins .now)))
+loop-holds c =
+    let a = c .args in
+    (omega arith, (next-first (a .own) (a .j), part-start (a .own) (a .s) (a .j) (a .origins .now)))
 
 -- the next object's word is small
 small : (c : tie.Then1 Inv-loop μ-loop) → c .before .before .before .loop .next < 65536
@@ -68,5 +70,5 @@ pub note-part-spec : {M : Type 1} → statement M
 note-part-spec =
     tie.close
     (tie.spec Inv-loop μ-loop (λ c. omega arith) (λ c. omega arith) loop-holds (λ c κs. omega arith)
-    (λ c. let l = small c in omega arith) (λ c. omega arith) (λ c. omega arith) (λ c. omega arith) (λ c. omega arith) (λ c. let l = small c in omega arith) (λ c. omega arith) (λ c. omega arith) loop-again
-    returns)
+    (λ c. let l = small c in omega arith) (λ c. omega arith) (λ c. omega arith) (λ c. omega arith) (λ c. omega arith)
+    (λ c. let l = small c in omega arith) (λ c. omega arith) (λ c. omega arith) loop-again returns)

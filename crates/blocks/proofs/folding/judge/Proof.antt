@@ -1,0 +1,137 @@
+-- `blocks::folding::judge` meets its contract. The list is taken apart up to a step before which all are the split's,
+-- so the first bad step from there on is the list's; and where there is none, what it is taken apart into is right.
+use Rattle.blocks.proofs.folding.judge.Tie as tie
+use Prim.Native.Nat.{ℕ}
+use mathlib.Core.Path.{_≡_, sym, _∙_, ap, subst}
+use mathlib.Core.Bool.{true}
+use mathlib.Core.List.{List}
+use mathlib.Core.Option.{none}
+use lib.ListN.{length}
+use borrow.Author.Needs.{needs}
+use Rattle.task.specs.Task.{Task, wellFormed}
+use Rattle.task.specs.Table.{taskOf}
+use Rattle.task.specs.Run.{badStep, badStepFound, stepsIn}
+use Rattle.task.specs.StepTests.{limitsFor}
+use Rattle.task.proofs.Tables.{of-table}
+use Rattle.tokens.specs.Split.{splitTask, firstOf}
+use Rattle.tokens.proofs.WellSplit.{split-well}
+use Rattle.blocks.specs.Blocks.{Folding, foldSteps}
+use Rattle.blocks.specs.Unfolding.{BlocksKept}
+use Rattle.blocks.specs.FoldCode.{StepsKnown, BlocksKnown, GoodBefore, TakenTold}
+use Rattle.blocks.proofs.Numbers.{split-count}
+use Rattle.blocks.proofs.KeptParts.{table-kept}
+use Rattle.blocks.proofs.FoldMoves.{judged-bad, judged-whole, judged-misfit}
+use Rattle.blocks.proofs.folding.judge.Statement.{statement}
+
+abbrev task : tie.Start → Task
+task s = taskOf (s .args .table .now)
+
+abbrev words : tie.Start → List ℕ
+words s = s .args .steps .now
+
+blocks : (s : tie.Start) → BlocksKept (task s) (s .args .kept .now)
+blocks s = table-kept (s .pre .0) .blocks
+
+-- ---- what is looked up
+abbrev start : tie.After-limits-of → tie.Start
+start c = c .before .before .before .before .before .before
+
+steps-known : (c : tie.After-limits-of) →
+    StepsKnown (task (start c)) (c .before .before .params-of .result) (c .limits-of .result)
+steps-known c =
+    let s = start c in
+    let well : wellFormed (task s) ≡ true = of-table (s .args .table .now) (s .pre .0 .table) .0 in
+    record {
+      well = split-well (task s) (splitTask (task s)) well (s .pre .0 .accepted);
+      few = blocks s .few-splits;
+      counts =
+          c .before .before .params-of .ensures (task s) (blocks s) (c .before .before .before .schema-count .ensures);
+      bounds = c .limits-of .ensures ∙ ap limitsFor (c .before .object-count .ensures);
+    }
+
+known : (c : tie.After-limits-of) → let s = start c in
+    BlocksKnown (task s) (s .args .kept .now) (c .before .before .params-of .result) (s .args .origins .now)
+    (c .limits-of .result)
+known c = record { blocks = blocks (start c); known = steps-known c; origin = start c .pre .1 .1 }
+
+splits : (s : tie.Start) → s .args .sizes .schemas ≡ firstOf (task s) (length (task s .schemas))
+splits s = s .pre .0 .sized .schemas ∙ split-count (task s)
+
+-- ---- the list is taken apart
+abbrev looked : tie.After-take-apart → tie.After-limits-of
+looked c = c .before .before .before
+
+apart : (c : tie.After-take-apart) →
+    TakenTold (task (start (looked c))) (words (start (looked c))) (c .take-apart .result)
+apart c =
+    let s = start (looked c) in
+    c .take-apart .ensures (task s) (known (looked c)) (s .pre .1 .0)
+
+-- ---- and its first bad step found
+abbrev parted : tie.After-bad-from → tie.After-take-apart
+parted c = c .before .before .before .before
+
+abbrev from : tie.After-bad-from → tie.Start
+from c = start (looked (parted c))
+
+abbrev bad : tie.After-bad-from → Type 0
+bad c = badStepFound (c .bad-from .result) ≡ badStep (splitTask (task (from c))) (words (from c))
+
+found : (c : tie.After-bad-from) → bad c
+found c =
+    let s = from c in
+    c .bad-from .ensures (task s) (steps-known (looked (parted c))) (splits s)
+    (subst (GoodBefore (task s) (words s)) (sym (c .before .before .before .reached .ensures)) (apart (parted c) .good))
+
+abbrev folding : tie.Start → Folding
+folding s = foldSteps (task s) (stepsIn (splitTask (task s)) (words s))
+
+none-bad : (g : tie.After-enum-told) → let s = from (g .before .before) in
+    badStep (splitTask (task s)) (words s) ≡ none
+unfolding badStepFound
+none-bad g = sym (found (g .before .before)) ∙ ap badStepFound (g .enum-told .given .1)
+
+-- ---- the needs
+params-of-requires : tie.Need-params-of-requires
+params-of-requires c κs = let s = c .before .before .before in (task s, blocks s, c .schema-count .ensures)
+
+take-apart-requires : tie.Need-take-apart-requires
+take-apart-requires c κs =
+    let d = c .before .before in
+    (task (start d), known d, start d .pre .1 .0)
+
+bad-from-requires : tie.Need-bad-from-requires
+bad-from-requires c κs =
+    let d = looked (c .before .before .before) in
+    (task (start d), steps-known d, splits (start d))
+
+returns : tie.Need-returns
+unfolding badStepFound
+returns c =
+    let d = c .before .before .before in
+    let s = from d in
+    judged-bad (badStep (splitTask (task s)) (words s)) (folding s) _
+    (sym (found d) ∙ ap badStepFound (c .before .bad .given .1))
+
+returns-2 : tie.Need-returns-2
+returns-2 c =
+    let g = c .before .before .before in
+    let d = g .before .before in
+    let s = from d in
+    judged-whole (badStep (splitTask (task s)) (words s)) (folding s) _ (none-bad g)
+    (sym (c .before .taken .given .1) ∙ apart (parted d) .right (none-bad g))
+
+returns-3 : tie.Need-returns-3
+returns-3 c =
+    let g = c .before .before .before in
+    let d = g .before .before in
+    let s = from d in
+    judged-misfit (badStep (splitTask (task s)) (words s)) (folding s) _ (none-bad g)
+    (sym (c .before .taken2 .given .1) ∙ apart (parted d) .right (none-bad g))
+
+pub judge-spec : {M : Type 1} → statement M
+judge-spec =
+    tie.close
+    (tie.spec (λ c κs. search needs) params-of-requires (λ c κs. search needs) (λ c κs. search needs)
+    take-apart-requires (λ c κs. search needs) bad-from-requires (λ c. search needs) returns (λ c. search needs)
+    (λ c. search needs) (λ c. search needs) returns-2 returns-3)
