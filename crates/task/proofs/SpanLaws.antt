@@ -2,7 +2,7 @@
 -- with all. One law a loop for its start, its turn and its end.
 use Prim.Native.Nat.{ℕ, _+_, _-_, _*_, _≤_, _<_}
 use mathlib.Core.Path.{_≡_, refl, sym, _∙_, ap}
-use mathlib.Core.Bool.{true}
+use mathlib.Core.Bool.{Bool, true}
 use mathlib.Core.List.{List, [], _∷_, map}
 use native.Mathlib.Omega.{arith}
 use lib.ListN.{length, getD}
@@ -10,8 +10,8 @@ use borrow.Author.Tests.{leb-true}
 use Rattle.words.specs.Lists.{padded}
 use Rattle.task.specs.Limits.{mostAtoms}
 use Rattle.task.specs.Task.{Fact, Task, wellFormed}
-use Rattle.task.specs.Run.{insert, insertAll, stateIn, roomIn, isState}
-use Rattle.task.specs.Records.{inBase, recordNumber, rowNumber, RowsAscend, Known, Keeps}
+use Rattle.task.specs.Run.{holds, insert, insertAll, stateIn, roomIn, isState}
+use Rattle.task.specs.Records.{inBase, recordNumber, rowNumber, RowsAscend, LowerBound, RowIs, Known, Keeps}
 use Rattle.task.specs.Spans.{span, UnderWay}
 use Rattle.task.specs.declared.spans.Spans.{Spans}
 use Rattle.words.proofs.Lists.{In, length-padded}
@@ -21,7 +21,7 @@ use Rattle.task.proofs.States.{Asc, asc-insert}
 use Rattle.task.proofs.Numbers.{base-mono, small-padded, slight}
 use Rattle.task.proofs.Rows.{state-kept, kept-ascend, room-words}
 use Rattle.task.proofs.RowsMoved.{in-row}
-use Rattle.task.proofs.RowsFound.{known-kept, known-fits}
+use Rattle.task.proofs.RowsFound.{known-kept, known-fits, found-holds}
 use Rattle.task.proofs.Changes.{insert-missing, insertAll-length}
 
 -- ---- spans
@@ -60,8 +60,19 @@ module _ {t : Task} {g : ℕ → Fact} {spans : Spans} {numbers state : List ℕ
   pub adds-inside : spans .adds ≤ spans .end
   adds-inside = let a = u .adds in let d = u .deletes in omega arith
 
+  pub precondition-inside : {k : ℕ} → k < spans .adds → k < spans .end
+  precondition-inside l = let m = adds-inside in omega arith
+
+  pub add-inside : {k : ℕ} → k < spans .deletes → k < spans .end
+  add-inside l = let d = u .deletes in omega arith
+
   pub atom-known : (k : ℕ) → k < spans .end → Known t state n (g k) (getD numbers k 0)
   atom-known k l = record { task = u .task; state = u .is-state; fits = u .fit k l; is = sym (u .number k l) }
+
+  -- what a search for the number says
+  pub atom-found : {k row : ℕ} {r : Bool} → k < spans .end → LowerBound state n (getD numbers k 0) row →
+      RowIs state n row (getD numbers k 0) r → r ≡ holds (stateIn t state n) (g k)
+  atom-found {k} l b h = found-holds (atom-known k l) b h
 
   -- the step goes on with another state
   pub with-state : {out : List ℕ} {m : ℕ} → isState t out m ≡ true → UnderWay t g spans numbers out m
@@ -136,7 +147,7 @@ module _ {t : Task} {g : ℕ → Fact} {spans : Spans} {numbers : List ℕ} {fro
 
   -- the add that comes next
   pub next-known : k < spans .deletes → Known t state left (g k) (getD numbers k 0)
-  next-known l = atom-known (c .way) k (let m = c .way .deletes in omega arith)
+  next-known l = atom-known (c .way) k (add-inside (c .way) l)
 
   pub insert-turn : {out : List ℕ} {left′ : ℕ} → k < spans .deletes → length out ≡ length state →
       Keeps t out left′ (insert (g k) s) →

@@ -30,6 +30,7 @@ pub record Parted (w steps : List ℕ) (i start end add del : ℕ) : Type 0 wher
   pub adds : RoleEnds w start end 0 add
   pub deletes : RoleEnds w add end 1 del
 
+-- the same, counted from its first atom
 abbrev pub parts : ℕ → ℕ → ℕ → ℕ → Spans
 parts start add del end = record { adds = add - start; deletes = del - start; end = end - start }
 

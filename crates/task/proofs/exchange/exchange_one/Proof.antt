@@ -12,7 +12,7 @@ use Rattle.task.specs.Records.{Known, rowNumber}
 use Rattle.task.specs.Spans.{UnderWay, AllHold}
 use Rattle.task.proofs.RowsFound.{row-is, row-holds, row-out}
 use Rattle.task.proofs.RowsReplaced.{row-replaced}
-use Rattle.task.proofs.SpanLaws.{rows-fit, rows-ascend, few-before, atom-known, known-small}
+use Rattle.task.proofs.SpanLaws.{rows-fit, rows-ascend, few-before, add-inside, atom-known, known-small}
 use Rattle.task.proofs.ExchangeTurns.{Passed, not-there, is-add, replaced-by, goes-alone}
 use borrow.Author.Needs.{needs}
 use Rattle.task.proofs.exchange.exchange_one.Statement.{statement}
@@ -53,7 +53,7 @@ begun f = entry (held f .before)
 new : (f : tie.After-first-new) {t : Task} {g : ℕ → Fact} → Way (begun f) t g → let a = begun f .args in
     let atom = f .first-new .result .atom in
     atom < a .spans .deletes → Known t (a .state .now) (a .n) (g atom) (getD (a .numbers .now) atom 0)
-new f u less = atom-known u (f .first-new .result .atom) (let l = u .deletes in omega arith)
+new f u less = atom-known u (f .first-new .result .atom) (add-inside u less)
 
 -- its place is one among the numbers
 inside : (f : tie.After-first-new) → f .first-new .result .atom ≤ begun f .args .spans .end

@@ -1,15 +1,14 @@
 -- `task::exchange::first_new` meets its contract. Between the turns the adds from `from` to `k` hold; the measure is
 -- how many are left.
 use Prim.Native.Nat.{ℕ, _-_, _≤_, _<_}
-use mathlib.Core.Path.{_≡_, sym, _∙_}
+use mathlib.Core.Path.{sym, _∙_}
 use native.Mathlib.Omega.{arith}
 use borrow.Author.Tests.{not-true, not-false}
 use Rattle.task.specs.Limits.{mostAtoms}
 use Rattle.task.specs.Task.{Fact, Task}
-use Rattle.task.specs.Run.{holds, stateIn}
+use Rattle.task.specs.Run.{stateIn}
 use Rattle.task.specs.Spans.{UnderWay}
-use Rattle.task.proofs.RowsFound.{found-holds}
-use Rattle.task.proofs.SpanLaws.{rows-fit, rows-ascend, few-before, atom-known}
+use Rattle.task.proofs.SpanLaws.{rows-fit, rows-ascend, few-before, add-inside, atom-found}
 use Rattle.task.proofs.ExchangeLaws.{Held, held-none, held-more, held-all}
 use Rattle.task.proofs.exchange.first_new.Statement.{statement}
 use Rattle.task.proofs.exchange.first_new.Tie as tie
@@ -30,19 +29,7 @@ abbrev start : tie.Then1 Inv-loop μ-loop → tie.Start Inv-loop μ-loop
 start c = c .before .before .before .before
 
 inside : (c : tie.Then1 Inv-loop μ-loop) → c .before .before .loop .k < mostAtoms
-inside c = let (t, g, u) = start c .pre .1 in let l = few-before u (u .deletes) in let m = c .if1 .taken in omega arith
-
--- what was looked up is add k
-found : (c : tie.After-is-row Inv-loop μ-loop) → let turn = c .before .before .before in
-    let a = start turn .args in
-    (t : Task) (g : ℕ → Fact) → UnderWay t g (a .spans) (a .numbers .now) (a .state .now) (a .n) →
-    c .is-row .result ≡ holds (stateIn t (a .state .now) (a .n)) (g (turn .before .before .loop .k))
-found c t g u =
-    let turn = c .before .before .before in
-    let l = u .deletes in
-    let m = turn .if1 .taken in
-    found-holds (atom-known u (turn .before .before .loop .k) (omega arith)) (c .before .find .ensures)
-    (c .is-row .ensures)
+inside c = let (t, g, u) = start c .pre .1 in few-before u (add-inside u (c .if1 .taken))
 
 find-requires : tie.Need-find-requires Inv-loop μ-loop
 find-requires c κs = let (t, g, u) = start (c .before) .pre .1 in (rows-fit u, rows-ascend u)
@@ -57,7 +44,8 @@ returns c =
       from = so .0;
       within = so .1;
       hold = held-all g _ _ _ (so .2 t g u);
-      new = λ l. sym (found (c .before) t g u) ∙ not-true _ (c .if2 .taken);
+      new = λ l. sym (atom-found u (add-inside u (turn .if1 .taken)) (c .before .before .find .ensures)
+          (c .before .is-row .ensures)) ∙ not-true _ (c .if2 .taken);
       place = λ l. c .before .before .find .ensures;
     }
 
@@ -67,7 +55,8 @@ loop-again c =
     let so = turn .before .before .loop .inv in (
       omega arith,
       omega arith,
-      λ t g u. held-more g (so .2 t g u) (sym (found (c .before) t g u) ∙ not-false _ (c .if2 .left)),
+      λ t g u. held-more g (so .2 t g u) (sym (atom-found u (add-inside u (turn .if1 .taken)) (c .before .before .find .ensures)
+          (c .before .is-row .ensures)) ∙ not-false _ (c .if2 .left)),
     )
 
 returns-2 : tie.Need-returns-2 Inv-loop μ-loop

@@ -11,7 +11,7 @@ use Rattle.task.specs.Limits.{mostAtoms}
 use Rattle.task.specs.Task.{Fact, Task}
 use Rattle.task.specs.Run.{holds, insertAll}
 use Rattle.task.specs.Spans.{span, UnderWay, without}
-use Rattle.task.proofs.SpanLaws.{rows-fit, facts-asc, few-before, atom-known, insert-nothing}
+use Rattle.task.proofs.SpanLaws.{rows-fit, facts-asc, few-before, add-inside, atom-known, insert-nothing}
 use Rattle.task.proofs.SizeLaws.{
   size-grows,
   size-same,
@@ -41,11 +41,7 @@ abbrev start : tie.In-loop Inv-loop μ-loop → tie.Start Inv-loop μ-loop
 start c = c .before .before .before
 
 inside : (c : tie.In-loop Inv-loop μ-loop) → c .before .loop .k < mostAtoms
-inside c =
-    let (t, g, u, e) = start c .pre in
-    let m = few-before u (u .deletes) in
-    let l = c .loop-test .taken in
-    omega arith
+inside c = let (t, g, u, e) = start c .pre in few-before u (add-inside u (c .loop-test .taken))
 
 comes-requires : tie.Need-comes-requires Inv-loop μ-loop
 comes-requires c κs =
@@ -61,9 +57,7 @@ asked : (c : tie.After-comes Inv-loop μ-loop) → let turn = c .before .before 
     not (holds (insertAll (span g (x .spans .adds) k) (without t g (x .spans) (x .state .now) (x .n))) (g k))
 asked c t g u =
     let turn = c .before .before in
-    let m = u .deletes in
-    let l = turn .loop-test .taken in
-    c .comes .ensures t g u _ (atom-known u (turn .before .loop .k) (omega arith))
+    c .comes .ensures t g u _ (atom-known u (turn .before .loop .k) (add-inside u (turn .loop-test .taken)))
 
 add-total : tie.Need-add-total Inv-loop μ-loop
 add-total c =

@@ -33,7 +33,7 @@ abbrev start : tie.In-loop Inv-loop μ-loop → tie.Start Inv-loop μ-loop
 start c = c .before .before .before
 
 inside : (c : tie.In-loop Inv-loop μ-loop) → c .before .loop .k < mostAtoms
-inside c = let (t, g, u, a) = start c .pre in let m = few-before u (c .loop-test .taken) in omega arith
+inside c = let (t, g, u, a) = start c .pre in few-before u (c .loop-test .taken)
 
 goes-requires : tie.Need-goes-requires Inv-loop μ-loop
 goes-requires c κs = let (t, g, u, a) = start (c .before) .pre in ((t, g, u), omega arith)

@@ -1,7 +1,6 @@
 -- `task::spans::all_hold` meets its contract.
 -- The invariant: the whole test is what is left of it from precondition k on. The measure is how many are left.
 use Prim.Native.Nat.{ℕ, _-_, _<_}
-use mathlib.Core.Path.{_≡_}
 use native.Mathlib.Omega.{arith}
 use Rattle.words.specs.Lists.{all}
 use Rattle.task.specs.Limits.{mostAtoms}
@@ -9,8 +8,7 @@ use Rattle.task.specs.Task.{Fact, Task}
 use Rattle.task.specs.Run.{holds, stateIn}
 use Rattle.task.specs.Spans.{span, UnderWay}
 use Rattle.words.proofs.Loops.{AllLeft, all-mapped, all-yes, all-no, all-ends}
-use Rattle.task.proofs.RowsFound.{found-holds}
-use Rattle.task.proofs.SpanLaws.{rows-fit, rows-ascend, few-before, adds-inside, atom-known}
+use Rattle.task.proofs.SpanLaws.{rows-fit, rows-ascend, few-before, precondition-inside, atom-found}
 use Rattle.task.proofs.spans.all_hold.Statement.{statement}
 use Rattle.task.proofs.spans.all_hold.Tie as tie
 
@@ -32,19 +30,7 @@ abbrev start : tie.Then1 Inv-loop μ-loop → tie.Start Inv-loop μ-loop
 start c = c .before .before .before .before
 
 inside : (c : tie.Then1 Inv-loop μ-loop) → c .before .before .loop .k < mostAtoms
-inside c = let (t, g, u) = start c .pre in let l = few-before u (adds-inside u) in let m = c .if1 .taken in omega arith
-
--- what was looked up is precondition k
-found : (c : tie.After-is-row Inv-loop μ-loop) → let turn = c .before .before .before in
-    let a = start turn .args in
-    (t : Task) (g : ℕ → Fact) → UnderWay t g (a .spans) (a .numbers .now) (a .state .now) (a .n) →
-    c .is-row .result ≡ holds (stateIn t (a .state .now) (a .n)) (g (turn .before .before .loop .k))
-found c t g u =
-    let turn = c .before .before .before in
-    let l = adds-inside u in
-    let m = turn .if1 .taken in
-    found-holds (atom-known u (turn .before .before .loop .k) (omega arith)) (c .before .find .ensures)
-    (c .is-row .ensures)
+inside c = let (t, g, u) = start c .pre in few-before u (precondition-inside u (c .if1 .taken))
 
 find-requires : tie.Need-find-requires Inv-loop μ-loop
 find-requires c κs = let (t, g, u) = start (c .before) .pre in (rows-fit u, rows-ascend u)
@@ -55,12 +41,18 @@ is-row-requires c κs = let (t, g, u) = start (c .before .before) .pre in rows-f
 returns : tie.Need-returns Inv-loop μ-loop
 returns c =
     let turn = c .before .before .before .before in λ t g u.
-    all-no (turn .before .before .loop .inv t g u) (turn .if1 .taken) (found (c .before) t g u) (c .if2 .taken)
+    all-no (turn .before .before .loop .inv t g u) (turn .if1 .taken)
+    (atom-found u (precondition-inside u (turn .if1 .taken)) (c .before .before .find .ensures)
+    (c .before .is-row .ensures))
+    (c .if2 .taken)
 
 loop-again : tie.Need-loop-again Inv-loop μ-loop
 loop-again c =
     let turn = c .before .before .before .before in λ t g u.
-    all-yes (turn .before .before .loop .inv t g u) (turn .if1 .taken) (found (c .before) t g u) (c .if2 .left)
+    all-yes (turn .before .before .loop .inv t g u) (turn .if1 .taken)
+    (atom-found u (precondition-inside u (turn .if1 .taken)) (c .before .before .find .ensures)
+    (c .before .is-row .ensures))
+    (c .if2 .left)
 
 returns-2 : tie.Need-returns-2 Inv-loop μ-loop
 returns-2 c = λ t g u. all-ends (c .before .before .loop .inv t g u) (c .if1 .left)

@@ -9,6 +9,7 @@ use Rattle.task.proofs.SpanLaws.{
   rows-fit,
   rows-ascend,
   few-before,
+  add-inside,
   known-small,
   known-room,
   InsertedSo,
@@ -37,11 +38,7 @@ abbrev start : tie.Then1 Inv-loop μ-loop → tie.Start Inv-loop μ-loop
 start c = c .before .before .before .before
 
 inside : (c : tie.Then1 Inv-loop μ-loop) → c .before .before .loop .k < mostAtoms
-inside c =
-    let (t, g, u, room) = start c .pre .1 in
-    let l = few-before u (u .deletes) in
-    let m = c .if1 .taken in
-    omega arith
+inside c = let (t, g, u, room) = start c .pre .1 in few-before u (add-inside u (c .if1 .taken))
 
 put-in-requires : tie.Need-put-in-requires Inv-loop μ-loop
 put-in-requires c κs =
