@@ -1,8 +1,8 @@
 -- A list taken apart block by block: the steps passed are the split's, and, if all are, what was found so far is right.
 use Rattle.blocks.specs.declared.folding.Taken.the-variants as taken
 use Prim.Native.Nat.{ℕ, _+_, _-_, _*_, _/_, _≤_, _<_}
-use mathlib.Core.Path.{_≡_, subst}
-use mathlib.Core.Bool.{true}
+use mathlib.Core.Path.{_≡_, sym, subst}
+use mathlib.Core.Bool.{true, false}
 use mathlib.Core.List.{List}
 use mathlib.Core.Option.{none}
 use native.Mathlib.Omega.{arith}
@@ -12,9 +12,9 @@ use Rattle.task.specs.Limits.{stepSize}
 use Rattle.task.specs.Task.{Task}
 use Rattle.task.specs.Run.{isStepAt, badStep}
 use Rattle.tokens.specs.Split.{orders, splitTask}
-use Rattle.blocks.specs.FoldCode.{BlocksKnown, BeginsKept, SplitStepsKept, PartsFit, GoodBefore, TakenTold}
-use Rattle.blocks.specs.FoldCode.{reachedBy}
-use Rattle.blocks.proofs.FoldWords.{part-yes, part-whole}
+use Rattle.blocks.specs.FoldCode.{BlocksKnown, BeginsKept, SplitStepsKept, GoodBefore, TakenTold}
+use Rattle.blocks.specs.FoldCode.{isPart, reachedBy}
+use Rattle.blocks.proofs.FoldWords.{part-yes}
 use Rattle.blocks.proofs.FoldTurns.{leftFrom, InBlock, TakenSo, begun-known, none-begins, block-starts}
 use Rattle.blocks.proofs.FoldTurns.{block-passed, block-broken, block-ends, taken-start, taken-whole}
 use Rattle.blocks.proofs.FoldTurns.{taken-misfit, taken-more}
@@ -54,12 +54,13 @@ module _ {t : Task} {kept begins params origins limits : List ℕ} (K : BlocksKn
     right = λ g. taken-misfit t steps n i (none-begins (judged g) (TakenSo t steps n) i l e (h .right g));
   }
 
-  -- it begins that of schema s, and so many parts of it stand there
-  module _ (s r : ℕ) (e : word ≡ s + 1) where
+  -- it begins that of schema s
+  module _ (s : ℕ) (e : word ≡ s + 1) where
     pub found-known : s < length (t .schemas)
     found-known = begun-known (K .blocks .some-part) B (getD steps (stepSize * i) 0) s e .1
 
-    module _ (p : PartsFit t steps origins i s r) where
+    -- and its first r parts stand there
+    module _ (r : ℕ) (few : r ≤ length (orders t s)) (fit : (j : ℕ) → j < r → isPart t steps origins i s j ≡ true) where
       -- they are the split's steps
       good-past : GoodBefore t steps (i + r)
       good-past k m = elim (decLt k i) [
@@ -67,42 +68,31 @@ module _ {t : Task} {kept begins params origins limits : List ℕ} (K : BlocksKn
         | no q ↦
             let j = k - i in
             let z : i + j ≡ k = omega arith in
-            let few = p .few in
             subst (λ (x : ℕ). isStepAt (splitTask t) steps x ≡ true) z
-            (part-yes (K .blocks) (K .origin) steps i s found-known j (omega arith) (p .fit j (omega arith)) .0)
-      ]
-
-      pub found-inside : i + r ≤ length steps / stepSize
-      found-inside = elim (decLt 0 r) [
-        | yes q ↦
-            let few = p .few in
-            let w = part-whole (K .blocks) (K .origin) steps i s found-known (r - 1) (omega arith)
-            (p .fit (r - 1) (omega arith)) in
-            omega arith
-        | no q ↦ omega arith
+            (part-yes (K .blocks) (K .origin) steps i s found-known j (omega arith) (fit j (omega arith)) .0)
       ]
 
       in-block : (g : badStep (splitTask t) steps ≡ none) → InBlock t steps origins (TakenSo t steps n) i s r
       in-block g =
-          block-passed (judged g) (TakenSo t steps n) i s found-known r (p .few) (p .fit)
+          block-passed (judged g) (TakenSo t steps n) i s found-known r few fit
           (block-starts (judged g) (TakenSo t steps n) i l s e (h .right g))
 
-      -- not all
-      pub found-broken : r < length (orders t s) → TakenTold t steps (taken.Misfit (i + r))
+      -- but the next doesn't
+      pub found-broken : (k : ℕ) → k ≡ i + r → r < length (orders t s) → isPart t steps origins i s r ≡ false →
+          TakenTold t steps (taken.Misfit k)
       unfolding reachedBy
-      found-broken m = record {
+      found-broken k z m stops = subst (λ (k : ℕ). TakenTold t steps (taken.Misfit k)) (sym z) (record {
         good = good-past;
         right = λ g.
             taken-misfit t steps n (i + r)
-            (block-broken (judged g) (TakenSo t steps n) i s found-known r m (in-block g) (p .stops m));
-      }
+            (block-broken (judged g) (TakenSo t steps n) i s found-known r m (in-block g) stops);
+      })
 
-      -- all
-      pub found-more : length (orders t s) ≤ r → FoundSo t steps (n + 1) (i + r)
-      found-more m = record {
+      -- and these are all
+      pub found-more : (k : ℕ) → k ≡ i + r → r ≡ length (orders t s) → FoundSo t steps (n + 1) k
+      found-more k z m = subst (FoundSo t steps (n + 1)) (sym z) (record {
         good = good-past;
         right = λ g.
             taken-more t steps n _ (leftFrom t steps (i + r))
-            (block-ends (judged g) (TakenSo t steps n) i s found-known r (let few = p .few in omega arith)
-            (in-block g));
-      }
+            (block-ends (judged g) (TakenSo t steps n) i s found-known r m (in-block g));
+      })

@@ -16,7 +16,7 @@ use Rattle.task.specs.Limits.{mostParameters, mostSchemas, stepSize}
 use Rattle.task.specs.Task.{Task, wellFormed}
 use Rattle.task.specs.Run.{Step, paramCount, stepAt, isStepAt, stepsIn, badStep}
 use Rattle.task.specs.StepTests.{limitsFor}
-use Rattle.tokens.specs.Split.{orders, splitTask, firstOf}
+use Rattle.tokens.specs.Split.{splitTask, firstOf}
 use Rattle.tokens.specs.Kept.{keptCount, keptOwn}
 use Rattle.blocks.specs.declared.folding.Taken.{Taken}
 use Rattle.blocks.specs.declared.folding.Judged.{Judged}
@@ -104,12 +104,6 @@ isPart t steps origins i s j =
     let y = stepAt (splitTask t) steps (i + j) in
     let z = partStep t (stepFrom t steps origins i s) j in
     isStepAt (splitTask t) steps (i + j) && (eqb (y .schema) (z .schema) && eqList (y .objects) (z .objects))
-
--- so many parts stand there, up to the first that doesn't
-pub record PartsFit (t : Task) (steps origins : List ℕ) (i s r : ℕ) : Type 0 where
-  pub few : r ≤ length (orders t s)
-  pub fit : (j : ℕ) → j < r → isPart t steps origins i s j ≡ true
-  pub stops : r < length (orders t s) → isPart t steps origins i s r ≡ false
 
 -- ---- what is known of a split
 -- to tell its steps: how many schemas it has and their parameters, and the limits of a step's words

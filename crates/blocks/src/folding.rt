@@ -1,5 +1,6 @@
 // Folding: a list of split steps is taken apart into whole blocks; it looks at schemas and objects, not at states.
 use task::BadStep;
+use task::Object;
 use task::Parameter;
 use task::layout::object_count;
 use task::layout::param_count;
@@ -38,7 +39,7 @@ ghost use Rattle.blocks.specs.Blocks.{foldSteps, folded, listWords};
 ghost use Rattle.blocks.specs.Unfolding.{BlocksKept, TableKept};
 ghost use Rattle.blocks.specs.FoldCode.{BeginsKept, ParamsNoted, originPlace, originWords, OriginsKept};
 ghost use Rattle.blocks.specs.FoldCode.{PartNoted, PartsNoted, objectIn, objectsIn, gathered, givenObjects};
-ghost use Rattle.blocks.specs.FoldCode.{isPart, PartsFit, StepsKnown, BlocksKnown, GoodBefore, SplitStepsKept};
+ghost use Rattle.blocks.specs.FoldCode.{isPart, StepsKnown, BlocksKnown, GoodBefore, SplitStepsKept};
 ghost use Rattle.blocks.specs.FoldCode.{reachedBy, TakenTold, judgedOf};
 
 // For each schema of the split: which schema's block it begins, by that one's number and one; 0 for none.
@@ -162,13 +163,19 @@ fn begun_at(steps: &[u16], at: usize, begins: &Begins) -> usize
     wide(begins[number])
 }
 
-// The object that the block which begins at the word `begin` gives for parameter p of schema s.
-fn object_in(steps: &[u16], origins: &Origins, begin: usize, s: usize, p: usize) -> u16
-    requires { ⌜ (s < mostSchemas) × (p < mostParameters) ⌝ }
-    requires { ⌜ begin + getD (now origins) (originPlace s p) 0 < length (now steps) ⌝ }
-    ensures { λ r. ⌜ r ≡ objectIn (now (steps .entry)) (now (origins .entry)) begin s p ⌝ }
+// The object that the block which begins at the word `begin` gives for a parameter of schema s.
+fn object_in(
+    steps: &[u16],
+    origins: &Origins,
+    begin: usize,
+    s: usize,
+    parameter: Parameter,
+) -> Object
+    requires { ⌜ (s < mostSchemas) × (parameter .0 < mostParameters) ⌝ }
+    requires { ⌜ begin + getD (now origins) (originPlace s (parameter .0)) 0 < length (now steps) ⌝ }
+    ensures { λ r. ⌜ r .0 ≡ objectIn (now (steps .entry)) (now (origins .entry)) begin s (parameter .0) ⌝ }
 {
-    steps[begin + wide(origins[MOST_PARAMETERS * s + p])]
+    Object(steps[begin + wide(origins[MOST_PARAMETERS * s + wide(parameter.0)])])
 }
 
 // Whether the objects of the step whose words begin at `at` are those that its block gives for a part's parameters:
@@ -188,7 +195,9 @@ fn agree(steps: &[u16], origins: &Origins, begin: usize, at: usize, s: usize, ow
             return true;
         }
         if sets::has(own, p) {
-            if object_of(steps, at, Parameter(k)).0 != object_in(steps, origins, begin, s, p) {
+            let given = object_of(steps, at, Parameter(k));
+            let first = object_in(steps, origins, begin, s, Parameter(p as u16));
+            if given.0 != first.0 {
                 return false;
             }
             k += 1;
@@ -230,31 +239,6 @@ fn part_fits(
     agree(steps, origins, STEP_SIZE * i, at, s, own_at(kept, s, j))
 }
 
-// How many parts of schema s stand from split step i on, up to the first that doesn't.
-fn parts_fit(
-    steps: &[u16],
-    i: usize,
-    s: usize,
-    kept: &Kept,
-    params: &Params,
-    origins: &Origins,
-    limits: &Limits,
-) -> usize
-    requires { ⌜ ((t : Task) × BlocksKnown t (now kept) (now params) (now origins) (now limits) ×
-        (s < length (t .schemas)) × (stepSize * i ≤ length (now steps))) ⌝ }
-    ensures { λ r. ⌜ ((t : Task) →
-        BlocksKnown t (now (kept .entry)) (now (params .entry)) (now (origins .entry)) (now (limits .entry)) →
-        s < length (t .schemas) → PartsFit t (now (steps .entry)) (now (origins .entry)) i s r) ⌝ }
-{
-    let parts = count_of(kept, s);
-    for j in 0..parts {
-        if !part_fits(steps, i, s, j, kept, params, origins, limits) {
-            return j;
-        }
-    }
-    parts
-}
-
 // "Folding stops at the first step in any block that disagrees." Here it also stops at one that isn't the split's.
 fn take_apart(
     steps: &[u16],
@@ -273,21 +257,27 @@ fn take_apart(
     let count = steps.len() / STEP_SIZE;
     let mut taken: u64 = 0;
     let mut i = 0;
-    while i < count {
+    'list: loop {
+        if i == count {
+            break 'list Taken::Whole(taken);
+        }
         let begun = begun_at(steps, STEP_SIZE * i, begins);
         if begun == 0 {
-            return Taken::Misfit(i as u64);
+            break 'list Taken::Misfit(i as u64);
         }
         let s = begun - 1;
-        let fit = parts_fit(steps, i, s, kept, params, origins, limits);
-        let end = i + fit;
-        if fit < count_of(kept, s) {
-            return Taken::Misfit(end as u64);
+        let parts = count_of(kept, s);
+        let begin = i;
+        let mut j = 0;
+        while j < parts {
+            if !part_fits(steps, begin, s, j, kept, params, origins, limits) {
+                break 'list Taken::Misfit(i as u64);
+            }
+            i += 1;
+            j += 1;
         }
-        i = end;
         taken += 1;
     }
-    Taken::Whole(taken)
 }
 
 // Up to which step a list was taken apart, of so many.
@@ -394,7 +384,8 @@ fn put_gathered(
     out[to] = s as u16;
     fill(out, to + 1, MOST_PARAMETERS, 0);
     for p in 0..params {
-        out[to + 1 + p] = object_in(steps, origins, begin, s, p);
+        let object = object_in(steps, origins, begin, s, Parameter(p as u16));
+        out[to + 1 + p] = object.0;
     }
 }
 

@@ -62,7 +62,7 @@ decides : (c : tie.After-object-in Inv-loop μ-loop) →
     let a = l .before .before .args in
     eqList (givenObjects (a .steps .now) (a .at) (a .own))
     (objectsIn (a .steps .now) (a .origins .now) (a .begin) (a .s) (members (a .own) 12)) ≡
-    eqb (c .before .object-of .result .0) (c .object-in .result) &&
+    eqb (c .before .object-of .result .0) (c .object-in .result .0) &&
     sameFrom (a .steps .now) (a .at) (a .own) (objectIn (a .steps .now) (a .origins .now) (a .begin) (a .s))
     (l .loop .k + 1) (l .loop .p + 1)
 decides c =
@@ -80,7 +80,7 @@ decides c =
 
 returns-2 : tie.Need-returns-2 Inv-loop μ-loop
 returns-2 c =
-    let d = c .before .before in
+    let d = c .before .before .before in
     let l = d .before .before .before .before .before .before .before in
     let a = l .before .before .args in
     let rest = sameFrom (a .steps .now) (a .at) (a .own)
@@ -99,13 +99,13 @@ loop-again c =
     let P : ℕ → Type 0 = Left w (a .origins .now) (a .begin) (a .at) (a .s) (a .own) (p + 1) in (
       omega arith,
       ⊎-elim
-          (λ x. subst P (sym (x .5)) (
+          (λ x. subst P (sym (x .6)) (
             omega arith,
             (let read : tie.After-object-of Inv-loop μ-loop =
                 record { before = record { before = has; if2 = x .0 }; object-of = x .1 } in
                 decides (record { before = read; object-in = x .2 })
                 ∙ ap (λ (b : Bool). b && sameFrom w (a .at) (a .own) v (l .loop .k + 1) (p + 1))
-                (eq-eqb _ _ (x .4 .left))),
+                (eq-eqb _ _ (x .5 .left))),
           ))
           (λ x. subst P (sym (x .1)) (
             omega arith,
@@ -130,4 +130,5 @@ pub agree-spec : {M : Type 1} → statement M
 agree-spec =
     tie.close
     (tie.spec Inv-loop μ-loop loop-holds (λ c κs. omega arith) returns (λ c κs. omega arith) (λ c κs. omega arith)
-    object-in-requires returns-2 (λ c. omega arith) (λ c. omega arith) (λ c. omega arith) loop-again returns-3)
+    (λ c. omega arith) object-in-requires returns-2 (λ c. omega arith) (λ c. omega arith) (λ c. omega arith) loop-again
+    returns-3)

@@ -65,7 +65,7 @@ loop-again c =
     let h = d .before .loop in
     let a = d .before .before .before .before .before .before .before .before .args in
     let l = d .loop-test .taken in
-    let q = put-next (h .inv .1) (c .object-in .result)
+    let q = put-next (h .inv .1) (c .object-in .result .0)
     (objectsIn (a .steps .now) (a .origins .now) (a .begin) (a .s) (upTo (h .p + 1)))
     (objects-next (a .steps .now) (a .origins .now) (a .begin) (a .s) (h .p)
     ∙ ap (λ (v : ℕ). objectsIn (a .steps .now) (a .origins .now) (a .begin) (a .s) (upTo (h .p)) ++ (v ∷ []))
@@ -96,6 +96,6 @@ pub put-gathered-spec : {M : Type 1} → statement M
 put-gathered-spec =
     tie.close
     (tie.spec Inv-loop μ-loop (λ c. omega arith) (λ c. omega arith) (λ c. omega arith) (λ c. omega arith) fill-requires
-    loop-holds object-in-requires (λ c. let l = room (c .before) in omega arith)
+    loop-holds (λ c. omega arith) object-in-requires (λ c. let l = room (c .before) in omega arith)
     (λ c. let l = room (c .before) in omega arith) (λ c. let l = room (c .before) in omega arith)
     (λ c. room (c .before)) (λ c. omega arith) (λ c. omega arith) loop-again same-length returns)

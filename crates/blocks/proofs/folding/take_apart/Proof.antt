@@ -1,172 +1,248 @@
--- `blocks::folding::take_apart` meets its contract. The invariant: the steps before i are the split's, and, if all are,
--- the whole list is the steps taken and what is left of it from i on. Each block passes a split step, so the split
--- steps left fall.
+-- `blocks::folding::take_apart` meets its contract. The outer invariant: the steps before i are the split's, and, if
+-- all are, the whole list is the steps taken and what is left of it from i on. The inner one: the parts before position
+-- j of the open block stand, so the list has that many steps. Each block passes a split step, so the split steps left
+-- fall; inside a block the parts left do.
 use Rattle.blocks.proofs.folding.take_apart.Tie as tie
 use Prim.Native.Nat.{ℕ, _+_, _-_, _*_, _/_, _≤_, _<_}
 use mathlib.Core.Path.{_≡_, sym, _∙_}
+use mathlib.Core.Bool.{true}
 use native.Mathlib.Omega.{arith}
 use lib.ListN.{length, getD}
+use borrow.Author.Count.{below-more}
+use borrow.Author.Tests.{not-true, not-false}
 use Rattle.task.specs.Limits.{stepSize}
 use Rattle.task.specs.Task.{Task}
 use Rattle.tokens.specs.Split.{orders}
-use Rattle.blocks.specs.FoldCode.{BlocksKnown, BeginsKept, PartsFit}
-use Rattle.blocks.proofs.FoldTaken.{FoundSo, found-none, found-whole, found-no-block, found-known, found-inside}
-use Rattle.blocks.proofs.FoldTaken.{found-broken, found-more}
+use Rattle.blocks.specs.FoldCode.{BlocksKnown, BeginsKept, isPart}
+use Rattle.blocks.proofs.FoldWords.{part-whole}
+use Rattle.blocks.proofs.FoldTaken.{FoundSo, found-none, found-whole, found-no-block, found-known, found-broken}
+use Rattle.blocks.proofs.FoldTaken.{found-more}
 use Rattle.blocks.proofs.folding.take_apart.Statement.{statement}
 
 abbrev Inv-loop : tie.InvT-loop
-Inv-loop steps kept begins params origins limits count taken₀ i₀ taken i =
+Inv-loop steps kept begins params origins limits count taken i₀ begun s parts begin j₀ i j =
+    (j ≤ parts) × (i ≡ begin + j) × (i ≤ count) ×
+    ((t : Task) → BlocksKnown t kept params origins limits → s < length (t .schemas) →
+    (k : ℕ) → k < j → isPart t steps origins begin s k ≡ true)
+
+abbrev μ-loop : tie.MeasureT-loop
+μ-loop steps kept begins params origins limits count taken i₀ begun s parts begin j₀ i j = parts - j
+
+abbrev Inv-list : tie.InvT-list
+Inv-list steps kept begins params origins limits count taken₀ i₀ taken i =
     (i ≤ count) × (taken ≤ i) ×
     ((t : Task) → BlocksKnown t kept params origins limits → BeginsKept t begins → FoundSo t steps taken i)
 
-abbrev μ-loop : tie.MeasureT-loop
-μ-loop steps kept begins params origins limits count taken₀ i₀ taken i = count - i
+abbrev μ-list : tie.MeasureT-list
+μ-list steps kept begins params origins limits count taken₀ i₀ taken i = count - i
 
 -- ---- what is known at each place
 abbrev Start : Type 0
-Start = tie.Start Inv-loop μ-loop
+Start = tie.Start Inv-loop μ-loop Inv-list μ-list
 
 abbrev Known : Start → Task → Type 0
 Known c t = let a = c .args in BlocksKnown t (a .kept .now) (a .params .now) (a .origins .now) (a .limits .now)
 
--- between blocks
+abbrev Begins : Start → Task → Type 0
+Begins c t = BeginsKept t (c .args .begins .now)
+
+-- between blocks, before the list's end
 abbrev Between : Type 0
-Between = tie.In-loop Inv-loop μ-loop
+Between = tie.Else1 Inv-loop μ-loop Inv-list μ-list
 
 abbrev from : Between → Start
 from c = c .before .before .before
 
 abbrev at : Between → ℕ
-at c = c .before .loop .i
+at c = c .before .list .i
+
+not-ended : (c : Between) → at c < length (from c .args .steps .now) / stepSize
+not-ended c = let n = c .if1 .left in let l = c .before .list .inv .0 in omega arith
 
 -- where the step begins a block
 abbrev Begun : Type 0
-Begun = tie.Else1 Inv-loop μ-loop
-
-abbrev turn : Begun → Between
-turn c = c .before .before
+Begun = tie.Else2 Inv-loop μ-loop Inv-list μ-list
 
 abbrev schema : Begun → ℕ
 schema c = c .before .begun-at .result - 1
 
-begins : (c : Begun) → let b = turn c in
+begins : (c : Begun) → let b = c .before .before in
     getD (from b .args .begins .now) (getD (from b .args .steps .now) (stepSize * at b) 0) 0 ≡ schema c + 1
-begins c = let e = c .before .begun-at .ensures in let n = c .if1 .left in omega arith
+begins c = let e = c .before .begun-at .ensures in let n = c .if2 .left in omega arith
 
-known : (c : Begun) (t : Task) → Known (from (turn c)) t → BeginsKept t (from (turn c) .args .begins .now) →
+known : (c : Begun) (t : Task) → let b = c .before .before in Known (from b) t → Begins (from b) t →
     schema c < length (t .schemas)
 known c t K B =
-    let b = turn c in
-    found-known K B (b .before .loop .inv .2 t K B) (b .loop-test .taken) (schema c) 0 (begins c)
+    let b = c .before .before in
+    found-known K B (b .before .list .inv .2 t K B) (not-ended b) (schema c) (begins c)
 
 -- where its parts are counted
 abbrev Counted : Type 0
-Counted = tie.After-parts-fit Inv-loop μ-loop
+Counted = tie.After-count-of Inv-loop μ-loop Inv-list μ-list
 
-fit : (c : Counted) → let b = turn (c .before) in
-    (t : Task) → Known (from b) t → BeginsKept t (from b .args .begins .now) →
-    PartsFit t (from b .args .steps .now) (from b .args .origins .now) (at b) (schema (c .before))
-    (c .parts-fit .result)
-fit c t K B = c .parts-fit .ensures t K (known (c .before) t K B)
-
-inside : (c : Counted) → let b = turn (c .before) in
-    (at b + c .parts-fit .result ≤ length (from b .args .steps .now) / stepSize) × (schema (c .before) < 200)
-inside c =
-    let b = turn (c .before) in
-    let (t, K, B) = from b .pre in
+counted : (c : Counted) (t : Task) → let s = from (c .before .before .before) in Known s t → Begins s t →
+    (c .count-of .result ≡ length (orders t (schema (c .before)))) × (0 < c .count-of .result)
+counted c t K B =
     let l = known (c .before) t K B in
-    let m = K .blocks .few-schemas in (
-      found-inside K B (b .before .loop .inv .2 t K B) (b .loop-test .taken) (schema (c .before)) (c .parts-fit .result)
-          (begins (c .before)) (fit c t K B),
-      omega arith,
-    )
-
-abbrev All : Type 0
-All = tie.After-count-of Inv-loop μ-loop
-
-all : (c : All) → let d = c .before in let b = turn (d .before) in
-    (t : Task) → Known (from b) t → BeginsKept t (from b .args .begins .now) →
-    (c .count-of .result ≡ length (orders t (schema (d .before)))) × (0 < c .count-of .result)
-all c t K B =
-    let d = c .before in
-    let l = known (d .before) t K B in
-    let e = c .count-of .ensures ∙ K .blocks .count (schema (d .before)) l in
-    let m = K .blocks .some-part (schema (d .before)) l in
+    let e = c .count-of .ensures ∙ K .blocks .count (schema (c .before)) l in
+    let m = K .blocks .some-part (schema (c .before)) l in
     (e, omega arith)
 
--- ---- between blocks
-loop-holds : tie.Need-loop-holds Inv-loop μ-loop
-loop-holds c = (omega arith, omega arith, λ t K B. found-none t (c .before .args .steps .now))
+-- in a block, before the part at position j
+abbrev Inside : Type 0
+Inside = tie.In-loop Inv-loop μ-loop Inv-list μ-list
 
-begun-at-requires : tie.Need-begun-at-requires Inv-loop μ-loop
-begun-at-requires c κs =
-    let (t, K, B) = from c .pre in
-    let l = c .loop-test .taken in
-    (omega arith, B .long)
+abbrev opened : Inside → Counted
+opened c = c .before .before
 
-returns : tie.Need-returns Inv-loop μ-loop
-returns c = λ t K B.
-    let b = c .before .before in
-    found-no-block K B (b .before .loop .inv .2 t K B) (b .loop-test .taken)
-    (sym (c .before .begun-at .ensures) ∙ c .if1 .taken)
+abbrev turn : Inside → Between
+turn c = opened c .before .before .before
 
-parts-fit-requires : tie.Need-parts-fit-requires Inv-loop μ-loop
-parts-fit-requires c κs =
-    let (t, K, B) = from (turn c) .pre in
-    let l = turn c .loop-test .taken in
-    (t, K, known c t K B, omega arith)
+position : (c : Inside) (t : Task) → Known (from (turn c)) t → Begins (from (turn c)) t →
+    c .before .loop .j < length (orders t (schema (opened c .before)))
+position c t K B = let m = counted (opened c) t K B in let j = c .loop-test .taken in omega arith
 
--- ---- a block
-returns-2 : tie.Need-returns-2 Inv-loop μ-loop
-returns-2 c = λ t K B.
+-- whether the part stands there, as it was answered
+abbrev Asked : Type 0
+Asked = tie.After-part-fits Inv-loop μ-loop Inv-list μ-list
+
+told : (c : Asked) (t : Task) → let d = c .before in let s = from (turn d) in Known s t → Begins s t →
+    c .part-fits .result ≡ isPart t (s .args .steps .now) (s .args .origins .now) (at (turn d))
+    (schema (opened d .before)) (d .before .loop .j)
+told c t K B =
+    let d = c .before in
+    c .part-fits .ensures t K (known (opened d .before) t K B) (position d t K B)
+
+-- where it does
+abbrev On : Type 0
+On = tie.Else3 Inv-loop μ-loop Inv-list μ-list
+
+stands : (c : On) (t : Task) → let d = c .before .before in let s = from (turn d) in Known s t → Begins s t →
+    isPart t (s .args .steps .now) (s .args .origins .now) (at (turn d)) (schema (opened d .before))
+    (d .before .loop .j) ≡ true
+stands c t K B = sym (told (c .before) t K B) ∙ not-false _ (c .if3 .left)
+
+not-past : (c : On) → let d = c .before .before in
+    d .before .loop .i < length (from (turn d) .args .steps .now) / stepSize
+not-past c =
     let d = c .before .before in
-    let b = turn (d .before) in
-    let (e, m) = all (c .before) t K B in
-    let l = c .if2 .taken in
-    found-broken K B (b .before .loop .inv .2 t K B) (b .loop-test .taken) (schema (d .before)) (d .parts-fit .result)
-    (begins (d .before)) (fit d t K B) (omega arith)
-
-abbrev Whole : Type 0
-Whole = tie.Else2 Inv-loop μ-loop
-
-passed : (c : Whole) → 0 < c .before .before .parts-fit .result
-passed c =
-    let (t, K, B) = from (turn (c .before .before .before)) .pre in
-    let (e, m) = all (c .before) t K B in
-    let l = c .if2 .left in
+    let s = from (turn d) in
+    let (t, K, B) = s .pre in
+    let l = d .before .loop in
+    let e = l .inv .1 in
+    let w = part-whole (K .blocks) (K .origin) (s .args .steps .now) (at (turn d)) (schema (opened d .before))
+    (known (opened d .before) t K B) (l .j) (position d t K B) (stands c t K B) in
     omega arith
 
-loop-less : tie.Need-loop-less Inv-loop μ-loop
-loop-less c = let m = passed c in let l = inside (c .before .before) .0 in omega arith
+-- ---- between blocks
+list-holds : tie.Need-list-holds Inv-loop μ-loop Inv-list μ-list
+list-holds c = (omega arith, omega arith, λ t K B. found-none t (c .before .args .steps .now))
 
-loop-again : tie.Need-loop-again Inv-loop μ-loop
+begun-at-requires : tie.Need-begun-at-requires Inv-loop μ-loop Inv-list μ-list
+begun-at-requires c κs =
+    let (t, K, B) = from c .pre in
+    let l = not-ended c in
+    (omega arith, B .long)
+
+count-of-requires : tie.Need-count-of-requires Inv-loop μ-loop Inv-list μ-list
+count-of-requires c κs =
+    let (t, K, B) = from (c .before .before) .pre in
+    let l = known c t K B in
+    let n = K .blocks .few-schemas in
+    omega arith
+
+-- ---- in a block
+loop-holds : tie.Need-loop-holds Inv-loop μ-loop Inv-list μ-list
+loop-holds c =
+    (omega arith, omega arith, c .before .before .before .before .list .inv .0, λ t K l k m. absurd (omega arith))
+
+part-fits-requires : tie.Need-part-fits-requires Inv-loop μ-loop Inv-list μ-list
+part-fits-requires c κs =
+    let (t, K, B) = from (turn c) .pre in
+    let e = c .before .loop .inv .1 in
+    let l = c .before .loop .inv .2 in
+    (t, K, known (opened c .before) t K B, position c t K B, omega arith)
+
+add-j : tie.Need-add-j Inv-loop μ-loop Inv-list μ-list
+add-j c = let l = not-past c in let e = c .before .before .before .loop .inv .1 in omega arith
+
+loop-again : tie.Need-loop-again Inv-loop μ-loop Inv-list μ-list
 loop-again c =
     let d = c .before .before in
-    let b = turn (d .before) in
-    let m = passed c in
-    let n = b .before .loop .inv .1 in
-    let l = c .if2 .left in (
-      inside d .0,
+    let l = d .before .loop in
+    let j = d .loop-test .taken in
+    let e = l .inv .1 in (
       omega arith,
-      λ t K B.
-          let (e, q) = all (c .before) t K B in
-          found-more K B (b .before .loop .inv .2 t K B) (b .loop-test .taken) (schema (d .before))
-          (d .parts-fit .result) (begins (d .before)) (fit d t K B) (omega arith),
+      omega arith,
+      omega (arith, not-past c),
+      λ t K m.
+          let q = opened d .count-of .ensures ∙ K .blocks .count (schema (opened d .before)) m in
+          below-more _ _ (l .inv .3 t K m)
+          (sym (c .before .part-fits .ensures t K m (omega arith)) ∙ not-false _ (c .if3 .left)),
     )
 
--- ---- the list's end
-returns-3 : tie.Need-returns-3 Inv-loop μ-loop
-returns-3 c = λ t K B.
-    let h = c .before .loop in
+-- ---- a block is complete
+passed : (c : tie.After-loop Inv-loop μ-loop Inv-list μ-list) →
+    (c .before .loop .j ≡ c .before .before .count-of .result) × (0 < c .before .before .count-of .result)
+passed c =
+    let d = c .before .before in
+    let (t, K, B) = from (d .before .before .before) .pre in
     let l = c .loop-test .left in
-    let n = h .inv .0 in
-    found-whole (h .taken) (h .i) (omega arith) (h .inv .2 t K B)
+    let m = c .before .loop .inv .0 in
+    (omega arith, counted d t K B .1)
+
+add-taken : tie.Need-add-taken Inv-loop μ-loop Inv-list μ-list
+add-taken c = let n = c .before .before .before .before .before .before .list .inv in omega arith
+
+list-less : tie.Need-list-less Inv-loop μ-loop Inv-list μ-list
+list-less c =
+    let p = passed c in
+    let e = c .before .loop .inv .1 in
+    let l = c .before .loop .inv .2 in
+    omega arith
+
+list-again : tie.Need-list-again Inv-loop μ-loop Inv-list μ-list
+list-again c =
+    let d = c .before .before in
+    let b = d .before .before .before in
+    let l = c .before .loop in
+    let p = passed c in
+    let e = l .inv .1 in
+    let n = b .before .list .inv .1 in (
+      l .inv .2,
+      omega arith,
+      λ t K B.
+          let q = counted d t K B in
+          found-more K B (b .before .list .inv .2 t K B) (not-ended b) (schema (d .before)) (begins (d .before)) (l .j)
+          (omega arith) (l .inv .3 t K (known (d .before) t K B)) (l .i) e (omega arith),
+    )
+
+-- ---- the answers
+returns : tie.Need-returns Inv-loop μ-loop Inv-list μ-list
+returns c = λ t K B.
+    let h = c .before .list in found-whole (h .taken) (h .i) (c .if1 .taken) (h .inv .2 t K B)
+
+returns-2 : tie.Need-returns-2 Inv-loop μ-loop Inv-list μ-list
+returns-2 c = λ t K B.
+    let b = c .before .before in
+    found-no-block K B (b .before .list .inv .2 t K B) (not-ended b)
+    (sym (c .before .begun-at .ensures) ∙ c .if2 .taken)
+
+returns-3 : tie.Need-returns-3 Inv-loop μ-loop Inv-list μ-list
+returns-3 c = λ t K B.
+    let d = c .before .before in
+    let o = opened d .before in
+    let b = turn d in
+    let l = d .before .loop in
+    let q = position d t K B in
+    found-broken K B (b .before .list .inv .2 t K B) (not-ended b) (schema o) (begins o) (l .j) (omega arith)
+    (l .inv .3 t K (known o t K B)) (l .i) (l .inv .1) q
+    (sym (told (c .before) t K B) ∙ not-true _ (c .if3 .taken))
 
 pub take-apart-spec : {M : Type 1} → statement M
 take-apart-spec =
     tie.close
-    (tie.spec Inv-loop μ-loop loop-holds (λ c. omega arith) begun-at-requires returns
-    (λ c. let n = c .if1 .left in omega arith) parts-fit-requires (λ c. let l = inside c .0 in omega arith)
-    (λ c κs. inside c .1) returns-2
-    (λ c. let b = turn (c .before .before .before) in let n = b .before .loop .inv .1 in omega arith) loop-less
-    loop-again returns-3)
+    (tie.spec Inv-loop μ-loop Inv-list μ-list list-holds (λ c. let l = not-ended c in omega arith) begun-at-requires
+    (λ c. let n = c .if2 .left in omega arith) count-of-requires loop-holds part-fits-requires
+    (λ c. let l = not-past c in omega arith) add-j (λ c. let j = c .before .before .loop-test .taken in omega arith)
+    loop-again add-taken list-less list-again returns returns-2 returns-3)
