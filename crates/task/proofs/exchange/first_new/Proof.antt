@@ -55,8 +55,8 @@ loop-again c =
     let so = turn .before .before .loop .inv in (
       omega arith,
       omega arith,
-      λ t g u. held-more g (so .2 t g u) (sym (atom-found u (add-inside u (turn .if1 .taken)) (c .before .before .find .ensures)
-          (c .before .is-row .ensures)) ∙ not-false _ (c .if2 .left)),
+      λ t g u. held-more g (so .2 t g u) (sym (atom-found u (add-inside u (turn .if1 .taken))
+          (c .before .before .find .ensures) (c .before .is-row .ensures)) ∙ not-false _ (c .if2 .left)),
     )
 
 returns-2 : tie.Need-returns-2 Inv-loop μ-loop
