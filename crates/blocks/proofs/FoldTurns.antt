@@ -3,15 +3,17 @@
 use Rattle.blocks.specs.declared.folding.Taken.the-variants as taken
 use Prim.Native.Nat.{ℕ, zero, suc, _+_, _-_, _*_, _/_, _≤_, _<_}
 use mathlib.Core.Path.{_≡_, refl, sym, _∙_, ap, ap₂, subst}
-use mathlib.Core.Bool.{true, false}
-use mathlib.Core.List.{List, _∷_}
+use mathlib.Core.Bool.{Bool, true, false, cond}
+use mathlib.Core.List.{List, [], _∷_}
 use mathlib.Core.Logic.{inl, inr}
 use mathlib.Core.Option.{some}
 use native.Mathlib.Omega.{arith}
 use native.Mathlib.Decide.{decLt}
 use native.Mathlib.Numerals.{add-one}
 use lib.ListN.{length, getD, drop}
+use lib.Dec.{eqb}
 use borrow.Author.Count.{below-more}
+use borrow.Author.Tests.{eqb-true}
 use Rattle.words.specs.Lists.{upTo}
 use Rattle.words.proofs.Lists.{bool-cases, false-if, upTo-in}
 use Rattle.task.specs.Limits.{stepSize}
@@ -19,10 +21,11 @@ use Rattle.task.specs.Task.{Task}
 use Rattle.task.specs.Run.{Step, stepIn, stepAt, stepsIn}
 use Rattle.task.specs.Bindings.{Bound}
 use Rattle.task.proofs.BadSteps.{good-steps}
-use Rattle.tokens.specs.Split.{orders, splitTask}
+use Rattle.tokens.specs.Split.{orders, firstOf, splitTask}
 use Rattle.blocks.specs.Blocks.{Folding, folded, misfit, prepend, partStep, beginner, outside, inside, fitsAt}
 use Rattle.blocks.specs.Blocks.{completed, foldFrom, foldSteps}
 use Rattle.blocks.specs.FoldCode.{SplitStepsKept, stepFrom, isPart, takenOf, BeginsKept}
+use Rattle.blocks.proofs.Numbers.{first-inj}
 use Rattle.blocks.proofs.Inside.{beginner-in}
 use Rattle.blocks.proofs.FoldBlock.{BoundTo, bound-none, bound-by, bound-next, fits-here}
 use Rattle.blocks.proofs.FoldMoves.{no-misfit, fitsNext, foldOn, on-past, on-inside, block-goes-on, block-stops}
@@ -42,6 +45,31 @@ pub begun-known : {t : Task} {begins : List ℕ} → ((s : ℕ) → s < length (
 begun-known {t} some-part B k s e =
     let b = begun-some (beginner t k (upTo (length (t .schemas)))) s (sym (B .word k) ∙ e) in
     (b, upTo-in (length (t .schemas)) s (beginner-in t some-part k (upTo (length (t .schemas))) s b))
+
+-- and the step is its first part
+beginner-first : (t : Task) (k : ℕ) (ss : List ℕ) (s : ℕ) → beginner t k ss ≡ some s → k ≡ firstOf t s
+unfolding beginner
+beginner-first t k [] s e = absurd (let z : _≡_ {A = ℕ} 0 1 = cc in omega arith)
+beginner-first t k (q ∷ ss) s e = go (eqb k (firstOf t q)) refl e (beginner-first t k ss s)
+  where
+    go : (b : Bool) → eqb k (firstOf t q) ≡ b → cond b (some q) (beginner t k ss) ≡ some s →
+        (beginner t k ss ≡ some s → k ≡ firstOf t s) → k ≡ firstOf t s
+    go true f e r = eqb-true k (firstOf t q) f ∙ ap (firstOf t) (let z : q ≡ s = cc in z)
+    go false f e r = r e
+
+-- so that a later part begins none
+pub later-begins-none : {t : Task} {begins : List ℕ} →
+    ((s : ℕ) → s < length (t .schemas) → 0 < length (orders t s)) → BeginsKept t begins →
+    (s j : ℕ) → 0 < j → j < length (orders t s) → getD begins (firstOf t s + j) 0 ≡ 0
+later-begins-none {t} {begins} some-part B s j l m = elim (decLt 0 (getD begins (firstOf t s + j) 0)) [
+  | yes q ↦
+      let r = getD begins (firstOf t s + j) 0 - 1 in
+      let (b, k) = begun-known some-part B (firstOf t s + j) r (omega arith) in
+      let f = beginner-first t (firstOf t s + j) (upTo (length (t .schemas))) r b in
+      let e = first-inj t s j r 0 m (some-part r k) (omega arith) .1 in
+      absurd (omega arith)
+  | no q ↦ omega arith
+]
 
 -- in the block of schema s that begins at split step i, before position j, with F of what is left
 pub record InBlock (t : Task) (steps origins : List ℕ) (F : Folding → Type 0) (i s j : ℕ) : Type 0 where

@@ -389,18 +389,11 @@ fn put_gathered(
     }
 }
 
-// "Folding takes a list apart into whole blocks": their steps, of a list that is taken apart wholly.
-pub fn put_folded(
-    table: &[u16],
-    steps: &[u16],
-    kept: &Kept,
-    begins: &Begins,
-    origins: &Origins,
-    out: &mut [u16],
-)
-    requires { ⌜ TableKept (now table) (now kept) ⌝ }
-    requires { ⌜ ((xs : List Step) ×
-        SplitStepsKept (taskOf (now table)) (now steps) (now kept) (now begins) (now origins) ×
+// "Folding takes a list apart into whole blocks": their steps, of a list that is taken apart wholly. In such a list each
+// step that can begin a block does, so that no turn waits to learn how long the block before it was.
+pub fn put_folded(table: &[u16], steps: &[u16], begins: &Begins, origins: &Origins, out: &mut [u16])
+    requires { ⌜ ((kept : List ℕ) × (xs : List Step) × TableKept (now table) kept ×
+        SplitStepsKept (taskOf (now table)) (now steps) kept (now begins) (now origins) ×
         (foldSteps (taskOf (now table)) (stepsIn (splitTask (taskOf (now table))) (now steps)) ≡ folded xs) ×
         (stepSize * length xs ≤ length (now out))) ⌝ }
     ensures { λ _. ⌜ ((xs : List Step) →
@@ -413,17 +406,20 @@ pub fn put_folded(
     let mut i = 0;
     while i < count {
         let begin = STEP_SIZE * i;
-        let s = begun_at(steps, begin, begins) - 1;
-        put_gathered(
-            steps,
-            origins,
-            begin,
-            s,
-            param_count(table, s as u16),
-            out,
-            next,
-        );
-        i += count_of(kept, s);
-        next += STEP_SIZE;
+        let begun = begun_at(steps, begin, begins);
+        if begun != 0 {
+            let s = begun - 1;
+            put_gathered(
+                steps,
+                origins,
+                begin,
+                s,
+                param_count(table, s as u16),
+                out,
+                next,
+            );
+            next += STEP_SIZE;
+        }
+        i += 1;
     }
 }

@@ -148,7 +148,7 @@ put-folded-requires c κs =
     let w = e .before .before in
     let (good, (xs, f, n)) = found w in
     let r = room e in
-    (kept (from (judge w)), (xs, list-kept (judge w) good, f, omega arith))
+    (_, xs, kept (from (judge w)), list-kept (judge w) good, f, omega arith)
 
 -- a bad step
 returns-2 : tie.Need-returns-2
