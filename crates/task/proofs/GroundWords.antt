@@ -129,7 +129,7 @@ module _ (w steps : List ℕ) (i k : ℕ) (o : AtomOf w steps i k) where
   formed : WellFormed t
   formed = wellFormed-is t (of-table w (o .tabled) .0)
 
-  pub ground-at-fits : Fits t (groundAt w steps i k)
+  ground-at-fits : Fits t (groundAt w steps i k)
   unfolding groundAt
   ground-at-fits = ground-fits t x formed is-step (atomIn w k) own-atom
 

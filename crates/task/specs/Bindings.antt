@@ -1,13 +1,10 @@
 -- The objects found for a schema's parameters: those of a block's steps, in folding.
 use Prim.Native.Nat.{ℕ}
-use mathlib.Core.Path.{_≡_}
 use mathlib.Core.Bool.{Bool, true, false, _&&_}
 use mathlib.Core.List.{List, [], _∷_}
 use mathlib.Core.Option.{Option, none, some}
-use lib.ListN.{length, getD, set}
+use lib.ListN.{getD, set}
 use lib.Dec.{eqb}
-use Rattle.words.specs.Sets.{member}
-use Rattle.task.specs.Limits.{mostParameters}
 
 -- the object found so far for each parameter
 abbrev pub Bound : Type 0
@@ -37,14 +34,3 @@ bind b (p ∷ ps) (o ∷ os) = bind (set b p (some o)) ps os
 unfoldable pub orZero : Option ℕ → ℕ
 orZero none = 0
 orZero (some o) = o
-
--- ---- as code holds them
-unfoldable pub isFound : Option ℕ → Bool
-isFound none = false
-isFound (some o) = true
-
--- twelve words, 0 where none is found, and the set of the parameters that have one
-pub record Held (b : Bound) (bound : ℕ) (found : List ℕ) : Type 0 where
-  pub size : length found ≡ mostParameters
-  pub object : (p : ℕ) → getD found p 0 ≡ orZero (getD b p none)
-  pub known : (p : ℕ) → member bound p ≡ isFound (getD b p none)

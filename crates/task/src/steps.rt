@@ -7,15 +7,12 @@ use crate::layout::param_count;
 use crate::layout::schema_count;
 use crate::limits::MOST_PARAMETERS;
 use crate::limits::STEP_SIZE;
-use words::putting::copy;
 use words::putting::fill;
 use words::runs::wide;
 ghost use mathlib.Core.Path.{_≡_};
 ghost use mathlib.Core.Bool.{true};
 ghost use Prim.Native.Nat.{ℕ, _*_, _≤_, _+_, _<_};
 ghost use lib.ListN.{length, getD};
-ghost use mathlib.Core.List.{_∷_};
-ghost use Rattle.words.specs.Lists.{put};
 ghost use Rattle.task.specs.Limits.{mostParameters, stepSize};
 ghost use Rattle.task.specs.Table.{taskOf, isTable};
 ghost use Rattle.task.specs.Run.{isStepAt, badStep, badStepFound};
@@ -35,16 +32,6 @@ pub fn object_of(steps: &[u16], at: usize, parameter: Parameter) -> Object
     ensures { λ r. ⌜ r .0 ≡ getD (now (steps .entry)) (at + 1 + parameter .0) 0 ⌝ }
 {
     Object(steps[at + 1 + parameter.0 as usize])
-}
-
-// "schema, one object per parameter, zeros": its words are put from `to` on.
-pub fn put_step(out: &mut [u16], to: usize, schema: u16, objects: &[u16; MOST_PARAMETERS])
-    requires { ⌜ length (now objects) ≡ mostParameters ⌝ }
-    requires { ⌜ to + stepSize ≤ length (now out) ⌝ }
-    ensures { λ _. ⌜ now (out .exit) ≡ put (now (out .entry)) to (schema ∷ now (objects .entry)) ⌝ }
-{
-    out[to] = schema;
-    copy(objects, 0, MOST_PARAMETERS, out, to + 1);
 }
 
 // What the words behind a step's schema must be below: an object below the count of objects, an unused word below 1.

@@ -2,7 +2,7 @@
 -- are put, none of the split steps from i to there begins one, and the rest of the list folds to the rest of the steps
 -- (`PassedSo`). The measure is how many split steps are left.
 use Rattle.blocks.proofs.folding.put_folded.Tie as tie
-use Prim.Native.Nat.{ℕ, _+_, _-_, _*_, _/_, _≤_, _<_}
+use Prim.Native.Nat.{ℕ, _+_, _-_, _*_, _≤_, _<_}
 use mathlib.Core.Path.{_≡_, refl, sym, _∙_, ap, subst}
 use mathlib.Core.List.{List}
 use mathlib.Core.Logic.{⊎-elim}
@@ -15,12 +15,11 @@ use Rattle.task.specs.Task.{Task}
 use Rattle.task.specs.Table.{taskOf}
 use Rattle.task.specs.Run.{Step, stepWords, stepsIn}
 use Rattle.task.proofs.Tables.{of-table}
-use Rattle.tokens.specs.Split.{orders, splitTask}
+use Rattle.tokens.specs.Split.{splitTask}
 use Rattle.blocks.specs.Blocks.{folded, foldSteps}
 use Rattle.blocks.specs.FoldCode.{SplitStepsKept, gathered, stepFrom}
 use Rattle.blocks.proofs.Given.{given, covered}
 use Rattle.blocks.proofs.FoldBlock.{Covered}
-use Rattle.blocks.proofs.FoldTurns.{must-begin}
 use Rattle.blocks.proofs.FoldPuts.{PutSo, PassedSo, passed-start, between, passed-on, passed-block}
 use Rattle.blocks.proofs.FoldPuts.{passed-all, known, objects-inside, room-more, words-put, all-put}
 use Rattle.blocks.proofs.folding.put_folded.Statement.{statement}
