@@ -4,21 +4,20 @@ use mathlib.Core.Path.{_≡_, refl, sym, _∙_, ap, ap₂}
 use mathlib.Core.Bool.{Bool, _&&_, and-true}
 use mathlib.Core.List.{List, _++_}
 use native.Mathlib.Omega.{arith}
+use native.Mathlib.Decide.{decLt}
 use lib.ListN.{getD, replicate, getD-replicate, length-replicate, List·getD-append}
 use lib.Seq.{getD-append-add}
 use lib.Dec.{eqb, ltb}
+use lib.Bits.{bitOr}
 use borrow.Author.Tests.{lt-ltb, le-ltb, eq-eqb, ne-eqb}
 use Rattle.words.specs.Lists.{all, upFrom}
 use Rattle.words.specs.Words.{wordsAt}
-use Rattle.words.proofs.Lists.{upFrom-append}
+use Rattle.words.proofs.Lists.{and-left, and-right, and-both, bool-ext, upFrom-append}
 use Rattle.words.proofs.Words.{and-false}
-use Rattle.words.proofs.Ranges.{all-append, all-map}
+use Rattle.words.proofs.Ranges.{all-append, all-from, all-map, from-all}
+use Rattle.words.proofs.BitSets.{or-zero}
 use Rattle.task.specs.Limits.{mostParameters}
-use Rattle.task.specs.StepTests.{limitsFor, objectsThenZeros}
-
--- word k behind the schema is below its limit
-abbrev pub isWithin : List ℕ → ℕ → ℕ → List ℕ → ℕ → Bool
-isWithin w i n limits k = ltb (getD w (i + k) 0) (getD limits (mostParameters - n + k) 0)
+use Rattle.task.specs.StepTests.{limitsFor, isWithin, objectsThenZeros}
 
 -- one more word is compared, and joins those that were
 pub beyond-joins : (beyond word limit : ℕ) → limit ≤ word → eqb 1 0 ≡ eqb beyond 0 && ltb word limit
@@ -65,7 +64,7 @@ module _ (n a b k : ℕ) (l : k < n) where
 
 -- Twelve words are within their limits where they are n objects and zeros. Their limits begin at 12 - n, so the first n
 -- have the limit of an object (`first`), and those behind them have 1, below which is only 0 (`behind`).
-pub within-limits : (objects : ℕ) (w : List ℕ) (i n : ℕ) → n ≤ mostParameters →
+within-limits : (objects : ℕ) (w : List ℕ) (i n : ℕ) → n ≤ mostParameters →
     all (isWithin w i n (limitsFor objects)) (upFrom 0 mostParameters) ≡ objectsThenZeros objects w i n
 unfolding limitsFor
 within-limits objects w i n few =
@@ -92,3 +91,23 @@ within-limits objects w i n few =
         (ap (λ (x : ℕ). getD (limitsFor objects) x 0) y ∙
         then-same mostParameters objects 1 k (omega arith)) ∙
         below-one (getD w (i + n + k) 0)
+
+-- the first eight of twelve words and the last eight are tested
+pub two-runs : (objects : ℕ) (w : List ℕ) (i n : ℕ) (limits : List ℕ) → n ≤ mostParameters → limits ≡ limitsFor objects →
+    (front back : ℕ) → eqb front 0 ≡ all (isWithin w i n limits) (upFrom 0 8) →
+    eqb back 0 ≡ all (isWithin w i n limits) (upFrom 4 8) →
+    eqb (bitOr front back) 0 ≡ objectsThenZeros objects w i n
+two-runs objects w i n limits few e front back f b =
+    let p : ℕ → Bool = isWithin w i n limits in
+    let first : Bool = all p (upFrom 0 8) in
+    let last : Bool = all p (upFrom 4 8) in
+    or-zero front back ∙ (ap₂ (λ (x y : Bool). x && y) f b ∙
+    (bool-ext (first && last) (all p (upFrom 0 12))
+    (λ h. from-all p 0 12 (λ k a b. elim (decLt k 8) [
+      | yes l ↦ all-from p 0 8 (and-left first last h) k a (omega arith)
+      | no l ↦ all-from p 4 8 (and-right first last h) k (omega arith) (omega arith)
+    ]))
+    (λ h. and-both first last (from-all p 0 8 (λ k a b. all-from p 0 12 h k a (omega arith)))
+    (from-all p 4 8 (λ k a b. all-from p 0 12 h k (omega arith) (omega arith)))) ∙
+    (ap (λ (limits : List ℕ). all (isWithin w i n limits) (upFrom 0 mostParameters)) e ∙
+    within-limits objects w i n few)))

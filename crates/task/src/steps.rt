@@ -11,12 +11,14 @@ use words::putting::fill;
 use words::runs::wide;
 ghost use mathlib.Core.Path.{_≡_};
 ghost use mathlib.Core.Bool.{true};
-ghost use Prim.Native.Nat.{ℕ, _*_, _≤_, _+_, _<_};
+ghost use Prim.Native.Nat.{ℕ, _*_, _≤_, _+_, _-_, _<_};
 ghost use lib.ListN.{length, getD};
+ghost use lib.Dec.{eqb};
+ghost use Rattle.words.specs.Lists.{all, upFrom};
 ghost use Rattle.task.specs.Limits.{mostParameters, stepSize};
 ghost use Rattle.task.specs.Table.{taskOf, isTable};
 ghost use Rattle.task.specs.Run.{isStepAt, badStep, badStepFound};
-ghost use Rattle.task.specs.StepTests.{limitsFor, objectsThenZeros};
+ghost use Rattle.task.specs.StepTests.{limitsFor, isWithin, objectsThenZeros};
 
 // The schema of the step whose words begin at `at`.
 pub fn schema_at(steps: &[u16], at: usize) -> usize
@@ -47,20 +49,37 @@ pub fn limits_of(objects: u16) -> Limits
     limits
 }
 
-// Whether the words behind the schema of the step at `at` are so many objects, then zeros. All are compared before the
-// answer is taken, so that the machine can take several at once.
+// As many words as the machine compares at once.
+const AT_ONCE: usize = 8;
+
+// 0 where the words from one place to another, of the twelve behind the schema of the step at `at`, are below their
+// limits. All are compared before the answer is taken, so that the machine can take them at once.
+fn beyond(steps: &[u16], at: usize, params: usize, limits: &Limits, first: usize, end: usize) -> u16
+    requires { ⌜ (at + stepSize ≤ length (now steps)) × (params ≤ mostParameters) × (end ≤ mostParameters) ⌝ }
+    ensures { λ r. ⌜ eqb r 0 ≡ all (isWithin (now (steps .entry)) (at + 1) params (now (limits .entry)))
+        (upFrom first (end - first)) ⌝ }
+{
+    let mut found: u16 = 0;
+    let mut k = first;
+    while k < end {
+        if limits[MOST_PARAMETERS - params + k] <= steps[at + 1 + k] {
+            found = 1;
+        }
+        k += 1;
+    }
+    found
+}
+
+// Whether those words are so many objects, then zeros. Two runs take them all, and four of them twice.
 pub fn are_within(steps: &[u16], at: usize, params: usize, limits: &Limits) -> bool
     requires { ⌜ (at + stepSize ≤ length (now steps)) × (params ≤ mostParameters) ⌝ }
     ensures { λ r. ⌜ ((objects : ℕ) → now (limits .entry) ≡ limitsFor objects →
         r ≡ objectsThenZeros objects (now (steps .entry)) (at + 1) params) ⌝ }
 {
-    let mut beyond: u16 = 0;
-    for k in 0..MOST_PARAMETERS {
-        if limits[MOST_PARAMETERS - params + k] <= steps[at + 1 + k] {
-            beyond = 1;
-        }
-    }
-    beyond == 0
+    let last = MOST_PARAMETERS - AT_ONCE;
+    let front = beyond(steps, at, params, limits, 0, AT_ONCE);
+    let back = beyond(steps, at, params, limits, last, MOST_PARAMETERS);
+    front | back == 0
 }
 
 // Whether the list's words have a whole step of the task at index i.
