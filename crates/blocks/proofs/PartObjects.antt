@@ -1,122 +1,23 @@
--- The objects of a part among a step's words, parameter after parameter: one in the part's set is the part's next, and
--- at any other nothing is read.
-use Prim.Native.Nat.{ℕ, zero, suc, _+_, _-_, _≤_, _<_}
+-- The objects of a part among a step's words: they go by the part's own parameters, from 0 on, and those are the
+-- numbers of its set, ascending. So comparing word after word with what the block gives compares the two lists.
+use Prim.Native.Nat.{ℕ, zero, suc, _+_, _≤_, _<_}
 use mathlib.Core.Path.{_≡_, refl, sym, _∙_, ap, ap₂}
 use mathlib.Core.Bool.{Bool, true, false, _&&_}
 use mathlib.Core.List.{List, [], _∷_, _++_, map}
 use native.Mathlib.Omega.{arith}
 use native.Mathlib.Numerals.{add-one}
 use native.Mathlib.Decide.{decLt}
-use lib.ListN.{length, getD, List·getD-append}
+use lib.ListN.{length, getD, length-map, List·getD-append}
 use lib.Seq.{getD-append-add}
 use lib.Dec.{eqb}
-use Rattle.words.specs.Lists.{filter, keepIf, upTo, upFrom, eqList}
+use Rattle.words.specs.Lists.{all, keepIf, upTo, upFrom, eqList}
 use Rattle.words.specs.Words.{wordsAt}
 use Rattle.words.specs.Sets.{member, members}
-use Rattle.words.proofs.Lists.{upFrom-in, filter-none}
-use Rattle.words.proofs.Words.{wordsAt-next}
+use Rattle.words.proofs.Lists.{in-getD, filter-in, upTo-in, getD-map, tabulate}
+use Rattle.words.proofs.Words.{length-wordsAt, getD-wordsAt}
 use Rattle.words.proofs.SetMembers.{members-more, size-none, size-more}
 use Rattle.words.proofs.Sums.{one}
-use Rattle.blocks.specs.FoldCode.{givenObjects}
-
--- the parameters of a set from p on
-unfoldable pub paramsFrom : ℕ → ℕ → List ℕ
-paramsFrom own p = filter (member own) (upFrom p (12 - p))
-
-pub params-all : (own : ℕ) → members own 12 ≡ paramsFrom own 0
-unfolding members upTo paramsFrom
-params-all own = refl
-
-pub params-none : (own : ℕ) → paramsFrom own 12 ≡ []
-unfolding paramsFrom filter upFrom
-params-none own = refl
-
-params-step : (own p : ℕ) (b : Bool) → p < 12 → member own p ≡ b →
-    paramsFrom own p ≡ keepIf b p (paramsFrom own (p + 1))
-unfolding paramsFrom filter upFrom
-params-step own p b l h =
-    let e : 12 - p ≡ suc (12 - (p + 1)) = omega arith in
-    ap (λ (n : ℕ). filter (member own) (upFrom p n)) e
-    ∙ (ap (λ (k : ℕ). keepIf (member own p) p (filter (member own) (upFrom k (12 - (p + 1))))) (sym (add-one p))
-    ∙ ap (λ (c : Bool). keepIf c p (filter (member own) (upFrom (p + 1) (12 - (p + 1))))) h)
-
--- their objects, where the part's parameters begin with k
-unfoldable pub objectsFrom : List ℕ → ℕ → ℕ → ℕ → ℕ → List ℕ
-objectsFrom steps at k own p = wordsAt steps (at + 1 + k) (length (paramsFrom own p))
-
-pub objects-all : (steps : List ℕ) (at own : ℕ) → givenObjects steps at own ≡ objectsFrom steps at 0 own 0
-unfolding givenObjects objectsFrom
-objects-all steps at own =
-    let e : at + 1 ≡ at + 1 + 0 = omega arith in
-    ap₂ (λ (i : ℕ) (ps : List ℕ). wordsAt steps i (length ps)) e (params-all own)
-
--- whether they are what v gives the parameters
-abbrev pub sameFrom : List ℕ → ℕ → ℕ → (ℕ → ℕ) → ℕ → ℕ → Bool
-sameFrom steps at own v k p = eqList (objectsFrom steps at k own p) (map v (paramsFrom own p))
-
-pub same-all : (steps : List ℕ) (at own : ℕ) (v : ℕ → ℕ) →
-    eqList (givenObjects steps at own) (map v (members own 12)) ≡ sameFrom steps at own v 0 0
-same-all steps at own v =
-    ap₂ (λ (os ps : List ℕ). eqList os (map v ps)) (objects-all steps at own) (params-all own)
-
-module _ (steps : List ℕ) (at k own p : ℕ) (l : p < 12) where
-  -- p is in the set
-  module _ (h : member own p ≡ true) where
-    params-in : paramsFrom own p ≡ p ∷ paramsFrom own (p + 1)
-    unfolding keepIf
-    params-in = params-step own p true l h
-
-    objects-in : objectsFrom steps at k own p ≡ getD steps (at + 1 + k) 0 ∷ objectsFrom steps at (k + 1) own (p + 1)
-    unfolding objectsFrom
-    objects-in =
-        let n = length (paramsFrom own (p + 1)) in
-        let e : at + 1 + k + 1 ≡ at + 1 + (k + 1) = omega arith in
-        ap (λ (ps : List ℕ). wordsAt steps (at + 1 + k) (length ps)) params-in
-        ∙ (wordsAt-next steps (at + 1 + k) n
-        ∙ ap (λ (i : ℕ). getD steps (at + 1 + k) 0 ∷ wordsAt steps i n) e)
-
-    pub same-in : (v : ℕ → ℕ) →
-        sameFrom steps at own v k p ≡
-        eqb (getD steps (at + 1 + k) 0) (v p) && sameFrom steps at own v (k + 1) (p + 1)
-    unfolding eqList
-    same-in v = ap₂ (λ (os ps : List ℕ). eqList os (map v ps)) objects-in params-in
-
-  -- p is not in the set
-  module _ (h : member own p ≡ false) where
-    params-out : paramsFrom own p ≡ paramsFrom own (p + 1)
-    unfolding keepIf
-    params-out = params-step own p false l h
-
-    objects-out : objectsFrom steps at k own p ≡ objectsFrom steps at k own (p + 1)
-    unfolding objectsFrom
-    objects-out = ap (λ (ps : List ℕ). wordsAt steps (at + 1 + k) (length ps)) params-out
-
-    pub same-out : (v : ℕ → ℕ) → sameFrom steps at own v k p ≡ sameFrom steps at own v k (p + 1)
-    same-out v = ap₂ (λ (os ps : List ℕ). eqList os (map v ps)) objects-out params-out
-
--- ---- where the set has no number from p on, nothing is left
-module _ (steps : List ℕ) (at k own p : ℕ) (h : (k : ℕ) → p ≤ k → member own k ≡ false) where
-  params-end : paramsFrom own p ≡ []
-  unfolding paramsFrom
-  params-end = filter-none (member own) (upFrom p (12 - p)) (λ k i. h k (upFrom-in p (12 - p) k i .0))
-
-  objects-end : objectsFrom steps at k own p ≡ []
-  unfolding objectsFrom wordsAt upFrom
-  objects-end = ap (λ (ps : List ℕ). wordsAt steps (at + 1 + k) (length ps)) params-end
-
-  pub same-end : (v : ℕ → ℕ) → sameFrom steps at own v k p ≡ true
-  unfolding eqList
-  same-end v = ap₂ (λ (os ps : List ℕ). eqList os (map v ps)) objects-end params-end
-
--- ---- behind the last parameter nothing is left
-module _ (steps : List ℕ) (at k own : ℕ) where
-  objects-none : objectsFrom steps at k own 12 ≡ []
-  unfolding objectsFrom wordsAt upFrom
-  objects-none = ap (λ (ps : List ℕ). wordsAt steps (at + 1 + k) (length ps)) (params-none own)
-
-  pub same-none : (v : ℕ → ℕ) → sameFrom steps at own v k 12 ≡ true
-  unfolding eqList
-  same-none v = ap₂ (λ (os ps : List ℕ). eqList os (map v ps)) objects-none (params-none own)
+use Rattle.blocks.specs.FoldCode.{originPlace, objectIn, objectsIn, agreesAt, givenObjects}
 
 -- ---- the parameter at index k of a set's has k before it
 module _ (own n k : ℕ) where
@@ -155,3 +56,53 @@ before-at own (suc n) k l = elim (decLt k (length (members own n))) [
       let (e, f) = last-at own n k l (omega arith) in
       ap (λ (p : ℕ). length (members own p)) e ∙ f
 ]
+
+-- ---- two lists compared element after element
+same-mapped : (f g : ℕ → ℕ) (xs : List ℕ) → all (λ x. eqb (f x) (g x)) xs ≡ eqList (map f xs) (map g xs)
+unfolding all eqList
+same-mapped f g [] = refl
+same-mapped f g (x ∷ xs) = ap (λ (b : Bool). eqb (f x) (g x) && b) (same-mapped f g xs)
+
+tabled : (f : ℕ → ℕ) (n : ℕ) (xs : List ℕ) → length xs ≡ n → ((k : ℕ) → k < n → f k ≡ getD xs k 0) →
+    map f (upTo n) ≡ xs
+unfolding upTo
+tabled f n xs e h =
+    ap (λ (m : ℕ). map f (upFrom 0 m)) (sym e)
+    ∙ tabulate f 0 xs 0 (λ k l. let z : 0 + k ≡ k = omega arith in ap f z ∙ h k (omega arith))
+
+-- ---- a number of a set is below the bound, and in the set
+pub in-set : (own n k : ℕ) → k < length (members own n) →
+    (getD (members own n) k 0 < n) × (member own (getD (members own n) k 0) ≡ true)
+unfolding members
+in-set own n k l =
+    let (i, m) = filter-in (member own) (upTo n) _ (in-getD (members own n) k 0 l) in
+    (upTo-in n _ i, m)
+
+-- ---- the objects that a part gives are its block's
+module _ (origins places : List ℕ) (own s number : ℕ) (placed : (p : ℕ) → p < 12 → member own p ≡ true →
+    getD places (originPlace number (length (members own p))) 0 ≡ getD origins (originPlace s p) 0) where
+  -- the place of the part's own parameter k
+  pub place-at : (k : ℕ) → k < length (members own 12) →
+      getD places (originPlace number k) 0 ≡ getD origins (originPlace s (getD (members own 12) k 0)) 0
+  place-at k l =
+      let (a, m) = in-set own 12 k l in
+      ap (λ (i : ℕ). getD places (originPlace number i) 0) (sym (before-at own 12 k l))
+      ∙ placed (getD (members own 12) k 0) a m
+
+  pub agrees-all : (steps : List ℕ) (begin at n : ℕ) → n ≡ length (members own 12) →
+      all (agreesAt steps places begin at number) (upTo n) ≡
+      eqList (givenObjects steps at own) (objectsIn steps origins begin s (members own 12))
+  unfolding givenObjects
+  agrees-all steps begin at n e =
+      let ps = members own 12 in
+      let given : ℕ → ℕ = λ k. getD steps (at + 1 + k) 0 in
+      let block : ℕ → ℕ = objectIn steps places begin number in
+      let a : map given (upTo n) ≡ wordsAt steps (at + 1) (length ps) =
+      tabled given n (wordsAt steps (at + 1) (length ps)) (length-wordsAt steps (at + 1) (length ps) ∙ sym e)
+      (λ k l. sym (getD-wordsAt steps (at + 1) (length ps) k (omega arith))) in
+      let b : map block (upTo n) ≡ objectsIn steps origins begin s ps =
+      tabled block n (objectsIn steps origins begin s ps)
+      (length-map ps (objectIn steps origins begin s) ∙ sym e)
+      (λ k l. ap (λ (i : ℕ). getD steps (begin + i) 0) (place-at k (omega arith))
+      ∙ sym (getD-map (objectIn steps origins begin s) ps k 0 0 (omega arith))) in
+      same-mapped given block (upTo n) ∙ ap₂ eqList a b

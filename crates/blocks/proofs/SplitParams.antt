@@ -13,7 +13,7 @@ use Rattle.words.specs.Sets.{members, wordBits}
 use Rattle.task.specs.Task.{Schema, Task}
 use Rattle.task.specs.Run.{schemaAt, paramCount}
 use Rattle.tokens.specs.Split.{has, paramsOf, orders, own, splitSchema, splitTask, firstOf}
-use Rattle.tokens.specs.Kept.{keptOwn}
+use Rattle.tokens.specs.Kept.{keptFirst, keptOwn}
 use Rattle.blocks.specs.Blocks.{paramsAt}
 use Rattle.blocks.specs.Unfolding.{BlocksKept}
 use Rattle.blocks.specs.FoldCode.{ParamsNoted}
@@ -50,6 +50,15 @@ module _ {t : Task} {kept : List ℕ} (K : BlocksKept t kept) (s j : ℕ) (l : s
       let e = first-step t s in
       let n = first-mono t (suc s) (length (t .schemas)) l in
       omega arith
+
+  -- as the code looks it up: the number is the split's, and both are within the limits
+  pub part-looked : (first : ℕ) → first ≡ keptFirst kept s →
+      (first + j ≡ firstOf t s + j) × (j < 16) × (first + j < 200)
+  part-looked first e =
+      let f : first ≡ firstOf t s = e ∙ K .first s (omega arith) in
+      let n = K .few-parts s l in
+      let q = K .few-splits in
+      (omega arith, omega arith, omega (arith, part-number))
 
   -- its parameters are counted
   pub params-more : {params : List ℕ} (n k : ℕ) → n ≡ firstOf t s + j →

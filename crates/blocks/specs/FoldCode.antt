@@ -16,7 +16,7 @@ use Rattle.task.specs.Limits.{mostParameters, mostSchemas, stepSize}
 use Rattle.task.specs.Task.{Task, wellFormed}
 use Rattle.task.specs.Run.{Step, paramCount, stepAt, isStepAt, stepsIn, badStep}
 use Rattle.task.specs.StepTests.{limitsFor}
-use Rattle.tokens.specs.Split.{splitTask, firstOf}
+use Rattle.tokens.specs.Split.{orders, splitTask, firstOf}
 use Rattle.tokens.specs.Kept.{keptCount, keptOwn}
 use Rattle.blocks.specs.declared.folding.Taken.{Taken}
 use Rattle.blocks.specs.declared.folding.Judged.{Judged}
@@ -76,6 +76,20 @@ pub record PartsNoted (kept : List ℕ) (s j : ℕ) (before after : List ℕ) : 
       getD after (originPlace s p) 0 ≡ wordIn (keptOwn kept s i) i p
   pub stays : (k : ℕ) → k < originPlace s 0 → getD after k 0 ≡ getD before k 0
 
+-- once the parameters below n of a part of schema s are noted by its number in the split: the part's own begin with 0
+pub record PartPlaced (own s number n : ℕ) (origins before after : List ℕ) : Type 0 where
+  pub long : length after ≡ length before
+  pub here : (p : ℕ) → p < n → member own p ≡ true →
+      getD after (originPlace number (length (members own p))) 0 ≡ getD origins (originPlace s p) 0
+  pub stays : (k : ℕ) → k < originPlace number 0 → getD after k 0 ≡ getD before k 0
+
+-- for each parameter of the first n schemas of the split: the origin of the task's parameter that it is
+pub record PlacesNoted (t : Task) (kept origins : List ℕ) (n : ℕ) (places : List ℕ) : Type 0 where
+  pub here : (s j p : ℕ) → j < length (orders t s) → firstOf t s + j < n → p < mostParameters →
+      member (keptOwn kept s j) p ≡ true →
+      getD places (originPlace (firstOf t s + j) (length (members (keptOwn kept s j) p))) 0 ≡
+      getD origins (originPlace s p) 0
+
 -- ---- the step of a block
 -- the object that the block which begins at a word gives for parameter p of schema s
 abbrev pub objectIn : List ℕ → List ℕ → ℕ → ℕ → ℕ → ℕ
@@ -84,6 +98,11 @@ objectIn steps origins begin s p = getD steps (begin + getD origins (originPlace
 -- those that it gives for parameters
 abbrev pub objectsIn : List ℕ → List ℕ → ℕ → ℕ → List ℕ → List ℕ
 objectsIn steps origins begin s ps = map (objectIn steps origins begin s) ps
+
+-- whether the step whose words begin at a place has for parameter k what the block gives for it, k being one of the
+-- schema with that number in the split
+abbrev pub agreesAt : List ℕ → List ℕ → ℕ → ℕ → ℕ → ℕ → Bool
+agreesAt steps places begin at number k = eqb (getD steps (at + 1 + k) 0) (objectIn steps places begin number k)
 
 -- the step of schema s, with n parameters, that it is, if it is a block of that schema
 abbrev pub gathered : List ℕ → List ℕ → ℕ → ℕ → ℕ → Step
@@ -114,10 +133,11 @@ pub record StepsKnown (t : Task) (params limits : List ℕ) : Type 0 where
   pub bounds : limits ≡ limitsFor (t .objects)
 
 -- and its blocks
-pub record BlocksKnown (t : Task) (kept params origins limits : List ℕ) : Type 0 where
+pub record BlocksKnown (t : Task) (kept params origins places limits : List ℕ) : Type 0 where
   pub blocks : BlocksKept t kept
   pub known : StepsKnown t params limits
   pub origin : OriginsKept kept (length (t .schemas)) origins
+  pub place : PlacesNoted t kept origins (firstOf t (length (t .schemas))) places
 
 -- the steps of a list before one of them are the split's
 abbrev pub GoodBefore : Task → List ℕ → ℕ → Type 0

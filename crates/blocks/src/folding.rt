@@ -23,11 +23,9 @@ use words::runs::wide;
 use words::sets;
 ghost use Prim.Native.Nat.{ℕ, _+_, _*_, _≤_, _<_};
 ghost use mathlib.Core.Path.{_≡_};
-ghost use mathlib.Core.Bool.{true};
 ghost use mathlib.Core.List.{List};
 ghost use lib.ListN.{length, getD};
-ghost use Rattle.words.specs.Lists.{eqList, over, put};
-ghost use Rattle.words.specs.Sets.{member, members};
+ghost use Rattle.words.specs.Lists.{all, upTo, over, put};
 ghost use Rattle.task.specs.Limits.{mostParameters, mostParts, mostSchemas, stepSize};
 ghost use Rattle.task.specs.Task.{Task};
 ghost use Rattle.task.specs.Table.{taskOf};
@@ -38,7 +36,8 @@ ghost use Rattle.tokens.specs.Acceptance.{AcceptedKept};
 ghost use Rattle.blocks.specs.Blocks.{foldSteps, folded, listWords};
 ghost use Rattle.blocks.specs.Unfolding.{BlocksKept, TableKept};
 ghost use Rattle.blocks.specs.FoldCode.{BeginsKept, ParamsNoted, originPlace, originWords, OriginsKept};
-ghost use Rattle.blocks.specs.FoldCode.{PartNoted, PartsNoted, objectIn, objectsIn, gathered, givenObjects};
+ghost use Rattle.blocks.specs.FoldCode.{PartNoted, PartsNoted, PartPlaced, PlacesNoted};
+ghost use Rattle.blocks.specs.FoldCode.{objectIn, agreesAt, gathered};
 ghost use Rattle.blocks.specs.FoldCode.{isPart, StepsKnown, BlocksKnown, GoodBefore, SplitStepsKept};
 ghost use Rattle.blocks.specs.FoldCode.{reachedBy, TakenTold, judgedOf};
 
@@ -53,6 +52,9 @@ pub type Params = [u16; MOST_SCHEMAS];
 const ORIGIN_WORDS: usize = MOST_PARAMETERS * MOST_SCHEMAS;
 
 pub type Origins = [u16; ORIGIN_WORDS];
+
+// For each parameter of each schema of the split: the origin of the task's parameter that it is.
+type Places = [u16; ORIGIN_WORDS];
 
 // What a list is taken apart into: so many steps; or the step that fits no block is told, or the step count where the
 // last block is unfinished.
@@ -151,6 +153,51 @@ fn note_part(own: u64, s: usize, j: usize, origins: &mut Origins)
     }
 }
 
+// The origins of the parameters of the split's schemas, by those of the task's.
+fn places_of(kept: &Kept, schemas: u16, origins: &Origins) -> Places
+    requires { ⌜ ((t : Task) × BlocksKept t (now kept) × (schemas ≡ length (t .schemas))) ⌝ }
+    ensures { λ r. ⌜ ((t : Task) → BlocksKept t (now (kept .entry)) → schemas ≡ length (t .schemas) →
+        PlacesNoted t (now (kept .entry)) (now (origins .entry)) (firstOf t (length (t .schemas))) r) ⌝ }
+{
+    let mut places = [0; ORIGIN_WORDS];
+    for s in 0..schemas {
+        note_places(kept, s as usize, origins, &mut places);
+    }
+    places
+}
+
+// Those of the parts of schema s are noted.
+fn note_places(kept: &Kept, s: usize, origins: &Origins, places: &mut Places)
+    requires { ⌜ length (now places) ≡ originWords ⌝ }
+    requires { ⌜ ((t : Task) × BlocksKept t (now kept) × (s < length (t .schemas))) ⌝ }
+    ensures { λ _. ⌜ length (now (places .exit)) ≡ originWords ⌝ }
+    ensures { λ _. ⌜ ((t : Task) → BlocksKept t (now (kept .entry)) → s < length (t .schemas) →
+        PlacesNoted t (now (kept .entry)) (now (origins .entry)) (firstOf t s) (now (places .entry)) →
+        PlacesNoted t (now (kept .entry)) (now (origins .entry)) (firstOf t (s + 1)) (now (places .exit))) ⌝ }
+{
+    let first = first_of(kept, s);
+    let parts = count_of(kept, s);
+    for j in 0..parts {
+        place_part(own_at(kept, s, j), s, first + j, origins, places);
+    }
+}
+
+// Those of one part of schema s, by its number in the split: its own parameters are those of the set, ascending.
+fn place_part(own: u64, s: usize, number: usize, origins: &Origins, places: &mut Places)
+    requires { ⌜ (s < mostSchemas) × (number < mostSchemas) ⌝ }
+    requires { ⌜ length (now places) ≡ originWords ⌝ }
+    ensures { λ _. ⌜ PartPlaced own s number mostParameters (now (origins .entry)) (now (places .entry))
+        (now (places .exit)) ⌝ }
+{
+    let mut next = MOST_PARAMETERS * number;
+    for p in 0..MOST_PARAMETERS {
+        if sets::has(own, p) {
+            places[next] = origins[MOST_PARAMETERS * s + p];
+            next += 1;
+        }
+    }
+}
+
 // The schema whose block the step whose words begin at `at` can begin: its number and one, 0 for none.
 fn begun_at(steps: &[u16], at: usize, begins: &Begins) -> usize
     requires { ⌜ (at < length (now steps)) × (length (now begins) ≡ mostSchemas) ⌝ }
@@ -163,7 +210,8 @@ fn begun_at(steps: &[u16], at: usize, begins: &Begins) -> usize
     wide(begins[number])
 }
 
-// The object that the block which begins at the word `begin` gives for a parameter of schema s.
+// The object that the block which begins at the word `begin` gives for a parameter of schema s: one of the task, by its
+// origins, or one of the split, by its places.
 fn object_in(
     steps: &[u16],
     origins: &Origins,
@@ -178,29 +226,26 @@ fn object_in(
     Object(steps[begin + wide(origins[MOST_PARAMETERS * s + wide(parameter.0)])])
 }
 
-// Whether the objects of the step whose words begin at `at` are those that its block gives for a part's parameters:
-// those of the set, ascending, are the part's own from 0 on. In the first part that has a parameter its object is
-// compared with itself.
-fn agree(steps: &[u16], origins: &Origins, begin: usize, at: usize, s: usize, own: u64) -> bool
+// Whether the objects of the step whose words begin at `at`, of the split's schema with that number and so many
+// parameters, are those that its block gives. In the first part that has a parameter its object is compared with itself.
+fn agree(
+    steps: &[u16],
+    places: &Places,
+    begin: usize,
+    at: usize,
+    number: usize,
+    params: u16,
+) -> bool
     requires { ⌜ at + stepSize ≤ length (now steps) ⌝ }
-    requires { ⌜ s < mostSchemas ⌝ }
-    requires { ⌜ ((p : ℕ) → p < mostParameters → member own p ≡ true →
-        begin + getD (now origins) (originPlace s p) 0 < length (now steps)) ⌝ }
-    ensures { λ r. ⌜ r ≡ eqList (givenObjects (now (steps .entry)) at own)
-        (objectsIn (now (steps .entry)) (now (origins .entry)) begin s (members own mostParameters)) ⌝ }
+    requires { ⌜ (number < mostSchemas) × (params ≤ mostParameters) ⌝ }
+    requires { ⌜ ((k : ℕ) → k < params → begin + getD (now places) (originPlace number k) 0 < length (now steps)) ⌝ }
+    ensures { λ r. ⌜ r ≡ all (agreesAt (now (steps .entry)) (now (places .entry)) begin at number) (upTo params) ⌝ }
 {
-    let mut k = 0;
-    for p in 0..MOST_PARAMETERS {
-        if sets::none_from(own, p) {
-            return true;
-        }
-        if sets::has(own, p) {
-            let given = object_of(steps, at, Parameter(k));
-            let first = object_in(steps, origins, begin, s, Parameter(p as u16));
-            if given.0 != first.0 {
-                return false;
-            }
-            k += 1;
+    for k in 0..params {
+        let given = object_of(steps, at, Parameter(k));
+        let first = object_in(steps, places, begin, number, Parameter(k));
+        if given.0 != first.0 {
+            return false;
         }
     }
     true
@@ -215,15 +260,16 @@ fn part_fits(
     j: usize,
     kept: &Kept,
     params: &Params,
-    origins: &Origins,
+    places: &Places,
     limits: &Limits,
 ) -> bool
-    requires { ⌜ ((t : Task) × BlocksKnown t (now kept) (now params) (now origins) (now limits) ×
+    requires { ⌜ ((t : Task) × (origins : List ℕ) ×
+        BlocksKnown t (now kept) (now params) origins (now places) (now limits) ×
         (s < length (t .schemas)) × (j < length (orders t s)) × (stepSize * (i + j) ≤ length (now steps))) ⌝ }
-    ensures { λ r. ⌜ ((t : Task) →
-        BlocksKnown t (now (kept .entry)) (now (params .entry)) (now (origins .entry)) (now (limits .entry)) →
+    ensures { λ r. ⌜ ((t : Task) (origins : List ℕ) →
+        BlocksKnown t (now (kept .entry)) (now (params .entry)) origins (now (places .entry)) (now (limits .entry)) →
         s < length (t .schemas) → j < length (orders t s) →
-        r ≡ isPart t (now (steps .entry)) (now (origins .entry)) i s j) ⌝ }
+        r ≡ isPart t (now (steps .entry)) origins i s j) ⌝ }
 {
     let at = STEP_SIZE * (i + j);
     if steps.len() - at < STEP_SIZE {
@@ -236,7 +282,7 @@ fn part_fits(
     if !are_within(steps, at, wide(params[number]), limits) {
         return false;
     }
-    agree(steps, origins, STEP_SIZE * i, at, s, own_at(kept, s, j))
+    agree(steps, places, STEP_SIZE * i, at, number, params[number])
 }
 
 // "Folding stops at the first step in any block that disagrees." Here it also stops at one that isn't the split's.
@@ -245,13 +291,13 @@ fn take_apart(
     kept: &Kept,
     begins: &Begins,
     params: &Params,
-    origins: &Origins,
+    places: &Places,
     limits: &Limits,
 ) -> Taken
-    requires { ⌜ ((t : Task) × BlocksKnown t (now kept) (now params) (now origins) (now limits) ×
-        BeginsKept t (now begins)) ⌝ }
-    ensures { λ r. ⌜ ((t : Task) →
-        BlocksKnown t (now (kept .entry)) (now (params .entry)) (now (origins .entry)) (now (limits .entry)) →
+    requires { ⌜ ((t : Task) × (origins : List ℕ) ×
+        BlocksKnown t (now kept) (now params) origins (now places) (now limits) × BeginsKept t (now begins)) ⌝ }
+    ensures { λ r. ⌜ ((t : Task) (origins : List ℕ) →
+        BlocksKnown t (now (kept .entry)) (now (params .entry)) origins (now (places .entry)) (now (limits .entry)) →
         BeginsKept t (now (begins .entry)) → TakenTold t (now (steps .entry)) r) ⌝ }
 {
     let count = steps.len() / STEP_SIZE;
@@ -270,7 +316,7 @@ fn take_apart(
         let begin = i;
         let mut j = 0;
         while j < parts {
-            if !part_fits(steps, begin, s, j, kept, params, origins, limits) {
+            if !part_fits(steps, begin, s, j, kept, params, places, limits) {
                 break 'list Taken::Misfit(i as u64);
             }
             i += 1;
@@ -345,9 +391,11 @@ pub fn judge(
         (foldSteps (taskOf (now (table .entry)))
         (stepsIn (splitTask (taskOf (now (table .entry)))) (now (steps .entry)))) ⌝ }
 {
-    let params = params_of(kept, schema_count(table));
+    let schemas = schema_count(table);
+    let params = params_of(kept, schemas);
+    let places = places_of(kept, schemas, origins);
     let limits = limits_of(object_count(table));
-    let taken = take_apart(steps, kept, begins, &params, origins, &limits);
+    let taken = take_apart(steps, kept, begins, &params, &places, &limits);
     let bad = bad_from(
         steps,
         reached(taken, steps.len() / STEP_SIZE),

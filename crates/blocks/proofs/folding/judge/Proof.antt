@@ -34,38 +34,48 @@ blocks s = table-kept (s .pre .0) .blocks
 
 -- ---- what is looked up
 abbrev start : tie.After-limits-of → tie.Start
-start c = c .before .before .before .before .before .before
+start c = c .before .before .before .before .before .before .before
+
+schemas : (c : tie.After-limits-of) →
+    c .before .before .before .before .schema-count .result ≡ length (task (start c) .schemas)
+schemas c = c .before .before .before .before .schema-count .ensures
 
 steps-known : (c : tie.After-limits-of) →
-    StepsKnown (task (start c)) (c .before .before .params-of .result) (c .limits-of .result)
+    StepsKnown (task (start c)) (c .before .before .before .params-of .result) (c .limits-of .result)
 steps-known c =
     let s = start c in
     let well : wellFormed (task s) ≡ true = of-table (s .args .table .now) (s .pre .0 .table) .0 in
     record {
       well = split-well (task s) (splitTask (task s)) well (s .pre .0 .accepted);
       few = blocks s .few-splits;
-      counts =
-          c .before .before .params-of .ensures (task s) (blocks s) (c .before .before .before .schema-count .ensures);
+      counts = c .before .before .before .params-of .ensures (task s) (blocks s) (schemas c);
       bounds = c .limits-of .ensures ∙ ap limitsFor (c .before .object-count .ensures);
     }
 
 known : (c : tie.After-limits-of) → let s = start c in
-    BlocksKnown (task s) (s .args .kept .now) (c .before .before .params-of .result) (s .args .origins .now)
-    (c .limits-of .result)
-known c = record { blocks = blocks (start c); known = steps-known c; origin = start c .pre .1 .1 }
+    BlocksKnown (task s) (s .args .kept .now) (c .before .before .before .params-of .result) (s .args .origins .now)
+    (c .before .before .places-of .result) (c .limits-of .result)
+known c =
+    let s = start c in
+    record {
+      blocks = blocks s;
+      known = steps-known c;
+      origin = s .pre .1 .1;
+      place = c .before .before .places-of .ensures (task s) (blocks s) (schemas c);
+    }
 
 splits : (s : tie.Start) → s .args .sizes .schemas ≡ firstOf (task s) (length (task s .schemas))
 splits s = s .pre .0 .sized .schemas ∙ split-count (task s)
 
 -- ---- the list is taken apart
 abbrev looked : tie.After-take-apart → tie.After-limits-of
-looked c = c .before .before .before
+looked c = c .before .before .before .before
 
 apart : (c : tie.After-take-apart) →
     TakenTold (task (start (looked c))) (words (start (looked c))) (c .take-apart .result)
 apart c =
     let s = start (looked c) in
-    c .take-apart .ensures (task s) (known (looked c)) (s .pre .1 .0)
+    c .take-apart .ensures (task s) (s .args .origins .now) (known (looked c)) (s .pre .1 .0)
 
 -- ---- and its first bad step found
 abbrev parted : tie.After-bad-from → tie.After-take-apart
@@ -95,10 +105,14 @@ none-bad g = sym (found (g .before .before)) ∙ ap badStepFound (g .enum-told .
 params-of-requires : tie.Need-params-of-requires
 params-of-requires c κs = let s = c .before .before .before in (task s, blocks s, c .schema-count .ensures)
 
+places-of-requires : tie.Need-places-of-requires
+places-of-requires c κs =
+    let s = c .before .before .before .before in (task s, blocks s, c .before .schema-count .ensures)
+
 take-apart-requires : tie.Need-take-apart-requires
 take-apart-requires c κs =
-    let d = c .before .before in
-    (task (start d), known d, start d .pre .1 .0)
+    let d = c .before .before .before in
+    (task (start d), start d .args .origins .now, known d, start d .pre .1 .0)
 
 bad-from-requires : tie.Need-bad-from-requires
 bad-from-requires c κs =
@@ -132,6 +146,6 @@ returns-3 c =
 pub judge-spec : {M : Type 1} → statement M
 judge-spec =
     tie.close
-    (tie.spec (λ c κs. search needs) params-of-requires (λ c κs. search needs) (λ c κs. search needs)
+    (tie.spec (λ c κs. search needs) params-of-requires places-of-requires (λ c κs. search needs) (λ c κs. search needs)
     take-apart-requires (λ c κs. search needs) bad-from-requires (λ c. search needs) returns (λ c. search needs)
     (λ c. search needs) (λ c. search needs) returns-2 returns-3)

@@ -11,7 +11,7 @@ use Rattle.task.specs.Task.{Task}
 use Rattle.tokens.specs.Split.{orders, firstOf}
 use Rattle.blocks.specs.Unfolding.{BlocksKept}
 use Rattle.blocks.specs.FoldCode.{ParamsNoted}
-use Rattle.blocks.proofs.SplitParams.{part-number, params-more, params-next}
+use Rattle.blocks.proofs.SplitParams.{part-looked, params-more, params-next}
 use Rattle.blocks.proofs.folding.note_params.Statement.{statement}
 
 abbrev Inv-loop : tie.InvT-loop
@@ -27,31 +27,22 @@ abbrev μ-loop : tie.MeasureT-loop
 known : (c : tie.Start Inv-loop μ-loop) → c .args .s < 200
 known c = let (t, K, l, h) = c .pre in let n = K .few-schemas in omega arith
 
--- the part of this turn, and its number in the split, are within the limits
-part : (c : tie.In-loop Inv-loop μ-loop) → let s = c .before .before .before .before .args .s in
+-- the part of this turn, for any task, and its number in the split
+part : (c : tie.In-loop Inv-loop μ-loop) (t : Task) → let a = c .before .before .before .before .args in
+    BlocksKept t (a .kept .now) → a .s < length (t .schemas) → c .before .loop .j < length (orders t (a .s))
+part c t K l = omega (arith, c .before .before .count-of .ensures, K .count _ l, c .loop-test .taken)
+
+looked : (c : tie.In-loop Inv-loop μ-loop) (t : Task) → let a = c .before .before .before .before .args in
     let first = c .before .before .before .first-of .result in
     let j = c .before .loop .j in
-    (j < 16) × (first + j < 200) ×
-    ((t : Task) → BlocksKept t (c .before .before .before .before .args .kept .now) → s < length (t .schemas) →
-    (j < length (orders t s)) × (first + j ≡ firstOf t s + j))
-part c =
-    let (t, K, l, h) = c .before .before .before .before .pre in
-    let (m, e) = of t K l in
-    let n = part-number K _ _ l m in
-    let f = K .few-parts _ l in
-    let q = K .few-splits in
-    (omega arith, omega arith, of)
-  where
-    of : (t : Task) → BlocksKept t (c .before .before .before .before .args .kept .now) →
-        c .before .before .before .before .args .s < length (t .schemas) →
-        (c .before .loop .j < length (orders t (c .before .before .before .before .args .s))) ×
-        (c .before .before .before .first-of .result + c .before .loop .j ≡
-        firstOf t (c .before .before .before .before .args .s) + c .before .loop .j)
-    of t K l =
-        let e = c .before .before .count-of .ensures ∙ K .count _ l in
-        let f = c .before .before .before .first-of .ensures ∙ K .first _ (omega arith) in
-        let j = c .loop-test .taken in
-        (omega arith, omega arith)
+    BlocksKept t (a .kept .now) → a .s < length (t .schemas) →
+    (first + j ≡ firstOf t (a .s) + j) × (j < 16) × (first + j < 200)
+looked c t K l = part-looked K _ _ l (part c t K l) _ (c .before .before .before .first-of .ensures)
+
+-- both are within the limits
+small : (c : tie.In-loop Inv-loop μ-loop) →
+    (c .before .loop .j < 16) × (c .before .before .before .first-of .result + c .before .loop .j < 200)
+small c = let (t, K, l, h) = c .before .before .before .before .pre in let (e, a, b) = looked c t K l in (a, b)
 
 loop-holds : tie.Need-loop-holds Inv-loop μ-loop
 loop-holds c =
@@ -64,7 +55,7 @@ loop-holds c =
     )
 
 own-at-requires : tie.Need-own-at-requires Inv-loop μ-loop
-own-at-requires c κs = (known (c .before .before .before .before), part c .0)
+own-at-requires c κs = (known (c .before .before .before .before), small c .0)
 
 cast-params : tie.Need-cast-params Inv-loop μ-loop
 cast-params c = let n = c .size .ensures .1 in omega arith
@@ -79,7 +70,8 @@ loop-again c =
       length-set (h .params) (first + h .j) k ∙ h .inv .1,
       λ t K l n.
           let s = turn .before .before .before .before .args .s in
-          let (m, e) = part turn .2 t K l in
+          let m = part turn t K l in
+          let e = looked turn t K l .0 in
           let f : firstOf t s + h .j + 1 ≡ firstOf t s + (h .j + 1) = omega arith in
           subst (λ (i : ℕ). ParamsNoted t i (set (h .params) (first + h .j) k)) f
           (subst (λ (i : ℕ). ParamsNoted t (firstOf t s + h .j + 1) (set (h .params) i k)) (sym e)
@@ -101,6 +93,6 @@ pub note-params-spec : {M : Type 1} → statement M
 note-params-spec =
     tie.close
     (tie.spec Inv-loop μ-loop (λ c κs. let l = known c in omega arith) (λ c κs. known (c .before)) loop-holds
-    own-at-requires (λ c κs. search needs) cast-params (λ c. let l = part (c .before .before) in omega arith)
-    (λ c. let l = part (c .before .before) .1 in omega arith) (λ c. part (c .before .before) .1)
-    (λ c. let l = part (c .before .before) .0 in omega arith) (λ c. omega arith) loop-again returns)
+    own-at-requires (λ c κs. search needs) cast-params (λ c. let l = small (c .before .before) in omega arith)
+    (λ c. let l = small (c .before .before) .1 in omega arith) (λ c. small (c .before .before) .1)
+    (λ c. let l = small (c .before .before) .0 in omega arith) (λ c. omega arith) loop-again returns)

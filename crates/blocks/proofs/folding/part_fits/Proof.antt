@@ -1,33 +1,30 @@
 -- `blocks::folding::part_fits` meets its contract. What isn't whole, or whose objects aren't the task's, is no step of
 -- the split (`split-short`, `split-whole`), and so no part (`part-not-step`); nor is one of another schema
 -- (`part-other`). One of this schema that is a step of the split is the part if its objects are those that the block
--- gives (`part-same`), as `agree` tells. Those stand at or before it (`origin-small`), so they are there.
+-- gives (`part-same`), as `agree` tells (`part-agrees`). Those stand at or before it (`part-near`), so they are there.
 use Rattle.blocks.proofs.folding.part_fits.Tie as tie
 use Prim.Native.Nat.{ℕ, _+_, _*_, _≤_, _<_}
 use mathlib.Core.Path.{_≡_, sym, _∙_, ap}
-use mathlib.Core.Bool.{true}
 use mathlib.Core.List.{List}
 use native.Mathlib.Omega.{arith}
 use lib.ListN.{length, getD}
 use borrow.Author.Needs.{needs}
 use borrow.Author.Tests.{not-true, not-false}
-use Rattle.words.specs.Lists.{eqList}
-use Rattle.words.specs.Sets.{member, members}
 use Rattle.task.specs.Limits.{stepSize}
 use Rattle.task.specs.Task.{Task}
 use Rattle.task.specs.Run.{isStepAt}
 use Rattle.task.specs.StepTests.{objectsThenZeros}
 use Rattle.tokens.specs.Split.{orders, splitTask, firstOf}
-use Rattle.blocks.specs.FoldCode.{BlocksKnown, originPlace, givenObjects, objectsIn}
-use Rattle.blocks.proofs.Origins.{origin-small}
+use Rattle.blocks.specs.FoldCode.{BlocksKnown}
 use Rattle.blocks.proofs.SplitParams.{part-number}
+use Rattle.blocks.proofs.Places.{part-few, part-near, part-agrees}
 use Rattle.blocks.proofs.SplitTests.{split-short, split-few, split-whole}
 use Rattle.blocks.proofs.FoldWords.{part-not-step, part-other, part-same}
 use Rattle.blocks.proofs.folding.part_fits.Statement.{statement}
 
 -- ---- what is known at each place
-abbrev Known : tie.Start → Task → Type 0
-Known c t = let a = c .args in BlocksKnown t (a .kept .now) (a .params .now) (a .origins .now) (a .limits .now)
+abbrev Known : tie.Start → Task → List ℕ → Type 0
+Known c t os = let a = c .args in BlocksKnown t (a .kept .now) (a .params .now) os (a .places .now) (a .limits .now)
 
 abbrev Position : tie.Start → Task → Type 0
 Position c t = (c .args .s < length (t .schemas)) × (c .args .j < length (orders t (c .args .s)))
@@ -40,32 +37,38 @@ place c = c .args .i + c .args .j
 
 within : (c : tie.Start) → (c .args .s < 200) × (c .args .j < 16)
 within c =
-    let (t, K, l, m, w) = c .pre in
+    let (t, os, K, l, m, w) = c .pre in
     let n = K .blocks .few-schemas in
     let q = K .blocks .few-parts (c .args .s) l in
     (omega arith, omega arith)
 
 before : (c : tie.Start) → stepSize * place c ≤ length (words c)
-before c = let (t, K, l, m, w) = c .pre in w
+before c = let (t, os, K, l, m, w) = c .pre in w
 
 -- the part's number
 abbrev from : tie.After-first-of → tie.Start
 from c = c .before .before .before
 
-first-is : (c : tie.After-first-of) (t : Task) → Known (from c) t → from c .args .s < length (t .schemas) →
+first-is : (c : tie.After-first-of) (t : Task) (os : List ℕ) → Known (from c) t os →
+    from c .args .s < length (t .schemas) →
     c .first-of .result ≡ firstOf t (from c .args .s)
-first-is c t K l = c .first-of .ensures ∙ K .blocks .first (from c .args .s) (omega arith)
+first-is c t os K l = c .first-of .ensures ∙ K .blocks .first (from c .args .s) (omega arith)
+
+number-is : (c : tie.After-first-of) (t : Task) (os : List ℕ) → Known (from c) t os →
+    from c .args .s < length (t .schemas) →
+    c .first-of .result + from c .args .j ≡ firstOf t (from c .args .s) + from c .args .j
+number-is c t os K l = ap (λ (n : ℕ). n + from c .args .j) (first-is c t os K l)
 
 number : (c : tie.After-first-of) → c .first-of .result + from c .args .j < 200
 number c =
-    let (t, K, l, m, w) = from c .pre in
-    let e = first-is c t K l in
+    let (t, os, K, l, m, w) = from c .pre in
+    let e = first-is c t os K l in
     let n = part-number (K .blocks) (from c .args .s) (from c .args .j) l m in
     let q = K .blocks .few-splits in
     omega arith
 
 whole : (c : tie.Else1) → stepSize * place (c .before .before) + stepSize ≤ length (words (c .before .before))
-whole c = let (t, K, l, m, w) = c .before .before .pre in let n = c .if1 .left in omega arith
+whole c = let (t, os, K, l, m, w) = c .before .before .pre in let n = c .if1 .left in omega arith
 
 -- it is of this number
 abbrev numbered : tie.Else2 → tie.After-first-of
@@ -74,18 +77,18 @@ numbered c = c .before .before
 abbrev start : tie.Else2 → tie.Start
 start c = from (numbered c)
 
-here : (c : tie.Else2) (t : Task) → Known (start c) t → start c .args .s < length (t .schemas) →
+here : (c : tie.Else2) (t : Task) (os : List ℕ) → Known (start c) t os → start c .args .s < length (t .schemas) →
     getD (words (start c)) (stepSize * place (start c)) 0 ≡ firstOf t (start c .args .s) + start c .args .j
-here c t K l =
+here c t os K l =
     let e = c .before .schema-at .ensures in
     let f = c .if2 .left in
-    let g = first-is (numbered c) t K l in
+    let g = first-is (numbered c) t os K l in
     omega arith
 
-known : (c : tie.Else2) (t : Task) → Known (start c) t → Position (start c) t →
+known : (c : tie.Else2) (t : Task) (os : List ℕ) → Known (start c) t os → Position (start c) t →
     getD (words (start c)) (stepSize * place (start c)) 0 < firstOf t (length (t .schemas))
-known c t K (l, m) =
-    let e = here c t K l in
+known c t os K (l, m) =
+    let e = here c t os K l in
     let n = part-number (K .blocks) (start c .args .s) (start c .args .j) l m in
     omega arith
 
@@ -101,47 +104,48 @@ count c =
 abbrev tested : tie.After-are-within → tie.Else2
 tested c = c .before .before .before
 
-told : (c : tie.After-are-within) (t : Task) → Known (start (tested c)) t → Position (start (tested c)) t →
+told : (c : tie.After-are-within) (t : Task) (os : List ℕ) → Known (start (tested c)) t os →
+    Position (start (tested c)) t →
     c .are-within .result ≡ isStepAt (splitTask t) (words (start (tested c))) (place (start (tested c)))
-told c t K p =
+told c t os K p =
     let d = tested c in
     let s = start d in
-    split-whole (K .known) (words s) (place s) (whole (numbered d .before)) (known d t K p)
+    split-whole (K .known) (words s) (place s) (whole (numbered d .before)) (known d t os K p)
     (λ o e. c .are-within .ensures o e
     ∙ ap (objectsThenZeros o (words s) (stepSize * place s + 1)) (count (c .before)))
 
 -- ---- the tests
 returns : tie.Need-returns
-returns c = λ t K l m.
+returns c = λ t os K l m.
     let s = c .before .before in
-    let (t₀, K₀, l₀, m₀, w) = s .pre in
+    let (t₀, os₀, K₀, l₀, m₀, w) = s .pre in
     let n = c .if1 .taken in
     sym (part-not-step (K .blocks) (K .origin) (words s) (s .args .i) (s .args .s) l (s .args .j) m
     (split-short (K .known) (words s) (place s) (omega arith)))
 
 returns-2 : tie.Need-returns-2
-returns-2 c = λ t K l m.
+returns-2 c = λ t os K l m.
     let d = c .before .before in
     let s = from d in
     let e = c .before .schema-at .ensures in
-    let g = first-is d t K l in
+    let g = first-is d t os K l in
     sym (part-other (K .blocks) (K .origin) (words s) (s .args .i) (s .args .s) l (s .args .j) m
     (λ n. c .if2 .taken (omega arith)))
 
 are-within-requires : tie.Need-are-within-requires
 are-within-requires c κs =
     let d = c .before .before in
-    let (t, K, l, m, w) = start d .pre in
+    let (t, os, K, l, m, w) = start d .pre in
     let e = count c in
-    let n = split-few (K .known) (words (start d)) (place (start d)) (known d t K (l, m)) in
+    let n = split-few (K .known) (words (start d)) (place (start d)) (known d t os K (l, m)) in
     (whole (numbered d .before), omega arith)
 
 returns-3 : tie.Need-returns-3
-returns-3 c = λ t K l m.
+returns-3 c = λ t os K l m.
     let d = c .before in
     let s = start (tested d) in
     sym (part-not-step (K .blocks) (K .origin) (words s) (s .args .i) (s .args .s) l (s .args .j) m
-    (sym (told d t K (l, m)) ∙ not-true _ (c .if3 .taken)))
+    (sym (told d t os K (l, m)) ∙ not-true _ (c .if3 .taken)))
 
 -- ---- the objects decide
 abbrev begun : tie.Else3 → tie.Start
@@ -149,29 +153,29 @@ begun c = start (tested (c .before))
 
 agree-requires : tie.Need-agree-requires
 agree-requires c κs =
-    let s = begun (c .before) in
-    let (t, K, l, m, w) = s .pre in
-    let q = whole (numbered (tested (c .before .before)) .before) in
-    let inside : (p : ℕ) → p < 12 → member (c .own-at .result) p ≡ true →
-    stepSize * s .args .i + getD (s .args .origins .now) (originPlace (s .args .s) p) 0 < length (words s) =
-    λ p a b.
-    let e = K .blocks .count (s .args .s) l in
-    let n = origin-small (K .origin) (s .args .s) p (s .args .j) l a (omega arith)
-    (ap (λ (o : ℕ). member o p) (sym (c .own-at .ensures)) ∙ b) in
-    omega arith in
-    (q, (within s .0, inside))
+    let d = numbered (tested (c .before .before)) in
+    let s = from d in
+    let (t, os, K, l, m, w) = s .pre in
+    let e = number-is d t os K l in
+    let q = whole (d .before) in (
+      q,
+      (
+        (number d, part-few K (s .args .s) (s .args .j) _ l m e),
+        λ k a. let n = part-near K (s .args .s) (s .args .j) _ l m e k a in omega arith,
+      ),
+    )
 
 returns-4 : tie.Need-returns-4
-returns-4 c = λ t K l m.
+returns-4 c = λ t os K l m.
     let o = c .before in
     let d = o .before .before in
     let s = start (tested d) in
     let a = s .args in
     c .agree .ensures
-    ∙ (ap (λ (own : ℕ). eqList (givenObjects (words s) (stepSize * place s) own)
-    (objectsIn (words s) (a .origins .now) (stepSize * a .i) (a .s) (members own 12))) (o .own-at .ensures)
-    ∙ sym (part-same (K .blocks) (K .origin) (words s) (a .i) (a .s) l (a .j) m (here (tested d) t K l)
-    (sym (told d t K (l, m)) ∙ not-false _ (o .before .if3 .left))))
+    ∙ (part-agrees K (a .s) (a .j) _ l m (number-is (numbered (tested d)) t os K l) (words s) (stepSize * a .i)
+    (stepSize * place s)
+    ∙ sym (part-same (K .blocks) (K .origin) (words s) (a .i) (a .s) l (a .j) m (here (tested d) t os K l)
+    (sym (told d t os K (l, m)) ∙ not-false _ (o .before .if3 .left))))
 
 pub part-fits-spec : {M : Type 1} → statement M
 part-fits-spec =
@@ -180,5 +184,6 @@ part-fits-spec =
     (λ c. before (c .before)) returns (λ c κs. let l = within (c .before .before) in omega arith)
     (λ c. let l = number c in omega arith) (λ c κs. let l = whole (c .before) in omega arith) returns-2
     (λ c. let l = number (numbered c) in omega arith) (λ c. number (numbered c)) (λ c κs. search needs)
-    are-within-requires returns-3 (λ c. let l = before (begun c) in omega arith) (λ c κs. within (begun c))
-    agree-requires returns-4)
+    are-within-requires returns-3 (λ c. let l = before (begun c) in omega arith)
+    (λ c. let l = number (numbered (tested (c .before))) in omega arith)
+    (λ c. number (numbered (tested (c .before)))) agree-requires returns-4)
