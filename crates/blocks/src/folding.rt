@@ -227,7 +227,8 @@ fn object_in(
 }
 
 // Whether the objects of the step whose words begin at `at`, of the split's schema with that number and so many
-// parameters, are those that its block gives. In the first part that has a parameter its object is compared with itself.
+// parameters, are those that its block gives. In the first part that has a parameter its object is compared with
+// itself.
 fn agree(
     steps: &[u16],
     places: &Places,
