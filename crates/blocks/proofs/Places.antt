@@ -1,7 +1,7 @@
 -- Where a block gives the objects of each schema of the split, noted part after part, by the part's number: what is
 -- noted for those before it stays.
 use Prim.Native.Nat.{ℕ, zero, suc, _+_, _*_, _≤_, _<_}
-use mathlib.Core.Path.{_≡_, refl, sym, _∙_, ap, subst}
+use mathlib.Core.Path.{_≡_, refl, sym, _∙_, ap}
 use mathlib.Core.Bool.{true, false}
 use mathlib.Core.List.{List}
 use native.Mathlib.Omega.{arith}
@@ -19,7 +19,7 @@ use Rattle.tokens.specs.Split.{orders, firstOf}
 use Rattle.tokens.specs.Kept.{keptOwn}
 use Rattle.blocks.specs.FoldCode.{originPlace, PartPlaced, PlacesNoted, objectsIn, agreesAt, givenObjects}
 use Rattle.blocks.specs.FoldCode.{BlocksKnown}
-use Rattle.blocks.proofs.Numbers.{first-step, first-inj}
+use Rattle.blocks.proofs.Numbers.{first-inj}
 use Rattle.blocks.proofs.Origins.{few-below, origin-small}
 use Rattle.blocks.proofs.PartObjects.{in-set, place-at, agrees-all}
 use Rattle.blocks.proofs.SplitParams.{part-arity, part-params, part-number}
@@ -119,13 +119,6 @@ module _ {t : Task} {kept origins : List ℕ} where
           ∙ ap (λ (i : ℕ). getD origins (originPlace i p) 0) (sym f)))
     ];
   }
-
-  -- those of the parts of schema s end where those of the next schema begin
-  pub places-next : {places : List ℕ} (s n : ℕ) → n ≡ firstOf t s + length (orders t s) →
-      PlacesNoted t kept origins n places → PlacesNoted t kept origins (firstOf t (s + 1)) places
-  places-next {places} s n e h =
-      subst (λ (k : ℕ). PlacesNoted t kept origins k places)
-      (e ∙ (sym (first-step t s) ∙ ap (firstOf t) (sym (add-one s)))) h
 
 -- ---- a part whose parameters are counted and whose places are noted, by its number
 module _ {t : Task} {kept params origins places limits : List ℕ} (K : BlocksKnown t kept params origins places limits)

@@ -1,6 +1,6 @@
 -- How many parameters each schema of the split has, noted part after part: as many as its part's set has numbers.
 use Prim.Native.Nat.{ℕ, suc, _+_, _≤_, _<_}
-use mathlib.Core.Path.{_≡_, sym, _∙_, ap, subst}
+use mathlib.Core.Path.{_≡_, sym, _∙_, ap}
 use mathlib.Core.Bool.{Bool}
 use mathlib.Core.List.{List}
 use native.Mathlib.Omega.{arith}
@@ -13,7 +13,7 @@ use Rattle.words.specs.Sets.{members, wordBits}
 use Rattle.task.specs.Task.{Schema, Task}
 use Rattle.task.specs.Run.{schemaAt, paramCount}
 use Rattle.tokens.specs.Split.{has, paramsOf, orders, own, splitSchema, splitTask, firstOf}
-use Rattle.tokens.specs.Kept.{keptFirst, keptOwn}
+use Rattle.tokens.specs.Kept.{keptFirst, keptCount, keptOwn}
 use Rattle.blocks.specs.Blocks.{paramsAt}
 use Rattle.blocks.specs.Unfolding.{BlocksKept}
 use Rattle.blocks.specs.FoldCode.{ParamsNoted}
@@ -74,8 +74,10 @@ module _ {t : Task} {kept : List ℕ} (K : BlocksKept t kept) (s j : ℕ) (l : s
     ];
   }
 
--- those of the parts of schema s end where those of the next schema begin
-pub params-next : {t : Task} {params : List ℕ} (s n : ℕ) → n ≡ firstOf t s + length (orders t s) →
-    ParamsNoted t n params → ParamsNoted t (firstOf t (s + 1)) params
-params-next {t} {params} s n e h =
-    subst (λ (k : ℕ). ParamsNoted t k params) (e ∙ (sym (first-step t s) ∙ ap (firstOf t) (sym (add-one s)))) h
+-- where all parts of a schema are passed, the next schema's begin
+pub schema-passed : {t : Task} {kept : List ℕ} → BlocksKept t kept → (s j n : ℕ) → s < length (t .schemas) →
+    n ≡ keptCount kept s → n ≤ j → j ≤ n → firstOf t s + j ≡ firstOf t (s + 1)
+schema-passed {t} K s j n l e a b =
+    let f = e ∙ K .count s l in
+    let z : firstOf t s + j ≡ firstOf t s + length (orders t s) = omega arith in
+    z ∙ (sym (first-step t s) ∙ ap (firstOf t) (sym (add-one s)))

@@ -1,5 +1,5 @@
--- The split of a table whose split is accepted, once it is written: it is given, and lies in the words as a table of the
--- split task.
+-- The split of a table whose split is accepted, once it is written: it is given, and lies in the words as a table of
+-- the split task.
 use Prim.Native.Nat.{ℕ, _≤_}
 use mathlib.Core.Path.{_≡_, sym, _∙_, ap, subst}
 use mathlib.Core.Bool.{true}

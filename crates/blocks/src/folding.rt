@@ -438,8 +438,8 @@ fn put_gathered(
     }
 }
 
-// "Folding takes a list apart into whole blocks": their steps, of a list that is taken apart wholly. In such a list each
-// step that can begin a block does, so that no turn waits to learn how long the block before it was.
+// "Folding takes a list apart into whole blocks": their steps, of a list that is taken apart wholly. In such a list
+// each step that can begin a block does, so that no turn waits to learn how long the block before it was.
 pub fn put_folded(table: &[u16], steps: &[u16], begins: &Begins, origins: &Origins, out: &mut [u16])
     requires { ⌜ ((kept : List ℕ) × (xs : List Step) × TableKept (now table) kept ×
         SplitStepsKept (taskOf (now table)) (now steps) kept (now begins) (now origins) ×

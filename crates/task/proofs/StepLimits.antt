@@ -93,8 +93,8 @@ within-limits objects w i n few =
         below-one (getD w (i + n + k) 0)
 
 -- the first eight of twelve words and the last eight are tested
-pub two-runs : (objects : ℕ) (w : List ℕ) (i n : ℕ) (limits : List ℕ) → n ≤ mostParameters → limits ≡ limitsFor objects →
-    (front back : ℕ) → eqb front 0 ≡ all (isWithin w i n limits) (upFrom 0 8) →
+pub two-runs : (objects : ℕ) (w : List ℕ) (i n : ℕ) (limits : List ℕ) → n ≤ mostParameters →
+    limits ≡ limitsFor objects → (front back : ℕ) → eqb front 0 ≡ all (isWithin w i n limits) (upFrom 0 8) →
     eqb back 0 ≡ all (isWithin w i n limits) (upFrom 4 8) →
     eqb (bitOr front back) 0 ≡ objectsThenZeros objects w i n
 two-runs objects w i n limits few e front back f b =

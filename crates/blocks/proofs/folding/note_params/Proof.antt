@@ -11,7 +11,7 @@ use Rattle.task.specs.Task.{Task}
 use Rattle.tokens.specs.Split.{orders, firstOf}
 use Rattle.blocks.specs.Unfolding.{BlocksKept}
 use Rattle.blocks.specs.FoldCode.{ParamsNoted}
-use Rattle.blocks.proofs.SplitParams.{part-looked, params-more, params-next}
+use Rattle.blocks.proofs.SplitParams.{part-looked, params-more, schema-passed}
 use Rattle.blocks.proofs.folding.note_params.Statement.{statement}
 
 abbrev Inv-loop : tie.InvT-loop
@@ -83,11 +83,9 @@ loop-again c =
 returns : tie.Need-returns Inv-loop μ-loop
 returns c = λ t K l n.
     let h = c .before .loop in
-    let s = c .before .before .before .before .args .s in
-    let e = c .before .before .count-of .ensures ∙ K .count s l in
-    let f = c .loop-test .left in
-    let g = h .inv .0 in
-    params-next s (firstOf t s + h .j) (omega arith) (h .inv .2 t K l n)
+    subst (λ (i : ℕ). ParamsNoted t i (h .params))
+    (schema-passed K _ (h .j) _ l (c .before .before .count-of .ensures) (c .loop-test .left) (h .inv .0))
+    (h .inv .2 t K l n)
 
 pub note-params-spec : {M : Type 1} → statement M
 note-params-spec =

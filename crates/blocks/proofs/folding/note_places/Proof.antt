@@ -10,8 +10,8 @@ use Rattle.tokens.specs.Split.{orders, firstOf}
 use Rattle.tokens.specs.Kept.{keptOwn}
 use Rattle.blocks.specs.Unfolding.{BlocksKept}
 use Rattle.blocks.specs.FoldCode.{originWords, PartPlaced, PlacesNoted}
-use Rattle.blocks.proofs.SplitParams.{part-looked}
-use Rattle.blocks.proofs.Places.{places-more, places-next}
+use Rattle.blocks.proofs.SplitParams.{schema-passed, part-looked}
+use Rattle.blocks.proofs.Places.{places-more}
 use Rattle.blocks.proofs.folding.note_places.Statement.{statement}
 
 abbrev Inv-loop : tie.InvT-loop
@@ -27,22 +27,18 @@ abbrev μ-loop : tie.MeasureT-loop
 known : (c : tie.Start Inv-loop μ-loop) → c .args .s < 200
 known c = let (t, K, l) = c .pre .1 in let n = K .few-schemas in omega arith
 
--- the part of this turn, for any task, and its number in the split
+-- the part of this turn, for any task
 part : (c : tie.In-loop Inv-loop μ-loop) (t : Task) → let a = c .before .before .before .before .args in
     BlocksKept t (a .kept .now) → a .s < length (t .schemas) → c .before .loop .j < length (orders t (a .s))
 part c t K l = omega (arith, c .before .before .count-of .ensures, K .count _ l, c .loop-test .taken)
 
-looked : (c : tie.In-loop Inv-loop μ-loop) (t : Task) → let a = c .before .before .before .before .args in
-    let first = c .before .before .before .first-of .result in
-    let j = c .before .loop .j in
-    BlocksKept t (a .kept .now) → a .s < length (t .schemas) →
-    (first + j ≡ firstOf t (a .s) + j) × (j < 16) × (first + j < 200)
-looked c t K l = part-looked K _ _ l (part c t K l) _ (c .before .before .before .first-of .ensures)
-
--- both are within the limits
+-- it and its number in the split are within the limits
 small : (c : tie.In-loop Inv-loop μ-loop) →
     (c .before .loop .j < 16) × (c .before .before .before .first-of .result + c .before .loop .j < 200)
-small c = let (t, K, l) = c .before .before .before .before .pre .1 in let (e, a, b) = looked c t K l in (a, b)
+small c =
+    let (t, K, l) = c .before .before .before .before .pre .1 in
+    let (e, a, b) = part-looked K _ _ l (part c t K l) _ (c .before .before .before .first-of .ensures) in
+    (a, b)
 
 loop-holds : tie.Need-loop-holds Inv-loop μ-loop
 loop-holds c =
@@ -72,7 +68,7 @@ loop-again c =
       d .long ∙ h .inv .1,
       λ t K l n.
           let m = part turn t K l in
-          let e = looked turn t K l .0 in
+          let e = part-looked K _ _ l m _ (turn .before .before .before .first-of .ensures) .0 in
           let f : firstOf t (a .s) + h .j + 1 ≡ firstOf t (a .s) + (h .j + 1) = omega arith in
           subst (λ (i : ℕ). PlacesNoted t (a .kept .now) (a .origins .now) i after) f
           (places-more (a .s) (h .j) (firstOf t (a .s) + h .j) m refl (h .inv .2 t K l n)
@@ -83,16 +79,15 @@ loop-again c =
     )
 
 returns : tie.Need-returns Inv-loop μ-loop
-returns c = (
-  c .before .loop .inv .1,
-  λ t K l n.
-      let h = c .before .loop in
-      let s = c .before .before .before .before .args .s in
-      let e = c .before .before .count-of .ensures ∙ K .count s l in
-      let f = c .loop-test .left in
-      let g = h .inv .0 in
-      places-next s (firstOf t s + h .j) (omega arith) (h .inv .2 t K l n),
-)
+returns c =
+    let h = c .before .loop in
+    let a = c .before .before .before .before .args in (
+      h .inv .1,
+      λ t K l n.
+          subst (λ (i : ℕ). PlacesNoted t (a .kept .now) (a .origins .now) i (h .places))
+          (schema-passed K _ (h .j) _ l (c .before .before .count-of .ensures) (c .loop-test .left) (h .inv .0))
+          (h .inv .2 t K l n),
+    )
 
 pub note-places-spec : {M : Type 1} → statement M
 note-places-spec =

@@ -193,4 +193,5 @@ put-folded-spec =
     tie.close
     (tie.spec Inv-loop μ-loop loop-holds (λ c. omega arith) begun-at-requires
     (λ c. omega arith) (λ c. let n = schema-known c .1 in omega arith) param-count-requires
-    put-gathered-requires add-next (λ c. omega arith) (λ c. omega arith) loop-again (λ c. c .before .loop .inv .0) returns)
+    put-gathered-requires add-next (λ c. omega arith) (λ c. omega arith) loop-again (λ c. c .before .loop .inv .0)
+    returns)

@@ -122,45 +122,43 @@ run-step-requires c κs =
       ),
     )
 
+-- a step has been tried
+abbrev Tried : Type 0
+Tried = tie.After-run-step Inv-loop μ-loop
+
+abbrev turn : Tried → tie.In-loop Inv-loop μ-loop
+turn c = c .before .before .before .before .before .before .before
+
 loop-again : tie.Need-loop-again Inv-loop μ-loop
 loop-again c =
-    let at-run-step = c .before .before .before .before .before in
-    let at-loop-test = at-run-step .before .before .before .before .before .before .before in
-    let at-loop = at-loop-test .before in (
-      run-turn (at-loop .loop .inv .0) _ _ (at-loop-test .loop-test .taken)
-          (at-run-step .run-step .kept .1 .1 .1 .1 .1 .0) (at-run-step .run-step .ensures .0)
-          (c .before .turn .given .1),
-      at-run-step .run-step .ensures .1,
+    let tried = c .before .before .before .before .before in (
+      run-turn (turn tried .before .loop .inv .0) _ _ (turn tried .loop-test .taken)
+          (tried .run-step .kept .1 .1 .1 .1 .1 .0) (tried .run-step .ensures .0) (c .before .turn .given .1),
+      tried .run-step .ensures .1,
     )
 
 same-length : tie.Need-same-length Inv-loop μ-loop
 same-length c =
-    let at-run-step = c .before .before .before .before in
-    let at-loop = at-run-step .before .before .before .before .before .before .before .before in
-    at-run-step .run-step .kept .1 .1 .1 .1 .1 .0 ∙ at-loop .loop .inv .0 .size
+    let tried = c .before .before .before .before in
+    tried .run-step .kept .1 .1 .1 .1 .1 .0 ∙ turn tried .before .loop .inv .0 .size
 
 returns : tie.Need-returns Inv-loop μ-loop
 unfolding recordsLeft endedAs
 returns c =
-    let at-run-step = c .before .before .before .before in
-    let at-loop-test = at-run-step .before .before .before .before .before .before .before in
-    let at-loop = at-loop-test .before in
-    run-missing (at-loop .loop .inv .0) _ (at-loop-test .loop-test .taken) (at-run-step .run-step .ensures .0)
+    let tried = c .before .before .before .before in
+    run-missing (turn tried .before .loop .inv .0) _ (turn tried .loop-test .taken) (tried .run-step .ensures .0)
     (c .enum-told .given .1)
 
 same-length-2 : tie.Need-same-length-2 Inv-loop μ-loop
 same-length-2 c =
-    let at-run-step = c .before .before .before .before in
-    let at-loop = at-run-step .before .before .before .before .before .before .before .before in
-    at-run-step .run-step .kept .1 .1 .1 .1 .1 .0 ∙ at-loop .loop .inv .0 .size
+    let tried = c .before .before .before .before in
+    tried .run-step .kept .1 .1 .1 .1 .1 .0 ∙ turn tried .before .loop .inv .0 .size
 
 returns-2 : tie.Need-returns-2 Inv-loop μ-loop
 unfolding recordsLeft endedAs
 returns-2 c =
-    let at-run-step = c .before .before .before .before in
-    let at-loop-test = at-run-step .before .before .before .before .before .before .before in
-    let at-loop = at-loop-test .before in
-    run-outgrown (at-loop .loop .inv .0) _ (at-loop-test .loop-test .taken) (at-run-step .run-step .ensures .0)
+    let tried = c .before .before .before .before in
+    run-outgrown (turn tried .before .loop .inv .0) _ (turn tried .loop-test .taken) (tried .run-step .ensures .0)
     (c .enum-told2 .given .1)
 
 same-length-3 : tie.Need-same-length-3 Inv-loop μ-loop

@@ -10,7 +10,8 @@ returns c = front-fails _ _ _ _ (omega arith) (c .before .quarters-zero .ensures
 
 returns-2 : tie.Need-returns-2
 returns-2 c =
-    rest-tells _ _ _ _ (omega arith) (c .before .before .quarters-zero .ensures) (c .before .if1 .left) (c .zeros .ensures)
+    rest-tells _ _ _ _ (omega arith) (c .before .before .quarters-zero .ensures) (c .before .if1 .left)
+    (c .zeros .ensures)
 
 pub many-zeros-spec : {M : Type 1} → statement M
 many-zeros-spec =

@@ -31,7 +31,8 @@ loop-again c =
     let first = second .before in
     let at = first .before .before in
     let given = at .before .before .args in
-    all-joins (FourZero (given .table .now) (given .from) _ _ _) _ _ (eqb (at .loop .joined) 0) (at .loop .inv) (first .before .loop-test .taken)
+    all-joins (FourZero (given .table .now) (given .from) _ _ _) _ _ (eqb (at .loop .joined) 0) (at .loop .inv)
+    (first .before .loop-test .taken)
     (four-joined (at .loop .joined) (first .word-at .ensures) (second .word-at2 .ensures) (third .word-at3 .ensures)
     (c .word-at4 .ensures))
 
@@ -39,7 +40,8 @@ returns : tie.Need-returns Inv-loop μ-loop
 returns c =
     let at = c .before in
     let given = at .before .before .args in
-    all-joined (FourZero (given .table .now) (given .from) _ _ _) _ _ (eqb (at .loop .joined) 0) (at .loop .inv) (c .loop-test .left) ∙
+    all-joined (FourZero (given .table .now) (given .from) _ _ _) _ _ (eqb (at .loop .joined) 0) (at .loop .inv)
+    (c .loop-test .left) ∙
     quarters-zero (given .table .now) (given .from) (given .quarter)
 
 pub quarters-zero-spec : {M : Type 1} → statement M
