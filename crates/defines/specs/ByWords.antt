@@ -1,0 +1,79 @@
+-- The text by the words of a table, in the pieces that the writer puts one behind another.
+-- No promise of an entry point cites these.
+use Prim.Native.Nat.{ℕ, zero, suc, _+_, _-_, _≤_, _<_}
+use mathlib.Core.Path.{_≡_}
+use mathlib.Core.List.{List, [], _∷_, _++_}
+use lib.ListN.{getD}
+use Rattle.words.specs.Lists.{upTo, upFrom, concatMap}
+use Rattle.words.specs.Words.{wordsAt}
+use Rattle.task.specs.Layout.{atomTotal, arityIn, paramsIn, atomBase}
+use Rattle.task.specs.Run.{schemaAt}
+use Rattle.task.specs.Table.{atomIn, schemaNumberIn, taskOf}
+use Rattle.text.specs.Lines.{bytes, digits}
+use Rattle.defines.specs.Pddl.{space, closing, neighbours, parameter, namesUpTo, actionText}
+
+-- numbers one behind another, each behind its mark: ` ?x0 ?x1`
+unfoldable pub marked : List ℕ → List ℕ → List ℕ
+unfolding concatMap digits
+marked mark ns = concatMap (λ n. mark ++ digits n) ns
+
+-- ` (p0 ?x0)`: a predicate and its arguments, behind a space
+unfoldable pub formula : List ℕ → ℕ → List ℕ → List ℕ
+unfolding bytes digits marked
+formula mark p ns = bytes " (p" ++ (digits p ++ (marked mark ns ++ (closing ∷ [])))
+
+-- the atom whose words begin at b
+unfoldable pub formulaAt : List ℕ → List ℕ → ℕ → List ℕ
+unfolding formula wordsAt arityIn
+formulaAt mark w b = formula mark (getD w (b + 2) 0) (wordsAt w (b + 4) (arityIn w (getD w (b + 2) 0)))
+
+-- "role (0 precondition, 1 add, 2 delete, 3 initial, 4 goal)": a schema's atoms are over parameters, a delete stands in
+-- a `not`, and the others are over objects
+unfoldable pub itemAt : ℕ → List ℕ → ℕ → List ℕ
+unfolding bytes formulaAt
+itemAt zero w b = formulaAt (bytes " ?x") w b
+itemAt (suc zero) w b = formulaAt (bytes " ?x") w b
+itemAt (suc (suc zero)) w b = bytes " (not" ++ (formulaAt (bytes " ?x") w b ++ (closing ∷ []))
+itemAt (suc (suc (suc r))) w b = formulaAt (bytes " o") w b
+
+-- atom i of a table, by its role; and those from one to another
+unfoldable pub itemIn : List ℕ → ℕ → List ℕ
+unfolding itemAt atomIn atomBase
+itemIn w i = itemAt (atomIn w i .role) w (atomBase w i)
+
+unfoldable pub itemsIn : List ℕ → ℕ → ℕ → List ℕ
+unfolding concatMap itemIn upFrom
+itemsIn w from to = concatMap (itemIn w) (upFrom from (to - from))
+
+-- the atoms from one to another are all that stand there of a schema and a role
+pub record RoleRun (w : List ℕ) (schema role from to : ℕ) : Type 0 where
+  pub ordered : from ≤ to
+  pub within : to ≤ atomTotal w
+  pub has : (k : ℕ) → from ≤ k → k < to → (schemaNumberIn w k ≡ schema) × (atomIn w k .role ≡ role)
+  pub stops : to < atomTotal w → schemaNumberIn w to ≡ schema → atomIn w to .role ≡ role → ⊥
+
+-- ` (:action a0 :parameters (?x0 ?x1) :precondition (and`: an action up to its preconditions
+unfoldable pub headText : ℕ → ℕ → List ℕ
+unfolding bytes digits neighbours namesUpTo
+headText s params =
+    bytes " (:action a" ++ (digits s ++ (bytes " :parameters (" ++
+    (neighbours (namesUpTo parameter params) ++ bytes ") :precondition (and")))
+
+-- schema s of a table as an action without its atoms, as long as these leave it
+unfoldable pub frameIn : List ℕ → ℕ → List ℕ
+unfolding bytes headText
+frameIn w s = headText s (paramsIn w s) ++ bytes ") :effect (and))"
+
+-- predicate p of a table
+unfoldable pub predicateIn : List ℕ → ℕ → List ℕ
+unfolding bytes formula upTo arityIn
+predicateIn w p = formula (bytes " ?x") p (upTo (arityIn w p))
+
+-- schema s of a table, behind a space
+unfoldable pub actionIn : List ℕ → ℕ → List ℕ
+unfolding actionText schemaAt taskOf
+actionIn w s = space ∷ actionText s (schemaAt (taskOf w) s)
+
+-- no text is longer: shut, since a list function would count a numeral down
+unfoldable pub longestPddl : ℕ
+longestPddl = 125100

@@ -1,0 +1,4 @@
+pub mod Pddl
+pub mod Outcome
+pub mod Parts
+pub mod ByWords
