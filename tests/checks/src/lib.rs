@@ -35,6 +35,9 @@ pub const MOVE: &str = include_str!("move.txt");
 /// What `split` prints for M, by example E1.
 pub const MOVE_SPLIT: &str = include_str!("move_split.txt");
 
+/// M's domain and problem, by document 02's note 1.
+pub const MOVE_PDDL: &str = include_str!("move_pddl.txt");
+
 /// M with a piece of its text, which must be there, in another form.
 pub fn changed_move(piece: &str, other: &str) -> String {
     assert!(MOVE.contains(piece), "M has no {piece:?}");

@@ -24,7 +24,7 @@ pub fn plain_row(answer: Answer<()>) -> Row {
     row(answer, |()| [0, 0])
 }
 
-/// Writing: the number of bytes.
+/// Writing, as text or as PDDL: the number of bytes.
 pub fn write_row(answer: Answer<u64>) -> Row {
     row(answer, |bytes| [bytes, 0])
 }
@@ -45,7 +45,7 @@ pub fn fold_row(answer: Answer<Folded>) -> Row {
 }
 
 /// The reasons of a refusal, by number from 1.
-const REASONS: [Reason; 17] = [
+const REASONS: [Reason; 18] = [
     Reason::TableTooShort,
     Reason::NotATable,
     Reason::LineOutOfForm,
@@ -63,6 +63,7 @@ const REASONS: [Reason; 17] = [
     Reason::BadState,
     Reason::PreconditionMissing,
     Reason::StateTooLarge,
+    Reason::PddlTooLong,
 ];
 
 /// The answer that a row tells, with its two values.

@@ -1,7 +1,7 @@
-//! The two programs.
+//! The programs.
 
-use checks::{changed_move, MOVE};
-use reference::programs::{split_program, unfold_program, INPUT_BYTES};
+use checks::{changed_move, MOVE, MOVE_PDDL};
+use reference::programs::{pddl_program, split_program, unfold_program, INPUT_BYTES};
 use reference::text::read_task;
 
 fn unfolded(task: &str, plan: &str) -> String {
@@ -69,6 +69,21 @@ fn a_missing_file_counts_as_empty() {
 }
 
 #[test]
+fn writes_pddl_or_refuses_the_task() {
+    let circular = changed_move("part=0,0,1,1,2,0,1", "part=0,0,1,1,0,0,1");
+    for (task, printed) in [
+        (MOVE, MOVE_PDDL),
+        (&circular, MOVE_PDDL),
+        ("", "refused=3:1\n"),
+        (&changed_move("schema=3", "schema=4"), "refused=7:12\n"),
+        (&changed_move("end=1\n", "end=1\n\n"), "refused=3:18\n"),
+    ] {
+        let found = pddl_program(task.as_bytes());
+        assert_eq!(String::from_utf8_lossy(&found), printed, "{task}");
+    }
+}
+
+#[test]
 fn a_program_takes_so_many_bytes() {
     for (objects, commas, bytes, number) in [
         (10, 32_755, INPUT_BYTES, 4),
@@ -81,6 +96,7 @@ fn a_program_takes_so_many_bytes() {
         assert_eq!((refusal.number(), refusal.place.number()), (4, 3));
         let expected = format!("refused={number}:3\n");
         assert_eq!(split_program(text.as_bytes()), expected.as_bytes());
+        assert_eq!(pddl_program(text.as_bytes()), expected.as_bytes());
         assert_eq!(unfolded(&text, "end=1\n"), expected);
     }
 }

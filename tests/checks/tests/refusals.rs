@@ -1,6 +1,6 @@
 //! Each refusal with its place and what it leaves.
 
-use checks::{changed_move, read_table, step, MOVE, MOVE_SPLIT};
+use checks::{changed_move, read_table, step, MOVE, MOVE_PDDL, MOVE_SPLIT};
 use reference::table::TABLE_WORDS;
 use reference::{Answer, Place, Reason, Refusal};
 
@@ -36,18 +36,19 @@ fn answers_to_split(table: &[u16]) -> [Answer<()>; 3] {
 }
 
 /// The answers of all entry points that read a table, where all leave as found.
-fn answers_to(table: &[u16]) -> [Answer<()>; 5] {
+fn answers_to(table: &[u16]) -> [Answer<()>; 6] {
     let [split, unfold, fold] = answers_to_split(table);
     let write = as_found(1000, |text| reference::write(table, text));
+    let write_pddl = as_found(1000, |text| reference::write_pddl(table, text));
     let run = as_found(20, |state| reference::run(table, &[9], state, 9));
-    [write, split, run, unfold, fold]
+    [write, write_pddl, split, run, unfold, fold]
 }
 
 #[test]
 fn refusal_1() {
     let short = &read_table(MOVE.as_bytes())[..TABLE_WORDS - 1];
-    assert_eq!(answers_to(short), [nowhere(Reason::TableTooShort); 5]);
-    assert_eq!(answers_to(&[]), [nowhere(Reason::TableTooShort); 5]);
+    assert_eq!(answers_to(short), [nowhere(Reason::TableTooShort); 6]);
+    assert_eq!(answers_to(&[]), [nowhere(Reason::TableTooShort); 6]);
     let read = as_found(TABLE_WORDS - 1, |table| reference::read(b"", table));
     assert_eq!(read, nowhere(Reason::TableTooShort));
     let no_table = [0; TABLE_WORDS];
@@ -59,11 +60,13 @@ fn refusal_1() {
 fn refusal_2() {
     let mut table = read_table(MOVE.as_bytes());
     table[TABLE_WORDS - 1] = 1;
-    assert_eq!(answers_to(&table), [nowhere(Reason::NotATable); 5]);
+    assert_eq!(answers_to(&table), [nowhere(Reason::NotATable); 6]);
     table[TABLE_WORDS - 1] = 0;
     table.push(1);
     let written = reference::write(&table, &mut [0; 1000]);
     assert_eq!(written, Ok(MOVE.len() as u64));
+    let written = reference::write_pddl(&table, &mut [0; 1000]);
+    assert_eq!(written, Ok(MOVE_PDDL.len() as u64));
 }
 
 /// Reads M with a piece in another form, for each such change, and requires
@@ -340,6 +343,24 @@ fn refusals_16_and_17() {
     let exchanging = reference::run(&table, &step(1, [0]), &mut state, 2);
     assert_eq!(exchanging.map(|ran| ran.records), Ok(2));
     assert_eq!(state, [0, 1, 0, 0, 0, 1, 0, 0, 0, 0, 0, 0]);
+}
+
+#[test]
+fn refusal_18() {
+    let mut table = read_table(MOVE.as_bytes());
+    for length in [0, 1, MOVE_PDDL.len() - 1] {
+        let written = as_found(length, |text| reference::write_pddl(&table, text));
+        assert_eq!(written, nowhere(Reason::PddlTooLong));
+    }
+    for behind in [0, 1, 100] {
+        let mut text = vec![7; MOVE_PDDL.len() + behind];
+        let written = reference::write_pddl(&table, &mut text);
+        assert_eq!(written, Ok(MOVE_PDDL.len() as u64));
+        assert_eq!(text, [MOVE_PDDL.as_bytes(), &vec![7; behind]].concat());
+    }
+    table[TABLE_WORDS - 1] = 1;
+    let written = reference::write_pddl(&table, &mut []);
+    assert_eq!(written, nowhere(Reason::NotATable));
 }
 
 #[test]

@@ -1,6 +1,6 @@
 //! "Each answer is either its result or a refusal with a number and a place."
 
-/// What is turned back, by its number in document 01.
+/// What is turned back, by its number in document 01 or, from 18 on, 02.
 #[derive(Clone, Copy, Debug, PartialEq, Eq)]
 pub enum Reason {
     TableTooShort = 1,
@@ -20,6 +20,7 @@ pub enum Reason {
     BadState = 15,
     PreconditionMissing = 16,
     StateTooLarge = 17,
+    PddlTooLong = 18,
 }
 
 /// "Lines count from 1, the others from 0; none is 0."

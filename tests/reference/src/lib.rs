@@ -1,10 +1,11 @@
 //! A second implementation of document 01, "Splitting STRIPS action schemas
-//! for station work", with one module for each of its sections and the entry
-//! points on lent words and bytes here.
+//! for station work", and of document 02's note 1, with one module for each
+//! section or note and the entry points on lent words and bytes here.
 
 pub mod answer;
 pub mod arcs;
 pub mod blocks;
+pub mod pddl;
 pub mod programs;
 pub mod run;
 pub mod table;
@@ -13,6 +14,7 @@ pub mod tokens;
 
 pub use answer::{Answer, Place, Reason, Refusal};
 
+use pddl::Pddl;
 use run::{Step, STEP_WORDS};
 use table::{Task, TABLE_WORDS};
 
@@ -41,10 +43,14 @@ pub fn read(text: &[u8], table: &mut [u16]) -> Answer<()> {
 /// Writes a table as text and answers the number of bytes.
 pub fn write(table: &[u16], text: &mut [u8]) -> Answer<u64> {
     let written = task_of(table)?.to_string();
-    text.get_mut(..written.len())
-        .ok_or(Refusal::nowhere(Reason::TextTooLong))?
-        .copy_from_slice(written.as_bytes());
-    Ok(written.len() as u64)
+    store_text(&written, text, Reason::TextTooLong)
+}
+
+/// Writes a table's task as a domain and a problem in PDDL and answers the
+/// number of bytes.
+pub fn write_pddl(table: &[u16], text: &mut [u8]) -> Answer<u64> {
+    let written = Pddl(&task_of(table)?).to_string();
+    store_text(&written, text, Reason::PddlTooLong)
 }
 
 /// Writes the split of a table's task as a table.
@@ -102,6 +108,14 @@ fn task_of(table: &[u16]) -> Answer<Task> {
         return Err(Refusal::nowhere(Reason::TableTooShort));
     }
     Task::from_words(table).ok_or(Refusal::nowhere(Reason::NotATable))
+}
+
+/// Refusals 11 and 18: "the text is longer than the lent bytes".
+fn store_text(written: &str, text: &mut [u8], too_long: Reason) -> Answer<u64> {
+    text.get_mut(..written.len())
+        .ok_or(Refusal::nowhere(too_long))?
+        .copy_from_slice(written.as_bytes());
+    Ok(written.len() as u64)
 }
 
 /// Refusal 13: "the result is longer than the lent words".

@@ -1,7 +1,9 @@
-//! The two programs of document 01, "Text form", as functions of their input.
+//! The two programs of document 01, "Text form", and the one that writes PDDL,
+//! as functions of their input.
 
 use crate::answer::{Answer, Refusal};
 use crate::blocks;
+use crate::pddl::Pddl;
 use crate::text::{read_plan, read_task, Plan};
 use crate::tokens;
 
@@ -12,6 +14,11 @@ pub const INPUT_BYTES: usize = 65_536;
 pub fn split_program(stdin: &[u8]) -> Vec<u8> {
     let split = read_task(taken(stdin)).and_then(|task| tokens::split(&task));
     printed(split.map(|split| split.task.to_string()))
+}
+
+/// What `pddl` prints for its standard input, which it takes as `split` does.
+pub fn pddl_program(stdin: &[u8]) -> Vec<u8> {
+    printed(read_task(taken(stdin)).map(|task| Pddl(&task).to_string()))
 }
 
 /// What `unfold` prints for its files; "a missing file counts as empty".
