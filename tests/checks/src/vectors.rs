@@ -62,6 +62,22 @@ fn words(field: &str) -> Vec<u16> {
     field.split(',').map(number).collect()
 }
 
+/// What is lent for a result holds in every word or byte before the call.
+const LENT: u8 = 7;
+
+/// The table that a text is read into, with words changed, cut short or with
+/// words behind that don't matter.
+fn changed_table(text: &str, changes: &str) -> Vec<u16> {
+    let mut table = read_table(&bytes(text));
+    for change in changes.split(';').filter(|change| *change != "-") {
+        match change.split_once('=').expect("index=value or len=length") {
+            ("len", length) => table.resize(number(length), LENT.into()),
+            (index, value) => table[number::<usize>(index)] = number(value),
+        }
+    }
+    table
+}
+
 fn shown(printed: &[u8]) -> String {
     String::from_utf8_lossy(printed).into_owned()
 }
@@ -96,13 +112,23 @@ pub fn unfold_program_cases(program: impl Fn(Option<&[u8]>, Option<&[u8]>) -> Ve
 pub fn table_cases(answer: impl Fn(&[u16]) -> u32) {
     each_case("table.txt", |case| {
         let [text, changes, is_table] = case.fields();
-        let mut table = read_table(&bytes(text));
-        for change in changes.split(';').filter(|change| *change != "-") {
-            let (index, value) = change.split_once('=').expect("index=value");
-            table[number::<usize>(index)] = number(value);
-        }
         let expected = if is_table == "1" { 0 } else { 2 };
+        let table = changed_table(text, changes);
         assert_eq!(answer(&table), expected, "{}", case.label);
+    });
+}
+
+/// `01-pddl.txt`, put to the writer of PDDL.
+pub fn pddl_cases(write: impl Fn(&[u16], &mut [u8]) -> Row) {
+    each_case("01-pddl.txt", |case| {
+        let [text, changes, length, refusal, place, count, written] = case.fields();
+        let mut lent = vec![LENT; number(length)];
+        let found = write(&changed_table(text, changes), &mut lent);
+        let expected = [refusal, place, count, "0"].map(number);
+        assert_eq!(found, expected, "{}", case.label);
+        let mut left = bytes(written);
+        left.resize(lent.len(), LENT);
+        assert_eq!(shown(&lent), shown(&left), "{}", case.label);
     });
 }
 
@@ -122,7 +148,7 @@ pub fn run_cases(run: impl Fn(&[u16], &[u16], &mut [u16], u64) -> Row) {
 pub fn list_cases(file: &str, entry: impl Fn(&[u16], &[u16], &mut [u16]) -> Row) {
     each_case(file, |case| {
         let [text, steps, length, expected @ .., left] = case.fields::<8>();
-        let mut out = vec![7; number(length)];
+        let mut out = vec![LENT.into(); number(length)];
         let found = entry(&read_table(&bytes(text)), &words(steps), &mut out);
         assert_eq!(found, expected.map(number), "{}", case.label);
         assert_eq!(out, words(left), "{}", case.label);

@@ -1,8 +1,8 @@
 //! The reference on every case of `vectors/`.
 
-use checks::rows::{fold_row, run_row, unfold_row};
+use checks::rows::{fold_row, run_row, unfold_row, write_row};
 use checks::vectors::{
-    list_cases, run_cases, split_program_cases, table_cases, unfold_program_cases,
+    list_cases, pddl_cases, run_cases, split_program_cases, table_cases, unfold_program_cases,
 };
 use reference::programs::{split_program, unfold_program};
 
@@ -22,6 +22,11 @@ fn table_vectors() {
         let written = reference::write(table, &mut [0; 1 << 16]);
         written.map_or_else(|refusal| refusal.number(), |_| 0)
     });
+}
+
+#[test]
+fn pddl_vectors() {
+    pddl_cases(|table, text| write_row(reference::write_pddl(table, text)));
 }
 
 #[test]
