@@ -6,6 +6,7 @@ pub mod answer;
 pub mod arcs;
 pub mod blocks;
 pub mod pddl;
+pub mod pddl_reader;
 pub mod programs;
 pub mod run;
 pub mod table;
