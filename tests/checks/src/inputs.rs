@@ -23,12 +23,17 @@ pub fn lent_table(random: &mut Random) -> Vec<u16> {
 /// A task and its table, or a damaged one.
 pub fn task_and_table(random: &mut Random) -> (Task, Vec<u16>) {
     let task = any_task(random);
-    let table = if random.chance(1, 8) {
-        tables::damaged(random, &task)
-    } else {
-        tables::table(&task)
-    };
+    let table = table_or_damaged(random, &task);
     (task, table)
+}
+
+/// The table of a task, or a damaged one.
+pub fn table_or_damaged(random: &mut Random, task: &Task) -> Vec<u16> {
+    if random.chance(1, 8) {
+        tables::damaged(random, task)
+    } else {
+        tables::table(task)
+    }
 }
 
 /// The words of steps, or damaged ones.

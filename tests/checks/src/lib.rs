@@ -11,7 +11,7 @@ pub mod vectors;
 use std::io::Write;
 
 use reference::run::STEP_WORDS;
-use reference::table::TABLE_WORDS;
+use reference::table::{PartNumber, Task, TABLE_WORDS};
 
 /// Tells the log how many cases were compared, past the capture of a test's
 /// output.
@@ -27,6 +27,17 @@ pub fn read_table(text: &[u8]) -> Vec<u16> {
     let mut table = vec![0; TABLE_WORDS];
     reference::read(text, &mut table).expect("a text that can be read");
     table
+}
+
+/// The task less its parts, as PDDL tells it: every schema atom in part 0.
+pub fn without_parts(task: &Task) -> Task {
+    let mut task = task.clone();
+    for schema in &mut task.schemas {
+        for atom in &mut schema.atoms {
+            atom.part = PartNumber(0);
+        }
+    }
+    task
 }
 
 /// M, "a logger's move x, y, z".

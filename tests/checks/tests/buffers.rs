@@ -2,11 +2,13 @@
 //! each lent word as document 01 says.
 
 use checks::answers::each_answer;
-use checks::inputs::{junk, lent_state, lent_table, step_words, task_and_table};
-use checks::{read_table, report};
+use checks::inputs::{junk, lent_state, lent_table, step_words, table_or_damaged, task_and_table};
+use checks::{read_table, report, without_parts};
 use generate::split_lists::split_list;
-use generate::tasks::any_task;
+use generate::tasks::{any_task, task_or_split};
 use generate::{limits, steps, texts, Random};
+use reference::pddl::Pddl;
+use reference::pddl_reader::read_pddl;
 use reference::run::{RECORD_WORDS, STEP_WORDS};
 use reference::table::{Task, TABLE_WORDS};
 use reference::{tokens, Answer};
@@ -62,6 +64,26 @@ fn writing() {
         assert!(text[written..].iter().all(|byte| *byte == b'x'));
         if written > 0 {
             assert!(read_table(&text[..written]) == table[..TABLE_WORDS]);
+        }
+        number(&answer)
+    });
+}
+
+#[test]
+fn writing_pddl() {
+    each_answer("writing PDDL", 78, CASES, &[0, 1, 2, 18], |random| {
+        let task = task_or_split(random);
+        let table = table_or_damaged(random, &task);
+        let length = Pddl(&task).to_string().len();
+        let lent = random.pick(&[length - 1, length, length + 1, 2 * length]);
+        let mut text = vec![b'x'; lent];
+        let answer = reference::write_pddl(&table, &mut text);
+        let (written, rest) = text.split_at(answer.unwrap_or(0) as usize);
+        assert!(rest.iter().all(|byte| *byte == b'x'));
+        if answer.is_ok() {
+            let task = Task::from_words(&table).expect("a table");
+            let written = std::str::from_utf8(written).expect("text");
+            assert_eq!(read_pddl(written), Ok(without_parts(&task)));
         }
         number(&answer)
     });
@@ -184,6 +206,7 @@ fn anything() {
         let records = random.bits();
         let bytes: Vec<u8> = steps.iter().map(|word| *word as u8).collect();
         let _ = reference::write(&table, &mut [0; 100]);
+        let _ = reference::write_pddl(&table, &mut [0; 100]);
         let _ = reference::run(&table, &steps, &mut lent, records);
         let _ = reference::unfold(&table, &steps, &mut lent);
         let _ = reference::fold(&table, &steps, &mut lent);

@@ -1,8 +1,10 @@
-//! Every limit at both sides, as text, as table and in a split.
+//! Every limit at both sides, as text, as PDDL, as table and in a split.
 
-use checks::report;
-use generate::limits::{reading, splitting, Limit};
+use checks::{report, without_parts};
+use generate::limits::{largest, longest_pddl, reading, splitting, Limit, LONGEST_PDDL};
 use generate::tables::table;
+use reference::pddl::Pddl;
+use reference::pddl_reader::read_pddl;
 use reference::table::{Task, TABLE_WORDS};
 use reference::{Answer, Place, Reason, Refusal};
 
@@ -58,6 +60,53 @@ fn tables_at_the_limits() {
         assert_eq!(written(outside), refused, "{name}");
     }
     report("limits of tables", 2 * limits.len());
+}
+
+/// Lends so many sevens for the PDDL of a task and gives them back with the
+/// answer.
+fn write_pddl(task: &Task, bytes: usize) -> (Answer<u64>, Vec<u8>) {
+    let mut text = vec![7; bytes];
+    let answer = reference::write_pddl(&table(task), &mut text);
+    (answer, text)
+}
+
+/// Requires the PDDL of a task in just enough bytes, 18 in one fewer, and the
+/// task less its parts where it is read; how many bytes are enough.
+fn require_pddl(task: &Task, name: &str) -> usize {
+    let text = Pddl(task).to_string();
+    assert_eq!(read_pddl(&text), Ok(without_parts(task)), "{name}");
+    let length = text.len();
+    let refused = Err(Refusal::nowhere(Reason::PddlTooLong));
+    let (answer, left) = write_pddl(task, length - 1);
+    assert_eq!((answer, left), (refused, vec![7; length - 1]), "{name}");
+    let (answer, left) = write_pddl(task, length);
+    let written = Ok(length as u64);
+    assert_eq!((answer, left), (written, text.into_bytes()), "{name}");
+    length
+}
+
+#[test]
+fn pddl_at_the_limits() {
+    let limits = reading();
+    for Limit {
+        name,
+        inside,
+        outside,
+        ..
+    } in &limits
+    {
+        let length = require_pddl(inside, name);
+        let refused = Err(Refusal::nowhere(Reason::NotATable));
+        assert_eq!(write_pddl(outside, 2 * length).0, refused, "{name}");
+    }
+    report("limits as PDDL", 2 * limits.len());
+}
+
+#[test]
+fn the_longest_pddl() {
+    let length = require_pddl(&longest_pddl(), "the longest");
+    assert_eq!(length, LONGEST_PDDL);
+    assert!(require_pddl(&largest(), "the largest") < LONGEST_PDDL);
 }
 
 #[test]

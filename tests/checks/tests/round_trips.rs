@@ -1,11 +1,13 @@
-//! Texts and tables, lists and their unfoldings, there and back.
+//! Texts and tables, tasks and their PDDL, lists and their unfoldings, there and
+//! back.
 
-use checks::{read_table, report};
+use checks::{read_table, report, without_parts};
 use generate::split_lists::split_list;
 use generate::steps::{list, words};
 use generate::tables::table;
-use generate::tasks::any_task;
+use generate::tasks::{any_task, parted_anew};
 use generate::Random;
+use reference::pddl_reader::read_pddl;
 use reference::run::STEP_WORDS;
 use reference::table::{Task, MAX_PARTS};
 use reference::tokens;
@@ -43,6 +45,38 @@ fn tables_and_texts() {
     }
     report("round trips of tasks", tasks);
     report("round trips of splits", splits);
+}
+
+/// The PDDL of a task, which must read as that task less its parts.
+fn pddl_round_trip(task: &Task) -> String {
+    let mut text = vec![b'x'; 1 << 17];
+    let bytes = reference::write_pddl(&table(task), &mut text).expect("a table");
+    text.truncate(bytes as usize);
+    let text = String::from_utf8(text).expect("text");
+    assert_eq!(read_pddl(&text), Ok(without_parts(task)), "{text}");
+    text
+}
+
+#[test]
+fn tasks_and_pddl() {
+    let mut random = Random::new(63);
+    let [mut splits, mut parted] = [0; 2];
+    let tasks = 8000;
+    for _ in 0..tasks {
+        let task = any_task(&mut random);
+        let text = pddl_round_trip(&task);
+        let other = parted_anew(&mut random, &task);
+        assert_eq!(pddl_round_trip(&other), text);
+        parted += usize::from(other != task);
+        if let Ok(split) = tokens::split(&task) {
+            pddl_round_trip(&split.task);
+            splits += 1;
+        }
+    }
+    report("PDDL round trips of tasks", tasks);
+    report("PDDL round trips of other parts", parted);
+    report("PDDL round trips of splits", splits);
+    assert!(parted.min(splits) > tasks / 2);
 }
 
 #[test]

@@ -2,6 +2,7 @@
 
 use reference::table::{
     Atom, ObjectNumber, ParameterNumber, PartNumber, Role, Schema, SchemaAtom, Task,
+    MAX_PARAMETERS, MAX_PREDICATES, MAX_SCHEMAS,
 };
 
 use crate::random::Random;
@@ -254,5 +255,30 @@ pub fn largest() -> Task {
         schemas: (0..200).map(schema).collect(),
         initial: ground(500),
         goal: ground(100),
+    }
+}
+
+/// How many bytes the PDDL of a task has at most: 62,614 of the domain, of which
+/// an action has up to 268, and 21,156 of the problem.
+pub const LONGEST_PDDL: usize = 83_770;
+
+/// The task whose PDDL is the longest: its atoms are deletes, five for each
+/// schema, with each parameter of one digit once and else those of two.
+pub fn longest_pddl() -> Task {
+    let delete = |pair: u16| SchemaAtom {
+        role: Role::Delete,
+        part: PartNumber(0),
+        atom: Atom::new(
+            MAX_PREDICATES as u16 - 1,
+            &[2 * pair, 2 * pair + 1, 10, 11].map(ParameterNumber),
+        ),
+    };
+    let schema = Schema {
+        parameters: MAX_PARAMETERS as u16,
+        atoms: (0..5).map(delete).collect(),
+    };
+    Task {
+        schemas: vec![schema; MAX_SCHEMAS],
+        ..largest()
     }
 }

@@ -6,8 +6,9 @@ use std::ops::RangeInclusive;
 use reference::arcs::RULES;
 use reference::table::{
     used_arguments, Atom, GroundAtom, LiftedAtom, ObjectNumber, ParameterNumber, PartNumber, Role,
-    Schema, SchemaAtom, Task,
+    Schema, SchemaAtom, Task, MAX_PARTS,
 };
+use reference::tokens;
 
 use crate::limits;
 use crate::random::Random;
@@ -97,6 +98,28 @@ pub fn any_task(random: &mut Random) -> Task {
         8..=15 => telling_task(random),
         _ => task(random, &Shape::SMALL),
     }
+}
+
+/// A task of any size, or the split of one where it has a split.
+pub fn task_or_split(random: &mut Random) -> Task {
+    let task = any_task(random);
+    if random.chance(1, 2) {
+        return task;
+    }
+    tokens::split(&task).map_or(task, |split| split.task)
+}
+
+/// The task with other parts, from one to as many as a schema may have.
+pub fn parted_anew(random: &mut Random, task: &Task) -> Task {
+    let mut task = task.clone();
+    for schema in &mut task.schemas {
+        let parts = random.within(&(1..=schema.atoms.len().min(MAX_PARTS)));
+        let places = random.permutation(schema.atoms.len());
+        for (atom, place) in schema.atoms.iter_mut().zip(places) {
+            atom.part = PartNumber((place % parts) as u16);
+        }
+    }
+    task
 }
 
 fn arities(random: &mut Random, shape: &Shape) -> Vec<u16> {
