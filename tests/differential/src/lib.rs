@@ -1,8 +1,9 @@
 //! The proved code through its C interface, `include/splitter.h`: a module for
-//! each entry point, with answers as rows of numbers; and the two programs.
+//! each entry point, with answers as rows of numbers; and the programs.
 
 pub mod beside;
 pub mod folding;
+pub mod pddl;
 pub mod programs;
 pub mod reading;
 pub mod running;

@@ -1,4 +1,4 @@
-//! The two programs, each run as a process of its own.
+//! The programs, each run as a process of its own.
 
 use std::fs;
 use std::io::{ErrorKind, Write};

@@ -2,6 +2,8 @@
 //! afterwards. A module for each entry point.
 
 mod folding;
+mod pddl;
+mod pddl_program;
 mod programs;
 mod reading;
 mod running;
@@ -25,6 +27,7 @@ fn every_function_is_compared() {
         ("splitter_run", "running"),
         ("splitter_unfold", "unfolding"),
         ("splitter_fold", "folding"),
+        ("splitter_write_pddl", "pddl"),
     ] {
         let declared = HEADER.contains(&format!("uint32_t {function}("));
         let compared = MODULES.lines().any(|line| line == format!("mod {module};"));

@@ -1,13 +1,13 @@
-//! What the two programs are compared by.
+//! What the programs are compared by.
 
 use reference::programs::INPUT_BYTES;
 
 /// Requires that the program prints what the reference does; whether that is a
 /// refusal.
-pub fn refused(found: Vec<u8>, expected: Vec<u8>) -> bool {
+pub fn refused(found: &[u8], expected: &[u8]) -> bool {
     assert_eq!(
-        String::from_utf8_lossy(&found),
-        String::from_utf8_lossy(&expected)
+        String::from_utf8_lossy(found),
+        String::from_utf8_lossy(expected)
     );
     expected.starts_with(b"refused=")
 }

@@ -11,7 +11,7 @@ use reference::programs::{split_program, INPUT_BYTES};
 #[test]
 fn split_texts() {
     let program = Program::named("split");
-    let compared = |text: &[u8]| refused(program.printed_for(text), split_program(text));
+    let compared = |text: &[u8]| refused(&program.printed_for(text), &split_program(text));
     let mut random = Random::new(187);
     let cases = 800;
     let refusals = (0..cases)

@@ -45,7 +45,7 @@ fn unfold_files() {
     let program = Program::named("unfold");
     let compared = |[task, plan]: [File; 2]| {
         let (task, plan) = (task.as_deref(), plan.as_deref());
-        refused(unfold(&program, task, plan), unfold_program(task, plan))
+        refused(&unfold(&program, task, plan), &unfold_program(task, plan))
     };
     let mut random = Random::new(188);
     let cases = 800;
