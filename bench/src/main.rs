@@ -2,6 +2,7 @@
 
 mod folding;
 mod lists;
+mod pddl;
 mod reading;
 mod running;
 mod splitting;
@@ -14,6 +15,7 @@ fn main() {
     running::bench();
     reading::bench();
     writing::bench();
+    pddl::bench();
     splitting::bench();
     unfolding::bench();
     folding::bench();
