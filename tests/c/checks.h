@@ -160,5 +160,6 @@ static inline uint8_t *file(const char *path, size_t *length) {
 
 #define MOVE_FILE "checks/src/move.txt"
 #define MOVE_SPLIT_FILE "checks/src/move_split.txt"
+#define MOVE_PDDL_FILE "checks/src/move_pddl.txt"
 
 #endif

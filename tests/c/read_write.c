@@ -1,4 +1,4 @@
-/* Reading and writing: M both ways, every refusal, and what is left in each buffer. */
+/* Reading and writing, as text and as PDDL: M both ways, every refusal, and what is left in each buffer. */
 #include "checks.h"
 
 /* Reads a text into words that hold FOUND; requires the answer, and gives the words. */
@@ -82,14 +82,22 @@ static void reads_long_texts(void) {
     free(text);
 }
 
+/* A function that writes a table's task. */
+struct writer {
+    uint32_t (*write)(const uint16_t *, size_t, uint8_t *, size_t, uint64_t *, uint64_t *);
+    uint32_t too_long;
+};
+
+static const struct writer as_text = {splitter_write, 11}, as_pddl = {splitter_write_pddl, 18};
+
 /* Writes into bytes that hold FOUND; requires the answer, and this text at their front. */
-static void expect_written(const uint16_t *table, size_t words, size_t lent, uint32_t number, const uint8_t *text,
-                           size_t bytes, const char *claim, int line) {
+static void expect_written(const struct writer *writer, const uint16_t *table, size_t words, size_t lent,
+                           uint32_t number, const uint8_t *text, size_t bytes, const char *claim, int line) {
     uint64_t place = UNWRITTEN, written = UNWRITTEN;
     uint16_t *read = copy(table, words);
     uint8_t *out = memset(lend(lent), FOUND, lent), *left = memset(lend(lent), FOUND, lent);
     memcpy(left, text, bytes);
-    check_number(splitter_write(read, words, out, lent, &place, &written), number, claim, line);
+    check_number(writer->write(read, words, out, lent, &place, &written), number, claim, line);
     check_number(place, 0, claim, line);
     check_number(written, bytes, claim, line);
     check_bytes(out, left, lent, claim, line);
@@ -99,30 +107,41 @@ static void expect_written(const uint16_t *table, size_t words, size_t lent, uin
     free(left);
 }
 
-#define WRITTEN(table, words, lent, number, text, bytes, claim) \
-    expect_written((table), (words), (lent), (number), (text), (bytes), (claim), __LINE__)
+#define WRITTEN(writer, table, words, lent, number, text, bytes, claim) \
+    expect_written((writer), (table), (words), (lent), (number), (text), (bytes), (claim), __LINE__)
 
-static void writes_move(const uint8_t *text, size_t bytes, const uint16_t *table) {
+static void writes_move(const struct writer *writer, const uint8_t *text, size_t bytes, const uint16_t *table) {
     const size_t words = SPLITTER_TABLE_WORDS;
-    WRITTEN(table, words, bytes, 0, text, bytes, "M into just enough");
-    WRITTEN(table, words, bytes + 9, 0, text, bytes, "M into more");
-    WRITTEN(table, words, bytes - 1, 11, text, 0, "M into one byte too few");
-    WRITTEN(table, words, 0, 11, text, 0, "M into nothing");
-    WRITTEN(table, words - 1, bytes, 1, text, 0, "a short table");
+    WRITTEN(writer, table, words, bytes, 0, text, bytes, "M into just enough");
+    WRITTEN(writer, table, words, bytes + 9, 0, text, bytes, "M into more");
+    WRITTEN(writer, table, words, bytes - 1, writer->too_long, text, 0, "M into one byte too few");
+    WRITTEN(writer, table, words, 0, writer->too_long, text, 0, "M into nothing");
+    WRITTEN(writer, table, words - 1, bytes, 1, text, 0, "a short table");
     uint16_t *damaged = damaged_table();
-    WRITTEN(damaged, words, 0, 2, text, 0, "no table, into nothing");
+    WRITTEN(writer, damaged, words, bytes, 2, text, 0, "no table");
+    WRITTEN(writer, damaged, words, 0, 2, text, 0, "no table, into nothing");
     free(damaged);
 }
 
+/* Parts are not written, so no order needs to comply. */
+static void writes_circular_move_as_pddl(const uint8_t *pddl, size_t bytes) {
+    uint16_t *circular = circular_table();
+    WRITTEN(&as_pddl, circular, SPLITTER_TABLE_WORDS, bytes, 0, pddl, bytes, "M with other parts");
+    free(circular);
+}
+
 int main(void) {
-    size_t bytes;
-    uint8_t *text = file(MOVE_FILE, &bytes);
+    size_t bytes, pddl_bytes;
+    uint8_t *text = file(MOVE_FILE, &bytes), *pddl = file(MOVE_PDDL_FILE, &pddl_bytes);
     uint16_t *table = table_of(&move);
     reads_move(text, bytes, table);
     refuses_texts();
     reads_long_texts();
-    writes_move(text, bytes, table);
+    writes_move(&as_text, text, bytes, table);
+    writes_move(&as_pddl, pddl, pddl_bytes, table);
+    writes_circular_move_as_pddl(pddl, pddl_bytes);
     free(text);
+    free(pddl);
     free(table);
     return end("read_write");
 }
