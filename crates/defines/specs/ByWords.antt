@@ -74,6 +74,8 @@ unfoldable pub actionIn : List ℕ → ℕ → List ℕ
 unfolding actionText schemaAt taskOf
 actionIn w s = space ∷ actionText s (schemaAt (taskOf w) s)
 
--- no text is longer: shut, since a list function would count a numeral down
+-- no text is longer: of the domain 34 bytes, 23 for each of 400 predicates, 123 for each of 200 schemas with 12
+-- parameters, 33 for each of 1,000 atoms, all deletes; of the problem 66, 5 for each of 1,000 objects, 27 for each of
+-- 600 initial and goal atoms; shut, since a list function would count a numeral down
 unfoldable pub longestPddl : ℕ
-longestPddl = 125100
+longestPddl = 88100

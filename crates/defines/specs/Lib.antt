@@ -2,3 +2,4 @@ pub mod Pddl
 pub mod Outcome
 pub mod Parts
 pub mod ByWords
+pub mod Example

@@ -36,7 +36,7 @@ unfolding neighbours
 bracket items = opening ∷ (neighbours items ++ (closing ∷ []))
 
 -- ---- names
--- "objects o0, o1 and on, predicates p0 and on, schemas a0 and on, parameters ?x0 and on": what stands before the number
+-- "objects o0, o1 and on, predicates p0 and on, schemas a0 and on, parameters ?x0 and on": what stands before a number
 abbrev pub object : String
 object = "o"
 

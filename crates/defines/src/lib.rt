@@ -12,7 +12,7 @@ use task::limits::TABLE_WORDS;
 use text::WriteAnswer;
 
 // No text is longer.
-pub const LONGEST_PDDL: usize = 125100;
+pub const LONGEST_PDDL: usize = 88100;
 
 // Writes a table's task as a domain and a problem, each a line. Nothing is written before it is known that all of it
 // fits.

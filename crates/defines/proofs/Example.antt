@@ -1,0 +1,25 @@
+-- The definitions give the PDDL text of M, computed, and those of tasks with empty lists; lent one byte less than M's
+-- text takes, 18 leaves all as found.
+use Rattle.task.specs.declared.Place.the-variants as place
+use mathlib.Core.Path.{_≡_, refl}
+use mathlib.Core.List.{[], _∷_, _++_}
+use lib.ListN.{replicate}
+use Rattle.task.specs.Answers.{result, refused}
+use Rattle.text.specs.Lines.{bytes}
+use Rattle.defines.specs.Example.{writtenInto, m, pddlOfM, bare, pddlOfBare, lone, pddlOfLone}
+
+pub M-written : writtenInto 330 m ≡ record { told = result (329 ∷ []); buffer = bytes pddlOfM ++ (7 ∷ []) }
+unfolding writtenInto m pddlOfM bytes
+M-written = refl
+
+pub M-too-long : writtenInto 328 m ≡ record { told = refused 18 place.Nowhere []; buffer = replicate 328 7 }
+unfolding writtenInto m
+M-too-long = refl
+
+pub bare-written : writtenInto 109 bare ≡ record { told = result (108 ∷ []); buffer = bytes pddlOfBare ++ (7 ∷ []) }
+unfolding writtenInto bare pddlOfBare bytes
+bare-written = refl
+
+pub lone-written : writtenInto 182 lone ≡ record { told = result (181 ∷ []); buffer = bytes pddlOfLone ++ (7 ∷ []) }
+unfolding writtenInto lone pddlOfLone bytes
+lone-written = refl

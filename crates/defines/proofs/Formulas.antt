@@ -1,0 +1,96 @@
+-- An atom as code puts it, ` (p0 ?x0)`, and by its role: in pieces, and how long it is. An atom of a table has at most
+-- four arguments, and no number more than five digits, so that an item takes few bytes.
+use Prim.Native.Nat.{ℕ, zero, suc, _+_, _*_, _≤_, _<_}
+use mathlib.Core.Path.{_≡_, refl, ap}
+use mathlib.Core.List.{List, [], _∷_, _++_}
+use native.Mathlib.Nat.{mul-le-mul}
+use native.Mathlib.Omega.{arith}
+use lib.ListN.{length, getD, length-append}
+use Rattle.words.specs.Lists.{concatMap}
+use Rattle.words.specs.Words.{wordsAt}
+use Rattle.words.proofs.Words.{length-wordsAt}
+use Rattle.task.specs.Layout.{arityIn}
+use Rattle.text.specs.Lines.{bytes, digits}
+use Rattle.text.specs.TableLines.{AtomInside}
+use Rattle.text.proofs.DigitSteps.{at-most-five}
+use Rattle.defines.specs.Pddl.{closing}
+use Rattle.defines.specs.ByWords.{marked, formula, formulaAt, itemAt}
+use Rattle.defines.proofs.MarkedNames.{marked-long, digits-few}
+
+-- ---- a predicate and its arguments
+pub formula-long : (mark : List ℕ) (p : ℕ) (ns : List ℕ) →
+    length (formula mark p ns) ≡ 4 + length (digits p) + length (marked mark ns)
+unfolding formula bytes
+formula-long mark p ns =
+    let a = length-append (digits p) (marked mark ns ++ (closing ∷ [])) in
+    let b = length-append (marked mark ns) (closing ∷ []) in
+    omega arith
+
+-- ---- the atom whose words begin at b
+module _ (w : List ℕ) (b : ℕ) where
+  -- its predicate, and its arguments
+  abbrev pub predAt : ℕ
+  predAt = getD w (b + 2) 0
+
+  abbrev pub argsAt : List ℕ
+  argsAt = wordsAt w (b + 4) (arityIn w predAt)
+
+  pub formulaAt-is : (mark : List ℕ) →
+      formulaAt mark w b ≡ bytes " (p" ++ (digits predAt ++ (marked mark argsAt ++ (closing ∷ [])))
+  unfolding formulaAt formula
+  formulaAt-is mark = refl
+
+  pub formulaAt-long : (mark : List ℕ) →
+      length (formulaAt mark w b) ≡
+      4 + length (digits predAt) + length mark * arityIn w predAt + length (concatMap digits argsAt)
+  unfolding formulaAt
+  formulaAt-long mark =
+      let f = formula-long mark predAt argsAt in
+      let m = marked-long mark argsAt in
+      let n = ap (λ (n : ℕ). length mark * n) (length-wordsAt w (b + 4) (arityIn w predAt)) in
+      omega arith
+
+  -- at most four arguments, each of a mark of three bytes and five digits
+  pub formula-most : (mark : List ℕ) → AtomInside w b → length mark ≤ 3 → length (formulaAt mark w b) ≤ 41
+  formula-most mark h s =
+      let f = formulaAt-long mark in
+      let p = at-most-five predAt in
+      let d = digits-few argsAt in
+      let n = length-wordsAt w (b + 4) (arityIn w predAt) in
+      let few = h .short in
+      let m : length mark * arityIn w predAt ≤ 3 * 4 = mul-le-mul s few in
+      omega arith
+
+  -- ---- by its role
+  pub item-first : (role : ℕ) → role < 2 → itemAt role w b ≡ formulaAt (bytes " ?x") w b
+  unfolding itemAt
+  item-first zero h = refl
+  item-first (suc zero) h = refl
+  item-first (suc (suc r)) h = absurd (omega arith)
+
+  pub item-delete : itemAt 2 w b ≡ bytes " (not" ++ (formulaAt (bytes " ?x") w b ++ (closing ∷ []))
+  unfolding itemAt
+  item-delete = refl
+
+  pub item-other : (role : ℕ) → 2 < role → itemAt role w b ≡ formulaAt (bytes " o") w b
+  unfolding itemAt
+  item-other zero h = absurd (omega arith)
+  item-other (suc zero) h = absurd (omega arith)
+  item-other (suc (suc zero)) h = absurd (omega arith)
+  item-other (suc (suc (suc r))) h = refl
+
+  pub delete-long : length (itemAt 2 w b) ≡ 6 + length (formulaAt (bytes " ?x") w b)
+  unfolding itemAt bytes
+  delete-long =
+      let e = length-append (formulaAt (bytes " ?x") w b) (closing ∷ []) in
+      omega arith
+
+  pub item-most : (role : ℕ) → AtomInside w b → length (itemAt role w b) ≤ 47
+  unfolding itemAt bytes
+  item-most zero h = let m = formula-most (bytes " ?x") h (omega arith) in omega arith
+  item-most (suc zero) h = let m = formula-most (bytes " ?x") h (omega arith) in omega arith
+  item-most (suc (suc zero)) h =
+      let m = formula-most (bytes " ?x") h (omega arith) in
+      let l = delete-long in
+      omega arith
+  item-most (suc (suc (suc r))) h = let m = formula-most (bytes " o") h (omega arith) in omega arith
