@@ -3,8 +3,6 @@
 use Rattle.task.specs.declared.Place.the-variants as place
 use Rattle.text.specs.declared.ReadAnswer.the-variants as answer
 use Rattle.text.specs.declared.ReadAnswer.{ReadAnswer}
-use Rattle.text.specs.declared.WriteAnswer.the-variants as wrote
-use Rattle.text.specs.declared.WriteAnswer.{WriteAnswer}
 use Prim.Native.Nat.{ℕ, _≤_}
 use mathlib.Core.Path.{_≡_, refl, sym, _∙_, ap, ap₂, subst}
 use mathlib.Core.Bool.{true}
@@ -15,7 +13,7 @@ use borrow.Author.Tests.{le-leb}
 use Rattle.task.specs.declared.Place.{Place}
 use Rattle.words.specs.Lists.{over}
 use Rattle.task.specs.Limits.{tableWords, tableLength}
-use Rattle.task.specs.Answers.{placeNumber, refused, Outcome}
+use Rattle.task.specs.Answers.{placeNumber, Told, refused, toldValue, Outcome}
 use Rattle.task.specs.Task.{Task}
 use Rattle.task.specs.Table.{wordsOf, taskOf, longEnough, isTable}
 use Rattle.words.proofs.Puts.{take-over}
@@ -24,7 +22,7 @@ use Rattle.task.proofs.Tables.{words-length, of-table}
 use Rattle.task.proofs.TablesByIndex.{table-of, table-long}
 use Rattle.text.specs.Reading.{Reading, read, refusedAt}
 use Rattle.text.specs.Text.{write, readText}
-use Rattle.text.specs.Outcomes.{readDone, readOutcome, readAnswerTold, writeOutcome, writeAnswerTold}
+use Rattle.text.specs.Outcomes.{readDone, readOutcome, readAnswerTold, writeOutcome}
 use Rattle.text.specs.TableLines.{longestText}
 use Rattle.text.proofs.Outcomes.{read-result, result-read, write-result, writtenOver}
 use Rattle.text.proofs.TaskRead.{read-fits}
@@ -151,20 +149,12 @@ task-written table out is-table room =
     (let most = text-most (taskOf table) (of-table table is-table .0) in
     le-leb (length (write (taskOf table))) (length out) (omega arith))
 
--- what is written so is printed
-module _ (text lent : List ℕ) {a : WriteAnswer} {o : Outcome (List ℕ)} {after : List ℕ}
-    (does : (writeAnswerTold a ≡ o .told) × (after ≡ o .buffer)) (is : o ≡ writtenOver text lent) where
-  pub written-printed : {n : ℕ} → a ≡ wrote.Written n → Prints lent text after n
-  unfolding writeAnswerTold
-  written-printed e =
-      let told = tells writeAnswerTold (does .0) e ∙ told-by is in
-      record { bytes = does .1 ∙ left-by is; count = cc }
-
-  pub never-refused : {k : ℕ} {at : Place} → a ≡ wrote.Refused k at → ⊥
-  unfolding writeAnswerTold
-  never-refused e =
-      let told = tells writeAnswerTold (does .0) e ∙ told-by is in
-      let z : _≡_ {A = ℕ} 0 1 = cc in omega arith
+-- what is written so is printed, as many bytes as the answer carries
+pub written-printed : (text lent : List ℕ) (told : Told) {o : Outcome (List ℕ)} {after : List ℕ} {n : ℕ} →
+    (told ≡ o .told) × (after ≡ o .buffer) → o ≡ writtenOver text lent → n ≡ toldValue 0 told →
+    Prints lent text after n
+written-printed text lent told does is e =
+    record { bytes = does .1 ∙ left-by is; count = e ∙ ap (toldValue 0) (does .0 ∙ told-by is) }
 
 -- ---- the program `split`
 abbrev pub printsSplit : Task → List ℕ

@@ -9,10 +9,11 @@ ghost use mathlib.Core.Path.{_≡_};
 ghost use mathlib.Core.Bool.{true};
 ghost use Prim.Native.Nat.{_+_, _≤_, _<_};
 ghost use lib.ListN.{length};
-ghost use Rattle.task.specs.Answers.{placeNumber};
+ghost use Rattle.task.specs.Answers.{placeNumber, toldValue};
 ghost use Rattle.task.specs.Table.{taskOf, isTable};
 ghost use Rattle.tokens.specs.Split.{split};
 ghost use Rattle.text.specs.Lines.{digitsWithin};
+ghost use Rattle.text.specs.Outcomes.{writeAnswerTold};
 ghost use Rattle.text.specs.Text.{write};
 ghost use Rattle.words.specs.Putting.{Puts};
 ghost use Rattle.text.specs.TableLines.{longestText};
@@ -57,16 +58,23 @@ pub fn put_refusal(out: &mut [u8], number: u32, place: Place) -> usize
     put_byte(out, at_end, b'\n')
 }
 
+// How many bytes an answer of writing carries: a refusal has none.
+fn bytes_written(answer: WriteAnswer) -> usize
+    ensures { λ r. ⌜ r ≡ toldValue 0 (writeAnswerTold answer) ⌝ }
+{
+    match answer {
+        WriteAnswer::Written(bytes) => bytes as usize,
+        WriteAnswer::Refused(number, place) => 0,
+    }
+}
+
 // A table's task as text. The bytes lent hold every text, so that writing never refuses.
 fn put_task(table: &[u16], out: &mut [u8]) -> usize
     requires { ⌜ isTable (now table) ≡ true ⌝ }
     requires { ⌜ longestText ≤ length (now out) ⌝ }
     ensures { λ r. ⌜ Prints (now (out .entry)) (write (taskOf (now (table .entry)))) (now (out .exit)) r ⌝ }
 {
-    match text::write(table, out) {
-        WriteAnswer::Written(bytes) => bytes as usize,
-        WriteAnswer::Refused(number, place) => 0,
-    }
+    bytes_written(text::write(table, out))
 }
 
 // What splitting gives is printed, or its refusal.
