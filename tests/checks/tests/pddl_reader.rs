@@ -201,6 +201,7 @@ fn refuses_what_is_out_of_form() {
     for (piece, other) in [
         (HAND_WRITTEN, ""),
         ("(define (domain", "(defines (domain"),
+        ("(define (domain", "((define (domain"),
         ("(domain piers)", "(problem piers)"),
         ("(domain piers)", "(domain)"),
         ("(domain piers)", "domain piers"),
