@@ -2,6 +2,7 @@
 //! back.
 
 use checks::{read_table, report, without_parts};
+use generate::limits::LONGEST_PDDL;
 use generate::split_lists::split_list;
 use generate::steps::{list, words};
 use generate::tables::table;
@@ -47,10 +48,11 @@ fn tables_and_texts() {
     report("round trips of splits", splits);
 }
 
-/// The PDDL of a task, which must read as that task less its parts.
+/// The PDDL of a task, which must fit where the longest does and read as that
+/// task less its parts; so tasks with the same PDDL differ in no more than these.
 fn pddl_round_trip(task: &Task) -> String {
-    let mut text = vec![b'x'; 1 << 17];
-    let bytes = reference::write_pddl(&table(task), &mut text).expect("a table");
+    let mut text = vec![b'x'; LONGEST_PDDL];
+    let bytes = reference::write_pddl(&table(task), &mut text).expect("enough bytes");
     text.truncate(bytes as usize);
     let text = String::from_utf8(text).expect("text");
     assert_eq!(read_pddl(&text), Ok(without_parts(task)), "{text}");
