@@ -69,7 +69,8 @@ fn table_order_and_four_arguments() {
         "(define (domain d) (:predicates (p0 ?x0 ?x1 ?x2 ?x3) (p1) (p2 ?x0 ?x1 ?x2)) \
          (:action a0 :parameters (?x0 ?x1 ?x2 ?x3 ?x4 ?x5 ?x6 ?x7 ?x8 ?x9 ?x10) \
          :precondition (and (p2 ?x10 ?x9 ?x8) (p0 ?x7 ?x6 ?x5 ?x4) (p1)) \
-         :effect (and (p2 ?x3 ?x2 ?x1) (p0 ?x0 ?x0 ?x10 ?x0) (not (p1)) (not (p0 ?x7 ?x6 ?x5 ?x4)))))\n\
+         :effect (and (p2 ?x3 ?x2 ?x1) (p0 ?x0 ?x0 ?x10 ?x0) (not (p1)) \
+         (not (p0 ?x7 ?x6 ?x5 ?x4)))))\n\
          (define (problem q) (:domain d) (:objects o0 o1 o2 o3 o4 o5 o6 o7 o8 o9 o10 o11) \
          (:init (p0 o11 o0 o10 o9) (p2 o0 o0 o0)) (:goal (and (p1) (p2 o9 o10 o11))))\n"
     );

@@ -79,8 +79,8 @@ fn names_are_numbered_as_declared() {
                 (define (problem p1) (:domain d) (:objects o1 o2 o0)
                   (:init (p2 o0) (p2 o1) (p0 o2 o1)) (:goal (and (p1) (p2 o2))))";
     let mut task = task_of(
-        "task=1\nobjects=3\narity=1,2,0\nschema=2\npre=1:1,0\nadd=0:1\npart=0,0\nschema=1\ndel=0:0\n\
-         part=0\ninit=0:0\ninit=0:2\ninit=1:1,0\ngoal=0:1\ngoal=2:\nend=1\n",
+        "task=1\nobjects=3\narity=1,2,0\nschema=2\npre=1:1,0\nadd=0:1\npart=0,0\n\
+         schema=1\ndel=0:0\npart=0\ninit=0:0\ninit=0:2\ninit=1:1,0\ngoal=0:1\ngoal=2:\nend=1\n",
     );
     // A text keeps its own order, where a table's atoms ascend.
     task.initial.swap(0, 1);
