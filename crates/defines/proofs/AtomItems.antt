@@ -1,12 +1,12 @@
 -- Names and atoms by the words of a table are those of its task: a mark with its space and a number is a space and the
 -- name, so what is put of an atom, its role deciding, is a space and the atom's text.
-use Prim.Native.Nat.{ℕ, zero, suc, _<_}
+use Prim.Native.Nat.{ℕ, suc, _<_}
 use Prim.Native.String.{String}
 use mathlib.Core.Path.{_≡_, refl, sym, _∙_, ap}
 use mathlib.Core.List.{List, [], _∷_, _++_, map}
-use native.Mathlib.Omega.{arith}
 use Rattle.words.specs.Lists.{upTo, upFrom}
 use Rattle.task.specs.Layout.{arityIn, atomBase}
+use Rattle.task.specs.Task.{deletion}
 use Rattle.task.specs.Table.{atomIn, factIn}
 use Rattle.text.specs.Lines.{bytes, digits}
 use Rattle.text.proofs.Pieces.{pieces-map}
@@ -14,6 +14,7 @@ use Rattle.defines.specs.Pddl.{space, closing, object, parameter, follow
 use Rattle.defines.specs.Pddl.{atomicFormula, predicateText, schemaAtomText, factText, negated}
 use Rattle.defines.specs.ByWords.{marked, formula, formulaAt, itemAt, itemIn, predicateIn}
 use Rattle.defines.proofs.Pieces.{atom-pieces, negated-pieces}
+use Rattle.defines.proofs.Formulas.{item-first, item-delete, item-other}
 
 -- ---- names
 pub marked-names : (kind : String) (ns : List ℕ) → marked (space ∷ bytes kind) ns ≡ following (map (named kind) ns)
@@ -47,10 +48,6 @@ unfolding predicateIn predicateText bytes
 predicate-is w p = formula-is parameter p (upTo (arityIn w p))
 
 -- ---- the atoms of a table
-pub item-of-role : (w : List ℕ) (i r : ℕ) → atomIn w i .role ≡ r → itemIn w i ≡ itemAt r w (atomBase w i)
-unfolding itemIn
-item-of-role w i r e = ap (λ (role : ℕ). itemAt role w (atomBase w i)) e
-
 over-parameters : (w : List ℕ) (i : ℕ) →
     formulaAt (bytes " ?x") w (atomBase w i) ≡ space ∷ schemaAtomText (atomIn w i)
 unfolding formulaAt schemaAtomText atomIn bytes
@@ -61,26 +58,21 @@ unfolding formulaAt factText factIn atomIn bytes
 over-objects w i = formula-is object (factIn w i .pred) (factIn w i .args)
 
 -- preconditions and adds
-pub item-plain : (w : List ℕ) (i r : ℕ) → atomIn w i .role ≡ r → r < 2 →
-    itemIn w i ≡ space ∷ schemaAtomText (atomIn w i)
-unfolding itemAt
-item-plain w i zero e l = item-of-role w i 0 e ∙ over-parameters w i
-item-plain w i (suc zero) e l = item-of-role w i 1 e ∙ over-parameters w i
-item-plain w i (suc (suc r)) e l = absurd (omega arith)
+pub item-plain : (w : List ℕ) (i : ℕ) → atomIn w i .role < deletion → itemIn w i ≡ space ∷ schemaAtomText (atomIn w i)
+unfolding itemIn
+item-plain w i l = item-first w (atomBase w i) (atomIn w i .role) l ∙ over-parameters w i
 
 -- deletes
-pub item-negated : (w : List ℕ) (i : ℕ) → atomIn w i .role ≡ 2 →
+pub item-negated : (w : List ℕ) (i : ℕ) → atomIn w i .role ≡ deletion →
     itemIn w i ≡ space ∷ negated (schemaAtomText (atomIn w i))
-unfolding itemAt bytes
+unfolding itemIn bytes
 item-negated w i e =
-    item-of-role w i 2 e ∙
+    ap (λ (role : ℕ). itemAt role w (atomBase w i)) e ∙
+    (item-delete w (atomBase w i) ∙
     (ap (λ (item : List ℕ). bytes " (not" ++ (item ++ (closing ∷ []))) (over-parameters w i) ∙
-    ap {B = List ℕ} (λ text. space ∷ text) (sym (negated-pieces (schemaAtomText (atomIn w i)))))
+    ap {B = List ℕ} (λ text. space ∷ text) (sym (negated-pieces (schemaAtomText (atomIn w i))))))
 
 -- initial and goal atoms
-pub item-fact : (w : List ℕ) (i r : ℕ) → atomIn w i .role ≡ r → 2 < r → itemIn w i ≡ space ∷ factText (factIn w i)
-unfolding itemAt
-item-fact w i zero e l = absurd (omega arith)
-item-fact w i (suc zero) e l = absurd (omega arith)
-item-fact w i (suc (suc zero)) e l = absurd (omega arith)
-item-fact w i (suc (suc (suc r))) e l = item-of-role w i (suc (suc (suc r))) e ∙ over-objects w i
+pub item-fact : (w : List ℕ) (i : ℕ) → deletion < atomIn w i .role → itemIn w i ≡ space ∷ factText (factIn w i)
+unfolding itemIn
+item-fact w i l = item-other w (atomBase w i) (atomIn w i .role) l ∙ over-objects w i

@@ -5,7 +5,12 @@ pub mod Pieces
 pub mod MarkedNames
 pub mod Formulas
 pub mod AtomItems
+pub mod TableItems
+pub mod RunTurns
+pub mod RunsPut
 pub mod RoleRuns
+pub mod Frames
+pub mod SizeTurns
 pub mod DefinesIn
 pub mod Sizes
 pub mod Longest

@@ -10,8 +10,8 @@ use Rattle.words.proofs.Lists.{append-concatMap}
 use Rattle.task.specs.Task.{Schema, Task}
 use Rattle.text.specs.Lines.{bytes, digits, newline}
 use Rattle.defines.specs.Pddl.{space, opening, closing, object, parameter, following, neighbours, bracket, named}
-use Rattle.defines.specs.Pddl.{namesUpTo, numbered, atomicFormula, predicateText, factText, negated, preconditions}
-use Rattle.defines.specs.Pddl.{effects, conjunction, actionText, domainText, problemText, pddl}
+use Rattle.defines.specs.Pddl.{namesUpTo, numbered, atomicFormula, predicateText, factText, negated, conjunction}
+use Rattle.defines.specs.Pddl.{preconditions, effects, actionText, domainText, problemText, pddl}
 
 -- ---- items one behind another
 pub following-append : (xs ys : List (List ℕ)) → following (xs ++ ys) ≡ following xs ++ following ys

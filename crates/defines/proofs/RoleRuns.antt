@@ -55,19 +55,6 @@ items-listed {A} w read say from n xs e said =
     (λ k i. let (a, b) = upFrom-in from n k i in said k a b)) ∙
     ap (λ (m : ℕ). concatMap (itemIn w) (upFrom from m)) z)))
 
--- a run has one end
-pub run-end-same : {w : List ℕ} {s r from to end : ℕ} → RoleRun w s r from to → RoleRun w s r from end → to ≡ end
-run-end-same {to = to} {end = end} a b = elim (decLt to end) [
-  | yes l ↦ absurd (early a b l)
-  | no l ↦ elim (decLt end to) [ yes m ↦ absurd (early b a m) | no m ↦ omega arith ]
-]
-  where
-    early : {w : List ℕ} {s r from to end : ℕ} → RoleRun w s r from to → RoleRun w s r from end → to < end → ⊥
-    early {to = to} a b l =
-        let (number, role) = b .has to (a .ordered) l in
-        let inside = b .within in
-        a .stops (omega arith) number role
-
 -- ---- the facts of a table
 module _ (w : List ℕ) (h : isTable w ≡ true) where
   abbrev t : Task
@@ -116,14 +103,14 @@ module _ (w : List ℕ) (h : isTable w ≡ true) where
       let fr = table-frame w h in
       items-listed w (factIn w) factText (headIn w .schemaAtoms) (headIn w .initialAtoms) (t .init)
       (inits-are w t (fr .sizes) (fr .tabled))
-      (λ k a b. item-fact w k initial (initial-fact k a b .1) (omega arith))
+      (λ k a b. let (_, e) = initial-fact k a b in item-fact w k (omega arith))
 
   pub goal-items : following (map factText (t .goal)) ≡ itemsIn w (goalsFrom w) (atomTotal w)
   goal-items =
       let fr = table-frame w h in
       items-listed w (factIn w) factText (goalsFrom w) (headIn w .goalAtoms) (t .goal)
       (goals-are w t (fr .sizes) (fr .tabled))
-      (λ k a b. item-fact w k goalRole (goal-fact k a b .1) (omega arith))
+      (λ k a b. let (_, e) = goal-fact k a b in item-fact w k (omega arith))
 
 -- ---- the atoms of a schema
 -- where its adds and its deletes begin
@@ -261,7 +248,7 @@ module _ (w : List ℕ) (h : isTable w ≡ true) (s : ℕ) (l : s < headIn w .sc
   pub precondition-items : following (preconditions (schemaAt task s)) ≡ itemsIn w first (addsFrom w s)
   unfolding preconditions addsFrom
   precondition-items =
-      role-items precondition first schemaAtomText (roles-from .0) (λ k e. item-plain w k precondition e (omega arith))
+      role-items precondition first schemaAtomText (roles-from .0) (λ k e. item-plain w k (omega arith))
 
   pub effect-items : following (effects (schemaAt task s)) ≡
       itemsIn w (addsFrom w s) (deletesFrom w s) ++ itemsIn w (deletesFrom w s) end
@@ -271,9 +258,9 @@ module _ (w : List ℕ) (h : isTable w ≡ true) (s : ℕ) (l : s < headIn w .sc
       (map (λ a. negated (schemaAtomText a)) (ofRole deletion atoms)) ∙
       ap₂ (λ (xs ys : List ℕ). xs ++ ys)
       (role-items addition (addsFrom w s) schemaAtomText (roles-from .1 .0)
-      (λ k e. item-plain w k addition e (omega arith)))
+      (λ k e. item-plain w k (omega arith)))
       (role-items deletion (deletesFrom w s) (λ a. negated (schemaAtomText a)) (roles-from .1 .1)
-      (λ k e. item-negated w k e) ∙
+      (item-negated w) ∙
       ap (itemsIn w (deletesFrom w s)) deletes-end)
 
   -- an action up to its preconditions, and what comes behind

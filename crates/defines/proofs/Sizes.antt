@@ -1,7 +1,7 @@
 -- How long the text of a table's task is: the fixed bytes of both defines, the predicates, the actions without their
 -- atoms, the objects, and the items of all atoms, since those of the schemas stand one schema behind another and the
 -- initial and the goal atoms follow.
-use Prim.Native.Nat.{ℕ, zero, suc, _+_, _-_, _≤_, _<_}
+use Prim.Native.Nat.{ℕ, zero, suc, _+_, _-_, _^_, _≤_, _<_}
 use mathlib.Core.Path.{_≡_, _∙_, ap}
 use mathlib.Core.Bool.{true}
 use mathlib.Core.List.{List, [], _∷_, _++_}
@@ -20,9 +20,11 @@ use Rattle.text.specs.Lines.{bytes, newline}
 use Rattle.text.proofs.Onwards.{onwards-short}
 use Rattle.defines.specs.Pddl.{domainText, problemText, pddl}
 use Rattle.defines.specs.ByWords.{marked, itemIn, itemsIn, headText, frameIn, predicateIn, actionIn}
+use Rattle.defines.specs.ByWords.{longestPddl}
 use Rattle.defines.proofs.Pieces.{pddl-pieces}
 use Rattle.defines.proofs.RoleRuns.{addsFrom, deletesFrom, precondition-run, add-run, delete-run, action-in}
 use Rattle.defines.proofs.DefinesIn.{domain-in, problem-in}
+use Rattle.defines.proofs.Longest.{table-most}
 
 -- ---- pieces
 three-long : (xs ys zs : List ℕ) → length (xs ++ (ys ++ zs)) ≡ length xs + (length ys + length zs)
@@ -41,6 +43,13 @@ items-parted w from mid to a b =
     (append-concatMap (itemIn w) (upFrom from (mid - from)) (upFrom (from + (mid - from)) (to - mid)) ∙
     ap (λ (n : ℕ). itemsIn w from mid ++ concatMap (itemIn w) (upFrom n (to - mid))) z)) in
     ap length parts ∙ length-append (itemsIn w from mid) (itemsIn w mid to)
+
+-- 100 fixed bytes, and the sizes that code counts
+abbrev pub sizesIn : List ℕ → ℕ
+sizesIn w =
+    100 + length (concatMap (predicateIn w) (upTo (headIn w .predicates))) +
+    length (concatMap (frameIn w) (upTo (headIn w .schemas))) +
+    length (marked (bytes " o") (upTo (headIn w .objects))) + length (itemsIn w 0 (atomTotal w))
 
 module _ (w : List ℕ) (h : isTable w ≡ true) where
   abbrev t : Task
@@ -91,11 +100,7 @@ module _ (w : List ℕ) (h : isTable w ≡ true) where
       omega arith
 
   -- ---- the whole
-  -- the fixed bytes are 100
-  pub pddl-long : length (pddl t) ≡
-      100 + length (concatMap (predicateIn w) (upTo (headIn w .predicates))) +
-      length (concatMap (frameIn w) (upTo (headIn w .schemas))) +
-      length (marked (bytes " o") (upTo (headIn w .objects))) + length (itemsIn w 0 (atomTotal w))
+  pub pddl-long : length (pddl t) ≡ sizesIn w
   unfolding bytes upTo sum
   pddl-long =
       let predicates = concatMap (predicateIn w) (upTo (headIn w .predicates)) in
@@ -106,7 +111,8 @@ module _ (w : List ℕ) (h : isTable w ≡ true) where
       let both = ap length (pddl-pieces t) in
       let two = length-append (domainText t ++ (newline ∷ [])) (problemText t ++ (newline ∷ [])) in
       let domain = ap length (domain-in w h) in
-      let d₁ = three-long (bytes "(define (domain d) (:predicates") predicates (bytes ")" ++ (actions ++ bytes ")\n")) in
+      let d₁ = three-long (bytes "(define (domain d) (:predicates") predicates
+      (bytes ")" ++ (actions ++ bytes ")\n")) in
       let d₂ = three-long (bytes ")") actions (bytes ")\n") in
       let problem = ap length (problem-in w h) in
       let p₁ = three-long (bytes "(define (problem q) (:domain d) (:objects") objects
@@ -117,3 +123,8 @@ module _ (w : List ℕ) (h : isTable w ≡ true) where
       let i₁ = items-parted w 0 (headIn w .schemaAtoms) (atomTotal w) (omega arith) (omega arith) in
       let i₂ = items-parted w (headIn w .schemaAtoms) (goalsFrom w) (atomTotal w) (omega arith) (omega arith) in
       omega arith
+
+  -- no sum wraps
+  pub sizes-fit : sizesIn w < 2 ^ 64
+  unfolding longestPddl
+  sizes-fit = let e = pddl-long in let m = table-most w h in omega arith

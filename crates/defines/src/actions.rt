@@ -20,7 +20,7 @@ ghost use Prim.Native.Nat.{suc, _+_, _≤_, _<_};
 ghost use lib.ListN.{length};
 ghost use Rattle.words.specs.Lists.{upTo, concatMap};
 ghost use Rattle.words.specs.Putting.{Puts};
-ghost use Rattle.task.specs.Layout.{headIn, paramsIn};
+ghost use Rattle.task.specs.Layout.{headIn};
 ghost use Rattle.task.specs.Limits.{mostParameters};
 ghost use Rattle.task.specs.Table.{taskOf, isTable};
 ghost use Rattle.task.specs.Turns.{firstAtom};

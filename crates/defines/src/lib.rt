@@ -10,6 +10,8 @@ ghost use Rattle.defines.specs.Outcome.{pddlOutcome};
 use task::Place;
 use task::limits::TABLE_WORDS;
 use text::WriteAnswer;
+use writer::has_room;
+use writer::put_pddl;
 
 // No text is longer.
 pub const LONGEST_PDDL: usize = 88100;
@@ -26,5 +28,8 @@ pub fn write_pddl(table: &[u16], text: &mut [u8]) -> WriteAnswer
     if !task::table::is_table(table) {
         return WriteAnswer::Refused(2, Place::Nowhere);
     }
-    writer::write_defines(table, text)
+    if !has_room(table, text.len()) {
+        return WriteAnswer::Refused(18, Place::Nowhere);
+    }
+    WriteAnswer::Written(put_pddl(text, table) as u64)
 }

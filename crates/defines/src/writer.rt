@@ -10,13 +10,11 @@ use crate::names::OBJECT;
 use crate::names::PARAMETER;
 use crate::names::below_size;
 use crate::names::put_numbered;
-use task::Place;
 use task::layout::arity_of;
 use task::limits::GOAL;
 use task::limits::INITIAL;
 use task::limits::OBJECTS;
 use task::limits::PREDICATES;
-use text::WriteAnswer;
 use text::put::number_size;
 use text::put::put_byte;
 use text::put::put_bytes;
@@ -36,9 +34,7 @@ ghost use Rattle.task.specs.Layout.{headIn};
 ghost use Rattle.task.specs.Limits.{mostArity};
 ghost use Rattle.task.specs.Table.{taskOf, isTable};
 ghost use Rattle.text.specs.Lines.{bytes, newline};
-ghost use Rattle.text.specs.Outcomes.{writeAnswerTold};
 ghost use Rattle.defines.specs.Pddl.{domainText, problemText, pddl};
-ghost use Rattle.defines.specs.Outcome.{pddlOutcome};
 ghost use Rattle.defines.specs.ByWords.{marked, formula, predicateIn};
 
 // "`(p0 ?x0)`": a predicate with as many parameters as its arity says.
@@ -106,7 +102,7 @@ fn put_problem(text: &mut [u8], at: usize, table: &[u16], from: usize) -> usize
     put_bytes(text, end.at, b")))\n")
 }
 
-fn put_pddl(text: &mut [u8], table: &[u16]) -> usize
+pub fn put_pddl(text: &mut [u8], table: &[u16]) -> usize
     requires { ⌜ isTable (now table) ≡ true ⌝ }
     requires { ⌜ length (pddl (taskOf (now table))) ≤ length (now text) ⌝ }
     ensures { λ r. ⌜ Puts (now (text .entry)) 0 (pddl (taskOf (now (table .entry)))) (now (text .exit)) r ⌝ }
@@ -159,7 +155,7 @@ fn pddl_size(table: &[u16]) -> usize
 }
 
 // Whether the text of a table's task is no longer than the lent bytes. No count is needed for bytes that hold any text.
-fn has_room(table: &[u16], bytes: usize) -> bool
+pub fn has_room(table: &[u16], bytes: usize) -> bool
     requires { ⌜ isTable (now table) ≡ true ⌝ }
     ensures { λ r. ⌜ r ≡ leb (length (pddl (taskOf (now (table .entry))))) bytes ⌝ }
 {
@@ -167,16 +163,4 @@ fn has_room(table: &[u16], bytes: usize) -> bool
         return true;
     }
     pddl_size(table) <= bytes
-}
-
-// Writes the text of a table's task, or refuses with 18: "the text is longer than the lent bytes".
-pub fn write_defines(table: &[u16], text: &mut [u8]) -> WriteAnswer
-    requires { ⌜ isTable (now table) ≡ true ⌝ }
-    ensures { λ r. ⌜ writeAnswerTold r ≡ pddlOutcome (now (table .entry)) (now (text .entry)) .told ⌝ }
-    ensures { λ _. ⌜ now (text .exit) ≡ pddlOutcome (now (table .entry)) (now (text .entry)) .buffer ⌝ }
-{
-    if !has_room(table, text.len()) {
-        return WriteAnswer::Refused(18, Place::Nowhere);
-    }
-    WriteAnswer::Written(put_pddl(text, table) as u64)
 }

@@ -3,7 +3,6 @@
 use native.Mathlib.Omega.{arith}
 use Prim.Native.Nat.{ℕ, _+_, _≤_}
 use mathlib.Core.Path.{_≡_, sym, _∙_, ap}
-use mathlib.Core.List.{List}
 use lib.ListN.{length, getD}
 use Rattle.text.specs.Lines.{bytes}
 use Rattle.defines.specs.ByWords.{itemAt}

@@ -1,5 +1,5 @@
--- `defines::atoms::put_atom` meets its contract: ` (p`, predicate, arguments and `)` are put one behind another. A lemma
--- for each says what is still to come behind it.
+-- `defines::atoms::put_atom` meets its contract: ` (p`, predicate, arguments and `)` are put one behind another. A
+-- lemma for each says what is still to come behind it.
 use native.Mathlib.Omega.{arith}
 use Prim.Native.Nat.{ℕ, _+_, _≤_}
 use mathlib.Core.Path.{_≡_, sym, _∙_, ap, subst}

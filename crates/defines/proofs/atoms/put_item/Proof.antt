@@ -20,7 +20,9 @@ item c role = itemAt role (c .args .table .now) (c .args .base)
 abbrev atom : tie.Start → List ℕ → List ℕ
 atom c mark = formulaAt mark (c .args .table .now) (c .args .base)
 
-room : (c : tie.Start) (bs : List ℕ) → item c (c .args .role) ≡ bs → c .args .at + length bs ≤ length (c .args .text .now)
+-- there is room for what the item is
+room : (c : tie.Start) (bs : List ℕ) → item c (c .args .role) ≡ bs →
+    c .args .at + length bs ≤ length (c .args .text .now)
 room c bs e = subst (λ (bs : List ℕ). c .args .at + length bs ≤ length (c .args .text .now)) e (c .pre .1)
 
 first : (c : tie.Then1) →

@@ -1,7 +1,7 @@
 -- `defines::names::put_numbered` meets its contract. The invariant of its loop: what is still to come is the names of
 -- the numbers from n on. The measure is the last number less n.
 use native.Mathlib.Omega.{arith}
-use Prim.Native.Nat.{_+_, _-_, _≤_}
+use Prim.Native.Nat.{_+_, _-_}
 use mathlib.Core.List.{_++_}
 use Rattle.words.specs.Lists.{upFrom}
 use Rattle.words.proofs.Puts.{Going, going-start, going-long, going-left, going-room, going-on, going-end}
@@ -20,9 +20,9 @@ abbrev μ-loop : tie.MeasureT-loop
 
 loop-holds : tie.Need-loop-holds Inv-loop μ-loop
 loop-holds c =
-    let start = c .before .before in
-    going-left (marked-pieces (start .args .mark .now) (upFrom (start .args .from) (start .args .to - start .args .from)))
-    (going-start (start .pre))
+    let args = c .before .before .args in
+    going-left (marked-pieces (args .mark .now) (upFrom (args .from) (args .to - args .from)))
+    (going-start (c .before .before .pre))
 
 -- what is to come is the name of n, and then those from n + 1 on
 to-come : (c : tie.In-loop Inv-loop μ-loop) →

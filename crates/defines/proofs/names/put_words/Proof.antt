@@ -1,7 +1,7 @@
 -- `defines::names::put_words` meets its contract. The invariant of its loop: what is still to come is the names of the
 -- words from k on. The measure is n less k.
 use native.Mathlib.Omega.{arith}
-use Prim.Native.Nat.{ℕ, _+_, _-_, _≤_}
+use Prim.Native.Nat.{ℕ, _+_, _-_}
 use mathlib.Core.Path.{ap}
 use mathlib.Core.List.{List, _++_}
 use lib.ListN.{length, getD}

@@ -11,7 +11,6 @@ use Rattle.words.proofs.Words.{length-wordsAt}
 use Rattle.text.specs.Lines.{digits}
 use Rattle.text.proofs.Onwards.{onwards, onwards-longer, onwards-short}
 use Rattle.defines.proofs.MarkedNames.{words-onwards, digits-few}
-use borrow.Author.Needs.{needs}
 use Rattle.defines.proofs.names.words_size.Statement.{statement}
 use Rattle.defines.proofs.names.words_size.Tie as tie
 

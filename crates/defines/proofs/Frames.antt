@@ -1,0 +1,179 @@
+-- Actions and predicates besides their atoms, in the pieces that code puts, and how long they are: parameters in their
+-- bracket, an action up to its preconditions, a predicate with its parameters. Each takes few bytes, so no sum of their
+-- sizes wraps.
+use Prim.Native.Nat.{ℕ, zero, suc, _+_, _*_, _-_, _^_, _≤_, _<_}
+use mathlib.Core.Path.{_≡_, refl, _∙_, ap}
+use mathlib.Core.Bool.{true}
+use mathlib.Core.List.{List, [], _∷_, _++_}
+use native.Mathlib.Omega.{arith}
+use lib.ListN.{length, length-append}
+use borrow.Author.Tests.{leb-true}
+use Rattle.words.specs.Lists.{upTo, upFrom, concatMap}
+use Rattle.words.proofs.Lists.{length-upTo}
+use Rattle.task.specs.Limits.{mostObjects, mostArity, mostParameters, headWords}
+use Rattle.task.specs.Layout.{headIn, paramsBase, arityIn, paramsIn}
+use Rattle.task.specs.Table.{taskOf, isTable}
+use Rattle.task.proofs.Tests.{task-tests}
+use Rattle.task.proofs.StepWords.{params-few}
+use Rattle.task.proofs.Tables.{of-table}
+use Rattle.task.proofs.TablesByIndex.{table-frame, objects-word, schemas-word}
+use Rattle.task.proofs.TableReads.{table-roomy, params-word}
+use Rattle.text.specs.Lines.{bytes, digits}
+use Rattle.text.proofs.DigitSteps.{at-most-five}
+use Rattle.defines.specs.Pddl.{space, closing, parameter, following, neighbours, named, namesUpTo}
+use Rattle.defines.specs.ByWords.{marked, formula, headText, frameIn, predicateIn}
+use Rattle.defines.proofs.MarkedNames.{marked-long, digits-few}
+use Rattle.defines.proofs.Formulas.{formula-long}
+use Rattle.defines.proofs.SizeTurns.{sum-fits}
+use Rattle.defines.proofs.AtomItems.{names-marked, no-neighbours, first-neighbour}
+
+-- ---- the names of the numbers below n
+pub names-long : (mark : List ℕ) (n : ℕ) →
+    length (marked mark (upTo n)) ≡ length mark * n + length (concatMap digits (upTo n))
+names-long mark n =
+    marked-long mark (upTo n) ∙
+    ap (λ (k : ℕ). length mark * k + length (concatMap digits (upTo n))) (length-upTo n)
+
+pub below-few : (n : ℕ) → length (concatMap digits (upTo n)) ≤ 5 * n
+below-few n = let d = digits-few (upTo n) in let l = length-upTo n in omega arith
+
+-- ---- parameters in their bracket
+abbrev pub parameters : ℕ → List ℕ
+parameters n = neighbours (namesUpTo parameter n)
+
+-- the first, and the others behind it
+pub first-parameter : (n : ℕ) → 0 < n → parameters n ≡ bytes "?x0" ++ marked (bytes " ?x") (upFrom 1 (n - 1))
+unfolding bytes named digits
+first-parameter zero h = absurd (omega arith)
+first-parameter (suc n) h =
+    let e : n ≡ suc n - 1 = omega arith in
+    first-neighbour parameter n ∙ ap (λ (k : ℕ). bytes "?x0" ++ marked (bytes " ?x") (upFrom 1 k)) e
+
+-- with a space before the first they are names that follow something
+spaced-parameters : (n : ℕ) → space ∷ parameters (suc n) ≡ following (namesUpTo parameter (suc n))
+unfolding following neighbours namesUpTo upTo upFrom concatMap
+spaced-parameters n = refl
+
+pub parameters-long : (n : ℕ) → 0 < n → length (parameters n) + 1 ≡ 3 * n + length (concatMap digits (upTo n))
+unfolding bytes
+parameters-long zero h = absurd (omega arith)
+parameters-long (suc n) h =
+    let e = ap length (spaced-parameters n ∙ names-marked parameter (suc n)) in
+    let l = names-long (bytes " ?x") (suc n) in
+    omega arith
+
+pub parameters-few : (n : ℕ) → length (parameters n) ≤ 8 * n
+parameters-few zero = let e = ap length (no-neighbours parameter) in omega arith
+parameters-few (suc n) =
+    let e = parameters-long (suc n) (omega arith) in
+    let d = below-few (suc n) in
+    omega arith
+
+-- ---- an action up to its preconditions
+pub head-is : (s n : ℕ) → headText s n ≡
+    bytes " (:action a" ++ (digits s ++ (bytes " :parameters (" ++ (parameters n ++ bytes ") :precondition (and")))
+unfolding headText
+head-is s n = refl
+
+pub head-long : (s n : ℕ) → length (headText s n) ≡ 45 + (length (digits s) + length (parameters n))
+unfolding bytes
+head-long s n =
+    let e = ap length (head-is s n) in
+    let d = length-append (digits s) (bytes " :parameters (" ++ (parameters n ++ bytes ") :precondition (and")) in
+    let p = length-append (parameters n) (bytes ") :precondition (and") in
+    omega arith
+
+pub frame-long : (w : List ℕ) (s : ℕ) → length (frameIn w s) ≡ length (headText s (paramsIn w s)) + 16
+unfolding frameIn bytes
+frame-long w s = length-append (headText s (paramsIn w s)) (bytes ") :effect (and))")
+
+-- ---- a predicate and its parameters
+pub predicate-pieces : (p n : ℕ) → formula (bytes " ?x") p (upTo n) ≡
+    bytes " (p" ++ (digits p ++ (marked (bytes " ?x") (upFrom 0 (n - 0)) ++ (closing ∷ [])))
+unfolding formula upTo
+predicate-pieces p n =
+    let e : n ≡ n - 0 = omega arith in
+    ap (λ (k : ℕ). bytes " (p" ++ (digits p ++ (marked (bytes " ?x") (upFrom 0 k) ++ (closing ∷ [])))) e
+
+pub predicate-long : (p n : ℕ) → length (formula (bytes " ?x") p (upTo n)) ≡
+    4 + length (digits p) + (3 * n + length (concatMap digits (upTo n)))
+unfolding bytes
+predicate-long p n =
+    formula-long (bytes " ?x") p (upTo n) ∙ ap (λ (k : ℕ). 4 + length (digits p) + k) (names-long (bytes " ?x") n)
+
+-- ---- those of a table, by the words that code reads
+pub few-objects : (w : List ℕ) → isTable w ≡ true → headIn w .objects ≤ mostObjects
+few-objects w table =
+    let e = objects-word w (table-frame w table) in
+    let l = leb-true (taskOf w .objects) mostObjects (task-tests (taskOf w) (of-table w table .0) .objects) in
+    omega arith
+
+-- what a loop over the n predicates, or schemas, of a table knows at number k
+pub record Counting (w : List ℕ) (count n k : ℕ) : Type 0 where
+  pub table : isTable w ≡ true
+  pub counted : n ≡ count
+  pub within : k ≤ n
+
+pub counting-next : {w : List ℕ} {count n k : ℕ} → Counting w count n k → k < n → Counting w count n (k + 1)
+counting-next at below = record { table = at .table; counted = at .counted; within = omega arith }
+
+-- predicate p, which code holds as i too
+module _ {w : List ℕ} {n p i : ℕ} (at : Counting w (headIn w .predicates) n p) (below : p < n) (held : i ≡ p) where
+  pub arity-inside : headWords + i < length w
+  arity-inside = let r = table-roomy w (at .table) .inside in let c = at .counted in omega arith
+
+  -- the arity that is read
+  module _ {arity : ℕ} (read : arity ≡ arityIn w i) where
+    pub arity-few : arity ≤ mostArity
+    arity-few = let c = at .counted in let few = table-roomy w (at .table) .arities i (omega arith) in omega arith
+
+    pub predicate-read : formula (bytes " ?x") p (upTo arity) ≡ predicateIn w p
+    unfolding predicateIn
+    predicate-read = ap (λ (k : ℕ). formula (bytes " ?x") p (upTo k)) (read ∙ ap (arityIn w) held)
+
+-- schema s, likewise
+module _ {w : List ℕ} {n s i : ℕ} (at : Counting w (headIn w .schemas) n s) (below : s < n) (held : i ≡ s) where
+  pub count-inside : paramsBase w + i < length w
+  count-inside = let r = table-roomy w (at .table) .inside in let c = at .counted in omega arith
+
+  -- the parameter count that is read
+  module _ {params : ℕ} (read : params ≡ paramsIn w i) where
+    pub count-few : params ≤ mostParameters
+    count-few =
+        let c = at .counted in
+        let m = schemas-word w (table-frame w (at .table)) in
+        let e = params-word w (at .table) i (omega arith) in
+        let f = params-few (taskOf w) (of-table w (at .table) .0) i in
+        omega arith
+
+    pub head-read : headText s params ≡ headText s (paramsIn w s)
+    head-read = ap (headText s) (read ∙ ap (paramsIn w) held)
+
+-- ---- no sum of their sizes wraps
+pub predicates-fit : {w : List ℕ} {n p : ℕ} → Counting w (headIn w .predicates) n p →
+    length (concatMap (predicateIn w) (upTo n)) < 2 ^ 32
+unfolding predicateIn
+predicates-fit {w} {n} at =
+    let c = at .counted in
+    let r = table-roomy w (at .table) .few in
+    sum-fits (predicateIn w) n (omega arith) (λ p below.
+    let l = predicate-long p (arityIn w p) in
+    let few = table-roomy w (at .table) .arities p (omega arith) in
+    let d = at-most-five p in
+    let b = below-few (arityIn w p) in
+    omega arith)
+
+pub frames-fit : {w : List ℕ} {n s : ℕ} → Counting w (headIn w .schemas) n s →
+    length (concatMap (frameIn w) (upTo n)) < 2 ^ 32
+frames-fit {w} {n} at =
+    let c = at .counted in
+    let r = table-roomy w (at .table) .few in
+    sum-fits (frameIn w) n (omega arith) (λ s below.
+    let here : Counting w (headIn w .schemas) n s =
+    record { table = at .table; counted = at .counted; within = omega arith } in
+    let l = frame-long w s in
+    let h = head-long s (paramsIn w s) in
+    let p = parameters-few (paramsIn w s) in
+    let few = count-few here below refl refl in
+    let d = at-most-five s in
+    omega arith)
