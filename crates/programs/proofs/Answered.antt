@@ -2,6 +2,8 @@
 -- too, and a refusal is the one that is printed.
 use Rattle.task.specs.declared.Place.the-variants as place
 use Rattle.text.specs.declared.ReadAnswer.the-variants as answer
+use Rattle.programs.specs.declared.tasks.Form.the-variants as form
+use Rattle.programs.specs.declared.tasks.Form.{Form}
 use Rattle.text.specs.declared.ReadAnswer.{ReadAnswer}
 use Prim.Native.Nat.{ℕ, _≤_}
 use mathlib.Core.Path.{_≡_, refl, sym, _∙_, ap, ap₂, subst}
@@ -28,11 +30,16 @@ use Rattle.text.proofs.Outcomes.{read-result, result-read, write-result, writte
 use Rattle.text.proofs.TaskRead.{read-fits}
 use Rattle.text.proofs.ReadLoop.{long-outcome}
 use Rattle.text.proofs.LongestText.{text-most}
+use Rattle.defines.specs.Pddl.{pddl}
+use Rattle.defines.specs.Outcome.{pddlOutcome}
+use Rattle.defines.specs.ByWords.{longestPddl}
+use Rattle.defines.proofs.PddlOutcome.{pddl-written}
+use Rattle.defines.proofs.Longest.{table-most}
 use Rattle.tokens.specs.Split.{Splitting, circular, tooLarge, splitAs, split, splitOutcome}
 use Rattle.tokens.proofs.SplitOutcome.{refused-nine, refused-ten, split-refused as outcome-refused, split-done}
-use Rattle.programs.specs.Programs.{taken, refusal, printReading, printSplitting, splitProgram}
+use Rattle.programs.specs.Programs.{taken, refusal, printReading, printSplitting, splitProgram, pddlProgram}
 use Rattle.task.proofs.Answers.{told-by, left-by, tells}
-use Rattle.programs.specs.Printing.{Prints}
+use Rattle.programs.specs.Printing.{Prints, made, roomFor}
 use Rattle.programs.proofs.Printed.{prints-same}
 
 -- ---- words of zeros, as a function has them before they are written
@@ -149,6 +156,13 @@ task-written table out is-table room =
     (let most = text-most (taskOf table) (of-table table is-table .0) in
     le-leb (length (write (taskOf table))) (length out) (omega arith))
 
+-- the same of the PDDL text
+pub pddl-whole : (table out : List ℕ) → isTable table ≡ true → longestPddl ≤ length out →
+    pddlOutcome table out ≡ writtenOver (pddl (taskOf table)) out
+pddl-whole table out is-table room =
+    pddl-written table out is-table
+    (let most = table-most table is-table in le-leb (length (pddl (taskOf table))) (length out) (omega arith))
+
 -- what is written so is printed, as many bytes as the answer carries
 pub written-printed : (text lent : List ℕ) (told : Told) {o : Outcome (List ℕ)} {after : List ℕ} {n : ℕ} →
     (told ≡ o .told) × (after ≡ o .buffer) → o ≡ writtenOver text lent → n ≡ toldValue 0 told →
@@ -156,10 +170,33 @@ pub written-printed : (text lent : List ℕ) (told : Told) {o : Outcome (List �
 written-printed text lent told does is e =
     record { bytes = does .1 ∙ left-by is; count = e ∙ ap (toldValue 0) (does .0 ∙ told-by is) }
 
--- ---- the program `split`
+-- ---- the programs that read one task
+pub same-room : {n : ℕ} (f g : Form) → f ≡ g → roomFor f ≤ n → roomFor g ≤ n
+same-room {n} f g e room = subst (λ (f : Form). roomFor f ≤ n) e room
+
+pub same-made : (f g : Form) → f ≡ g → (t : Task) {lent after : List ℕ} {n : ℕ} →
+    Prints lent (made g t) after n → Prints lent (made f t) after n
+same-made f g e t p = prints-same (ap (λ (f : Form). made f t) (sym e)) p
+
+-- what holds all that is made of tasks holds a refusal's line
+pub refusal-fits : {n : ℕ} (f : Form) → roomFor f ≤ n → longestText ≤ n
+unfolding roomFor
+refusal-fits form.Split room = room
+refusal-fits form.Pddl room = omega arith
+
+pub as-printed : {program lent text after : List ℕ} {n : ℕ} → program ≡ text → Prints lent text after n →
+    Printed lent program after n
+as-printed is p = let q = prints-same (sym is) p in (q .bytes, q .count)
+
+-- the program `split`
 abbrev pub printsSplit : Task → List ℕ
 printsSplit t = printSplitting write (split t)
 
-pub split-is : (text : List ℕ) → splitProgram text ≡ printReading printsSplit (readText (taken text))
-unfolding splitProgram
+pub split-is : (text : List ℕ) → splitProgram text ≡ printReading (made form.Split) (readText (taken text))
+unfolding splitProgram made
 split-is text = refl
+
+-- the program `pddl`
+pub pddl-is : (text : List ℕ) → pddlProgram text ≡ printReading (made form.Pddl) (readText (taken text))
+unfolding pddlProgram made
+pddl-is text = refl

@@ -10,9 +10,10 @@ use Rattle.task.specs.Task.{Task}
 use Rattle.text.specs.Reading.{read}
 use Rattle.text.specs.Text.{readText}
 use Rattle.text.specs.TableLines.{longestText}
+use Rattle.defines.specs.Pddl.{pddl}
 use Rattle.text.proofs.TaskRead.{written-read, read-fits}
 use Rattle.text.proofs.LongestText.{text-most}
-use Rattle.programs.specs.Programs.{mostBytes, taken, printReading, splitProgram, unfoldProgram}
+use Rattle.programs.specs.Programs.{mostBytes, taken, printReading, splitProgram, unfoldProgram, pddlProgram}
 use Rattle.programs.proofs.Answered.{printsSplit}
 use Rattle.programs.proofs.PlanUnfolded.{printsPlan}
 
@@ -47,3 +48,8 @@ module _ (bs : List ℕ) (t : Task) (accepted : readText bs ≡ read t) where
   pub accepted-unfold : (plan : List ℕ) → unfoldProgram bs plan ≡ printsPlan plan t
   unfolding unfoldProgram printReading
   accepted-unfold plan = ap (printReading (printsPlan plan)) taken-read
+
+  -- the program `pddl` prints the task that the whole text is
+  pub accepted-pddl : pddlProgram bs ≡ pddl t
+  unfolding pddlProgram printReading
+  accepted-pddl = ap (printReading pddl) taken-read

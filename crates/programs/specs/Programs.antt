@@ -1,4 +1,4 @@
--- 'Text form', the two programs as functions of their input bytes.
+-- 'Text form', the two programs as functions of their input bytes; and the program of document 02's note 1.
 use Prim.Native.Nat.{ℕ}
 use mathlib.Core.List.{List, [], _∷_}
 use lib.ListN.{take}
@@ -9,6 +9,7 @@ use Rattle.text.specs.Lines.{entryBytes, line}
 use Rattle.text.specs.Reading.{Reading, read, refusedAt}
 use Rattle.text.specs.Text.{write, readText}
 use Rattle.text.specs.Plan.{readPlan, writePlan}
+use Rattle.defines.specs.Pddl.{pddl}
 
 -- "A program takes the first 65,536 bytes of an input": shut, since a list function would count a numeral down
 unfoldable pub mostBytes : ℕ
@@ -52,3 +53,8 @@ unfoldProgram task plan =
     (λ steps. printSplitting (λ t′. writePlan (unfoldSteps t steps)) (split t))
     (readPlan t (taken plan)))
     (readText (taken task))
+
+-- the program `pddl` takes its standard input as `split` does, and prints the task as planners that read PDDL take it
+unfoldable pub pddlProgram : List ℕ → List ℕ
+unfolding printReading readText taken pddl
+pddlProgram input = printReading pddl (readText (taken input))

@@ -1,4 +1,4 @@
-// What the programs print: a task as text, a split or its refusal, and the line of a refusal.
+// What the programs print: a task as text or as PDDL, a split or its refusal, and the line of a refusal.
 use task::Place;
 use task::limits::TABLE_WORDS;
 use text::WriteAnswer;
@@ -17,6 +17,8 @@ ghost use Rattle.text.specs.Outcomes.{writeAnswerTold};
 ghost use Rattle.text.specs.Text.{write};
 ghost use Rattle.words.specs.Putting.{Puts};
 ghost use Rattle.text.specs.TableLines.{longestText};
+ghost use Rattle.defines.specs.Pddl.{pddl};
+ghost use Rattle.defines.specs.ByWords.{longestPddl};
 ghost use Rattle.programs.specs.Programs.{refusal, printSplitting};
 ghost use Rattle.programs.specs.Printing.{Prints};
 
@@ -75,6 +77,15 @@ fn put_task(table: &[u16], out: &mut [u8]) -> usize
     ensures { λ r. ⌜ Prints (now (out .entry)) (write (taskOf (now (table .entry)))) (now (out .exit)) r ⌝ }
 {
     bytes_written(text::write(table, out))
+}
+
+// The same as PDDL, over bytes that hold every such text.
+pub fn put_pddl(table: &[u16], out: &mut [u8]) -> usize
+    requires { ⌜ isTable (now table) ≡ true ⌝ }
+    requires { ⌜ longestPddl ≤ length (now out) ⌝ }
+    ensures { λ r. ⌜ Prints (now (out .entry)) (pddl (taskOf (now (table .entry)))) (now (out .exit)) r ⌝ }
+{
+    bytes_written(defines::write_pddl(table, out))
 }
 
 // What splitting gives is printed, or its refusal.

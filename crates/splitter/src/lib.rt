@@ -7,3 +7,4 @@ pub mod split;
 mod telling;
 pub mod unfold;
 pub mod write;
+pub mod write_pddl;

@@ -1,42 +1,17 @@
--- `programs::split_text` meets its contract: a text that is read lies as a table, whose split is printed; a refusal is
--- the one that is printed.
-use Rattle.programs.proofs.split_text.Tie as tie
+-- `programs::split_text` meets its contract: it prints what is made in its form.
 use native.Mathlib.Omega.{arith}
-use borrow.Author.Needs.{needs}
 use Rattle.text.specs.TableLines.{longestText}
-use Rattle.programs.specs.Programs.{taken}
-use Rattle.programs.proofs.Answered.{TableRead, table-zeros, table-read, task-printed, refusal-printed}
-use Rattle.programs.proofs.Answered.{printsSplit, split-is}
+use Rattle.programs.specs.Printing.{roomFor}
+use Rattle.programs.proofs.Answered.{as-printed, split-is}
 use Rattle.programs.proofs.split_text.Statement.{statement}
+use Rattle.programs.proofs.split_text.Tie as tie
 
-abbrev start : tie.After-read-table → tie.Start
-start c = c .before .before .before
-
-table : (c : tie.After-enum-told) → let k = c .before .before .before in
-    TableRead (taken (start k .args .text .now)) (k .read-table .last .1 .0)
-table c = table-read _ _ (c .enum-told .given .1) (c .before .before .before .read-table .ensures)
-
-put-split-requires : tie.Need-put-split-requires
-unfolding longestText
-put-split-requires c κs = (table (c .before .before) .is-table, omega arith)
-
-put-refusal-requires : tie.Need-put-refusal-requires
-unfolding longestText
-put-refusal-requires c κs = omega arith
+put-made-requires : tie.Need-put-made-requires
+unfolding roomFor longestText
+put-made-requires c κs = omega arith
 
 returns : tie.Need-returns
-returns c =
-    let g = c .before .before .before in
-    task-printed printsSplit _ (split-is _) (table g) (c .put-split .ensures)
-
-returns-2 : tie.Need-returns-2
-returns-2 c =
-    let n = c .before .before .before in
-    refusal-printed printsSplit _ (split-is _) _ table-zeros (n .number .given .1)
-    (n .before .before .before .read-table .ensures .0) (c .put-refusal .ensures)
+returns c = as-printed (split-is _) (c .put-made .ensures)
 
 pub split-text-spec : {M : Type 1} → statement M
-split-text-spec =
-    tie.close
-    (tie.spec (λ c. search needs) (λ c κs. search needs) (λ c. search needs) (λ c. search needs) put-split-requires
-    (λ c. search needs) put-refusal-requires returns returns-2)
+split-text-spec = tie.close (tie.spec put-made-requires returns)
