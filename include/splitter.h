@@ -1,6 +1,6 @@
-/* The splitter for a C host. Every function is proved, in Rattle, to do what document 01 says, for every input.
+/* The splitter for a C host. Every function is proved, in Rattle, to do what documents 01 and 02 say, for every input.
  *
- * Each returns 0 for a result, else the number of its refusal (1 to 17). Every number lent by pointer is written:
+ * Each returns 0 for a result, else the number of its refusal (1 to 18). Every number lent by pointer is written:
  * `place` is the refusal's line (from 1), schema or step (from 0), and 0 with a result or where there is no place;
  * values that have no meaning are 0. These numbers are distinct variables, and none lies in a slice that is lent. A
  * slice is lent as a pointer and the number of its elements, bytes or words of 16 bits, each two bytes, the low one
@@ -53,6 +53,16 @@ uint32_t splitter_run(const uint16_t *table, size_t table_len, const uint16_t *s
  * leaves the bytes as found, with `bytes` 0. Bytes behind a text are left as found too. */
 uint32_t splitter_write(const uint16_t *table, size_t table_len, uint8_t *text, size_t text_len,
                         uint64_t *place, uint64_t *bytes);
+
+/* Writes the table's task as planners that read PDDL take it, over the front of the bytes lent: the domain and byte 10,
+ * then the problem and byte 10; `bytes` is how many they have. Objects are o0, o1 and on, predicates p0 and on, actions
+ * a0 and on, parameters ?x0 and on, in the table's order; the partition is not written. 88,100 bytes are enough for
+ * every task.
+ *
+ * Refusals: 1 a short table, 2 no table, 18 the text is longer than the bytes lent. None has a place, and each
+ * leaves the bytes as found, with `bytes` 0. Bytes behind a text are left as found too. */
+uint32_t splitter_write_pddl(const uint16_t *table, size_t table_len, uint8_t *text, size_t text_len,
+                             uint64_t *place, uint64_t *bytes);
 
 /* Splits the table's task along its parts and writes the split as a table: 13,406 words, zeros behind its last atom.
  *
