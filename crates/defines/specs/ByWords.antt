@@ -59,7 +59,7 @@ headText s params =
     bytes " (:action a" ++ (digits s ++ (bytes " :parameters (" ++
     (neighbours (namesUpTo parameter params) ++ bytes ") :precondition (and")))
 
--- schema s of a table as an action without its atoms, as long as these leave it
+-- schema s of a table as an action that has no atoms: as long as what the action has besides them
 unfoldable pub frameIn : List ℕ → ℕ → List ℕ
 unfolding bytes headText
 frameIn w s = headText s (paramsIn w s) ++ bytes ") :effect (and))"
