@@ -4,6 +4,9 @@ use checks::rows::Row;
 
 use crate::UNWRITTEN;
 
+/// "88,100 bytes are enough for every task" (include/splitter.h).
+pub const ENOUGH: usize = 88_100;
+
 extern "C" {
     fn splitter_write_pddl(
         table: *const u16,

@@ -6,7 +6,7 @@ use checks::rows::write_row;
 use checks::vectors::pddl_cases;
 use checks::{report, without_parts};
 use differential::beside::{compare, short_or_long, shown};
-use differential::pddl::write_pddl;
+use differential::pddl::{write_pddl, ENOUGH};
 use generate::limits::{largest, longest_pddl, reading, splitting, Limit, LONGEST_PDDL};
 use generate::tasks::{parted_anew, task_or_split};
 use generate::{tables, Random};
@@ -101,6 +101,22 @@ fn the_longest_text() {
         assert_eq!(around_its_length(&task), [18, 0, 0]);
     }
     assert_eq!(written(&longest_pddl()).len(), LONGEST_PDDL);
+}
+
+/// With so many bytes lent the code need not count before it writes: at both
+/// sides the answer is the same.
+#[test]
+fn bytes_enough_for_every_task() {
+    let mut random = Random::new(191);
+    let usual = std::iter::repeat_with(|| task_or_split(&mut random)).take(500);
+    let tasks: Vec<Task> = usual.chain([longest_pddl(), largest()]).collect();
+    for task in &tasks {
+        let table = tables::table(task);
+        for bytes in ENOUGH - 1..=ENOUGH + 1 {
+            assert_eq!(compared(&table, &vec![b'x'; bytes]), 0);
+        }
+    }
+    report("PDDL into bytes enough for every task", 3 * tasks.len());
 }
 
 #[test]
