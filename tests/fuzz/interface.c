@@ -9,8 +9,11 @@
 
 enum { TABLE = SPLITTER_TABLE_WORDS, BEHIND = 4, HEADER = 10, MOST_WORDS = 1 << 16 };
 
+/* Writing a task as text, and as PDDL. */
+typedef uint32_t writer(const uint16_t *, size_t, uint8_t *, size_t, uint64_t *, uint64_t *);
+
 uint32_t reference_read(const uint8_t *, size_t, uint16_t *, size_t, uint64_t *);
-uint32_t reference_write(const uint16_t *, size_t, uint8_t *, size_t, uint64_t *, uint64_t *);
+writer reference_write, reference_write_pddl;
 uint32_t reference_split(const uint16_t *, size_t, uint16_t *, size_t, uint64_t *);
 uint32_t reference_run(const uint16_t *, size_t, const uint16_t *, size_t, uint16_t *, size_t, uint64_t, uint64_t *,
                        uint64_t *, uint64_t *);
@@ -19,7 +22,7 @@ uint32_t reference_unfold(const uint16_t *, size_t, const uint16_t *, size_t, ui
 uint32_t reference_fold(const uint16_t *, size_t, const uint16_t *, size_t, uint16_t *, size_t, uint64_t *, uint64_t *,
                         uint64_t *);
 
-enum call { READ, WRITE, SPLIT, RUN, UNFOLD, FOLD, CALLS };
+enum call { READ, WRITE, WRITE_PDDL, SPLIT, RUN, UNFOLD, FOLD, CALLS };
 
 struct input {
     enum call call;
@@ -111,15 +114,17 @@ static uint32_t read_text(const struct input *in, const uint8_t *text, size_t le
     return proved.number;
 }
 
-static void write_text(const struct input *in, size_t bytes) {
+/* One word can't tell as many bytes as a PDDL text may have, and writing has no records: two words tell them. */
+static void write_text(const struct input *in, writer *proved_writer, writer *reference_writer) {
     struct answer proved = unanswered, reference = unanswered;
+    size_t bytes = (size_t)in->lent + in->records;
     lend_to_write(NULL, bytes, in->at_front);
     only_read(&given_table, 1);
-    proved.number = splitter_write((uint16_t *)given_table.bytes, in->read_table, written.bytes, bytes, proved.values,
-                                   proved.values + 1);
+    proved.number = proved_writer((uint16_t *)given_table.bytes, in->read_table, written.bytes, bytes, proved.values,
+                                  proved.values + 1);
     only_read(&given_table, 0);
-    reference.number = reference_write(task, in->read_table, (uint8_t *)beside, bytes, reference.values,
-                                       reference.values + 1);
+    reference.number = reference_writer(task, in->read_table, (uint8_t *)beside, bytes, reference.values,
+                                        reference.values + 1);
     same(&proved, &reference, bytes);
 }
 
@@ -256,7 +261,10 @@ int LLVMFuzzerTestOneInput(const uint8_t *data, size_t size) {
     make_list(&in);
     switch (in.call) {
     case WRITE:
-        write_text(&in, in.lent == UINT16_MAX ? MOST_WORDS : in.lent);
+        write_text(&in, splitter_write, reference_write);
+        break;
+    case WRITE_PDDL:
+        write_text(&in, splitter_write_pddl, reference_write_pddl);
         break;
     case SPLIT:
         split_table(&in);

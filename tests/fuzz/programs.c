@@ -1,8 +1,9 @@
-/* Feeds the programs `split` and `unfold` as processes, and compares what they print with what the reference prints.
+/* Feeds the programs `split`, `unfold` and `pddl` as processes, and compares what they print with what the reference
+ * prints.
  *
- * An input's first byte chooses the program. `split` has the rest on its standard input; for `unfold` the rest is the
- * task, up to its end line, and then the plan. The folder of the programs is the variable PROGRAMS, and they run in
- * the folder FOLDER. */
+ * An input's first byte chooses the program. `split` and `pddl` have the rest on their standard input; for `unfold` the
+ * rest is the task, up to its end line, and then the plan. The folder of the programs is the variable PROGRAMS, and
+ * they run in the folder FOLDER. */
 #define _GNU_SOURCE
 #include <errno.h>
 #include <fcntl.h>
@@ -16,10 +17,13 @@
 
 enum { MOST_PRINTED = 1 << 20 };
 
-uint32_t reference_prints(const uint8_t *task, size_t task_len, const uint8_t *plan, size_t plan_len,
+enum program { SPLIT, UNFOLD, PDDL, COUNT };
+static const char *const names[COUNT] = {"split", "unfold", "pddl"};
+
+uint32_t reference_prints(uint32_t program, const uint8_t *task, size_t task_len, const uint8_t *plan, size_t plan_len,
                           const uint8_t *printed, size_t printed_len);
 
-static char programs[2][4096];
+static char programs[COUNT][4096];
 static uint8_t printed[MOST_PRINTED];
 
 static void fail(const char *what) {
@@ -71,8 +75,8 @@ int LLVMFuzzerInitialize(int *count, char ***arguments) {
     (void)count, (void)arguments;
     if (folder == NULL || own == NULL || chdir(own) != 0)
         fail("PROGRAMS and FOLDER are folders");
-    snprintf(programs[0], sizeof *programs, "%s/split", folder);
-    snprintf(programs[1], sizeof *programs, "%s/unfold", folder);
+    for (size_t each = 0; each < COUNT; each++)
+        snprintf(programs[each], sizeof *programs, "%s/%s", folder, names[each]);
     save("input", NULL, 0);
     return 0;
 }
@@ -81,9 +85,10 @@ int LLVMFuzzerTestOneInput(const uint8_t *data, size_t size) {
     static const char end[] = "\nend=1\n";
     if (size == 0)
         return 0;
+    enum program program = data[0] % COUNT;
     const uint8_t *task = data + 1, *plan = NULL;
     size_t length = size - 1, plan_length = 0;
-    if (data[0] % 2 == 1) {
+    if (program == UNFOLD) {
         const uint8_t *at = memmem(task, length, end, sizeof end - 1);
         plan = at == NULL ? task + length : at + sizeof end - 1;
         plan_length = (size_t)(task + length - plan);
@@ -93,8 +98,8 @@ int LLVMFuzzerTestOneInput(const uint8_t *data, size_t size) {
     } else {
         save("input", task, length);
     }
-    size_t told = run(programs[data[0] % 2]);
-    if (reference_prints(task, length, plan, plan_length, printed, told) != 1)
+    size_t told = run(programs[program]);
+    if (reference_prints(program, task, length, plan, plan_length, printed, told) != 1)
         fail("the program prints what the reference prints");
     return 0;
 }

@@ -1,5 +1,5 @@
 //! The reference behind the names `reference_read` to `reference_fold`, lent
-//! and answered as `include/splitter.h` says, and its two programs.
+//! and answered as `include/splitter.h` says, and its programs.
 
 use reference::{programs, Answer};
 use std::slice::{from_raw_parts, from_raw_parts_mut};
@@ -47,6 +47,25 @@ pub unsafe extern "C" fn reference_write(
     bytes: &mut u64,
 ) -> u32 {
     let answer = reference::write(
+        from_raw_parts(table, table_len),
+        from_raw_parts_mut(text, text_len),
+    );
+    *bytes = *answer.as_ref().unwrap_or(&0);
+    told(&answer, place)
+}
+
+/// # Safety
+/// As for reading.
+#[no_mangle]
+pub unsafe extern "C" fn reference_write_pddl(
+    table: *const u16,
+    table_len: usize,
+    text: *mut u8,
+    text_len: usize,
+    place: &mut u64,
+    bytes: &mut u64,
+) -> u32 {
+    let answer = reference::write_pddl(
         from_raw_parts(table, table_len),
         from_raw_parts_mut(text, text_len),
     );
@@ -148,12 +167,13 @@ pub unsafe extern "C" fn reference_fold(
 }
 
 /// What a program printed is lent to be compared; 1 if it is what the
-/// reference prints, for `split`, or for `unfold` where there is a plan.
+/// reference prints: for `split` (0), `unfold` (1) or `pddl` (2).
 ///
 /// # Safety
-/// As for reading; `plan` may be null.
+/// As for reading; `plan` may be null where the program is not `unfold`.
 #[no_mangle]
 pub unsafe extern "C" fn reference_prints(
+    program: u32,
     task: *const u8,
     task_len: usize,
     plan: *const u8,
@@ -162,10 +182,10 @@ pub unsafe extern "C" fn reference_prints(
     printed_len: usize,
 ) -> u32 {
     let task = from_raw_parts(task, task_len);
-    let expected = if plan.is_null() {
-        programs::split_program(task)
-    } else {
-        programs::unfold_program(Some(task), Some(from_raw_parts(plan, plan_len)))
+    let expected = match program {
+        0 => programs::split_program(task),
+        1 => programs::unfold_program(Some(task), Some(from_raw_parts(plan, plan_len))),
+        _ => programs::pddl_program(task),
     };
     u32::from(expected == from_raw_parts(printed, printed_len))
 }
