@@ -74,8 +74,8 @@ fn put_action(text: &mut [u8], at: usize, table: &[u16], schema: u16, from: usiz
     }
 }
 
-// The actions of all schemas. Their atoms stand one schema behind another, so each schema begins where the one before it
-// ends.
+// The actions of all schemas. Their atoms stand one schema behind another, so each schema begins where the one before
+// it ends.
 pub fn put_actions(text: &mut [u8], at: usize, table: &[u16]) -> Reached
     requires { ⌜ isTable (now table) ≡ true ⌝ }
     requires { ⌜ at + length (concatMap (actionIn (now table)) (upTo (headIn (now table) .schemas))) ≤
@@ -118,7 +118,8 @@ fn head_size(schema: u16, params: usize) -> usize
 // The bytes that all actions take besides their atoms.
 pub fn frames_size(table: &[u16]) -> usize
     requires { ⌜ isTable (now table) ≡ true ⌝ }
-    ensures { λ r. ⌜ r ≡ length (concatMap (frameIn (now (table .entry))) (upTo (headIn (now (table .entry)) .schemas))) ⌝ }
+    ensures { λ r. ⌜ r ≡
+        length (concatMap (frameIn (now (table .entry))) (upTo (headIn (now (table .entry)) .schemas))) ⌝ }
 {
     let schemas = word_at(table, SCHEMAS);
     let mut size = 0;

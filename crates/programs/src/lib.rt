@@ -51,8 +51,8 @@ pub fn unfold_texts(task: &[u8], plan: &[u8], out: &mut [u8; PLAN_BYTES]) -> usi
     }
 }
 
-// The program `pddl` prints the task on standard input as a domain and a problem, or a refusal as `split` does: from the
-// text to the bytes printed, and their number.
+// The program `pddl` prints the task on standard input as a domain and a problem, or a refusal as `split` does: from
+// the text to the bytes printed, and their number.
 pub fn pddl_text(text: &[u8], out: &mut [u8; PDDL_BYTES]) -> usize
     ensures { λ r. ⌜ now (out .exit) ≡ over (pddlProgram (now (text .entry))) (now (out .entry)) ⌝ }
     ensures { λ r. ⌜ r ≡ length (pddlProgram (now (text .entry))) ⌝ }

@@ -1,5 +1,5 @@
--- `programs::tasks::put_made` meets its contract: a text that is read lies as a table, of which is printed what is made;
--- a refusal is the one that is printed.
+-- `programs::tasks::put_made` meets its contract: a text that is read lies as a table, and what is made of that is
+-- printed; a refusal is the one that is printed.
 use mathlib.Core.Path.{refl}
 use borrow.Author.Needs.{needs}
 use Rattle.programs.specs.Programs.{taken}
