@@ -17,7 +17,7 @@ use Rattle.defines.proofs.Pieces.{atom-pieces, negated-pieces}
 use Rattle.defines.proofs.Formulas.{item-first, item-delete, item-other}
 
 -- ---- names
-pub marked-names : (kind : String) (ns : List ℕ) → marked (space ∷ bytes kind) ns ≡ following (map (named kind) ns)
+marked-names : (kind : String) (ns : List ℕ) → marked (space ∷ bytes kind) ns ≡ following (map (named kind) ns)
 unfolding marked following named
 marked-names kind ns = sym (pieces-map (λ item. space ∷ item) (named kind) ns)
 
@@ -36,7 +36,7 @@ unfolding neighbours namesUpTo upTo upFrom
 first-neighbour kind n = ap (λ (names : List ℕ). named kind 0 ++ names) (sym (marked-names kind (upFrom 1 n)))
 
 -- ---- predicates and their arguments
-pub formula-is : (kind : String) (p : ℕ) (ns : List ℕ) →
+formula-is : (kind : String) (p : ℕ) (ns : List ℕ) →
     formula (space ∷ bytes kind) p ns ≡ space ∷ atomicFormula kind p ns
 unfolding formula bytes
 formula-is kind p ns =

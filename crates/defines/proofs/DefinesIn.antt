@@ -1,7 +1,7 @@
 -- The two defines of a table's task by the words of the table, in the pieces that code puts: the predicates and the
 -- actions are those of their numbers one behind another, the objects are marked numbers, and the initial and the goal
 -- atoms are the items of their runs.
-use Prim.Native.Nat.{ℕ, suc, _+_, _-_, _<_}
+use Prim.Native.Nat.{ℕ, suc, _+_, _<_}
 use mathlib.Core.Path.{_≡_, refl, sym, _∙_, ap, ap₂, subst}
 use mathlib.Core.Bool.{true}
 use mathlib.Core.List.{List, [], _∷_, _++_}

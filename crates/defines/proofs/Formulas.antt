@@ -84,13 +84,3 @@ module _ (w : List ℕ) (b : ℕ) where
   delete-long =
       let e = length-append (formulaAt (bytes " ?x") w b) (closing ∷ []) in
       omega arith
-
-  pub item-most : (role : ℕ) → AtomInside w b → length (itemAt role w b) ≤ 47
-  unfolding itemAt bytes
-  item-most zero h = let m = formula-most (bytes " ?x") h (omega arith) in omega arith
-  item-most (suc zero) h = let m = formula-most (bytes " ?x") h (omega arith) in omega arith
-  item-most (suc (suc zero)) h =
-      let m = formula-most (bytes " ?x") h (omega arith) in
-      let l = delete-long in
-      omega arith
-  item-most (suc (suc (suc r))) h = let m = formula-most (bytes " o") h (omega arith) in omega arith

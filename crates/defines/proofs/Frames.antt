@@ -1,7 +1,6 @@
 -- Actions and predicates besides their atoms, in the pieces that code puts, and how long they are: parameters in their
--- bracket, an action up to its preconditions, a predicate with its parameters. Each takes few bytes, so no sum of their
--- sizes wraps.
-use Prim.Native.Nat.{ℕ, zero, suc, _+_, _*_, _-_, _^_, _≤_, _<_}
+-- bracket, an action up to its preconditions, a predicate with its parameters; and what code reads of them in a table.
+use Prim.Native.Nat.{ℕ, zero, suc, _+_, _*_, _-_, _≤_, _<_}
 use mathlib.Core.Path.{_≡_, refl, _∙_, ap}
 use mathlib.Core.Bool.{true}
 use mathlib.Core.List.{List, [], _∷_, _++_}
@@ -19,12 +18,10 @@ use Rattle.task.proofs.Tables.{of-table}
 use Rattle.task.proofs.TablesByIndex.{table-frame, objects-word, schemas-word}
 use Rattle.task.proofs.TableReads.{table-roomy, params-word}
 use Rattle.text.specs.Lines.{bytes, digits}
-use Rattle.text.proofs.DigitSteps.{at-most-five}
 use Rattle.defines.specs.Pddl.{space, closing, parameter, following, neighbours, named, namesUpTo}
 use Rattle.defines.specs.ByWords.{marked, formula, headText, frameIn, predicateIn}
 use Rattle.defines.proofs.MarkedNames.{marked-long, digits-few}
 use Rattle.defines.proofs.Formulas.{formula-long}
-use Rattle.defines.proofs.SizeTurns.{sum-fits}
 use Rattle.defines.proofs.AtomItems.{names-marked, no-neighbours, first-neighbour}
 
 -- ---- the names of the numbers below n
@@ -108,72 +105,31 @@ few-objects w table =
     let l = leb-true (taskOf w .objects) mostObjects (task-tests (taskOf w) (of-table w table .0) .objects) in
     omega arith
 
--- what a loop over the n predicates, or schemas, of a table knows at number k
-pub record Counting (w : List ℕ) (count n k : ℕ) : Type 0 where
-  pub table : isTable w ≡ true
-  pub counted : n ≡ count
-  pub within : k ≤ n
+-- predicate p, which code holds as i too, and the arity that it reads
+module _ (w : List ℕ) {p i : ℕ} (held : i ≡ p) where
+  pub predicate-read : {arity : ℕ} → arity ≡ arityIn w i → formula (bytes " ?x") p (upTo arity) ≡ predicateIn w p
+  unfolding predicateIn
+  predicate-read read = ap (λ (k : ℕ). formula (bytes " ?x") p (upTo k)) (read ∙ ap (arityIn w) held)
 
-pub counting-next : {w : List ℕ} {count n k : ℕ} → Counting w count n k → k < n → Counting w count n (k + 1)
-counting-next at below = record { table = at .table; counted = at .counted; within = omega arith }
+  module _ (table : isTable w ≡ true) (known : p < headIn w .predicates) where
+    pub arity-inside : headWords + i < length w
+    arity-inside = let r = table-roomy w table .inside in omega arith
 
--- predicate p, which code holds as i too
-module _ {w : List ℕ} {n p i : ℕ} (at : Counting w (headIn w .predicates) n p) (below : p < n) (held : i ≡ p) where
-  pub arity-inside : headWords + i < length w
-  arity-inside = let r = table-roomy w (at .table) .inside in let c = at .counted in omega arith
+    pub arity-few : {arity : ℕ} → arity ≡ arityIn w i → arity ≤ mostArity
+    arity-few read = let few = table-roomy w table .arities i (omega arith) in omega arith
 
-  -- the arity that is read
-  module _ {arity : ℕ} (read : arity ≡ arityIn w i) where
-    pub arity-few : arity ≤ mostArity
-    arity-few = let c = at .counted in let few = table-roomy w (at .table) .arities i (omega arith) in omega arith
+-- schema s likewise, and the parameter count
+module _ (w : List ℕ) {s i : ℕ} (held : i ≡ s) where
+  pub head-read : {params : ℕ} → params ≡ paramsIn w i → headText s params ≡ headText s (paramsIn w s)
+  head-read read = ap (headText s) (read ∙ ap (paramsIn w) held)
 
-    pub predicate-read : formula (bytes " ?x") p (upTo arity) ≡ predicateIn w p
-    unfolding predicateIn
-    predicate-read = ap (λ (k : ℕ). formula (bytes " ?x") p (upTo k)) (read ∙ ap (arityIn w) held)
+  module _ (table : isTable w ≡ true) (known : s < headIn w .schemas) where
+    pub count-inside : paramsBase w + i < length w
+    count-inside = let r = table-roomy w table .inside in omega arith
 
--- schema s, likewise
-module _ {w : List ℕ} {n s i : ℕ} (at : Counting w (headIn w .schemas) n s) (below : s < n) (held : i ≡ s) where
-  pub count-inside : paramsBase w + i < length w
-  count-inside = let r = table-roomy w (at .table) .inside in let c = at .counted in omega arith
-
-  -- the parameter count that is read
-  module _ {params : ℕ} (read : params ≡ paramsIn w i) where
-    pub count-few : params ≤ mostParameters
-    count-few =
-        let c = at .counted in
-        let m = schemas-word w (table-frame w (at .table)) in
-        let e = params-word w (at .table) i (omega arith) in
-        let f = params-few (taskOf w) (of-table w (at .table) .0) i in
+    pub count-few : {params : ℕ} → params ≡ paramsIn w i → params ≤ mostParameters
+    count-few read =
+        let m = schemas-word w (table-frame w table) in
+        let e = params-word w table i (omega arith) in
+        let f = params-few (taskOf w) (of-table w table .0) i in
         omega arith
-
-    pub head-read : headText s params ≡ headText s (paramsIn w s)
-    head-read = ap (headText s) (read ∙ ap (paramsIn w) held)
-
--- ---- no sum of their sizes wraps
-pub predicates-fit : {w : List ℕ} {n p : ℕ} → Counting w (headIn w .predicates) n p →
-    length (concatMap (predicateIn w) (upTo n)) < 2 ^ 32
-unfolding predicateIn
-predicates-fit {w} {n} at =
-    let c = at .counted in
-    let r = table-roomy w (at .table) .few in
-    sum-fits (predicateIn w) n (omega arith) (λ p below.
-    let l = predicate-long p (arityIn w p) in
-    let few = table-roomy w (at .table) .arities p (omega arith) in
-    let d = at-most-five p in
-    let b = below-few (arityIn w p) in
-    omega arith)
-
-pub frames-fit : {w : List ℕ} {n s : ℕ} → Counting w (headIn w .schemas) n s →
-    length (concatMap (frameIn w) (upTo n)) < 2 ^ 32
-frames-fit {w} {n} at =
-    let c = at .counted in
-    let r = table-roomy w (at .table) .few in
-    sum-fits (frameIn w) n (omega arith) (λ s below.
-    let here : Counting w (headIn w .schemas) n s =
-    record { table = at .table; counted = at .counted; within = omega arith } in
-    let l = frame-long w s in
-    let h = head-long s (paramsIn w s) in
-    let p = parameters-few (paramsIn w s) in
-    let few = count-few here below refl refl in
-    let d = at-most-five s in
-    omega arith)

@@ -1,15 +1,12 @@
 -- A loop that adds up how long pieces are, one for each number below n: the size so far and the pieces still to come
--- make the whole. Pieces of a table take few bytes, so that no such sum wraps.
-use Prim.Native.Nat.{ℕ, _+_, _^_, _≤_, _<_}
+-- make the whole, so no sum on the way is above it.
+use Prim.Native.Nat.{ℕ, _+_, _≤_, _<_}
 use mathlib.Core.Path.{_≡_, ap}
 use mathlib.Core.List.{List}
 use native.Mathlib.Omega.{arith}
 use lib.ListN.{length}
 use Rattle.words.specs.Lists.{upTo, concatMap}
-use Rattle.words.proofs.Lists.{length-upTo, upTo-in}
-use Rattle.task.specs.Limits.{tableLength}
 use Rattle.text.proofs.Onwards.{onwards, onwards-all, onwards-longer, onwards-short}
-use Rattle.text.proofs.Pieces.{pieces-most}
 
 -- the size is that of the pieces before k
 pub record Summing (piece : ℕ → List ℕ) (n size k : ℕ) : Type 0 where
@@ -33,10 +30,3 @@ module _ {piece : ℕ → List ℕ} {n : ℕ} where
 
     pub summing-last : n ≤ k → size ≡ length (concatMap piece (upTo n))
     summing-last h = let e = sum .makes in let s = onwards-short piece k n h in omega arith
-
-pub sum-fits : (piece : ℕ → List ℕ) (n : ℕ) → n ≤ tableLength → ((k : ℕ) → k < n → length (piece k) ≤ 200) →
-    length (concatMap piece (upTo n)) < 2 ^ 32
-sum-fits piece n few each =
-    let m = pieces-most piece 200 (upTo n) (λ k i. each k (upTo-in n k i)) in
-    let l = length-upTo n in
-    omega arith

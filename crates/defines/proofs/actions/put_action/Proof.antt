@@ -3,7 +3,7 @@
 -- it. Each run begins where the one before it ended.
 use native.Mathlib.Omega.{arith}
 use Prim.Native.Nat.{ℕ, suc, _<_}
-use mathlib.Core.Path.{_≡_, refl, ap}
+use mathlib.Core.Path.{_≡_, ap}
 use mathlib.Core.Bool.{true}
 use mathlib.Core.List.{List, _++_}
 use lib.ListN.{length}
@@ -16,7 +16,7 @@ use Rattle.text.specs.Lines.{bytes}
 use Rattle.defines.specs.ByWords.{itemsIn, RoleRun, headText, actionIn}
 use Rattle.defines.proofs.RoleRuns.{addsFrom, deletesFrom, precondition-run, add-run, delete-run, action-in}
 use Rattle.defines.proofs.RunsPut.{run-asked, run-ends, run-puts}
-use Rattle.defines.proofs.Frames.{Counting, count-inside, head-read}
+use Rattle.defines.proofs.Frames.{count-inside, head-read}
 use borrow.Author.Needs.{needs}
 use Rattle.defines.proofs.actions.put_action.Statement.{statement}
 use Rattle.defines.proofs.actions.put_action.Tie as tie
@@ -85,20 +85,16 @@ begin : (c : tie.Start) → Left c (head c ++ from-preconditions c) (c .args .te
 begin c = going-left (action-in (words c) (table c) (c .args .schema) (known c)) (going-start (c .pre .1 .1 .1))
 
 -- ---- the head, by the parameter count that was read
-one-of : (c : tie.Start) →
-    Counting (words c) (headIn (words c) .schemas) (headIn (words c) .schemas) (c .args .schema)
-one-of c = let k = known c in record { table = table c; counted = refl; within = omega arith }
-
 params-of-requires : tie.Need-params-of-requires
 params-of-requires c κs =
     let start = c .before .before .before in
-    count-inside (one-of start) (known start) (c .wide .ensures)
+    count-inside (words start) (c .wide .ensures) (table start) (known start)
 
 abbrev entry : tie.After-params-of → tie.Start
 entry c = c .before .before .before .before
 
 head-said : (c : tie.After-params-of) → headText (entry c .args .schema) (c .params-of .result) ≡ head (entry c)
-head-said c = head-read (one-of (entry c)) (known (entry c)) (c .before .wide .ensures) (c .params-of .ensures .0)
+head-said c = head-read (words (entry c)) (c .before .wide .ensures) (c .params-of .ensures .0)
 
 put-head-requires : tie.Need-put-head-requires
 put-head-requires c κs =

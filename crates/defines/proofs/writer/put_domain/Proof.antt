@@ -1,7 +1,7 @@
 -- `defines::writer::put_domain` meets its contract: between fixed bytes it puts the predicates and the actions, one
 -- behind another. A lemma for each says what is still to come behind it.
 use native.Mathlib.Omega.{arith}
-use Prim.Native.Nat.{ℕ, _+_}
+use Prim.Native.Nat.{ℕ}
 use mathlib.Core.List.{List, [], _∷_, _++_}
 use Rattle.words.specs.Lists.{upTo, concatMap}
 use Rattle.words.proofs.Puts.{Going, going-start, going-left, going-room, going-on, byte-room, last-room, going-last}

@@ -1,7 +1,7 @@
 -- `defines::writer::put_pddl` meets its contract: the domain is put, and the problem behind it. The problem's first
 -- atom is the one that `put_domain` reached.
 use native.Mathlib.Omega.{arith}
-use Prim.Native.Nat.{ℕ, _+_}
+use Prim.Native.Nat.{ℕ}
 use mathlib.Core.List.{List, [], _∷_, _++_}
 use Rattle.words.proofs.Puts.{Going, going-start, going-left, going-room, going-on, last-room, going-last}
 use Rattle.task.specs.Table.{taskOf}
