@@ -2,7 +2,7 @@
 -- long they are. Each takes its mark and its digits; of the numbers below n each has a digit, those from 10 on another,
 -- and those from 100 on a third.
 use Prim.Native.Nat.{ℕ, zero, suc, _+_, _-_, _*_, _≤_, _<_}
-use mathlib.Core.Path.{_≡_, refl, _∙_, ap}
+use mathlib.Core.Path.{_≡_, refl, sym, _∙_, ap}
 use mathlib.Core.List.{List, [], _∷_, _++_, append-nil}
 use native.Mathlib.Nat.{mul-suc}
 use native.Mathlib.Omega.{arith}
@@ -14,7 +14,7 @@ use Rattle.words.proofs.Lists.{append-concatMap, upTo-suc}
 use Rattle.task.specs.Limits.{mostObjects}
 use Rattle.text.specs.Lines.{digits}
 use Rattle.text.proofs.DigitSteps.{one-digit-long, digits-long, at-most-five}
-use Rattle.text.proofs.Onwards.{onwards}
+use Rattle.text.proofs.Onwards.{onwards, onwards-all}
 use Rattle.text.proofs.Pieces.{pieces-map, pieces-from, pieces-most}
 use Rattle.defines.specs.ByWords.{marked}
 
@@ -27,24 +27,23 @@ pub marked-pieces : (mark ns : List ℕ) → marked mark ns ≡ concatMap (nameO
 unfolding marked
 marked-pieces mark ns = refl
 
--- pieces of the n words from a place on, one for each
-pub words-onwards : (piece : ℕ → List ℕ) (w : List ℕ) (from n : ℕ) →
-    concatMap piece (wordsAt w from n) ≡ onwards (λ k. piece (getD w (from + k) 0)) 0 n
-unfolding wordsAt
-words-onwards piece w from n =
+-- pieces of the n words from a place on, one for each, by a counter
+pub words-pieces : (piece : ℕ → List ℕ) (w : List ℕ) (from n : ℕ) →
+    concatMap piece (wordsAt w from n) ≡ concatMap (λ k. piece (getD w (from + k) 0)) (upTo n)
+unfolding wordsAt upTo
+words-pieces piece w from n =
     let e : from ≡ from + 0 = omega arith in
-    let q : n ≡ n - 0 = omega arith in
     let at : ℕ → List ℕ = λ k. piece (getD w k 0) in
-    let on : ℕ → List ℕ = λ k. piece (getD w (from + k) 0) in
     pieces-map piece (λ k. getD w k 0) (upFrom from n) ∙
     (ap (λ (i : ℕ). concatMap at (upFrom i n)) e ∙
-    (pieces-from at on from 0 n (λ j. refl) ∙ ap (λ (m : ℕ). concatMap on (upFrom 0 m)) q))
+    pieces-from at (λ k. piece (getD w (from + k) 0)) from 0 n (λ j. refl))
 
 -- the names of n words
 pub marked-words : (mark w : List ℕ) (from n : ℕ) →
     marked mark (wordsAt w from n) ≡ onwards (λ k. nameOf mark (getD w (from + k) 0)) 0 n
 marked-words mark w from n =
-    marked-pieces mark (wordsAt w from n) ∙ words-onwards (nameOf mark) w from n
+    marked-pieces mark (wordsAt w from n) ∙
+    (words-pieces (nameOf mark) w from n ∙ sym (onwards-all (λ k. nameOf mark (getD w (from + k) 0)) n))
 
 -- ---- how long they are
 pub marked-long : (mark ns : List ℕ) →
