@@ -21,9 +21,6 @@ Inv-loop table schemas size₀ s₀ t5 size s = Summing (frameIn table) (headIn 
 abbrev μ-loop : tie.MeasureT-loop
 μ-loop table schemas size₀ s₀ t5 size s = schemas - s
 
-word-at-requires : tie.Need-word-at-requires Inv-loop μ-loop
-word-at-requires c κs = let l = counts-inside (c .before .args .table .now) (c .before .pre) in omega arith
-
 -- the function's entry, from the loop's head, and its table
 abbrev start : tie.At-loop Inv-loop μ-loop → tie.Start Inv-loop μ-loop
 start c = c .before .before .before
@@ -34,17 +31,6 @@ words c = start c .args .table .now
 -- schema s is one of the table's
 known : (c : tie.In-loop Inv-loop μ-loop) → c .before .loop .s < headIn (words (c .before)) .schemas
 known c = let n = c .before .before .word-at .ensures in omega arith
-
-params-of-requires : tie.Need-params-of-requires Inv-loop μ-loop
-params-of-requires c κs =
-    let at-loop = c .before .before in
-    count-inside (words at-loop) (c .wide .ensures) (start at-loop .pre) (known (c .before))
-
-head-size-requires : tie.Need-head-size-requires Inv-loop μ-loop
-head-size-requires c κs =
-    let at-loop = c .before .before .before in
-    count-few (words at-loop) (c .before .wide .ensures) (start at-loop .pre) (known (c .before .before))
-    (c .params-of .ensures .0)
 
 -- the frame of schema s is the head, whose size was found, and the fixed bytes behind it
 found : (c : tie.After-head-size Inv-loop μ-loop) →
@@ -79,6 +65,8 @@ returns c = let n = c .before .before .word-at .ensures in summing-last (c .befo
 pub frames-size-spec : {M : Type 1} → statement M
 frames-size-spec =
     tie.close
-    (tie.spec Inv-loop μ-loop word-at-requires (λ c. summing-first) (λ c κs. tt) params-of-requires head-size-requires
-    (λ c. omega (arith, within c)) (λ c. omega (arith, within (c .before))) (λ c. omega arith) (λ c. omega arith)
-    loop-again returns)
+    (tie.spec Inv-loop μ-loop (λ c κs. omega (arith, counts-inside _ (c .before .pre))) (λ c. summing-first)
+    (λ c κs. tt) (λ c κs. count-inside _ (c .wide .ensures) (start (c .before .before) .pre) (known (c .before))) (λ c
+    κs. count-few _ (c .before .wide .ensures) (start (c .before .before .before) .pre) (known (c .before .before)) (c
+    .params-of .ensures .0)) (λ c. omega (arith, within c)) (λ c. omega (arith, within (c .before))) (λ c. omega arith)
+    (λ c. omega arith) loop-again returns)

@@ -25,12 +25,6 @@ Inv-loop text₀ at table schemas reached₀ s₀ text reached s =
 abbrev μ-loop : tie.MeasureT-loop
 μ-loop text₀ at table schemas reached₀ s₀ text reached s = schemas - s
 
-word-at-requires : tie.Need-word-at-requires Inv-loop μ-loop
-word-at-requires c κs =
-    let start = c .before .before in
-    let l = counts-inside (start .args .table .now) (start .pre .0) in
-    omega arith
-
 loop-holds : tie.Need-loop-holds Inv-loop μ-loop
 unfolding sum
 loop-holds c =
@@ -105,5 +99,5 @@ returns c =
 pub put-actions-spec : {M : Type 1} → statement M
 put-actions-spec =
     tie.close
-    (tie.spec Inv-loop μ-loop word-at-requires loop-holds put-action-requires (λ c. omega arith) (λ c. omega arith)
-    loop-again same-length returns)
+    (tie.spec Inv-loop μ-loop (λ c κs. omega (arith, counts-inside _ (c .before .before .pre .0))) loop-holds
+    put-action-requires (λ c. omega arith) (λ c. omega arith) loop-again same-length returns)

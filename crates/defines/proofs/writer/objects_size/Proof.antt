@@ -13,9 +13,6 @@ use borrow.Author.Needs.{needs}
 use Rattle.defines.proofs.writer.objects_size.Statement.{statement}
 use Rattle.defines.proofs.writer.objects_size.Tie as tie
 
-word-requires : tie.Need-word-requires
-word-requires c κs = let l = counts-inside (c .before .args .table .now) (c .before .pre) in omega arith
-
 below-size-requires : tie.Need-below-size-requires
 below-size-requires c κs =
     let f = few-objects (c .before .before .args .table .now) (c .before .before .pre) in
@@ -40,4 +37,6 @@ returns c =
 
 pub objects-size-spec : {M : Type 1} → statement M
 objects-size-spec =
-    tie.close (tie.spec word-requires (λ c. search needs) below-size-requires add-result returns)
+    tie.close
+    (tie.spec (λ c κs. omega (arith, counts-inside _ (c .before .pre))) (λ c. search needs) below-size-requires
+    add-result returns)

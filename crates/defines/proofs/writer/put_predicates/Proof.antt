@@ -23,12 +23,6 @@ Inv-loop text₀ at table predicates next₀ p₀ text next p =
 abbrev μ-loop : tie.MeasureT-loop
 μ-loop text₀ at table predicates next₀ p₀ text next p = predicates - p
 
-word-at-requires : tie.Need-word-at-requires Inv-loop μ-loop
-word-at-requires c κs =
-    let start = c .before .before in
-    let l = counts-inside (start .args .table .now) (start .pre .0) in
-    omega arith
-
 loop-holds : tie.Need-loop-holds Inv-loop μ-loop
 loop-holds c =
     let start = c .before .before .before in
@@ -103,5 +97,6 @@ returns c =
 pub put-predicates-spec : {M : Type 1} → statement M
 put-predicates-spec =
     tie.close
-    (tie.spec Inv-loop μ-loop word-at-requires loop-holds (λ c κs. tt) arity-of-requires cast-put-predicate
-    put-predicate-requires (λ c. omega arith) (λ c. omega arith) loop-again same-length returns)
+    (tie.spec Inv-loop μ-loop (λ c κs. omega (arith, counts-inside _ (c .before .before .pre .0))) loop-holds
+    (λ c κs. tt) arity-of-requires cast-put-predicate put-predicate-requires (λ c. omega arith) (λ c. omega arith)
+    loop-again same-length returns)
