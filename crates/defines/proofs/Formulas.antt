@@ -1,21 +1,25 @@
--- An atom as code puts it, ` (p0 ?x0)`, and by its role: in pieces, and how long it is. An atom of a table has at most
--- four arguments, and no number more than five digits, so that an item takes few bytes.
+-- An atom as code puts it, ` (p0 ?x0)`, and by its role: in pieces, and how long it is. It has at most four arguments,
+-- and no number has more than five digits, so it takes few bytes.
 use Prim.Native.Nat.{ℕ, zero, suc, _+_, _*_, _≤_, _<_}
 use mathlib.Core.Path.{_≡_, refl, ap}
 use mathlib.Core.List.{List, [], _∷_, _++_}
-use native.Mathlib.Nat.{mul-le-mul}
+use native.Mathlib.Nat.{mul-le-mul-left}
 use native.Mathlib.Omega.{arith}
 use lib.ListN.{length, getD, length-append}
 use Rattle.words.specs.Lists.{concatMap}
 use Rattle.words.specs.Words.{wordsAt}
+use Rattle.words.proofs.Lists.{In}
 use Rattle.words.proofs.Words.{length-wordsAt}
+use Rattle.task.specs.Limits.{mostArity}
 use Rattle.task.specs.Layout.{arityIn}
+use Rattle.task.specs.Task.{deletion}
 use Rattle.text.specs.Lines.{bytes, digits}
 use Rattle.text.specs.TableLines.{AtomInside}
 use Rattle.text.proofs.DigitSteps.{at-most-five}
+use Rattle.text.proofs.Pieces.{pieces-most}
 use Rattle.defines.specs.Pddl.{closing}
 use Rattle.defines.specs.ByWords.{marked, formula, formulaAt, itemAt}
-use Rattle.defines.proofs.MarkedNames.{marked-long, digits-few}
+use Rattle.defines.proofs.MarkedNames.{marked-long}
 
 -- ---- a predicate and its arguments
 pub formula-long : (mark : List ℕ) (p : ℕ) (ns : List ℕ) →
@@ -24,6 +28,18 @@ unfolding formula bytes
 formula-long mark p ns =
     let a = length-append (digits p) (marked mark ns ++ (closing ∷ [])) in
     let b = length-append (marked mark ns) (closing ∷ []) in
+    omega arith
+
+-- arguments of at most d digits
+pub formula-most : (mark : List ℕ) (p : ℕ) (ns : List ℕ) (d : ℕ) → length ns ≤ mostArity →
+    ((n : ℕ) → In n ns → length (digits n) ≤ d) →
+    length (formula mark p ns) ≤ 4 + length (digits p) + (length mark + d) * mostArity
+formula-most mark p ns d short small =
+    let f = formula-long mark p ns in
+    let m = marked-long mark ns in
+    let a = mul-le-mul-left (length mark) short in
+    let b = pieces-most digits d ns small in
+    let e = mul-le-mul-left d short in
     omega arith
 
 -- ---- the atom whose words begin at b
@@ -35,10 +51,10 @@ module _ (w : List ℕ) (b : ℕ) where
   abbrev pub argsAt : List ℕ
   argsAt = wordsAt w (b + 4) (arityIn w predAt)
 
-  pub formulaAt-is : (mark : List ℕ) →
+  pub formulaAt-pieces : (mark : List ℕ) →
       formulaAt mark w b ≡ bytes " (p" ++ (digits predAt ++ (marked mark argsAt ++ (closing ∷ [])))
   unfolding formulaAt formula
-  formulaAt-is mark = refl
+  formulaAt-pieces mark = refl
 
   pub formulaAt-long : (mark : List ℕ) →
       length (formulaAt mark w b) ≡
@@ -50,36 +66,34 @@ module _ (w : List ℕ) (b : ℕ) where
       let n = ap (λ (n : ℕ). length mark * n) (length-wordsAt w (b + 4) (arityIn w predAt)) in
       omega arith
 
-  -- at most four arguments, each of a mark of three bytes and five digits
-  pub formula-most : (mark : List ℕ) → AtomInside w b → length mark ≤ 3 → length (formulaAt mark w b) ≤ 41
-  formula-most mark h s =
-      let f = formulaAt-long mark in
-      let p = at-most-five predAt in
-      let d = digits-few argsAt in
+  pub formulaAt-most : (mark : List ℕ) → AtomInside w b → length mark ≤ 3 → length (formulaAt mark w b) ≤ 41
+  unfolding formulaAt
+  formulaAt-most mark h s =
       let n = length-wordsAt w (b + 4) (arityIn w predAt) in
       let few = h .short in
-      let m : length mark * arityIn w predAt ≤ 3 * 4 = mul-le-mul s few in
+      let m = formula-most mark predAt argsAt 5 (omega arith) (λ k i. at-most-five k) in
+      let p = at-most-five predAt in
       omega arith
 
   -- ---- by its role
-  pub item-first : (role : ℕ) → role < 2 → itemAt role w b ≡ formulaAt (bytes " ?x") w b
+  pub item-first : (role : ℕ) → role < deletion → itemAt role w b ≡ formulaAt (bytes " ?x") w b
   unfolding itemAt
   item-first zero h = refl
   item-first (suc zero) h = refl
   item-first (suc (suc r)) h = absurd (omega arith)
 
-  pub item-delete : itemAt 2 w b ≡ bytes " (not" ++ (formulaAt (bytes " ?x") w b ++ (closing ∷ []))
+  pub item-delete : itemAt deletion w b ≡ bytes " (not" ++ (formulaAt (bytes " ?x") w b ++ (closing ∷ []))
   unfolding itemAt
   item-delete = refl
 
-  pub item-other : (role : ℕ) → 2 < role → itemAt role w b ≡ formulaAt (bytes " o") w b
+  pub item-other : (role : ℕ) → deletion < role → itemAt role w b ≡ formulaAt (bytes " o") w b
   unfolding itemAt
   item-other zero h = absurd (omega arith)
   item-other (suc zero) h = absurd (omega arith)
   item-other (suc (suc zero)) h = absurd (omega arith)
   item-other (suc (suc (suc r))) h = refl
 
-  pub delete-long : length (itemAt 2 w b) ≡ 6 + length (formulaAt (bytes " ?x") w b)
+  pub delete-long : length (itemAt deletion w b) ≡ 6 + length (formulaAt (bytes " ?x") w b)
   unfolding itemAt bytes
   delete-long =
       let e = length-append (formulaAt (bytes " ?x") w b) (closing ∷ []) in

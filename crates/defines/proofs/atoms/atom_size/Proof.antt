@@ -12,7 +12,7 @@ use Rattle.task.specs.Limits.{mostArity}
 use Rattle.text.specs.Lines.{digits}
 use Rattle.text.proofs.DigitSteps.{at-most-five}
 use Rattle.defines.specs.ByWords.{formulaAt}
-use Rattle.defines.proofs.Formulas.{predAt, formulaAt-long, formula-most}
+use Rattle.defines.proofs.Formulas.{predAt, formulaAt-long, formulaAt-most}
 use borrow.Author.Needs.{needs}
 use Rattle.defines.proofs.atoms.atom_size.Statement.{statement}
 use Rattle.defines.proofs.atoms.atom_size.Tie as tie
@@ -66,7 +66,7 @@ whole c =
     let m = ap (λ (n : ℕ). length mark * n) (arity-read at-arity) in
     let a = c .words-size .ensures ∙
     ap (λ (n : ℕ). length (concatMap digits (wordsAt w (b + 4) n))) (arity-read at-arity) in
-    (omega arith, formula-most w b mark (start .pre .0) (start .pre .1))
+    (omega arith, formulaAt-most w b mark (start .pre .0) (start .pre .1))
 
 add-result : tie.Need-add-result
 add-result c = let l = few-bytes c in omega arith

@@ -1,12 +1,12 @@
 -- `defines::atoms::item_size` meets its contract: each branch gives the bytes that the role's item takes. An atom takes
--- few bytes (`formula-most`), so no sum wraps.
+-- few bytes (`formulaAt-most`), so no sum wraps.
 use native.Mathlib.Omega.{arith}
 use Prim.Native.Nat.{ℕ, _+_, _≤_}
 use mathlib.Core.Path.{_≡_, sym, _∙_, ap}
 use lib.ListN.{length, getD}
 use Rattle.text.specs.Lines.{bytes}
 use Rattle.defines.specs.ByWords.{itemAt}
-use Rattle.defines.proofs.Formulas.{formula-most, item-first, item-other, delete-long}
+use Rattle.defines.proofs.Formulas.{formulaAt-most, item-first, item-other, delete-long}
 use borrow.Author.Needs.{needs}
 use Rattle.defines.proofs.atoms.item_size.Statement.{statement}
 use Rattle.defines.proofs.atoms.item_size.Tie as tie
@@ -35,7 +35,7 @@ unfolding bytes
 few-bytes c =
     let start = c .before .before .before .before .before in
     let e = c .atom-size2 .ensures in
-    let m = formula-most (start .args .table .now) (start .args .base) (bytes " ?x") (start .pre) (omega arith) in
+    let m = formulaAt-most (start .args .table .now) (start .args .base) (bytes " ?x") (start .pre) (omega arith) in
     omega arith
 
 add-result : tie.Need-add-result

@@ -11,7 +11,7 @@ use Rattle.task.specs.Layout.{arityIn}
 use Rattle.text.specs.Lines.{bytes, digits}
 use Rattle.defines.specs.Pddl.{closing}
 use Rattle.defines.specs.ByWords.{marked}
-use Rattle.defines.proofs.Formulas.{predAt, argsAt, formulaAt-is}
+use Rattle.defines.proofs.Formulas.{predAt, argsAt, formulaAt-pieces}
 use borrow.Author.Needs.{needs}
 use Rattle.defines.proofs.atoms.put_atom.Statement.{statement}
 use Rattle.defines.proofs.atoms.put_atom.Tie as tie
@@ -32,7 +32,7 @@ room : (c : tie.Start) →
     c .args .at + length (bytes " (p" ++ (predicate c ++ (arguments c ++ (closing ∷ [])))) ≤ length (c .args .text .now)
 room c =
     subst (λ (bs : List ℕ). c .args .at + length bs ≤ length (c .args .text .now))
-    (formulaAt-is (c .args .table .now) (c .args .base) (c .args .mark .now)) (c .pre .1)
+    (formulaAt-pieces (c .args .table .now) (c .args .base) (c .args .mark .now)) (c .pre .1)
 
 -- the number of arguments is the arity of the atom's predicate
 abbrev start : tie.After-arity-of → tie.Start
@@ -110,7 +110,7 @@ returns : tie.Need-returns
 returns c =
     let put = c .before .before .before .before in
     let start = start (arity (opened (numbered put))) in
-    puts-same (sym (formulaAt-is (start .args .table .now) (start .args .base) (start .args .mark .now)))
+    puts-same (sym (formulaAt-pieces (start .args .table .now) (start .args .base) (start .args .mark .now)))
     (going-last (behind-arguments put) (c .before .before .put-byte .ensures))
 
 pub put-atom-spec : {M : Type 1} → statement M
