@@ -36,7 +36,7 @@ unfolding neighbours namesUpTo upTo upFrom
 first-neighbour kind n = ap (λ (names : List ℕ). named kind 0 ++ names) (sym (marked-names kind (upFrom 1 n)))
 
 -- ---- predicates and their arguments
-formula-is : (kind : String) (p : ℕ) (ns : List ℕ) →
+pub formula-is : (kind : String) (p : ℕ) (ns : List ℕ) →
     formula (space ∷ bytes kind) p ns ≡ space ∷ atomicFormula kind p ns
 unfolding formula bytes
 formula-is kind p ns =

@@ -51,14 +51,14 @@ module _ (w : List ℕ) (h : isTable w ≡ true) where
   t = taskOf w
 
   -- ---- the domain
-  predicates-in : following (numbered predicateText 0 (t .arities)) ≡
+  pub predicates-in : following (numbered predicateText 0 (t .arities)) ≡
       concatMap (predicateIn w) (upTo (headIn w .predicates))
   predicates-in =
       let fr = table-frame w h in
       numbered-said predicateText 0 (predicateIn w) (t .arities) (headIn w .predicates) (arities-word w fr) (λ p l.
       predicate-is w p ∙ ap (λ (n : ℕ). space ∷ predicateText p n) (sym (arity-at w fr p l)))
 
-  actions-in : following (numbered actionText 0 (t .schemas)) ≡ concatMap (actionIn w) (upTo (headIn w .schemas))
+  pub actions-in : following (numbered actionText 0 (t .schemas)) ≡ concatMap (actionIn w) (upTo (headIn w .schemas))
   unfolding actionIn schemaAt
   actions-in =
       numbered-said actionText noSchema (actionIn w) (t .schemas) (headIn w .schemas)
@@ -70,7 +70,7 @@ module _ (w : List ℕ) (h : isTable w ≡ true) where
   domain-in = domain-pieces t ∙ rw (predicates-in, actions-in) refl
 
   -- ---- the problem
-  objects-in : following (namesUpTo object (t .objects)) ≡ marked (bytes " o") (upTo (headIn w .objects))
+  pub objects-in : following (namesUpTo object (t .objects)) ≡ marked (bytes " o") (upTo (headIn w .objects))
   unfolding bytes
   objects-in =
       names-marked object (t .objects) ∙

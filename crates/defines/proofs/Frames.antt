@@ -8,7 +8,6 @@ use native.Mathlib.Omega.{arith}
 use lib.ListN.{length, length-append}
 use borrow.Author.Tests.{leb-true}
 use Rattle.words.specs.Lists.{upTo, upFrom, concatMap}
-use Rattle.words.proofs.Lists.{length-upTo}
 use Rattle.task.specs.Limits.{mostObjects, mostArity, mostParameters, headWords}
 use Rattle.task.specs.Layout.{headIn, paramsBase, arityIn, paramsIn}
 use Rattle.task.specs.Table.{taskOf, isTable}
@@ -18,21 +17,12 @@ use Rattle.task.proofs.Tables.{of-table}
 use Rattle.task.proofs.TablesByIndex.{table-frame, objects-word, schemas-word}
 use Rattle.task.proofs.TableReads.{table-roomy, params-word}
 use Rattle.text.specs.Lines.{bytes, digits}
-use Rattle.defines.specs.Pddl.{space, closing, parameter, following, neighbours, named, namesUpTo}
+use Rattle.defines.specs.Pddl.{closing, parameter, neighbours, named, namesUpTo}
 use Rattle.defines.specs.ByWords.{marked, formula, headText, frameIn, predicateIn}
-use Rattle.defines.proofs.MarkedNames.{marked-long, digits-few}
+use Rattle.defines.proofs.Pieces.{neighbours-long}
+use Rattle.defines.proofs.MarkedNames.{names-long, below-long}
 use Rattle.defines.proofs.Formulas.{formula-long}
-use Rattle.defines.proofs.AtomItems.{names-marked, no-neighbours, first-neighbour}
-
--- ---- the names of the numbers below n
-pub names-long : (mark : List ℕ) (n : ℕ) →
-    length (marked mark (upTo n)) ≡ length mark * n + length (concatMap digits (upTo n))
-names-long mark n =
-    marked-long mark (upTo n) ∙
-    ap (λ (k : ℕ). length mark * k + length (concatMap digits (upTo n))) (length-upTo n)
-
-pub below-few : (n : ℕ) → length (concatMap digits (upTo n)) ≤ 5 * n
-below-few n = let d = digits-few (upTo n) in let l = length-upTo n in omega arith
+use Rattle.defines.proofs.AtomItems.{names-marked, first-neighbour}
 
 -- ---- parameters in their bracket
 abbrev pub parameters : ℕ → List ℕ
@@ -46,36 +36,27 @@ first-parameter (suc n) h =
     let e : n ≡ suc n - 1 = omega arith in
     first-neighbour parameter n ∙ ap (λ (k : ℕ). bytes "?x0" ++ marked (bytes " ?x") (upFrom 1 k)) e
 
--- with a space before the first they are names that follow something
-spaced-parameters : (n : ℕ) → space ∷ parameters (suc n) ≡ following (namesUpTo parameter (suc n))
-unfolding following neighbours namesUpTo upTo upFrom concatMap
-spaced-parameters n = refl
-
-pub parameters-long : (n : ℕ) → 0 < n → length (parameters n) + 1 ≡ 3 * n + length (concatMap digits (upTo n))
+pub parameters-long : (n : ℕ) → length (parameters n) ≡ 3 * n + length (concatMap digits (upTo n)) - 1
 unfolding bytes
-parameters-long zero h = absurd (omega arith)
-parameters-long (suc n) h =
-    let e = ap length (spaced-parameters n ∙ names-marked parameter (suc n)) in
-    let l = names-long (bytes " ?x") (suc n) in
+parameters-long n =
+    let l = neighbours-long (namesUpTo parameter n) in
+    let e = ap length (names-marked parameter n) in
+    let m = names-long (bytes " ?x") n in
     omega arith
 
-pub parameters-few : (n : ℕ) → length (parameters n) ≤ 8 * n
-parameters-few zero = let e = ap length (no-neighbours parameter) in omega arith
-parameters-few (suc n) =
-    let e = parameters-long (suc n) (omega arith) in
-    let d = below-few (suc n) in
-    omega arith
+pub parameters-few : (n : ℕ) → n ≤ mostParameters → length (parameters n) ≤ 49
+parameters-few n few = let l = parameters-long n in let b = below-long n (omega arith) in omega arith
 
 -- ---- an action up to its preconditions
-pub head-is : (s n : ℕ) → headText s n ≡
+pub head-pieces : (s n : ℕ) → headText s n ≡
     bytes " (:action a" ++ (digits s ++ (bytes " :parameters (" ++ (parameters n ++ bytes ") :precondition (and")))
 unfolding headText
-head-is s n = refl
+head-pieces s n = refl
 
 pub head-long : (s n : ℕ) → length (headText s n) ≡ 45 + (length (digits s) + length (parameters n))
 unfolding bytes
 head-long s n =
-    let e = ap length (head-is s n) in
+    let e = ap length (head-pieces s n) in
     let d = length-append (digits s) (bytes " :parameters (" ++ (parameters n ++ bytes ") :precondition (and")) in
     let p = length-append (parameters n) (bytes ") :precondition (and") in
     omega arith

@@ -10,7 +10,7 @@ use native.Mathlib.Decide.{decLt}
 use lib.ListN.{length, getD, length-append}
 use Rattle.words.specs.Lists.{upTo, upFrom, concatMap}
 use Rattle.words.specs.Words.{wordsAt}
-use Rattle.words.proofs.Lists.{append-concatMap, upTo-suc}
+use Rattle.words.proofs.Lists.{append-concatMap, length-upTo, upTo-suc}
 use Rattle.task.specs.Limits.{mostObjects}
 use Rattle.text.specs.Lines.{digits}
 use Rattle.text.proofs.DigitSteps.{one-digit-long, digits-long, at-most-five}
@@ -57,6 +57,12 @@ marked-long mark (n ∷ ns) =
     let d = length-append (digits n) (concatMap digits ns) in
     let m = mul-suc (length mark) (length ns) in
     omega arith
+
+pub names-long : (mark : List ℕ) (n : ℕ) →
+    length (marked mark (upTo n)) ≡ length mark * n + length (concatMap digits (upTo n))
+names-long mark n =
+    marked-long mark (upTo n) ∙
+    ap (λ (k : ℕ). length mark * k + length (concatMap digits (upTo n))) (length-upTo n)
 
 -- no number has more than five digits
 pub digits-few : (ns : List ℕ) → length (concatMap digits ns) ≤ 5 * length ns

@@ -1,10 +1,12 @@
 -- The text as code puts it: fixed bytes, and between them the items that follow one another, each behind a space. What
 -- stands in a bracket is followed by the bracket's end and by what stands behind that, so texts are read as items and
--- the rest behind them.
-use Prim.Native.Nat.{ℕ}
+-- the rest behind them. How long a text is follows from its pieces.
+use Prim.Native.Nat.{ℕ, _+_, _-_}
 use Prim.Native.String.{String}
 use mathlib.Core.Path.{_≡_, refl, sym, _∙_, ap}
 use mathlib.Core.List.{List, [], _∷_, _++_, map, append-assoc, append-nil}
+use native.Mathlib.Omega.{arith}
+use lib.ListN.{length, length-append}
 use Rattle.words.specs.Lists.{concatMap}
 use Rattle.words.proofs.Lists.{append-concatMap}
 use Rattle.task.specs.Task.{Schema, Task}
@@ -141,3 +143,54 @@ problem-pieces t = problem-of (namesUpTo object (t .objects)) (map factText (t .
 pub pddl-pieces : (t : Task) → pddl t ≡ (domainText t ++ (newline ∷ [])) ++ (problemText t ++ (newline ∷ []))
 unfolding pddl
 pddl-pieces t = sym (append-assoc (domainText t) (newline ∷ []) (problemText t ++ (newline ∷ [])))
+
+-- ---- how long they are
+three-long : (xs ys zs : List ℕ) → length (xs ++ (ys ++ zs)) ≡ length xs + (length ys + length zs)
+three-long xs ys zs = let a = length-append xs (ys ++ zs) in let b = length-append ys zs in omega arith
+
+-- neighbours have no space before the first
+pub neighbours-long : (items : List (List ℕ)) → length (neighbours items) ≡ length (following items) - 1
+unfolding neighbours following concatMap
+neighbours-long [] = refl
+neighbours-long (item ∷ items) = omega arith
+
+pub action-long : (k : ℕ) (s : Schema) → length (actionText k s) ≡
+    60 + length (digits k) + length (neighbours (namesUpTo parameter (s .params))) +
+    length (following (preconditions s)) + length (following (effects s))
+unfolding bytes
+action-long k s =
+    let names = neighbours (namesUpTo parameter (s .params)) in
+    let pres = following (preconditions s) in
+    let effs = following (effects s) in
+    let behind = bytes ") :effect (and" ++ (effs ++ bytes "))") in
+    let e = ap length (action-pieces k s) in
+    let a = three-long (bytes "(:action a") (digits k)
+    (bytes " :parameters (" ++ (names ++ (bytes ") :precondition (and" ++ (pres ++ behind)))) in
+    let b = three-long (bytes " :parameters (") names (bytes ") :precondition (and" ++ (pres ++ behind)) in
+    let c = three-long (bytes ") :precondition (and") pres behind in
+    let d = three-long (bytes ") :effect (and") effs (bytes "))") in
+    omega arith
+
+pub pddl-long : (t : Task) → length (pddl t) ≡
+    100 + length (following (numbered predicateText 0 (t .arities))) +
+    length (following (numbered actionText 0 (t .schemas))) + length (following (namesUpTo object (t .objects))) +
+    length (following (map factText (t .init))) + length (following (map factText (t .goal)))
+unfolding bytes
+pddl-long t =
+    let predicates = following (numbered predicateText 0 (t .arities)) in
+    let actions = following (numbered actionText 0 (t .schemas)) in
+    let objects = following (namesUpTo object (t .objects)) in
+    let inits = following (map factText (t .init)) in
+    let goals = following (map factText (t .goal)) in
+    let aims = bytes ") (:goal (and" ++ (goals ++ bytes ")))\n") in
+    let e = ap length (pddl-pieces t) in
+    let two = length-append (domainText t ++ (newline ∷ [])) (problemText t ++ (newline ∷ [])) in
+    let domain = ap length (domain-pieces t) in
+    let a = three-long (bytes "(define (domain d) (:predicates") predicates (bytes ")" ++ (actions ++ bytes ")\n")) in
+    let b = three-long (bytes ")") actions (bytes ")\n") in
+    let problem = ap length (problem-pieces t) in
+    let c = three-long (bytes "(define (problem q) (:domain d) (:objects") objects
+    (bytes ") (:init" ++ (inits ++ aims)) in
+    let d = three-long (bytes ") (:init") inits aims in
+    let f = three-long (bytes ") (:goal (and") goals (bytes ")))\n") in
+    omega arith

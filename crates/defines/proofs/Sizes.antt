@@ -4,7 +4,7 @@
 use Prim.Native.Nat.{ℕ, zero, suc, _+_, _-_, _^_, _≤_, _<_}
 use mathlib.Core.Path.{_≡_, _∙_, ap}
 use mathlib.Core.Bool.{true}
-use mathlib.Core.List.{List, [], _∷_, _++_}
+use mathlib.Core.List.{List, _++_}
 use native.Mathlib.Omega.{arith}
 use lib.ListN.{length, length-append}
 use Rattle.words.specs.Lists.{sum, upTo, upFrom, concatMap}
@@ -12,23 +12,21 @@ use Rattle.words.proofs.Lists.{append-concatMap, upFrom-append}
 use Rattle.task.specs.Layout.{headIn, goalsFrom, atomTotal, paramsIn}
 use Rattle.task.specs.Task.{Task}
 use Rattle.task.specs.Table.{taskOf, isTable}
+use Rattle.task.specs.Run.{schemaAt}
 use Rattle.task.specs.Turns.{firstAtom}
-use Rattle.task.proofs.TablesByIndex.{table-frame, start-end}
+use Rattle.task.proofs.TablesByIndex.{table-frame, params-at, start-end}
 use Rattle.task.proofs.StartLaws.{start-rises}
 use Rattle.task.proofs.SchemaAtoms.{schema-inside}
-use Rattle.text.specs.Lines.{bytes, newline}
+use Rattle.text.specs.Lines.{bytes}
 use Rattle.text.proofs.Onwards.{onwards-short}
-use Rattle.defines.specs.Pddl.{domainText, problemText, pddl}
-use Rattle.defines.specs.ByWords.{marked, itemIn, itemsIn, headText, frameIn, predicateIn, actionIn}
-use Rattle.defines.specs.ByWords.{longestPddl}
-use Rattle.defines.proofs.Pieces.{pddl-pieces}
-use Rattle.defines.proofs.RoleRuns.{addsFrom, deletesFrom, precondition-run, add-run, delete-run, action-in}
-use Rattle.defines.proofs.DefinesIn.{domain-in, problem-in}
+use Rattle.defines.specs.Pddl.{pddl}
+use Rattle.defines.specs.ByWords.{marked, itemIn, itemsIn, frameIn, predicateIn, actionIn, longestPddl}
+use Rattle.defines.proofs.Pieces.{action-long, pddl-long}
+use Rattle.defines.proofs.RoleRuns.{addsFrom, deletesFrom, precondition-run, add-run, delete-run}
+use Rattle.defines.proofs.RoleRuns.{initial-items, goal-items, precondition-items, effect-items}
+use Rattle.defines.proofs.Frames.{parameters, head-long, frame-long}
+use Rattle.defines.proofs.DefinesIn.{predicates-in, actions-in, objects-in}
 use Rattle.defines.proofs.Longest.{table-most}
-
--- ---- pieces
-three-long : (xs ys zs : List ℕ) → length (xs ++ (ys ++ zs)) ≡ length xs + (length ys + length zs)
-three-long xs ys zs = let a = length-append xs (ys ++ zs) in let b = length-append ys zs in omega arith
 
 -- items up to a place, and those from there on
 items-parted : (w : List ℕ) (from mid to : ℕ) → from ≤ mid → mid ≤ to →
@@ -56,70 +54,58 @@ module _ (w : List ℕ) (h : isTable w ≡ true) where
   t = taskOf w
 
   -- ---- actions: their frames and their atoms
-  action-long : (s : ℕ) → s < headIn w .schemas →
+  action-sizes : (s : ℕ) → s < headIn w .schemas →
       length (actionIn w s) ≡ length (frameIn w s) + length (itemsIn w (firstAtom t s) (firstAtom t (suc s)))
-  unfolding frameIn bytes
-  action-long s l =
+  unfolding actionIn
+  action-sizes s l =
       let end : ℕ = firstAtom t (suc s) in
-      let head = headText s (paramsIn w s) in
-      let pres = itemsIn w (firstAtom t s) (addsFrom w s) in
-      let adds = itemsIn w (addsFrom w s) (deletesFrom w s) in
-      let dels = itemsIn w (deletesFrom w s) end in
       let a = precondition-run w h s l .ordered in
       let b = add-run w h s l .ordered in
       let c = delete-run w h s l .ordered in
-      let said = ap length (action-in w h s l) in
-      let first = three-long head pres (bytes ") :effect (and" ++ (adds ++ (dels ++ bytes "))"))) in
-      let second = three-long (bytes ") :effect (and") adds (dels ++ bytes "))") in
-      let last = length-append dels (bytes "))") in
-      let frame = length-append head (bytes ") :effect (and))") in
+      let action = action-long s (schemaAt t s) in
+      let params = ap (λ (n : ℕ). length (parameters n)) (params-at w (table-frame w h) s l) in
+      let pres = ap length (precondition-items w h s l) in
+      let effs = ap length (effect-items w h s l) in
+      let both = length-append (itemsIn w (addsFrom w s) (deletesFrom w s)) (itemsIn w (deletesFrom w s) end) in
+      let frame = frame-long w s in
+      let head = head-long s (paramsIn w s) in
       let own = items-parted w (firstAtom t s) (addsFrom w s) end a (omega arith) in
       let effects = items-parted w (addsFrom w s) (deletesFrom w s) end b c in
       omega arith
 
   -- of the schemas from s on
-  actions-long : (n s : ℕ) → s + n ≡ headIn w .schemas →
+  actions-sizes : (n s : ℕ) → s + n ≡ headIn w .schemas →
       length (concatMap (actionIn w) (upFrom s n)) ≡
       length (concatMap (frameIn w) (upFrom s n)) + length (itemsIn w (firstAtom t s) (headIn w .schemaAtoms))
   unfolding upFrom concatMap itemsIn
-  actions-long zero s e =
+  actions-sizes zero s e =
       let z : headIn w .schemas ≡ s = omega arith in
       let end = ap (firstAtom t) z in
       let all = start-end w (table-frame w h) in
       let none = onwards-short (itemIn w) (firstAtom t s) (headIn w .schemaAtoms) (omega arith) in
       omega arith
-  actions-long (suc n) s e =
+  actions-sizes (suc n) s e =
       let l : s < headIn w .schemas = omega arith in
-      let action = action-long s l in
+      let action = action-sizes s l in
       let actions = length-append (actionIn w s) (concatMap (actionIn w) (upFrom (suc s) n)) in
       let frames = length-append (frameIn w s) (concatMap (frameIn w) (upFrom (suc s) n)) in
-      let rest = actions-long n (suc s) (omega arith) in
+      let rest = actions-sizes n (suc s) (omega arith) in
       let rises = start-rises w h s (suc s) (omega arith) in
       let items = items-parted w (firstAtom t s) (firstAtom t (suc s)) (headIn w .schemaAtoms) rises
       (schema-inside w h s l) in
       omega arith
 
   -- ---- the whole
-  pub pddl-long : length (pddl t) ≡ sizesIn w
-  unfolding bytes upTo sum
-  pddl-long =
-      let predicates = concatMap (predicateIn w) (upTo (headIn w .predicates)) in
-      let actions = concatMap (actionIn w) (upTo (headIn w .schemas)) in
-      let objects = marked (bytes " o") (upTo (headIn w .objects)) in
-      let inits = itemsIn w (headIn w .schemaAtoms) (goalsFrom w) in
-      let goals = itemsIn w (goalsFrom w) (atomTotal w) in
-      let both = ap length (pddl-pieces t) in
-      let two = length-append (domainText t ++ (newline ∷ [])) (problemText t ++ (newline ∷ [])) in
-      let domain = ap length (domain-in w h) in
-      let d₁ = three-long (bytes "(define (domain d) (:predicates") predicates
-      (bytes ")" ++ (actions ++ bytes ")\n")) in
-      let d₂ = three-long (bytes ")") actions (bytes ")\n") in
-      let problem = ap length (problem-in w h) in
-      let p₁ = three-long (bytes "(define (problem q) (:domain d) (:objects") objects
-      (bytes ") (:init" ++ (inits ++ (bytes ") (:goal (and" ++ (goals ++ bytes ")))\n")))) in
-      let p₂ = three-long (bytes ") (:init") inits (bytes ") (:goal (and" ++ (goals ++ bytes ")))\n")) in
-      let p₃ = three-long (bytes ") (:goal (and") goals (bytes ")))\n") in
-      let schemas = actions-long (headIn w .schemas) 0 (omega arith) in
+  pub pddl-sizes : length (pddl t) ≡ sizesIn w
+  unfolding upTo sum
+  pddl-sizes =
+      let long = pddl-long t in
+      let predicates = ap length (predicates-in w h) in
+      let actions = ap length (actions-in w h) in
+      let objects = ap length (objects-in w h) in
+      let inits = ap length (initial-items w h) in
+      let goals = ap length (goal-items w h) in
+      let schemas = actions-sizes (headIn w .schemas) 0 (omega arith) in
       let i₁ = items-parted w 0 (headIn w .schemaAtoms) (atomTotal w) (omega arith) (omega arith) in
       let i₂ = items-parted w (headIn w .schemaAtoms) (goalsFrom w) (atomTotal w) (omega arith) (omega arith) in
       omega arith
@@ -127,4 +113,4 @@ module _ (w : List ℕ) (h : isTable w ≡ true) where
   -- no sum wraps
   pub sizes-fit : sizesIn w < 2 ^ 64
   unfolding longestPddl
-  sizes-fit = let e = pddl-long in let m = table-most w h in omega arith
+  sizes-fit = let e = pddl-sizes in let m = table-most w h in omega arith

@@ -11,9 +11,10 @@ use Rattle.defines.proofs.actions.head_size.Tie as tie
 few-digits : (c : tie.After-number-size) → c .number-size .result ≤ 5
 few-digits c = let d = at-most-five (c .before .before .args .schema) in let e = c .number-size .ensures in omega arith
 
-few-names : (c : tie.After-parameters-size) → c .parameters-size .result ≤ 96
+few-names : (c : tie.After-parameters-size) → c .parameters-size .result ≤ 49
 few-names c =
-    let p = parameters-few (c .before .before .before .before .args .params) in
+    let start = c .before .before .before .before in
+    let p = parameters-few (start .args .params) (start .pre) in
     let e = c .parameters-size .ensures in
     omega arith
 

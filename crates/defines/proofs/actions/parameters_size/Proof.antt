@@ -4,8 +4,9 @@ use native.Mathlib.Omega.{arith}
 use mathlib.Core.Path.{sym, _∙_, ap}
 use lib.ListN.{length}
 use Rattle.defines.specs.Pddl.{parameter}
+use Rattle.defines.proofs.MarkedNames.{below-long}
 use Rattle.defines.proofs.AtomItems.{no-neighbours}
-use Rattle.defines.proofs.Frames.{below-few, parameters, parameters-long}
+use Rattle.defines.proofs.Frames.{parameters, parameters-long}
 use borrow.Author.Needs.{needs}
 use Rattle.defines.proofs.actions.parameters_size.Statement.{statement}
 use Rattle.defines.proofs.actions.parameters_size.Tie as tie
@@ -15,13 +16,13 @@ returns c = sym (ap length (ap parameters (c .if1 .taken) ∙ no-neighbours para
 
 add-result : tie.Need-add-result
 add-result c =
-    let f = below-few (c .before .before .args .params) in
+    let b = below-long (c .before .before .args .params) (omega arith) in
     let e = c .below-size .ensures in
     omega arith
 
 returns-2 : tie.Need-returns-2
 returns-2 c =
-    let l = parameters-long (c .before .before .args .params) (omega arith) in
+    let l = parameters-long (c .before .before .args .params) in
     let e = c .below-size .ensures in
     omega arith
 

@@ -5,7 +5,7 @@ use mathlib.Core.List.{List, _++_}
 use Rattle.words.proofs.Puts.{Going, going-start, going-left, going-room, going-on, last-room, going-last}
 use Rattle.text.specs.Lines.{bytes, digits}
 use Rattle.defines.specs.ByWords.{headText}
-use Rattle.defines.proofs.Frames.{parameters, head-is}
+use Rattle.defines.proofs.Frames.{parameters, head-pieces}
 use borrow.Author.Needs.{needs}
 use Rattle.defines.proofs.actions.put_head.Statement.{statement}
 use Rattle.defines.proofs.actions.put_head.Tie as tie
@@ -29,7 +29,7 @@ Left c left text next =
     Going (c .args .text .now) (c .args .at) (headText (c .args .schema) (c .args .params)) left text next
 
 begin : (c : tie.Start) → Left c (bytes " (:action a" ++ from-number c) (c .args .text .now) (c .args .at)
-begin c = going-left (head-is (c .args .schema) (c .args .params)) (going-start (c .pre))
+begin c = going-left (head-pieces (c .args .schema) (c .args .params)) (going-start (c .pre))
 
 abbrev start : tie.After-slice-known2 → tie.Start
 start c = c .before .before .before .before .before .before

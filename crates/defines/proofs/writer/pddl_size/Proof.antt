@@ -1,9 +1,9 @@
 -- `defines::writer::pddl_size` meets its contract: the fixed bytes, the predicates, the actions without their atoms,
--- the objects and the items of all atoms make the text (`pddl-long`), and no sum of them wraps (`sizes-fit`).
+-- the objects and the items of all atoms make the text (`pddl-sizes`), and no sum of them wraps (`sizes-fit`).
 use native.Mathlib.Omega.{arith}
 use Prim.Native.Nat.{_+_}
 use mathlib.Core.Path.{_≡_, sym, _∙_}
-use Rattle.defines.proofs.Sizes.{sizesIn, pddl-long, sizes-fit}
+use Rattle.defines.proofs.Sizes.{sizesIn, pddl-sizes, sizes-fit}
 use borrow.Author.Needs.{needs}
 use Rattle.defines.proofs.writer.pddl_size.Statement.{statement}
 use Rattle.defines.proofs.writer.pddl_size.Tie as tie
@@ -53,7 +53,7 @@ add-result-4 c =
 returns : tie.Need-returns
 returns c =
     let start = start (c .before .before .before) in
-    counted c ∙ sym (pddl-long (start .args .table .now) (start .pre))
+    counted c ∙ sym (pddl-sizes (start .args .table .now) (start .pre))
 
 pub pddl-size-spec : {M : Type 1} → statement M
 pddl-size-spec =

@@ -2,8 +2,10 @@
 -- predicate (`predicate-long`), and they are few.
 use native.Mathlib.Omega.{arith}
 use Prim.Native.Nat.{_≤_}
+use Rattle.task.specs.Limits.{mostArity}
 use Rattle.text.proofs.DigitSteps.{at-most-five}
-use Rattle.defines.proofs.Frames.{below-few, predicate-long}
+use Rattle.defines.proofs.MarkedNames.{below-long}
+use Rattle.defines.proofs.Frames.{predicate-long}
 use borrow.Author.Needs.{needs}
 use Rattle.defines.proofs.writer.predicate_size.Statement.{statement}
 use Rattle.defines.proofs.writer.predicate_size.Tie as tie
@@ -11,9 +13,9 @@ use Rattle.defines.proofs.writer.predicate_size.Tie as tie
 few-digits : (c : tie.After-number-size) → c .number-size .result ≤ 5
 few-digits c = let d = at-most-five (c .before .before .args .p) in let e = c .number-size .ensures in omega arith
 
-few-behind : (c : tie.After-below-size) → c .below-size .result ≤ 20
+few-behind : (c : tie.After-below-size) → c .below-size .result ≤ mostArity
 few-behind c =
-    let b = below-few (c .before .before .before .args .arity) in
+    let b = below-long (c .before .before .before .args .arity) (omega arith) in
     let e = c .below-size .ensures in
     omega arith
 
