@@ -16,7 +16,6 @@ pub mod MarkedNames
 pub mod Formulas
 pub mod AtomItems
 pub mod TableItems
-pub mod RunTurns
 pub mod RunsPut
 pub mod RoleRuns
 pub mod Frames

@@ -14,8 +14,8 @@ use Rattle.task.proofs.TableReads.{table-roomy}
 use Rattle.text.specs.TableLines.{AtomInside}
 use Rattle.text.proofs.TableAtoms.{each-inside}
 use Rattle.defines.specs.ByWords.{itemAt, itemIn, itemsIn, RoleRun}
-use Rattle.defines.proofs.TableItems.{item-row}
-use Rattle.defines.proofs.RunTurns.{row-schema, Belongs, Turn, turn-first, turn-room, turn-next, turn-end}
+use Rattle.defines.proofs.TableItems.{row-schema, item-row}
+use Rattle.defines.proofs.RunsPut.{Belongs, Turn, turn-first, turn-room, turn-next, turn-end}
 use Rattle.defines.proofs.atoms.put_run.Statement.{statement}
 use Rattle.defines.proofs.atoms.put_run.Tie as tie
 
@@ -43,11 +43,11 @@ loop-holds c =
     turn-first (start .args .table .now) (start .args .schema) (start .args .role) (start .args .from)
     (start .pre .1 .0) (start .pre .1 .1) (start .pre .1 .2)
 
-one-of-all : (c : tie.In-loop Inv-loop μ-loop) → c .before .loop .atom < atomTotal (words (c .before))
-one-of-all c = let e = c .before .before .atom-count .ensures in omega arith
+known : (c : tie.In-loop Inv-loop μ-loop) → c .before .loop .atom < atomTotal (words (c .before))
+known c = let e = c .before .before .atom-count .ensures in omega arith
 
 row-of-requires : tie.Need-row-of-requires Inv-loop μ-loop
-row-of-requires c κs = (table-roomy (words (c .before)) (start (c .before) .pre .0), one-of-all c)
+row-of-requires c κs = (table-roomy (words (c .before)) (start (c .before) .pre .0), known c)
 
 word-requires : tie.Need-word-requires Inv-loop μ-loop
 word-requires c κs = let l = c .row-of .ensures .1 in omega arith
@@ -68,7 +68,7 @@ plays c = c .role-at .ensures .1 _ (c .before .before .before .row-of .ensures .
 -- ---- a turn
 own : (c : tie.Else2 Inv-loop μ-loop) → Own (c .before .before .before .before .before .before)
 own c = record {
-  inside = one-of-all (c .before .before .before .before .before);
+  inside = known (c .before .before .before .before .before);
   named = sym (named (c .before .before .before)) ∙ c .before .before .if1 .left;
   plays = sym (plays (c .before)) ∙ c .if2 .left;
 }
@@ -93,7 +93,7 @@ put-item-requires c κs =
     let r = turn-room (words at-loop) (args .schema) (args .role) (args .from) (at-loop .loop .inv) (own (c .before)) in
     let e = ap length (item-read (c .before)) in (
       subst (AtomInside (words at-loop)) (sym (read .row-of .ensures .0))
-          (each-inside (words at-loop) (start at-loop .pre .0) (at-loop .loop .atom) (one-of-all (read .before))),
+          (each-inside (words at-loop) (start at-loop .pre .0) (at-loop .loop .atom) (known (read .before))),
       omega arith,
     )
 
