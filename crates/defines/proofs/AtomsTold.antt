@@ -9,6 +9,7 @@ use native.Mathlib.Omega.{arith}
 use Rattle.words.specs.Lists.{upTo}
 use Rattle.words.proofs.Lists.{In}
 use Rattle.task.specs.Task.{Atom, Fact}
+use Rattle.task.proofs.States.{fact-path}
 use Rattle.text.specs.Lines.{bytes}
 use Rattle.defines.specs.Pddl.{parameter, object, predicate, named, atomicFormula, predicateText, schemaAtomText}
 use Rattle.defines.specs.Pddl.{factText, negated, conjunction}
@@ -70,10 +71,7 @@ facts-items fs = items-map factText (λ f. formula-item object refl (f .pred) (f
 fact-same : (f g : Fact) → Writable (f .pred) (f .args) → Writable (g .pred) (g .args) → factText f ≡ factText g → f ≡ g
 unfolding factText isWord
 fact-same f g h k e =
-    let same = formula-same object refl (f .pred) (g .pred) (f .args) (g .args) h k e in
-    let pred = same .0 in
-    let args = same .1 in
-    λ i. record { pred = pred i; args = args i }
+    let (pred, args) = formula-same object refl (f .pred) (g .pred) (f .args) (g .args) h k e in fact-path pred args
 
 pub facts-same : (fs gs : List Fact) → ((f : Fact) → In f fs → Writable (f .pred) (f .args)) →
     ((g : Fact) → In g gs → Writable (g .pred) (g .args)) → map factText fs ≡ map factText gs → fs ≡ gs

@@ -8,7 +8,7 @@ use lib.ListN.{length, getD, replicate, length-map}
 use lib.Seq.{ext-getD}
 use Rattle.words.specs.Lists.{concatMap, joined, sum, padded}
 use Rattle.words.proofs.Lists.{In, here, there, map-in, map-map, map-same, length-padded}
-use Rattle.task.specs.Limits.{tableWords, atomSize}
+use Rattle.task.specs.Limits.{tableWords, mostArity, atomSize}
 use Rattle.task.specs.Layout.{headBlock, Head}
 use Rattle.task.specs.Task.{Atom, Schema, Task, schemaAtoms, initial, goalRole}
 use Rattle.task.specs.Table.{atomWords, factWords, schemasFrom, headOf, blocksOf, wordsOf}
@@ -69,15 +69,16 @@ up-to-part a m n xs e = record { at = λ rest. go a m xs e rest }
 abbrev Clears : ℕ → ℕ → List ℕ → List ℕ → Type 0
 Clears b a xs us = Through (clear b 3) (clear a 3) xs us
 
-atom-cleared : (a s : ℕ) (x : Atom) → length (x .args) ≤ 4 →
+atom-cleared : (a s : ℕ) (x : Atom) → length (x .args) ≤ mostArity →
     Clears (suc a) a (atomWords s x) (atomWords s (withoutPart x))
 unfolding clear atomWords withoutPart
 atom-cleared a s x h = record {
   at = λ rest. ap {B = List ℕ} (λ zs. s ∷ x .role ∷ x .pred ∷ 0 ∷ zs)
-      (up-to-part a 7 3 (padded 4 (x .args)) (omega (arith, length-padded 4 (x .args) h)) .at rest);
+      (up-to-part a 7 3 (padded mostArity (x .args)) (omega (arith, length-padded mostArity (x .args) h)) .at rest);
 }
 
-atoms-cleared : (b a s : ℕ) (xs : List Atom) → b ≡ length xs + a → ((x : Atom) → In x xs → length (x .args) ≤ 4) →
+atoms-cleared : (b a s : ℕ) (xs : List Atom) → b ≡ length xs + a →
+    ((x : Atom) → In x xs → length (x .args) ≤ mostArity) →
     Clears b a (concatMap (atomWords s) xs) (concatMap (atomWords s) (map withoutPart xs))
 unfolding concatMap
 atoms-cleared b a s [] e h = record { at = λ rest. ap (λ (k : ℕ). clear k 3 rest) (omega arith) }

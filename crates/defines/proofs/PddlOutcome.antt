@@ -8,12 +8,12 @@ use mathlib.Core.List.{List, [], _∷_}
 use lib.ListN.{length}
 use lib.Dec.{leb}
 use borrow.Author.Tests.{le-leb}
-use Rattle.words.specs.Lists.{over}
 use Rattle.task.specs.Limits.{tableWords}
-use Rattle.task.specs.Answers.{result, Check, Outcome, refuseUnless, inOrder}
+use Rattle.task.specs.Answers.{Check, Outcome, refuseUnless, inOrder}
 use Rattle.task.specs.Table.{taskOf, longEnough, isTable}
 use Rattle.task.proofs.Answers.{asFound, check-passes, check-refuses}
 use Rattle.task.proofs.TablesByIndex.{table-long}
+use Rattle.text.proofs.Outcomes.{writtenOver}
 use Rattle.defines.specs.Pddl.{pddl}
 use Rattle.defines.specs.Outcome.{pddlOutcome}
 
@@ -22,7 +22,7 @@ module _ (w text : List ℕ) where
   written = pddl (taskOf w)
 
   abbrev done : Outcome (List ℕ)
-  done = record { told = result (length written ∷ []); buffer = over written text }
+  done = writtenOver written text
 
   abbrev two : Check
   two = refuseUnless (isTable w) 2

@@ -9,6 +9,7 @@ use native.Mathlib.Omega.{arith}
 use lib.ListN.{length}
 use borrow.Author.Tests.{leb-true}
 use Rattle.words.proofs.Lists.{In, all-in}
+use Rattle.task.specs.Limits.{mostObjects, mostPredicates, mostParameters}
 use Rattle.task.specs.Task.{Fact, Schema, Task, argsFit, schemaFits, wellFormed}
 use Rattle.task.proofs.States.{Fitting, argsFit-fitting, factsFit-state}
 use Rattle.task.proofs.Tests.{schema-tests, task-tests}
@@ -24,7 +25,7 @@ use Rattle.defines.proofs.AtomsTold.{conjunction-item, conjunction-same
 use Rattle.defines.proofs.ActionsTold.{Tame, action-item, action-same, action-without}
 
 -- ---- the numbers of a well-formed task
-fitting-writable : {bound p : ℕ} {arities args : List ℕ} → bound ≤ 1000 → length arities ≤ 400 →
+fitting-writable : {bound p : ℕ} {arities args : List ℕ} → bound ≤ mostObjects → length arities ≤ mostPredicates →
     Fitting bound arities p args → Writable p args
 fitting-writable low few c = record {
   pred = let l = c .known in omega arith;
@@ -39,12 +40,12 @@ record TameTask (t : Task) : Type 0 where
 tame : (t : Task) → wellFormed t ≡ true → TameTask t
 tame t h =
     let c = task-tests t h in
-    let low = leb-true (t .objects) 1000 (c .objects) in
-    let few = leb-true (length (t .arities)) 400 (c .preds) in
+    let low = leb-true (t .objects) mostObjects (c .objects) in
+    let few = leb-true (length (t .arities)) mostPredicates (c .preds) in
     record {
       schema = λ s i.
           let z = schema-tests (t .arities) s (all-in (schemaFits (t .arities)) (c .fit) i) in
-          let slim = leb-true (s .params) 12 (z .params) in
+          let slim = leb-true (s .params) mostParameters (z .params) in
           record {
             roles = z .roles;
             atoms = λ a j. fitting-writable {bound = s .params} (omega arith) few
