@@ -66,7 +66,8 @@ pub frames-size-spec : {M : Type 1} → statement M
 frames-size-spec =
     tie.close
     (tie.spec Inv-loop μ-loop (λ c κs. omega (arith, counts-inside _ (c .before .pre))) (λ c. summing-first)
-    (λ c κs. tt) (λ c κs. count-inside _ (c .wide .ensures) (start (c .before .before) .pre) (known (c .before))) (λ c
-    κs. count-few _ (c .before .wide .ensures) (start (c .before .before .before) .pre) (known (c .before .before)) (c
-    .params-of .ensures .0)) (λ c. omega (arith, within c)) (λ c. omega (arith, within (c .before))) (λ c. omega arith)
-    (λ c. omega arith) loop-again returns)
+    (λ c κs. tt) (λ c κs. count-inside _ (c .wide .ensures) (start (c .before .before) .pre) (known (c .before)))
+    (λ c κs. count-few _ (c .before .wide .ensures) (start (c .before .before .before) .pre) (known (c .before .before))
+    (c .params-of .ensures .0))
+    (λ c. omega (arith, within c)) (λ c. omega (arith, within (c .before))) (λ c. omega arith) (λ c. omega arith)
+    loop-again returns)

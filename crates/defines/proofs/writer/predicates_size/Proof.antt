@@ -57,6 +57,7 @@ pub predicates-size-spec : {M : Type 1} → statement M
 predicates-size-spec =
     tie.close
     (tie.spec Inv-loop μ-loop (λ c κs. omega (arith, counts-inside _ (c .before .pre))) (λ c. summing-first)
-    (λ c κs. tt) (λ c κs. arity-inside _ (c .wide .ensures) (start (c .before .before) .pre) (known (c .before))) (λ c
-    κs. arity-few _ (c .before .wide .ensures) (start (c .before .before .before) .pre) (known (c .before .before)) (c
-    .arity-of .ensures)) add-size (λ c. omega arith) (λ c. omega arith) loop-again returns)
+    (λ c κs. tt) (λ c κs. arity-inside _ (c .wide .ensures) (start (c .before .before) .pre) (known (c .before)))
+    (λ c κs. arity-few _ (c .before .wide .ensures) (start (c .before .before .before) .pre) (known (c .before .before))
+    (c .arity-of .ensures))
+    add-size (λ c. omega arith) (λ c. omega arith) loop-again returns)
