@@ -80,8 +80,8 @@ predicate-long p n =
     formula-long (bytes " ?x") p (upTo n) ∙ ap (λ (k : ℕ). 4 + length (digits p) + k) (names-long (bytes " ?x") n)
 
 -- ---- those of a table, by the words that code reads
-pub few-objects : (w : List ℕ) → isTable w ≡ true → headIn w .objects ≤ mostObjects
-few-objects w table =
+pub objects-few : (w : List ℕ) → isTable w ≡ true → headIn w .objects ≤ mostObjects
+objects-few w table =
     let e = objects-word w (table-frame w table) in
     let l = leb-true (taskOf w .objects) mostObjects (task-tests (taskOf w) (of-table w table .0) .objects) in
     omega arith

@@ -10,12 +10,11 @@ use Rattle.text.proofs.Onwards.{onwards, onwards-all, onwards-longer, onwards-s
 
 -- the size is that of the pieces before k
 pub record Summing (piece : ℕ → List ℕ) (n size k : ℕ) : Type 0 where
-  pub counted : k ≤ n
   pub makes : size + length (onwards piece k n) ≡ length (concatMap piece (upTo n))
 
 module _ {piece : ℕ → List ℕ} {n : ℕ} where
   pub summing-first : Summing piece n 0 0
-  summing-first = record { counted = omega arith; makes = let e = ap length (onwards-all piece n) in omega arith }
+  summing-first = record { makes = let e = ap length (onwards-all piece n) in omega arith }
 
   module _ {size k : ℕ} (sum : Summing piece n size k) where
     module _ (below : k < n) where
@@ -24,7 +23,6 @@ module _ {piece : ℕ → List ℕ} {n : ℕ} where
 
       pub summing-next : {next : ℕ} → next ≡ size + length (piece k) → Summing piece n next (k + 1)
       summing-next is = record {
-        counted = omega arith;
         makes = let e = sum .makes in let l = onwards-longer piece k n below in omega arith;
       }
 

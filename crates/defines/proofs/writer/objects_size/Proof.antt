@@ -10,13 +10,13 @@ use Rattle.task.proofs.TableReads.{counts-inside}
 use Rattle.text.specs.Lines.{bytes}
 use Rattle.defines.specs.ByWords.{marked}
 use Rattle.defines.proofs.MarkedNames.{names-long, below-long}
-use Rattle.defines.proofs.Frames.{few-objects}
+use Rattle.defines.proofs.Frames.{objects-few}
 use borrow.Author.Needs.{needs}
 use Rattle.defines.proofs.writer.objects_size.Statement.{statement}
 use Rattle.defines.proofs.writer.objects_size.Tie as tie
 
 few : (c : tie.After-word) → c .word .result ≤ mostObjects
-few c = omega (arith, few-objects _ (c .before .before .pre), c .word .ensures .0)
+few c = omega (arith, objects-few _ (c .before .before .pre), c .word .ensures .0)
 
 add-result : tie.Need-add-result
 add-result c =
