@@ -4,6 +4,7 @@ use native.Mathlib.Omega.{arith}
 use Prim.Native.Nat.{ℕ, _+_, _≤_}
 use mathlib.Core.Path.{_≡_, sym, _∙_, ap}
 use lib.ListN.{length, getD}
+use Rattle.task.specs.Task.{deletion}
 use Rattle.text.specs.Lines.{bytes}
 use Rattle.defines.specs.ByWords.{itemAt}
 use Rattle.defines.proofs.Formulas.{formulaAt-most, item-first, item-other, delete-long}
@@ -50,7 +51,7 @@ returns-3 c =
     let args = c .before .before .before .before .before .before .before .args in
     let w = args .table .now in
     let role = c .before .before .before .before .before .role-at .ensures .0 in
-    let e : getD w (args .base + 1) 0 ≡ 2 = omega arith in
+    let e : getD w (args .base + 1) 0 ≡ deletion = omega arith in
     let i = ap (λ (r : ℕ). length (itemAt r w (args .base))) e in
     let d = delete-long w (args .base) in
     let a = c .before .before .atom-size2 .ensures in

@@ -1,16 +1,16 @@
 -- `defines::atoms::put_atom` meets its contract: ` (p`, predicate, arguments and `)` are put one behind another. A
 -- lemma for each says what is still to come behind it.
 use native.Mathlib.Omega.{arith}
-use Prim.Native.Nat.{ℕ, _+_, _≤_}
-use mathlib.Core.Path.{_≡_, sym, _∙_, ap, subst}
+use Prim.Native.Nat.{ℕ, _+_}
+use mathlib.Core.Path.{_≡_, _∙_, ap}
 use mathlib.Core.List.{List, [], _∷_, _++_}
 use lib.ListN.{length}
 use Rattle.words.specs.Words.{wordsAt}
-use Rattle.words.proofs.Puts.{puts-same, Going, first-room, going-start, going-room, going-on, going-last, byte-room}
+use Rattle.words.proofs.Puts.{puts-same, Going, going-start, going-left, going-room, going-on, going-last, byte-room}
 use Rattle.task.specs.Layout.{arityIn}
 use Rattle.text.specs.Lines.{bytes, digits}
 use Rattle.defines.specs.Pddl.{closing}
-use Rattle.defines.specs.ByWords.{marked}
+use Rattle.defines.specs.ByWords.{marked, formulaAt}
 use Rattle.defines.proofs.Formulas.{predAt, argsAt, formulaAt-pieces}
 use borrow.Author.Needs.{needs}
 use Rattle.defines.proofs.atoms.put_atom.Statement.{statement}
@@ -25,14 +25,13 @@ arguments c = marked (c .args .mark .now) (argsAt (c .args .table .now) (c .args
 -- what is still to come of the atom, in a text and from a place on
 abbrev Left : tie.Start → List ℕ → List ℕ → ℕ → Type 0
 Left c left text next =
-    Going (c .args .text .now) (c .args .at) (bytes " (p" ++ (predicate c ++ (arguments c ++ (closing ∷ [])))) left text
-    next
+    Going (c .args .text .now) (c .args .at) (formulaAt (c .args .mark .now) (c .args .table .now) (c .args .base)) left
+    text next
 
-room : (c : tie.Start) →
-    c .args .at + length (bytes " (p" ++ (predicate c ++ (arguments c ++ (closing ∷ [])))) ≤ length (c .args .text .now)
-room c =
-    subst (λ (bs : List ℕ). c .args .at + length bs ≤ length (c .args .text .now))
-    (formulaAt-pieces (c .args .table .now) (c .args .base) (c .args .mark .now)) (c .pre .1)
+begin : (c : tie.Start) →
+    Left c (bytes " (p" ++ (predicate c ++ (arguments c ++ (closing ∷ [])))) (c .args .text .now) (c .args .at)
+begin c =
+    going-left (formulaAt-pieces (c .args .table .now) (c .args .base) (c .args .mark .now)) (going-start (c .pre .1))
 
 -- the number of arguments is the arity of the atom's predicate
 abbrev start : tie.After-arity-of → tie.Start
@@ -52,7 +51,7 @@ behind-opening : (c : tie.After-slice-known2) →
     Left (start (arity c)) (predicate (start (arity c)) ++ (arguments (start (arity c)) ++ (closing ∷ [])))
     (c .before .before .put-bytes .last .0) (c .before .before .put-bytes .result)
 unfolding bytes
-behind-opening c = going-on (going-start (room (start (arity c)))) (c .before .before .put-bytes .ensures)
+behind-opening c = going-on {ys = bytes " (p"} (begin (start (arity c))) (c .before .before .put-bytes .ensures)
 
 abbrev opened : tie.After-slice-known3 → tie.After-slice-known2
 opened c = c .before .before .before .before
@@ -84,7 +83,7 @@ put-bytes-requires : tie.Need-put-bytes-requires
 unfolding bytes
 put-bytes-requires c κs =
     let start = start (c .before .before) in
-    first-room (start .args .at) (bytes " (p") (predicate start ++ (arguments start ++ (closing ∷ []))) (room start)
+    going-room (bytes " (p") (predicate start ++ (arguments start ++ (closing ∷ []))) (begin start)
 
 put-number-requires : tie.Need-put-number-requires
 put-number-requires c κs =
@@ -107,11 +106,7 @@ put-byte-requires : tie.Need-put-byte-requires
 put-byte-requires c κs = byte-room closing [] (behind-arguments (c .before))
 
 returns : tie.Need-returns
-returns c =
-    let put = c .before .before .before .before in
-    let start = start (arity (opened (numbered put))) in
-    puts-same (sym (formulaAt-pieces (start .args .table .now) (start .args .base) (start .args .mark .now)))
-    (going-last (behind-arguments put) (c .before .before .put-byte .ensures))
+returns c = going-last (behind-arguments (c .before .before .before .before)) (c .before .before .put-byte .ensures)
 
 pub put-atom-spec : {M : Type 1} → statement M
 put-atom-spec =

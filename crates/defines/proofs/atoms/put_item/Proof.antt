@@ -6,6 +6,7 @@ use mathlib.Core.Path.{_≡_, sym, ap, subst}
 use mathlib.Core.List.{List}
 use lib.ListN.{length}
 use Rattle.words.proofs.Puts.{puts-same}
+use Rattle.task.specs.Task.{deletion}
 use Rattle.text.specs.Lines.{bytes}
 use Rattle.defines.specs.ByWords.{formulaAt, itemAt}
 use Rattle.defines.proofs.Formulas.{item-first, item-other}
@@ -54,7 +55,7 @@ returns c =
 put-delete-requires : tie.Need-put-delete-requires
 put-delete-requires c κs =
     let start = c .before .before .before .before .before in
-    (start .pre .0, room start (item start 2) (ap (item start) (c .before .if2 .taken)))
+    (start .pre .0, room start (item start deletion) (ap (item start) (c .before .if2 .taken)))
 
 returns-2 : tie.Need-returns-2
 returns-2 c =
