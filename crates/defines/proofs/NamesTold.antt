@@ -3,14 +3,14 @@ use Prim.Native.Nat.{ℕ, zero, suc, _+_, _/_, _%_, _≤_, _<_}
 use Prim.Native.String.{String}
 use mathlib.Core.Path.{_≡_, refl, sym, _∙_, ap}
 use mathlib.Core.Bool.{Bool, true, _&&_}
-use mathlib.Core.List.{List, [], _∷_, _++_, map}
+use mathlib.Core.List.{List, [], _∷_, _++_, map, append-cancel-left}
 use native.Mathlib.Omega.{arith}
 use native.Mathlib.Decide.{decLt}
 use lib.ListN.{length, length-append}
 use lib.Dec.{ltb, leb}
 use borrow.Author.Tests.{leb-true, lt-ltb}
 use Rattle.words.specs.Lists.{all, upTo}
-use Rattle.words.proofs.Lists.{and-left, and-right, and-both, append-same-length}
+use Rattle.words.proofs.Lists.{and-left, and-right, and-both}
 use Rattle.words.proofs.Ranges.{all-append}
 use Rattle.text.specs.Lines.{bytes, digits, valueFrom, digitsWithin}
 use Rattle.text.proofs.Digits.{digits-one, digits-more, digits-of}
@@ -85,7 +85,7 @@ module _ (word : String) (h : isWord word ≡ true) where
 pub named-same : (kind : String) (m n : ℕ) → m < 100000 → n < 100000 → named kind m ≡ named kind n → m ≡ n
 unfolding named
 named-same kind m n h k e =
-    let same : digits m ≡ digits n = append-same-length (bytes kind) (bytes kind) (digits m) (digits n) refl e .1 in
+    let same = append-cancel-left (bytes kind) (digits m) (digits n) e in
     sym (digits-of m h .worth) ∙ (ap (valueFrom 0) same ∙ digits-of n k .worth)
 
 pub names-same : (kind : String) (m n : ℕ) → namesUpTo kind m ≡ namesUpTo kind n → m ≡ n

@@ -1,11 +1,11 @@
 -- Lists that are told by their images: element by element, by their number, and each of two kinds one behind the other.
 use Prim.Native.Nat.{ℕ, suc}
 use mathlib.Core.Path.{_≡_, refl, sym, _∙_, ap, ap₂}
-use mathlib.Core.List.{List, [], _∷_, _++_, map}
+use mathlib.Core.List.{List, [], _∷_, _++_, map, map-id}
 use native.Mathlib.Omega.{arith}
 use lib.ListN.{length, length-map}
 use Rattle.words.specs.Lists.{upTo}
-use Rattle.words.proofs.Lists.{In, here, there, length-upTo, map-keeps}
+use Rattle.words.proofs.Lists.{In, here, there, length-upTo}
 use Rattle.defines.specs.Pddl.{numbered}
 
 -- where f tells g of each two elements, the images under f tell those under g: of things that are numbered, and of any
@@ -32,8 +32,7 @@ map-tells f g xs ys h e =
 
 -- where images tell the elements, they tell the list
 pub list-told : {A : Type 0} {xs ys : List A} → map (λ (x : A). x) xs ≡ map (λ (x : A). x) ys → xs ≡ ys
-list-told {A} {xs} {ys} e =
-    sym (map-keeps (λ (x : A). x) xs (λ x i. refl)) ∙ (e ∙ map-keeps (λ (x : A). x) ys (λ x i. refl))
+list-told {xs = xs} {ys = ys} e = sym (map-id xs) ∙ (e ∙ map-id ys)
 
 pub map-fixes : {A : Type 0} (f : A → List ℕ) (xs ys : List A) →
     ((x y : A) → In x xs → In y ys → f x ≡ f y → x ≡ y) → map f xs ≡ map f ys → xs ≡ ys
