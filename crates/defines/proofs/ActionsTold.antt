@@ -16,12 +16,10 @@ use Rattle.defines.proofs.Told.{map-tells, kinds-told}
 use Rattle.defines.proofs.NamesTold.{isWord, behind-word, named-item, names-items, names-same}
 use Rattle.defines.proofs.AtomsTold.{Writable, atom-item, atom-same, negated-item, negated-same}
 use Rattle.defines.proofs.AtomsTold.{atom-not-negated, conjunction-item, conjunction-same}
+use Rattle.defines.proofs.Pieces.{deleteText}
 use Rattle.defines.proofs.Roles.{has-role, roles-tell, role-without}
 
 -- ---- an action is an item
-abbrev deleteText : Atom → List ℕ
-deleteText a = negated (schemaAtomText a)
-
 preconditions-items : (s : Schema) → Items (preconditions s)
 unfolding preconditions
 preconditions-items s = items-map schemaAtomText atom-item (ofRole precondition (s .atoms))

@@ -11,9 +11,9 @@ use Rattle.task.specs.Table.{atomIn, factIn}
 use Rattle.text.specs.Lines.{bytes, digits}
 use Rattle.text.proofs.Pieces.{pieces-map}
 use Rattle.defines.specs.Pddl.{space, closing, object, parameter, following, neighbours, named, namesUpTo}
-use Rattle.defines.specs.Pddl.{atomicFormula, predicateText, schemaAtomText, factText, negated}
+use Rattle.defines.specs.Pddl.{atomicFormula, predicateText, schemaAtomText, factText}
 use Rattle.defines.specs.ByWords.{marked, formula, formulaAt, itemAt, itemIn, predicateIn}
-use Rattle.defines.proofs.Pieces.{atom-pieces, negated-pieces}
+use Rattle.defines.proofs.Pieces.{atom-pieces, deleteText, negated-pieces}
 use Rattle.defines.proofs.Formulas.{item-first, item-delete, item-other}
 
 -- ---- names
@@ -64,7 +64,7 @@ item-plain w i l = item-first w (atomBase w i) (atomIn w i .role) l ∙ over-par
 
 -- deletes
 pub item-negated : (w : List ℕ) (i : ℕ) → atomIn w i .role ≡ deletion →
-    itemIn w i ≡ space ∷ negated (schemaAtomText (atomIn w i))
+    itemIn w i ≡ space ∷ deleteText (atomIn w i)
 unfolding itemIn bytes
 item-negated w i e =
     ap (λ (role : ℕ). itemAt role w (atomBase w i)) e ∙

@@ -10,19 +10,20 @@ pub mod TasksTold
 pub mod PartsCleared
 pub mod TablesTold
 pub mod OutcomesTold
--- The text by a table's words, in the pieces that code puts, and how long it is.
+-- The text in the pieces that code puts, by the words of a table.
 pub mod Pieces
 pub mod MarkedNames
 pub mod Formulas
 pub mod AtomItems
 pub mod TableItems
-pub mod RunsPut
 pub mod RoleRuns
+pub mod RunsPut
 pub mod Frames
-pub mod SizeTurns
 pub mod DefinesIn
-pub mod Sizes
+-- How long it is at most, and how it is counted.
 pub mod Longest
+pub mod Sizes
+pub mod SizeTurns
 -- What writing it answers, and the text of M.
 pub mod PddlOutcome
 pub mod Example

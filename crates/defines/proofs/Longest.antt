@@ -30,7 +30,7 @@ use Rattle.defines.specs.Pddl.{space, object, parameter, following, name
 use Rattle.defines.specs.Pddl.{predicateText, schemaAtomText, factText, negated, preconditions, effects}
 use Rattle.defines.specs.Pddl.{actionText, pddl}
 use Rattle.defines.specs.ByWords.{longestPddl}
-use Rattle.defines.proofs.Pieces.{following-append, negated-pieces, action-long, pddl-long}
+use Rattle.defines.proofs.Pieces.{following-append, deleteText, negated-pieces, action-long, pddl-long}
 use Rattle.defines.proofs.MarkedNames.{names-long, below-long}
 use Rattle.defines.proofs.Formulas.{formula-most}
 use Rattle.defines.proofs.AtomItems.{names-marked, formula-is}
@@ -98,14 +98,13 @@ atoms-most s roles short =
     let each : (r : ℕ) (a : Atom) → In a (of r) → length (schemaAtomText a) < 27 =
     λ r a i. short a (has-role r (s .atoms) a i .0) in
     let adds = map schemaAtomText (of addition) in
-    let dels = map (λ a. negated (schemaAtomText a)) (of deletion) in
+    let dels = map deleteText (of deletion) in
     let all = ap length (by-roles (s .atoms) roles) in
     let a₀ = length-append (of precondition) (of addition ++ of deletion) in
     let a₁ = length-append (of addition) (of deletion) in
     let pre = following-most schemaAtomText 27 (of precondition) (each precondition) in
     let add = following-most schemaAtomText 27 (of addition) (each addition) in
-    let del = following-most (λ a. negated (schemaAtomText a)) 33 (of deletion)
-    (λ a i. deleted-most (schemaAtomText a) (each deletion a i)) in
+    let del = following-most deleteText 33 (of deletion) (λ a i. deleted-most (schemaAtomText a) (each deletion a i)) in
     let both = ap length (following-append adds dels) ∙ length-append (following adds) (following dels) in
     omega arith
 

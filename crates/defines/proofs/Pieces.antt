@@ -9,11 +9,12 @@ use native.Mathlib.Omega.{arith}
 use lib.ListN.{length, length-append}
 use Rattle.words.specs.Lists.{concatMap}
 use Rattle.words.proofs.Lists.{append-concatMap}
-use Rattle.task.specs.Task.{Schema, Task}
+use Rattle.task.specs.Task.{Atom, Schema, Task}
 use Rattle.text.specs.Lines.{bytes, digits, newline}
 use Rattle.defines.specs.Pddl.{space, opening, closing, object, parameter, following, neighbours, bracket, named}
-use Rattle.defines.specs.Pddl.{namesUpTo, numbered, atomicFormula, predicateText, factText, negated, conjunction}
-use Rattle.defines.specs.Pddl.{preconditions, effects, actionText, domainText, problemText, pddl}
+use Rattle.defines.specs.Pddl.{namesUpTo, numbered, atomicFormula, predicateText, schemaAtomText, factText}
+use Rattle.defines.specs.Pddl.{negated, conjunction, preconditions, effects, actionText, domainText, problemText}
+use Rattle.defines.specs.Pddl.{pddl}
 
 -- ---- items one behind another
 pub following-append : (xs ys : List (List ℕ)) → following (xs ++ ys) ≡ following xs ++ following ys
@@ -75,6 +76,10 @@ pub atom-pieces : (kind : String) (p : ℕ) (args : List ℕ) →
     atomicFormula kind p args ≡ bytes "(p" ++ (digits p ++ (following (map (named kind) args) ++ bytes ")"))
 unfolding atomicFormula bracket neighbours named bytes
 atom-pieces kind p args = simp append-assoc
+
+-- a delete
+abbrev pub deleteText : Atom → List ℕ
+deleteText a = negated (schemaAtomText a)
 
 pub negated-pieces : (item : List ℕ) → negated item ≡ bytes "(not " ++ (item ++ bytes ")")
 unfolding negated bracket neighbours following concatMap bytes

@@ -23,9 +23,9 @@ use Rattle.task.proofs.SchemaAtoms.{schema-inside, own-number}
 use Rattle.text.specs.Lines.{bytes, digits}
 use Rattle.text.proofs.Pieces.{pieces-map}
 use Rattle.defines.specs.Pddl.{space, parameter, following, neighbours, namesUpTo, schemaAtomText, factText}
-use Rattle.defines.specs.Pddl.{negated, preconditions, effects}
+use Rattle.defines.specs.Pddl.{preconditions, effects}
 use Rattle.defines.specs.ByWords.{itemIn, itemsIn, RoleRun, headText, actionIn}
-use Rattle.defines.proofs.Pieces.{following-append, action-pieces}
+use Rattle.defines.proofs.Pieces.{following-append, deleteText, action-pieces}
 use Rattle.defines.proofs.AtomItems.{item-plain, item-negated, item-fact}
 use Rattle.defines.proofs.Roles.{byRoles, by-roles, has-role}
 
@@ -255,12 +255,11 @@ module _ (w : List ℕ) (h : isTable w ≡ true) (s : ℕ) (l : s < headIn w .sc
   unfolding effects deletesFrom
   effect-items =
       following-append (map schemaAtomText (ofRole addition atoms))
-      (map (λ a. negated (schemaAtomText a)) (ofRole deletion atoms)) ∙
+      (map deleteText (ofRole deletion atoms)) ∙
       ap₂ (λ (xs ys : List ℕ). xs ++ ys)
       (role-items addition (addsFrom w s) schemaAtomText (roles-from .1 .0)
       (λ k e. item-plain w k (omega arith)))
-      (role-items deletion (deletesFrom w s) (λ a. negated (schemaAtomText a)) (roles-from .1 .1)
-      (item-negated w) ∙
+      (role-items deletion (deletesFrom w s) deleteText (roles-from .1 .1) (item-negated w) ∙
       ap (itemsIn w (deletesFrom w s)) deletes-end)
 
   -- an action up to its preconditions, and what comes behind
