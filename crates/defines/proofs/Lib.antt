@@ -1,4 +1,6 @@
--- Laws of the PDDL text. What it tells of a task: items of brackets, names, atoms, actions, tasks, tables, outcomes.
+-- Laws of the PDDL text: the pieces that code puts.
+pub mod Pieces
+-- What it tells of a task: items of brackets, names, atoms, actions, tasks, tables, outcomes.
 pub mod Through
 pub mod Items
 pub mod Told
@@ -10,8 +12,7 @@ pub mod TasksTold
 pub mod PartsCleared
 pub mod TablesTold
 pub mod OutcomesTold
--- The text in the pieces that code puts, by the words of a table.
-pub mod Pieces
+-- Its pieces by the words of a table.
 pub mod MarkedNames
 pub mod Formulas
 pub mod AtomItems

@@ -61,7 +61,7 @@ numbered-most f most more held i (x ∷ xs) h =
     let d = mul-add more (held x) (sum (map held xs)) in
     omega arith
 
--- ---- predicates and atoms
+-- ---- a predicate, and a delete
 predicate-most : (p : ℕ) → p < mostPredicates → (arity : ℕ) → arity ≤ mostArity → length (predicateText p arity) < 23
 unfolding predicateText bytes
 predicate-most p known arity short =
@@ -71,15 +71,6 @@ predicate-most p known arity short =
     let b = below-long arity (omega arith) in
     omega arith
 
-formula-short : (kind : String) (d : ℕ) → 1 ≤ d → (p : ℕ) → p < mostPredicates → (args : List ℕ) →
-    length args ≤ mostArity → ((n : ℕ) → In n args → n < 10 ^ d) →
-    length (atomicFormula kind p args) ≤ 6 + (1 + length (bytes kind) + d) * mostArity
-formula-short kind d some p known args short small =
-    let e = ap length (formula-is kind p args) in
-    let m = formula-most (space ∷ bytes kind) p args d short (λ n i. digits-most d some n (small n i)) in
-    let n = digits-most 3 (omega arith) p (omega arith) in
-    omega arith
-
 deleted-most : (item : List ℕ) → length item < 27 → length (negated item) < 33
 unfolding bytes
 deleted-most item h =
@@ -87,8 +78,7 @@ deleted-most item h =
     let l = length-append item (bytes ")") in
     omega arith
 
--- ---- an action
--- atoms of at most 26 bytes each
+-- ---- the atoms of a schema, of at most 26 bytes each
 atoms-most : (s : Schema) → rolesAscend (s .atoms) ≡ true →
     ((a : Atom) → In a (s .atoms) → length (schemaAtomText a) < 27) →
     length (following (preconditions s)) + length (following (effects s)) ≤ 33 * length (s .atoms)
@@ -117,8 +107,11 @@ module _ (t : Task) (c : TaskTests t) where
       let preds = leb-true (length (t .arities)) mostPredicates (c .preds) in
       let fit = argsFit-fitting n (t .arities) p args h in
       let known = fit .known in
-      formula-short kind d some p (omega arith) args (sized n (t .arities) p args (c .arities) h .short)
-      (λ x i. let l = fit .small x i in omega arith)
+      let e = ap length (formula-is kind p args) in
+      let name = digits-most 3 (omega arith) p (omega arith) in
+      let m = formula-most (space ∷ bytes kind) p args d (sized n (t .arities) p args (c .arities) h .short)
+      (λ x i. let l = fit .small x i in digits-most d some x (omega arith)) in
+      omega arith
 
   atom-most : (s : Schema) → SchemaTests (t .arities) s → (a : Atom) → In a (s .atoms) → length (schemaAtomText a) < 27
   unfolding schemaAtomText bytes
