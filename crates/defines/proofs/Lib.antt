@@ -25,6 +25,5 @@ pub mod DefinesIn
 pub mod Longest
 pub mod Sizes
 pub mod SizeTurns
--- What writing it answers, and the text of M.
+-- What writing it answers.
 pub mod PddlOutcome
-pub mod Example

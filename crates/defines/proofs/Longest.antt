@@ -1,6 +1,6 @@
--- How long the text of a task can be, by its pieces. A number below 10 ^ d has at most d digits: predicates, schemas and
--- objects have three, parameters two, those in `:predicates` one. With four arguments at most, an atom takes 26 bytes, a
--- delete 32, a predicate 22, a schema without its atoms 122; the limits on how many there are bound the whole.
+-- How long the text of a task can be, by its pieces. A number below 10 ^ d has at most d digits: predicates, schemas
+-- and objects have three, parameters two, those in `:predicates` one. With four arguments at most, an atom takes 26
+-- bytes, a delete 32, a predicate 22, a schema without its atoms 122; the limits on how many there are bound the whole.
 use Prim.Native.Nat.{ℕ, suc, _+_, _*_, _^_, _≤_, _<_}
 use Prim.Native.String.{String}
 use mathlib.Core.Path.{_≡_, refl, _∙_, ap}

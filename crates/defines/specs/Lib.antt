@@ -2,4 +2,3 @@ pub mod Pddl
 pub mod Outcome
 pub mod Parts
 pub mod ByWords
-pub mod Example

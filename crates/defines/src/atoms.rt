@@ -1,5 +1,5 @@
 // The atoms of a table, each in its bracket behind a space. They are put in the table's order, run after run of one
-// schema and role, so that no row is looked at twice.
+// schema and role: each run begins where the one before it ended, and no end is looked for ahead.
 use crate::names::OBJECT;
 use crate::names::PARAMETER;
 use crate::names::put_words;
@@ -25,6 +25,7 @@ ghost use Prim.Native.Nat.{ℕ, _+_, _≤_};
 ghost use lib.ListN.{length, getD};
 ghost use Rattle.words.specs.Putting.{Puts};
 ghost use Rattle.task.specs.Layout.{atomTotal};
+ghost use Rattle.task.specs.Task.{deletion};
 ghost use Rattle.task.specs.Table.{isTable};
 ghost use Rattle.text.specs.TableLines.{AtomInside};
 ghost use Rattle.defines.specs.ByWords.{formulaAt, itemAt, itemsIn, RoleRun};
@@ -53,8 +54,8 @@ fn put_atom(text: &mut [u8], at: usize, mark: &[u8], table: &[u16], base: usize)
 // A delete stands in a `not`.
 fn put_delete(text: &mut [u8], at: usize, table: &[u16], base: usize) -> usize
     requires { ⌜ AtomInside (now table) base ⌝ }
-    requires { ⌜ at + length (itemAt 2 (now table) base) ≤ length (now text) ⌝ }
-    ensures { λ r. ⌜ Puts (now (text .entry)) at (itemAt 2 (now (table .entry)) base) (now (text .exit)) r ⌝ }
+    requires { ⌜ at + length (itemAt deletion (now table) base) ≤ length (now text) ⌝ }
+    ensures { λ r. ⌜ Puts (now (text .entry)) at (itemAt deletion (now (table .entry)) base) (now (text .exit)) r ⌝ }
 {
     let at_atom = put_bytes(text, at, b" (not");
     let at_end = put_atom(text, at_atom, &PARAMETER, table, base);

@@ -1,2 +1,3 @@
--- The theorem over the worked examples.
+-- The theorem over the worked examples of document 01, and those of the notes.
 pub mod Given
+pub mod PddlGiven

@@ -1,25 +1,15 @@
--- The PDDL text of document 01's M, and those of tasks with empty lists.
+-- Document 02's note 1: the PDDL text of document 01's M, and those of tasks with empty lists.
 use Prim.Native.Nat.{ℕ}
 use Prim.Native.String.{String, _++_}
 use mathlib.Core.List.{List}
-use lib.ListN.{replicate}
-use Rattle.task.specs.Limits.{tableWords}
 use Rattle.task.specs.Answers.{Outcome}
-use Rattle.text.specs.Lines.{bytes}
-use Rattle.text.specs.Outcomes.{readOutcome}
 use Rattle.defines.specs.Outcome.{pddlOutcome}
+use Rattle.examples.specs.Examples.{tableOf, lent}
 
--- what `write_pddl` does with the table of a text, lent n bytes of 7
+-- what `write_pddl` does with the table of a text, lent n bytes
 unfoldable pub writtenInto : ℕ → String → Outcome (List ℕ)
-unfolding readOutcome pddlOutcome bytes tableWords
-writtenInto n text = pddlOutcome (readOutcome (bytes text) (replicate tableWords 0) .buffer) (replicate n 7)
-
--- M, "a logger's move x, y, z"
-unfoldable pub m : String
-m =
-    "task=1\nobjects=3\narity=2,1\n" ++
-    ("schema=3\npre=0:0,1\npre=1:0\npre=1:2\nadd=0:0,2\nadd=1:1\ndel=0:0,1\ndel=1:2\npart=0,0,1,1,2,0,1\n" ++
-    "init=0:0,1\ninit=1:0\ninit=1:2\ngoal=0:0,2\nend=1\n")
+unfolding pddlOutcome tableOf lent
+writtenInto n text = pddlOutcome (tableOf text) (lent n)
 
 unfoldable pub pddlOfM : String
 pddlOfM =
