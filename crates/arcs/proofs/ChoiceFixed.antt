@@ -11,12 +11,12 @@ use lib.ListN.{length, getD}
 use lib.Seq.{ext-getD}
 use lib.Dec.{eqb}
 use Rattle.task.specs.Task.{Atom, Schema, partCount}
-use Rattle.arcs.specs.Order.{arc, preconditions, ready, best, orderOf}
+use Rattle.arcs.specs.Order.{arc, preconditions, ready, nextPart, orderOf}
 use Rattle.words.proofs.Lists.{In, in-filter, filter-in, in-upTo, upTo-in}
 use Rattle.words.proofs.Ascending.{Ascend, ascend-upTo, ascend-filter, others, in-others, others-in}
-use Rattle.arcs.proofs.OrderTaken.{ready-no-arc, no-arc-ready, candidates, Taken, all-placed, place-next}
+use Rattle.arcs.proofs.OrderTaken.{ready-no-arc, no-arc-ready, Taken, all-placed, place-next}
 use Rattle.arcs.proofs.OrderTaken.{order-as-taken}
-use Rattle.arcs.proofs.Best.{Best, best-of}
+use Rattle.arcs.proofs.Best.{Best, candidates, next-best}
 
 -- ---- the choice, in plain terms
 -- "among unplaced parts that no unplaced part has an arc to"
@@ -52,16 +52,16 @@ chosen-same {atoms} {U} {W} {p} forth back c = record {
     over : (q : ℕ) → Ready atoms W q → Ready atoms U q
     over q r = (back q (r .0), λ x u. r .1 x (forth x u))
 
-best-chosen : (atoms : List Atom) (unplaced : List ℕ) (p : ℕ) → Ascend unplaced →
-    best atoms (candidates atoms unplaced) ≡ some p → Chosen atoms (λ q. In q unplaced) p
-best-chosen atoms unplaced p a h = record {
+next-chosen : (atoms : List Atom) (unplaced : List ℕ) (p : ℕ) → Ascend unplaced →
+    nextPart atoms unplaced ≡ some p → Chosen atoms (λ q. In q unplaced) p
+next-chosen atoms unplaced p a h = record {
   is-ready = (i, ready-no-arc atoms unplaced p r);
   most = λ q k. b .most q (candidate q k);
   lowest = λ q k. b .lowest q (candidate q k);
 }
   where
     b : Best atoms (candidates atoms unplaced) p
-    b = best-of atoms (candidates atoms unplaced) (ascend-filter (ready atoms unplaced) a) p h
+    b = next-best atoms unplaced a p h
 
     i : In p unplaced
     i = filter-in (ready atoms unplaced) unplaced p (b .one) .0
@@ -76,7 +76,7 @@ taken-chosen : {atoms : List Atom} {n : ℕ} {unplaced o : List ℕ} → Taken a
     (i : ℕ) → i < length o → Chosen atoms (UnplacedAt (λ q. In q unplaced) o i) (getD o i 0)
 taken-chosen all-placed a i l = absurd (omega arith)
 taken-chosen {atoms} (place-next {p = p} {unplaced = us} b k) a zero l =
-    chosen-same (λ q u. (u, λ k m. absurd (omega arith))) (λ q u. u .0) (best-chosen atoms us p a b)
+    chosen-same (λ q u. (u, λ k m. absurd (omega arith))) (λ q u. u .0) (next-chosen atoms us p a b)
 taken-chosen {atoms} (place-next {p = p} {unplaced = us} {o = o} b k) a (suc i) l =
     chosen-same forth back (taken-chosen k (ascend-filter (λ q. not (eqb p q)) a) i (omega arith))
   where

@@ -13,7 +13,7 @@ use Rattle.words.specs.Lists.{any, filter, keepIf, upFrom, upTo}
 use Rattle.task.specs.Task.{Atom}
 use Rattle.words.proofs.Lists.{and-left, and-right, and-both, bool-ext, both-ft, any-in, in-any, in-filter, filter-in}
 use Rattle.words.proofs.Lists.{in-upTo}
-use Rattle.arcs.specs.Order.{arc, preconditions, ready, better, best}
+use Rattle.arcs.specs.Order.{arc, preconditions, ready, better, best, nextPart}
 use Rattle.arcs.specs.Stretches.{AreArcs, AreCounts}
 use Rattle.words.specs.Sets.{SetBelow, member, members}
 use Rattle.words.proofs.BitSets.{member-beyond}
@@ -149,5 +149,6 @@ module _ (before counts : List ℕ) (unplaced n : ℕ) where
       ∙ sym (ap (best atoms) (candidates-take unplaced (isReady atoms) n p z l (t atoms a))))
 
   pub found-all : (found : Option ℕ) → FoundFrom 0 found → (atoms : List Atom) → AreArcs atoms before →
-      AreCounts atoms counts → found ≡ best atoms (filter (ready atoms (members unplaced n)) (members unplaced n))
+      AreCounts atoms counts → found ≡ nextPart atoms (members unplaced n)
+  unfolding nextPart
   found-all found h atoms a k = h atoms a k ∙ ap (best atoms) (candidates-all unplaced (isReady atoms) n)

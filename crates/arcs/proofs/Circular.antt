@@ -2,7 +2,7 @@
 -- Of the unplaced parts, the one that a complying order puts first is ready; so where such an order is, placing never
 -- gets stuck. And an order that was found complies.
 use Prim.Native.Nat.{ℕ, zero, suc, _≤_, _<_}
-use mathlib.Core.Path.{_≡_, refl, sym, _∙_, ap, subst}
+use mathlib.Core.Path.{_≡_, refl, sym, _∙_, ap}
 use mathlib.Core.Bool.{Bool, true, false, not}
 use mathlib.Core.List.{List, [], _∷_}
 use mathlib.Core.Logic.{_↔_}
@@ -13,13 +13,13 @@ use lib.Dec.{eqb}
 use borrow.Author.Tests.{eqb-true, eq-eqb}
 use Rattle.words.specs.Lists.{any, upTo}
 use Rattle.task.specs.Task.{Atom, Schema, partCount}
-use Rattle.arcs.specs.Order.{arc, NoOrderComplies, ready, best, consTo, place, orderFrom, orderOf}
-use Rattle.words.proofs.Lists.{both-ft, In, here, there, in-eq, in-empty, any-in, in-any, in-filter, getD-in, upTo-in}
+use Rattle.arcs.specs.Order.{arc, NoOrderComplies, ready, nextPart, consTo, place, orderFrom, orderOf}
+use Rattle.words.proofs.Lists.{both-ft, In, here, there, in-eq, in-empty, any-in, in-any, getD-in, upTo-in}
 use Rattle.words.proofs.Lists.{length-upTo}
 use Rattle.arcs.proofs.Arcs.{arc-self}
-use Rattle.arcs.proofs.Best.{best-none}
+use Rattle.arcs.proofs.Best.{next-none}
 use Rattle.words.proofs.Ascending.{no-none, Ascend, ascend-upTo, ascend-filter, others, others-in, others-one-less}
-use Rattle.arcs.proofs.OrderTaken.{candidates, no-arc-ready, order-taken}
+use Rattle.arcs.proofs.OrderTaken.{no-arc-ready, order-taken}
 
 -- `Complies`, of the rest of an order too
 abbrev NoneBack : List Atom → List ℕ → Type 0
@@ -61,7 +61,7 @@ never-stuck : (atoms : List Atom) (o : List ℕ) → NoneBack atoms o → (n : �
 unfolding orderFrom place consTo
 never-stuck atoms o c zero unplaced l a k h = no-none (sym h)
 never-stuck atoms o c (suc n) unplaced l a k h =
-    go (best atoms (candidates atoms unplaced)) refl h (λ us m b i e. never-stuck atoms o c n us m b i e)
+    go (nextPart atoms unplaced) refl h (λ us m b i e. never-stuck atoms o c n us m b i e)
   where
     Rest : Type 0
     Rest = (us : List ℕ) → n ≤ length us → Ascend us → ((q : ℕ) → In q us → In q o) → orderFrom atoms n us ≡ none → ⊥
@@ -70,11 +70,11 @@ never-stuck atoms o c (suc n) unplaced l a k h =
     some-unplaced [] z = absurd (omega arith)
     some-unplaced (u ∷ us) z = (u, here refl)
 
-    not-empty : candidates atoms unplaced ≡ [] → ⊥
-    not-empty e =
+    not-stuck : nextPart atoms unplaced ≡ none → ⊥
+    not-stuck e =
         let (u, i) = some-unplaced unplaced l in
         let (p, j, r) = some-ready atoms o c unplaced k u i in
-        in-empty (subst (λ z. In p z) e (in-filter (ready atoms unplaced) j r))
+        next-none atoms unplaced e p j r
 
     rest : (p : ℕ) → Rest → (r : Option (List ℕ)) → orderFrom atoms n (others p unplaced) ≡ r → consTo p r ≡ none → ⊥
     rest p ih none e f =
@@ -82,9 +82,9 @@ never-stuck atoms o c (suc n) unplaced l a k h =
         (λ q i. k q (others-in p unplaced q i .0)) e
     rest p ih (some r) e f = no-none (sym f)
 
-    go : (b : Option ℕ) → best atoms (candidates atoms unplaced) ≡ b →
+    go : (b : Option ℕ) → nextPart atoms unplaced ≡ b →
         place (λ us. orderFrom atoms n us) unplaced b ≡ none → Rest → ⊥
-    go none e f ih = not-empty (best-none atoms (candidates atoms unplaced) e)
+    go none e f ih = not-stuck e
     go (some p) e f ih = rest p ih (orderFrom atoms n (others p unplaced)) refl f
 
 none-complies : (s : Schema) → orderOf s ≡ none → NoOrderComplies s

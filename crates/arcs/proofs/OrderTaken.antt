@@ -1,5 +1,5 @@
 -- The order taken is an order of the parts that complies: each part stands in it once, and no arc goes backwards.
--- The order as it is taken is a `Taken`, which places the best of the ready parts and then the others;
+-- The order as it is taken is a `Taken`, which places the next part and then the others;
 -- every law is an induction over it, and a ready part has no arc from a part placed later.
 use Prim.Native.Nat.{ℕ, zero, suc, _≤_, _<_}
 use mathlib.Core.Path.{_≡_, refl, sym, ap}
@@ -11,14 +11,14 @@ use native.Mathlib.Omega.{arith}
 use lib.ListN.{length, getD}
 use lib.Dec.{eqb}
 use borrow.Author.Tests.{eqb-true, not-true, eq-eqb}
-use Rattle.words.specs.Lists.{any, filter, upTo}
+use Rattle.words.specs.Lists.{any, upTo}
 use Rattle.task.specs.Task.{Atom, Schema, partCount}
 use Rattle.task.proofs.SchemaWords.{part-small}
-use Rattle.arcs.specs.Order.{arc, OrderOfParts, Complies, ready, best, consTo, place, orderFrom, orderOf}
+use Rattle.arcs.specs.Order.{arc, OrderOfParts, Complies, ready, nextPart, consTo, place, orderFrom, orderOf}
 use Rattle.words.proofs.Lists.{both-ft, bool-cases, false-if, In, here, there, in-eq, any-in, in-any, in-filter}
-use Rattle.words.proofs.Lists.{filter-in, in-getD, getD-in, in-upTo, length-upTo}
+use Rattle.words.proofs.Lists.{in-getD, getD-in, in-upTo, length-upTo}
 use Rattle.arcs.proofs.Arcs.{Ordered, SameGround, same-ground-arc, arc-is}
-use Rattle.arcs.proofs.Best.{best-in}
+use Rattle.arcs.proofs.Best.{next-ready}
 use Rattle.words.proofs.Ascending.{some-inj, no-none, others, others-in, others-fewer}
 
 -- ---- ready parts
@@ -35,19 +35,11 @@ unfolding ready
 no-arc-ready atoms unplaced p h = ap not (false-if (any (λ q. arc atoms q p) unplaced)
     (λ e. let (q, i, f) = any-in (λ q. arc atoms q p) unplaced e in both-ft f (h q i)))
 
-abbrev pub candidates : List Atom → List ℕ → List ℕ
-candidates atoms unplaced = filter (ready atoms unplaced) unplaced
-
--- ---- the order as it is taken: the best of the ready parts, then an order of the others
+-- ---- the order as it is taken: the next part, then an order of the others
 pub data Taken (atoms : List Atom) : ℕ → List ℕ → List ℕ → Type 0 where
   all-placed : Taken atoms 0 [] []
-  place-next : {n p : ℕ} {unplaced o : List ℕ} → best atoms (candidates atoms unplaced) ≡ some p →
+  place-next : {n p : ℕ} {unplaced o : List ℕ} → nextPart atoms unplaced ≡ some p →
       Taken atoms n (others p unplaced) o → Taken atoms (suc n) unplaced (p ∷ o)
-
-best-ready : (atoms : List Atom) (unplaced : List ℕ) (p : ℕ) → best atoms (candidates atoms unplaced) ≡ some p →
-    In p unplaced × (ready atoms unplaced p ≡ true)
-best-ready atoms unplaced p h =
-    filter-in (ready atoms unplaced) unplaced p (best-in atoms (candidates atoms unplaced) p h)
 
 taken-from : (atoms : List Atom) (n : ℕ) (unplaced o : List ℕ) → length unplaced ≤ n →
     orderFrom atoms n unplaced ≡ some o → Taken atoms n unplaced o
@@ -55,19 +47,19 @@ unfolding orderFrom place consTo
 taken-from atoms zero [] o l h = rw (← some-inj h) all-placed
 taken-from atoms zero (u ∷ us) o l h = absurd (omega arith)
 taken-from atoms (suc n) unplaced o l h =
-    go (best atoms (candidates atoms unplaced)) refl h (λ us q k. taken-from atoms n us q k)
+    go (nextPart atoms unplaced) refl h (λ us q k. taken-from atoms n us q k)
   where
     Rest : Type 0
     Rest = (us q : List ℕ) → length us ≤ n → orderFrom atoms n us ≡ some q → Taken atoms n us q
 
-    rest : (p : ℕ) → best atoms (candidates atoms unplaced) ≡ some p → Rest → (r : Option (List ℕ)) →
+    rest : (p : ℕ) → nextPart atoms unplaced ≡ some p → Rest → (r : Option (List ℕ)) →
         orderFrom atoms n (others p unplaced) ≡ r → consTo p r ≡ some o → Taken atoms (suc n) unplaced o
     rest p b ih none e h = absurd (no-none h)
     rest p b ih (some r) e h =
-        let fewer = others-fewer (best-ready atoms unplaced p b .0) in
+        let fewer = others-fewer (next-ready atoms unplaced p b .0) in
         rw (← some-inj h) (place-next b (ih (others p unplaced) r (omega arith) e))
 
-    go : (b : Option ℕ) → best atoms (candidates atoms unplaced) ≡ b →
+    go : (b : Option ℕ) → nextPart atoms unplaced ≡ b →
         place (λ us. orderFrom atoms n us) unplaced b ≡ some o → Rest → Taken atoms (suc n) unplaced o
     go none e h ih = absurd (no-none h)
     go (some p) e h ih = rest p e ih (orderFrom atoms n (others p unplaced)) refl h
@@ -86,7 +78,7 @@ module _ {atoms : List Atom} where
 
   taken-in : {n : ℕ} {unplaced o : List ℕ} → Taken atoms n unplaced o → (q : ℕ) → In q o → In q unplaced
   taken-in all-placed q i = i
-  taken-in (place-next {p = p} {unplaced = us} b k) q (here e) = in-eq e (best-ready atoms us p b .0)
+  taken-in (place-next {p = p} {unplaced = us} b k) q (here e) = in-eq e (next-ready atoms us p b .0)
   taken-in (place-next {p = p} {unplaced = us} b k) q (there i) = others-in p us q (taken-in k q i) .0
 
   taken-all : {n : ℕ} {unplaced o : List ℕ} → Taken atoms n unplaced o → (q : ℕ) → In q unplaced → In q o
@@ -106,7 +98,7 @@ module _ {atoms : List Atom} where
   taken-complies all-placed i j l m = absurd (omega arith)
   taken-complies (place-next b k) i zero l m = absurd (omega arith)
   taken-complies (place-next {p = p} {unplaced = us} {o = o} b k) zero (suc j) l m =
-      ready-no-arc atoms us p (best-ready atoms us p b .1) (getD o j 0) (taken-later k j (omega arith) .0)
+      ready-no-arc atoms us p (next-ready atoms us p b .1) (getD o j 0) (taken-later k j (omega arith) .0)
   taken-complies (place-next b k) (suc i) (suc j) l m = taken-complies k i j (omega arith) (omega arith)
 
   taken-once : {n : ℕ} {unplaced o : List ℕ} → Taken atoms n unplaced o →

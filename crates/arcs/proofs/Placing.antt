@@ -15,7 +15,7 @@ use Rattle.task.specs.declared.Part.{Part}
 use Rattle.words.specs.Lists.{filter, keepIf, upTo}
 use Rattle.task.specs.Task.{Atom, Schema, partCount}
 use Rattle.words.proofs.Lists.{In, here, there, and-left, map-append, upTo-in}
-use Rattle.arcs.specs.Order.{ready, best, consTo, place, orderFrom, orderOf}
+use Rattle.arcs.specs.Order.{nextPart, consTo, place, orderFrom, orderOf}
 use Rattle.words.specs.Sets.{SetBelow, member, members}
 
 -- ---- sets as lists
@@ -76,12 +76,12 @@ consAll-last [] p o = refl
 consAll-last (q ∷ ps) p o = ap (consTo q) (consAll-last ps p o)
 
 -- ---- a turn of the definition
-order-step : (atoms : List Atom) (m : ℕ) (us : List ℕ) (p : ℕ) → some p ≡ best atoms (filter (ready atoms us) us) →
+order-step : (atoms : List Atom) (m : ℕ) (us : List ℕ) (p : ℕ) → some p ≡ nextPart atoms us →
     orderFrom atoms (suc m) us ≡ consTo p (orderFrom atoms m (filter (λ q. not (eqb p q)) us))
 unfolding orderFrom place
 order-step atoms m us p c = ap (place (λ ps. orderFrom atoms m ps) us) (sym c)
 
-order-stuck : (atoms : List Atom) (m : ℕ) (us : List ℕ) → none ≡ best atoms (filter (ready atoms us) us) →
+order-stuck : (atoms : List Atom) (m : ℕ) (us : List ℕ) → none ≡ nextPart atoms us →
     orderFrom atoms (suc m) us ≡ none
 unfolding orderFrom place
 order-stuck atoms m us c = ap (place (λ ps. orderFrom atoms m ps) us) (sym c)
@@ -113,7 +113,7 @@ module _ (atoms : List Atom) (n : ℕ) (parts : List Part) where
       ap₂ (λ (m : ℕ) (us : List ℕ). orderFrom atoms m us) z (sym (members-all unplaced n h))
 
   pub placed-more : (unplaced less placed : ℕ) (p : Part) → placed < n → placed < length parts →
-      some (p .0) ≡ best atoms (filter (ready atoms (members unplaced n)) (members unplaced n)) →
+      some (p .0) ≡ nextPart atoms (members unplaced n) →
       Without unplaced (p .0) less →
       Placed atoms n parts unplaced placed → Placed atoms n (set parts placed p) less (placed + 1)
   unfolding Placed
@@ -131,7 +131,7 @@ module _ (atoms : List Atom) (n : ℕ) (parts : List Part) where
       ∙ (sym (consAll-last xs (p .0) o) ∙ ap (λ (ys : List ℕ). consAll ys o) (sym (numbers-more placed parts p i))))))
 
   pub placed-stuck : (unplaced placed : ℕ) → placed < n →
-      none ≡ best atoms (filter (ready atoms (members unplaced n)) (members unplaced n)) →
+      none ≡ nextPart atoms (members unplaced n) →
       Placed atoms n parts unplaced placed → orderFrom atoms n (upTo n) ≡ none
   unfolding Placed
   placed-stuck unplaced placed l c h =

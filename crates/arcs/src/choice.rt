@@ -3,10 +3,9 @@ ghost use Prim.Native.Nat.{ℕ, _≤_, _<_};
 ghost use mathlib.Core.Path.{_≡_};
 ghost use mathlib.Core.Bool.{_&&_};
 ghost use mathlib.Core.List.{List};
-ghost use Rattle.words.specs.Lists.{filter};
 ghost use Rattle.task.specs.Limits.{mostParts};
 ghost use Rattle.task.specs.Task.{Atom};
-ghost use Rattle.arcs.specs.Order.{ready, better, best};
+ghost use Rattle.arcs.specs.Order.{ready, better, nextPart};
 ghost use Rattle.arcs.specs.Stretches.{AreArcs, AreCounts, ChosenBelow, chosen};
 ghost use Rattle.words.specs.Sets.{SetBelow, member, members};
 use crate::PartCounts;
@@ -54,7 +53,7 @@ pub fn choose(before: &PartSets, counts: &PartCounts, unplaced: u64, count: usiz
     requires { ⌜ SetBelow count unplaced ⌝ }
     ensures { λ r. ⌜ ((atoms : List Atom) →
         AreArcs atoms (now (before .entry)) → AreCounts atoms (now (counts .entry)) →
-        chosen r ≡ best atoms (filter (ready atoms (members unplaced count)) (members unplaced count))) ⌝ }
+        chosen r ≡ nextPart atoms (members unplaced count)) ⌝ }
     ensures { λ r. ⌜ ChosenBelow count r ⌝ }
 {
     let mut found = Choice::Circular;
