@@ -15,7 +15,7 @@ use Rattle.task.specs.declared.Part.{Part}
 use Rattle.arcs.specs.declared.Order.{Order}
 use Rattle.arcs.specs.declared.choice.Choice.{Choice}
 use Rattle.arcs.specs.declared.choice.Choice.the-variants as choice
-use Rattle.arcs.specs.Order.{givesArc, arc, preconditions}
+use Rattle.arcs.specs.Order.{givesArc, arc, inPart, preconditions}
 use Rattle.words.specs.Sets.{member}
 
 -- ---- atoms of a table
@@ -56,9 +56,17 @@ arcsBetween these others p q =
 abbrev pub Joins : (ℕ → ℕ → Bool) → List ℕ → List ℕ → Type 0
 Joins test sets after = (p q : ℕ) → member (getD after q 0) p ≡ member (getD sets q 0) p || test p q
 
+-- for each part q the set of those p that a test takes with it
+abbrev pub SetsAre : (ℕ → ℕ → Bool) → List ℕ → Type 0
+SetsAre test sets = (p q : ℕ) → member (getD sets q 0) p ≡ test p q
+
 -- for each part the set of parts that have an arc to it
 abbrev pub AreArcs : List Atom → List ℕ → Type 0
-AreArcs atoms sets = (p q : ℕ) → member (getD sets q 0) p ≡ arc atoms p q
+AreArcs atoms sets = SetsAre (arc atoms) sets
+
+-- for each part the set of its parameters
+abbrev pub AreParameters : List Atom → List ℕ → Type 0
+AreParameters atoms sets = SetsAre (inPart atoms) sets
 
 -- for each part its number of preconditions
 abbrev pub AreCounts : List Atom → List ℕ → Type 0

@@ -8,9 +8,9 @@ use lib.ListN.{length, getD}
 use Rattle.task.specs.declared.Part.{Part}
 use Rattle.words.proofs.Lists.{getD-map}
 use Rattle.words.specs.Sets.{member}
+use Rattle.arcs.specs.Order.{inPart}
 use Rattle.arcs.specs.Stretches.{stretchIn}
 use Rattle.tokens.specs.Acceptance.{partAt, OrderKept}
-use Rattle.tokens.proofs.PartParameters.{inPart}
 use Rattle.task.specs.Limits.{mostSchemaAtoms}
 use Rattle.tokens.specs.Kept.{keptWords, orderPlace, ownPlace, partWord, ownWord, withPart}
 use Rattle.tokens.proofs.KeptRows.{part-long, other-stays, part-put, own-put}
@@ -31,7 +31,7 @@ module _ (w : List ℕ) (from to : ℕ) (parts : List Part) (kept₀ : List ℕ)
 
   module _ (n p r : ℕ) (kept : List ℕ) (inside : from + n < mostSchemaAtoms)
       (wide : length kept ≡ keptWords) (is-part : p ≡ partAt parts n)
-      (is-own : (x : ℕ) → member r x ≡ inPart p x (stretchIn w from to))
+      (is-own : (x : ℕ) → member r x ≡ inPart (stretchIn w from to) x p)
       (old : OrderKept w from to n parts kept₀ kept) where
     abbrev both : List ℕ
     both = withPart kept (from + n) p r
@@ -53,13 +53,13 @@ module _ (w : List ℕ) (from to : ℕ) (parts : List Part) (kept₀ : List ℕ)
         (part-put kept (from + n) p r wide inside ∙ is-part)
 
     own-more : (j : ℕ) → j < n + 1 → (x : ℕ) →
-        member (ownWord both (from + j)) x ≡ inPart (partAt parts j) x (stretchIn w from to)
+        member (ownWord both (from + j)) x ≡ inPart (stretchIn w from to) x (partAt parts j)
     own-more = up-to
-        (λ j. (x : ℕ) → member (ownWord both (from + j)) x ≡ inPart (partAt parts j) x (stretchIn w from to))
+        (λ j. (x : ℕ) → member (ownWord both (from + j)) x ≡ inPart (stretchIn w from to) x (partAt parts j))
         (λ j k x. ap (λ (v : ℕ). member v x) (stays (ownPlace + (from + j)) (λ e. omega arith) (λ e. omega arith)) ∙
         old .params j x k)
         (λ x. ap (λ (v : ℕ). member v x) (own-put kept (from + n) p r wide inside) ∙ is-own x ∙
-        ap (λ (q : ℕ). inPart q x (stretchIn w from to)) is-part)
+        ap (λ (q : ℕ). inPart (stretchIn w from to) x q) is-part)
 
     pub order-more : OrderKept w from to (n + 1) parts kept₀ both
     order-more = record {

@@ -27,7 +27,7 @@ use Rattle.task.proofs.Tables.{of-table}
 use Rattle.task.proofs.TablesByIndex.{table-frame, atoms-word, start-suc}
 use Rattle.task.proofs.StartLaws.{start-rises}
 use Rattle.arcs.specs.declared.Order.{Order}
-use Rattle.arcs.specs.Order.{orderOf}
+use Rattle.arcs.specs.Order.{inPart, orderOf}
 use Rattle.words.specs.Sets.{member}
 use Rattle.arcs.specs.Stretches.{stretchIn, orderTold}
 use Rattle.arcs.proofs.OrderTaken.{orderOf-laws}
@@ -35,8 +35,8 @@ use Rattle.arcs.proofs.Stretches.{schema-stretch}
 use Rattle.tokens.specs.Split.{has, isNone, orderAt, orEmpty, orders, parts, firstOf}
 use Rattle.tokens.specs.Acceptance.{partAt, OrderKept}
 use Rattle.tokens.proofs.Accepted.{circularAt}
-use Rattle.tokens.proofs.AtomWords.{schema-fits}
-use Rattle.tokens.proofs.PartParameters.{inPart, schema-known}
+use Rattle.arcs.proofs.AtomWords.{schema-fits}
+use Rattle.tokens.proofs.SchemaEnds.{schema-known}
 use Rattle.tokens.proofs.KeptParts.{part-is}
 use Rattle.task.specs.Limits.{mostParts, mostSchemas, mostSchemaAtoms}
 use Rattle.task.specs.Turns.{firstAtom}
@@ -265,8 +265,8 @@ module _ (w : List ℕ) (h : isTable w ≡ true) where
     unfolding has
     here-params j x k =
         new .params j x k ∙
-        ap (inPart (partAt (f .parts) j) x) (sym atoms) ∙
-        ap (λ (p : ℕ). inPart p x (schemaAt t s .atoms)) (here-part j k)
+        ap (λ (bs : List Atom). inPart bs x (partAt (f .parts) j)) (sym atoms) ∙
+        ap (inPart (schemaAt t s .atoms) x) (here-part j k)
 
     starts-more : (r : ℕ) → r ≤ s + 1 → keptStart after r ≡ firstAtom t r
     starts-more r k = elim (decLt r (s + 1)) [

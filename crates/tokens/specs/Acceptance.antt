@@ -8,17 +8,18 @@ use mathlib.Core.Bool.{Bool, true, _&&_}
 use mathlib.Core.List.{List, [], _∷_, map}
 use mathlib.Core.Option.{Option, none, some}
 use lib.ListN.{length, getD, take}
-use lib.Dec.{eqb, leb}
-use Rattle.words.specs.Lists.{all, any, every, concatMap, upTo}
+use lib.Dec.{leb}
+use Rattle.words.specs.Lists.{all, every, concatMap, upTo}
 use Rattle.task.specs.Layout.{headIn}
 use Rattle.task.specs.Limits.{mostPredicates, mostSchemas, mostSchemaAtoms, mostAtoms, mostInitial, mostGoal, mostParts}
 use Rattle.task.specs.Answers.{Check, refuseUnless, refuses, firstRefusal}
-use Rattle.task.specs.Task.{Schema, Task, names, schemaAtoms}
+use Rattle.task.specs.Task.{Schema, Task, schemaAtoms}
 use Rattle.task.specs.declared.Part.{Part}
 use Rattle.task.specs.declared.Place.{Place}
 use Rattle.task.specs.Run.{schemaAt}
 use Rattle.task.specs.Table.{taskOf, longEnough, isTable}
 use Rattle.words.specs.Sets.{member, wordBits}
+use Rattle.arcs.specs.Order.{inPart}
 use Rattle.arcs.specs.Stretches.{stretchIn}
 use Rattle.tokens.specs.Split.{has, laterParts, sharedBound, maximum, parCount, orders, firstHere, lastHere}
 use Rattle.tokens.specs.Split.{laterHere, splitSchema, splitTask, withinLimits, splitAs, split, splitCheck}
@@ -51,7 +52,7 @@ pub record OrderKept (w : List ℕ) (from to n : ℕ) (parts : List Part) (kept 
   pub owns-before : (i : ℕ) → i < from → ownWord kept′ i ≡ ownWord kept i
   pub part : (j : ℕ) → j < n → partWord kept′ (from + j) ≡ partAt parts j
   pub params : (j x : ℕ) → j < n →
-      member (ownWord kept′ (from + j)) x ≡ any (λ a. eqb (partAt parts j) (a .part) && names x a) (stretchIn w from to)
+      member (ownWord kept′ (from + j)) x ≡ inPart (stretchIn w from to) x (partAt parts j)
 
 -- ---- sizes
 -- the schemas of the split that schema s becomes

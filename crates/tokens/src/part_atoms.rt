@@ -1,7 +1,7 @@
 // The atoms of one part's schema, role by role: the part's old atoms renumbered, then procnone or a do, then pars.
-use crate::atoms::argument;
-use crate::atoms::argument_count;
 use crate::pars::Pars;
+use arcs::atoms::argument;
+use arcs::atoms::argument_count;
 use arcs::atoms::part_of;
 use task::Parameter;
 use task::Part;

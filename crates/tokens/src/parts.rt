@@ -1,33 +1,26 @@
 // The parts of each schema: where its atoms begin, the order taken of its parts, and the parameters of each part.
-use crate::atoms::argument;
-use crate::atoms::argument_count;
 use crate::kept::Kept;
 use crate::kept::keep_begin;
 use crate::kept::keep_count;
 use crate::kept::keep_part;
 use arcs::Order;
-use arcs::atoms::part_of;
 use arcs::orders::order_of;
+use arcs::parameters::parameter_sets;
 use task::layout::schema_number;
-use task::limits::MOST_PARTS;
 use task::limits::SCHEMA_ATOMS;
 use task::limits::SCHEMAS;
 use words::runs::word;
-use words::sets::with;
-ghost use Prim.Native.Nat.{ℕ, suc, _+_, _≤_, _<_, _^_};
+ghost use Prim.Native.Nat.{ℕ, suc, _+_, _≤_, _<_};
 ghost use mathlib.Core.Path.{_≡_};
-ghost use mathlib.Core.Bool.{true, _&&_, _||_};
+ghost use mathlib.Core.Bool.{true};
 ghost use mathlib.Core.Option.{none};
-ghost use lib.ListN.{length, getD};
-ghost use lib.Dec.{eqb};
-ghost use Rattle.words.specs.Lists.{any, first, upTo};
-ghost use Rattle.task.specs.Task.{names};
-ghost use Rattle.task.specs.Table.{taskOf, isTable, atomIn};
-ghost use Rattle.words.specs.Sets.{member};
-ghost use Rattle.arcs.specs.Stretches.{IsSchemaAtom, IsStretch, stretchIn};
+ghost use lib.ListN.{length};
+ghost use Rattle.words.specs.Lists.{first, upTo};
+ghost use Rattle.task.specs.Table.{taskOf, isTable};
+ghost use Rattle.arcs.specs.Stretches.{IsStretch};
 ghost use Rattle.tokens.specs.Split.{isNone, orderAt};
 ghost use Rattle.tokens.specs.Acceptance.{partAt, OrderKept, circularTold};
-ghost use Rattle.task.specs.Limits.{mostParts, mostSchemaAtoms, mostParameters};
+ghost use Rattle.task.specs.Limits.{mostParts, mostSchemaAtoms};
 ghost use Rattle.task.specs.Turns.{firstAtom};
 ghost use Rattle.tokens.specs.Kept.{keptWords, PartsKept};
 
@@ -35,40 +28,6 @@ ghost use Rattle.tokens.specs.Kept.{keptWords, PartsKept};
 pub enum Circular {
     At(u64),
     Nowhere,
-}
-
-// The set with the parameters that atom i names.
-fn with_arguments(table: &[u16], i: usize, set: u64) -> u64
-    requires { ⌜ IsSchemaAtom (now table) i ⌝ }
-    ensures { λ r. ⌜ ((x : ℕ) → member r x ≡ member set x || names x (atomIn (now (table .entry)) i)) ⌝ }
-{
-    let n = argument_count(table, i);
-    let mut named = set;
-    let mut k = 0;
-    while k < n {
-        named = with(named, argument(table, i, k).0 as usize);
-        k += 1;
-    }
-    named
-}
-
-// For each part the parameters that the atoms `from` to `to - 1` in it name.
-fn parameter_sets(table: &[u16], from: usize, to: usize) -> [u64; MOST_PARTS]
-    requires { ⌜ IsStretch (now table) from to ⌝ }
-    ensures { λ r. ⌜ length r ≡ mostParts ⌝ }
-    ensures { λ r. ⌜ ((p : ℕ) → getD r p 0 < 2 ^ mostParameters) ⌝ }
-    ensures { λ r. ⌜ ((p x : ℕ) →
-        member (getD r p 0) x ≡ any (λ a. eqb p (a .part) && names x a) (stretchIn (now (table .entry)) from to)) ⌝ }
-{
-    let mut sets = [0; MOST_PARTS];
-    let mut i = from;
-    while i < to {
-        let part = part_of(table, i).0 as usize;
-        let named = sets[part];
-        sets[part] = with_arguments(table, i, named);
-        i += 1;
-    }
-    sets
 }
 
 // Where the atoms of schema s, which begin at `from`, end.

@@ -104,7 +104,7 @@ loop-again c =
           (a .kept .now) k) kept
           (order-more (a .table .now) (a .from) (a .to) (a .found .parts) (a .kept .now) (h .j) part own
           (h .kept) (omega (arith, s .pre .1 .0)) (h .inv .1) (part-is (a .found .parts) (h .j) (found p .inside))
-          (sets .ensures .1 .1 part) (h .inv .2)),
+          (λ x. sets .ensures .1 .1 x part) (h .inv .2)),
     )
 
 returns : tie.Need-returns Inv-loop μ-loop

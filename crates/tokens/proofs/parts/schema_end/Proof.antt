@@ -9,7 +9,7 @@ use Rattle.task.specs.Table.{taskOf}
 use Rattle.task.proofs.TableReads.{counts-inside}
 use Rattle.arcs.specs.Stretches.{IsStretch}
 use Rattle.arcs.proofs.Stretches.{atom-row, schema-stretch}
-use Rattle.tokens.proofs.PartParameters.{schema-known, ends-here, goes-on}
+use Rattle.tokens.proofs.SchemaEnds.{schema-known, ends-here, goes-on}
 use Rattle.tokens.proofs.parts.schema_end.Statement.{statement}
 use Rattle.task.specs.Turns.{firstAtom}
 

@@ -1,4 +1,4 @@
--- `tokens::atoms::argument` meets its contract: an atom's arguments are its words from 4 on, and parameters of its
+-- `arcs::atoms::argument` meets its contract: an atom's arguments are its words from 4 on, and parameters of its
 -- schema.
 use Prim.Native.Nat.{ℕ, _+_, _<_}
 use mathlib.Core.Path.{_≡_, sym, _∙_, ap}
@@ -6,10 +6,10 @@ use native.Mathlib.Omega.{arith}
 use lib.ListN.{length, getD}
 use Rattle.task.specs.Table.{atomIn}
 use Rattle.words.proofs.Lists.{in-getD}
 use Rattle.arcs.proofs.Stretches.{atom-row}
-use Rattle.tokens.proofs.AtomWords.{few-arguments, argument-small, argument-at}
-use Rattle.tokens.proofs.atoms.argument.Statement.{statement}
-use Rattle.tokens.proofs.atoms.argument.Tie as tie
+use Rattle.arcs.proofs.AtomWords.{few-arguments, argument-small, argument-at}
+use Rattle.arcs.proofs.atoms.argument.Statement.{statement}
+use Rattle.arcs.proofs.atoms.argument.Tie as tie
 
 few : (c : tie.Start) → c .args .k < 4
 few c =

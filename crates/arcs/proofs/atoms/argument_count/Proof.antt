@@ -1,11 +1,11 @@
--- `tokens::atoms::argument_count` meets its contract: an atom's predicate is known, and so is its arity.
-use Rattle.tokens.proofs.atoms.argument_count.Tie as tie
+-- `arcs::atoms::argument_count` meets its contract: an atom's predicate is known, and so is its arity.
+use Rattle.arcs.proofs.atoms.argument_count.Tie as tie
 use mathlib.Core.Path.{sym, _∙_, ap}
 use native.Mathlib.Omega.{arith}
 use Rattle.task.specs.Layout.{arityIn}
 use Rattle.arcs.proofs.Stretches.{atom-row}
-use Rattle.tokens.proofs.AtomWords.{predicate-known, argument-count}
-use Rattle.tokens.proofs.atoms.argument_count.Statement.{statement}
+use Rattle.arcs.proofs.AtomWords.{predicate-known, argument-count}
+use Rattle.arcs.proofs.atoms.argument_count.Statement.{statement}
 
 predicate-requires : tie.Need-predicate-requires
 predicate-requires c κs = atom-row (c .before .pre)
