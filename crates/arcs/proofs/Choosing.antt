@@ -1,5 +1,6 @@
 -- The choice among ready parts, tried from the highest number down. A part is ready where its set and the unplaced
--- parts have no number in common; the candidates from a number on grow at the front, as `best` takes them.
+-- parts have no number in common; its new parameters are the numbers left of a set; the candidates from a number on grow
+-- at the front, as `best` takes them.
 use Prim.Native.Nat.{ℕ, suc, _-_, _^_, _≤_, _<_}
 use mathlib.Core.Path.{_≡_, refl, sym, _∙_, ap}
 use mathlib.Core.Bool.{Bool, true, false, not, _&&_}
@@ -7,15 +8,20 @@ use mathlib.Core.List.{List, [], _∷_}
 use mathlib.Core.Option.{Option, none, some}
 use native.Mathlib.Omega.{arith}
 use native.Mathlib.Decide.{decLt}
-use lib.ListN.{getD}
-use borrow.Author.Tests.{lt-ltb, le-ltb}
+use lib.ListN.{length, getD}
+use lib.Dec.{ltb}
+use borrow.Author.Tests.{eq-eqb, ne-eqb, le-ltb}
 use Rattle.words.specs.Lists.{any, filter, keepIf, upFrom, upTo}
+use Rattle.task.specs.Limits.{mostParameters}
 use Rattle.task.specs.Task.{Atom}
 use Rattle.words.proofs.Lists.{and-left, and-right, and-both, bool-ext, both-ft, any-in, in-any, in-filter, filter-in}
-use Rattle.words.proofs.Lists.{in-upTo}
-use Rattle.arcs.specs.Order.{arc, preconditions, ready, better, best, nextPart}
-use Rattle.arcs.specs.Stretches.{AreArcs, AreCounts}
-use Rattle.words.specs.Sets.{SetBelow, member, members}
+use Rattle.words.proofs.Lists.{filter-same, in-upTo}
+use Rattle.words.proofs.Ranges.{or-false}
+use Rattle.words.proofs.SetMembers.{filter-below}
+use Rattle.arcs.specs.Order.{arc, inPart, preconditions, tests, newParameters, placedParts, ready, ahead}
+use Rattle.arcs.specs.Order.{better, best, nextPart}
+use Rattle.arcs.specs.Stretches.{AreArcs, AreTests, IsBound}
+use Rattle.words.specs.Sets.{SetBelow, wordBits, member, members}
 use Rattle.words.proofs.BitSets.{member-beyond}
 
 -- ---- readiness by sets
@@ -98,34 +104,77 @@ module _ (set : ℕ) (test : ℕ → Bool) (n : ℕ) where
         ap (λ (ks : List ℕ). filter test (filter (member set) ks)) numbers
         ∙ rw (and-left (member set (p - 1)) (test (p - 1)) h, and-right (member set (p - 1)) (test (p - 1)) h) refl
 
+-- ---- a part's new parameters, counted
+-- what is left of the set that its preconditions name, without the parameters of placed parts
+pub new-counted : (atoms : List Atom) (placed counts tested : List ℕ) (bound left p : ℕ) →
+    AreTests atoms counts tested → IsBound atoms placed bound →
+    ((x : ℕ) → member left x ≡ member (getD tested p 0) x && not (member bound x)) →
+    length (members left wordBits) ≡ newParameters atoms placed p
+unfolding members newParameters
+new-counted atoms placed counts tested bound left p t b h =
+    ap length (filter-same (member left) isNew (upTo wordBits) (λ x i. same x)
+    ∙ filter-below isNew mostParameters wordBits (omega arith) few)
+  where
+    isNew : ℕ → Bool
+    isNew x = tests atoms x p && not (any (inPart atoms x) placed)
+
+    same : (x : ℕ) → member left x ≡ isNew x
+    same x =
+        h x ∙ (ap (λ (s : Bool). s && not (member bound x)) (t .named x p)
+        ∙ ap (λ (s : Bool). tests atoms x p && not s) (b x))
+
+    few : (x : ℕ) → isNew x ≡ true → x < mostParameters
+    few x e = t .below p x (t .named x p ∙ and-left (tests atoms x p) _ e)
+
 -- ---- the better of a part and what was found
-module _ (atoms : List Atom) (p : ℕ) {found : Option ℕ} where
-  pub better-first : found ≡ none → some p ≡ better atoms p found
+module _ (atoms : List Atom) (placed : List ℕ) (q p : ℕ) where
+  -- by preconditions, where they differ in number
+  pub ahead-apart : (preconditions atoms p ≡ preconditions atoms q → ⊥) →
+      ltb (preconditions atoms p) (preconditions atoms q) ≡ ahead atoms placed q p
+  unfolding ahead
+  ahead-apart n =
+      rw (ne-eqb (preconditions atoms p) (preconditions atoms q) n)
+      (sym (or-false (ltb (preconditions atoms p) (preconditions atoms q))))
+
+  -- else by new parameters
+  pub ahead-level : preconditions atoms p ≡ preconditions atoms q →
+      ltb (newParameters atoms placed p) (newParameters atoms placed q) ≡ ahead atoms placed q p
+  unfolding ahead
+  ahead-level e =
+      rw (
+        le-ltb (preconditions atoms p) (preconditions atoms q) (omega arith),
+        eq-eqb (preconditions atoms p) (preconditions atoms q) e,
+      )
+      refl
+
+module _ (atoms : List Atom) (placed : List ℕ) (p : ℕ) {found : Option ℕ} where
+  pub better-first : found ≡ none → some p ≡ better atoms placed p found
   unfolding better
   better-first e = rw e refl
 
-  pub better-keeps : (q : ℕ) → found ≡ some q → preconditions atoms p < preconditions atoms q →
-      some q ≡ better atoms p found
+  pub better-keeps : (q : ℕ) → found ≡ some q → ahead atoms placed q p ≡ true → some q ≡ better atoms placed p found
   unfolding better
-  better-keeps q e l = rw (e, lt-ltb (preconditions atoms p) (preconditions atoms q) l) refl
+  better-keeps q e a = rw (e, a) refl
 
-  pub better-takes : (q : ℕ) → found ≡ some q → preconditions atoms q ≤ preconditions atoms p →
-      some p ≡ better atoms p found
+  pub better-takes : (q : ℕ) → found ≡ some q → ahead atoms placed q p ≡ false → some p ≡ better atoms placed p found
   unfolding better
-  better-takes q e l = rw (e, le-ltb (preconditions atoms p) (preconditions atoms q) l) refl
+  better-takes q e a = rw (e, a) refl
 
 pub only-below : (n p : ℕ) → p < n → (q : ℕ) → some p ≡ some q → q < n
 only-below n p l q e = let z : p ≡ q = cc in omega arith
 
 -- ---- what is found among the parts from a number on
-module _ (before counts : List ℕ) (unplaced n : ℕ) where
+module _ (before counts tested : List ℕ) (bound unplaced n : ℕ) where
   abbrev isReady : List Atom → ℕ → Bool
   isReady atoms = ready atoms (members unplaced n)
 
+  abbrev placed : List Atom → List ℕ
+  placed atoms = placedParts atoms (members unplaced n)
+
   -- the best of the candidates from p on
   abbrev pub FoundFrom : ℕ → Option ℕ → Type 0
-  FoundFrom p found = (atoms : List Atom) → AreArcs atoms before → AreCounts atoms counts →
-      found ≡ best atoms (candidates unplaced (isReady atoms) n p)
+  FoundFrom p found = (atoms : List Atom) → AreArcs atoms before → AreTests atoms counts tested →
+      IsBound atoms (placed atoms) bound → found ≡ best atoms (placed atoms) (candidates unplaced (isReady atoms) n p)
 
   -- whether p is unplaced and ready
   abbrev Passes : ℕ → Bool → Type 0
@@ -133,22 +182,25 @@ module _ (before counts : List ℕ) (unplaced n : ℕ) where
 
   pub found-none : FoundFrom n none
   unfolding best
-  found-none atoms a k = sym (ap (best atoms) (candidates-none unplaced (isReady atoms) n))
+  found-none atoms a k b = sym (ap (best atoms (placed atoms)) (candidates-none unplaced (isReady atoms) n))
 
   pub found-skip : (p : ℕ) (found : Option ℕ) → 0 < p → p ≤ n → Passes (p - 1) false →
       FoundFrom p found → FoundFrom (p - 1) found
-  found-skip p found z l t h atoms a k =
-      h atoms a k ∙ sym (ap (best atoms) (candidates-skip unplaced (isReady atoms) n p z l (t atoms a)))
+  found-skip p found z l t h atoms a k b =
+      h atoms a k b ∙ sym (ap (best atoms (placed atoms)) (candidates-skip unplaced (isReady atoms) n p z l (t atoms a)))
 
   pub found-take : (p : ℕ) (found r : Option ℕ) → 0 < p → p ≤ n → Passes (p - 1) true → FoundFrom p found →
-      ((atoms : List Atom) → AreCounts atoms counts → r ≡ better atoms (p - 1) found) → FoundFrom (p - 1) r
+      ((atoms : List Atom) (placed : List ℕ) → AreTests atoms counts tested → IsBound atoms placed bound →
+      r ≡ better atoms placed (p - 1) found) → FoundFrom (p - 1) r
   unfolding best
-  found-take p found r z l t h e atoms a k =
-      e atoms k
-      ∙ (ap (better atoms (p - 1)) (h atoms a k)
-      ∙ sym (ap (best atoms) (candidates-take unplaced (isReady atoms) n p z l (t atoms a))))
+  found-take p found r z l t h e atoms a k b =
+      e atoms (placed atoms) k b
+      ∙ (ap (better atoms (placed atoms) (p - 1)) (h atoms a k b)
+      ∙ sym (ap (best atoms (placed atoms)) (candidates-take unplaced (isReady atoms) n p z l (t atoms a))))
 
   pub found-all : (found : Option ℕ) → FoundFrom 0 found → (atoms : List Atom) → AreArcs atoms before →
-      AreCounts atoms counts → found ≡ nextPart atoms (members unplaced n)
+      AreTests atoms counts tested → IsBound atoms (placed atoms) bound →
+      found ≡ nextPart atoms (members unplaced n)
   unfolding nextPart
-  found-all found h atoms a k = h atoms a k ∙ ap (best atoms) (candidates-all unplaced (isReady atoms) n)
+  found-all found h atoms a k b =
+      h atoms a k b ∙ ap (best atoms (placed atoms)) (candidates-all unplaced (isReady atoms) n)

@@ -1,115 +1,133 @@
--- How the number of parts and the preconditions of each part grow with a stretch, an atom at a time: the number to the
--- larger of itself and the atom's, the count of the atom's part by one where the atom is a precondition.
-use Prim.Native.Nat.{ℕ, suc, _+_, _-_, _≤_, _<_, max}
-use mathlib.Core.Path.{_≡_, refl, sym, _∙_, ap}
-use mathlib.Core.Bool.{Bool, true, false, _&&_}
+-- How the number of parts and the preconditions of each part grow, an atom at a time: the number to the larger of
+-- itself and one more than the atom's part, the count of the atom's part by one where the atom is a precondition.
+use Prim.Native.Nat.{ℕ, suc, _+_, _-_, _^_, _≤_, _<_, max}
+use mathlib.Core.Path.{_≡_, refl, sym, _∙_, ap, subst}
+use mathlib.Core.Bool.{Bool, true, false, and-true}
 use mathlib.Core.List.{List, [], _∷_, _++_}
 use native.Mathlib.Omega.{arith}
-use lib.ListN.{length, getD, set, length-map}
-use lib.Dec.{eqb}
+use lib.ListN.{length, getD, set, replicate, length-append, length-map, length-set}
 use lib.Seq.{getD-set-same, getD-set-other}
-use borrow.Author.Tests.{eqb-true, eqb-false, eq-eqb}
-use Rattle.words.specs.Lists.{filter, keepIf, upFrom}
+use lib.Dec.{eqb}
+use borrow.Author.Tests.{eqb-true, eqb-false, eq-eqb, ne-eqb}
+use Rattle.words.specs.Lists.{filter, upFrom}
+use Rattle.words.proofs.Lists.{filter-append, length-upFrom}
+use Rattle.words.proofs.Sums.{one, one-most, length-keep, eqb-turn}
+use Rattle.words.proofs.Words.{and-false}
+use Rattle.task.specs.Limits.{mostParts}
 use Rattle.task.specs.Task.{Atom, partCount, precondition}
 use Rattle.task.specs.Table.{atomIn}
-use Rattle.words.proofs.Lists.{length-upFrom}
-use Rattle.arcs.specs.Order.{preconditions}
-use Rattle.arcs.specs.Stretches.{AreCounts, stretchIn}
-use Rattle.arcs.proofs.Stretches.{atoms-none, atoms-more}
+use Rattle.arcs.specs.Order.{isTest, preconditions}
+use Rattle.arcs.specs.Stretches.{stretchIn}
+use Rattle.arcs.proofs.Stretches.{zeros-at}
 
--- ---- parts
-part-count-append : (xs : List Atom) (a : Atom) → partCount (xs ++ (a ∷ [])) ≡ max (partCount xs) (suc (a .part))
+-- ---- the number of parts
+pub part-count-none : partCount [] ≡ 0
 unfolding partCount
-part-count-append [] a = omega arith
-part-count-append (x ∷ xs) a = let e = part-count-append xs a in omega arith
+part-count-none = refl
 
-pub part-count-none : (w : List ℕ) (from : ℕ) → partCount (stretchIn w from from) ≡ 0
+pub part-count-more : (atoms : List Atom) (a : Atom) →
+    partCount (atoms ++ (a ∷ [])) ≡ max (partCount atoms) (suc (a .part))
 unfolding partCount
-part-count-none w from = ap partCount (atoms-none w from)
+part-count-more [] a = omega arith
+part-count-more (x ∷ xs) a = let e = part-count-more xs a in omega arith
 
-pub part-count-more : (w : List ℕ) (from i : ℕ) → from ≤ i →
-    partCount (stretchIn w from (i + 1)) ≡ max (partCount (stretchIn w from i)) (suc (atomIn w i .part))
-part-count-more w from i l = ap partCount (atoms-more w from i l) ∙ part-count-append (stretchIn w from i) (atomIn w i)
+-- ---- an array with a number for each part, a count or a set, and what holds of each
+pub record Each (P : ℕ → ℕ → Type 0) (numbers : List ℕ) : Type 0 where
+  pub long : length numbers ≡ mostParts
+  pub at : (p : ℕ) → P p (getD numbers p 0)
+
+-- it begins all 0
+pub each-none : (P : ℕ → ℕ → Type 0) → ((p : ℕ) → P p 0) → Each P (replicate mostParts 0)
+each-none P h = record { long = refl; at = λ p. subst (P p) (sym (zeros-at mostParts p)) (h p) }
+
+-- what holds of each changes from P to Q
+module _ (P Q : ℕ → ℕ → Type 0) (numbers : List ℕ) (e : Each P numbers) where
+  pub each-same : ((p n : ℕ) → P p n → Q p n) → Each Q numbers
+  each-same h = record { long = e .long; at = λ p. h p (getD numbers p 0) (e .at p) }
+
+  -- the number of part q is stored, the others stay
+  pub each-stored : (q n : ℕ) → q < mostParts → Q q n → ((p m : ℕ) → (q ≡ p → ⊥) → P p m → Q p m) →
+      Each Q (set numbers q n)
+  each-stored q n l k h = record { long = length-set numbers q n ∙ e .long; at = λ p. go p (eqb q p) refl }
+    where
+      go : (p : ℕ) (b : Bool) → eqb q p ≡ b → Q p (getD (set numbers q n) p 0)
+      go p true z =
+          let same = getD-set-same numbers q n 0 (omega (arith, e .long)) in
+          subst (λ (r : ℕ). Q r (getD (set numbers q n) r 0)) (eqb-true q p z) (subst (Q q) (sym same) k)
+      go p false z =
+          let d = eqb-false q p z in
+          let other = getD-set-other numbers q p n 0 (λ y. d (sym y)) in
+          subst (Q p) (sym other) (h p (getD numbers p 0) d (e .at p))
 
 -- ---- preconditions
-one-if : Bool → ℕ
-one-if true = 1
-one-if false = 0
+-- a precondition is one of its part
+pub test-of-part : (p : ℕ) (a : Atom) → eqb (a .role) precondition ≡ true → isTest p a ≡ eqb p (a .part)
+unfolding isTest
+test-of-part p a e = rw e (and-true (eqb (a .part) p) ∙ eqb-turn (a .part) p)
 
-abbrev isTest : ℕ → Atom → Bool
-isTest p a = eqb (a .part) p && eqb (a .role) precondition
+-- another atom is one of no part
+pub test-of-none : (p : ℕ) (a : Atom) → eqb (a .role) precondition ≡ false → isTest p a ≡ false
+unfolding isTest
+test-of-none p a e = rw e (and-false (eqb (a .part) p))
 
-tests-append : (p : ℕ) (xs : List Atom) (a : Atom) →
-    preconditions (xs ++ (a ∷ [])) p ≡ preconditions xs p + one-if (isTest p a)
-unfolding preconditions filter keepIf one-if
-tests-append p [] a = go (isTest p a)
-  where
-    go : (b : Bool) → length (keepIf b a []) ≡ 0 + one-if b
-    go true = omega arith
-    go false = omega arith
-tests-append p (x ∷ xs) a = go (isTest p x) (tests-append p xs a)
-  where
-    tests : List Atom → List Atom
-    tests ys = filter (isTest p) ys
+preconditions-none : (p : ℕ) → preconditions [] p ≡ 0
+unfolding preconditions filter
+preconditions-none p = refl
 
-    go : (b : Bool) → length (tests (xs ++ (a ∷ []))) ≡ length (tests xs) + one-if (isTest p a) →
-        length (keepIf b x (tests (xs ++ (a ∷ [])))) ≡ length (keepIf b x (tests xs)) + one-if (isTest p a)
-    go true e = omega arith
-    go false e = e
+preconditions-more : (atoms : List Atom) (a : Atom) (p : ℕ) →
+    preconditions (atoms ++ (a ∷ [])) p ≡ preconditions atoms p + one (isTest p a)
+unfolding preconditions filter
+preconditions-more atoms a p =
+    let e = ap length (filter-append (isTest p) atoms (a ∷ [])) in
+    let f = length-append (filter (isTest p) atoms) (filter (isTest p) (a ∷ [])) in
+    let g = length-keep (isTest p a) a [] in
+    omega arith
 
--- a part has no more preconditions than there are atoms
-tests-few : (p : ℕ) (xs : List Atom) → preconditions xs p ≤ length xs
-unfolding preconditions filter keepIf
-tests-few p [] = omega arith
-tests-few p (x ∷ xs) = go (isTest p x) (tests-few p xs)
-  where
-    go : (b : Bool) → length (filter (isTest p) xs) ≤ length xs →
-        length (keepIf b x (filter (isTest p) xs)) ≤ suc (length xs)
-    go true e = omega arith
-    go false e = omega arith
+-- a part has no more of them than there are atoms
+preconditions-few : (atoms : List Atom) (p : ℕ) → preconditions atoms p ≤ length atoms
+unfolding preconditions filter
+preconditions-few [] p = omega arith
+preconditions-few (x ∷ xs) p =
+    let e = preconditions-few xs p in
+    let f = length-keep (isTest p x) x (filter (isTest p) xs) in
+    let g = one-most (isTest p x) in
+    omega arith
 
-module _ (w : List ℕ) (from : ℕ) where
-  pub counted-few : (i p : ℕ) → preconditions (stretchIn w from i) p ≤ i
-  unfolding stretchIn
-  counted-few i p =
-      let ks = upFrom from (i - from) in
-      omega (arith, tests-few p (stretchIn w from i), length-map ks (atomIn w), length-upFrom from (i - from))
+-- ---- an array of how many each part has
+abbrev pub Has : List Atom → ℕ → ℕ → Type 0
+Has atoms p n = n ≡ preconditions atoms p
 
-  pub counted-none : (counts : List ℕ) → ((p : ℕ) → getD counts p 0 ≡ 0) → AreCounts (stretchIn w from from) counts
-  unfolding preconditions filter
-  counted-none counts h p = h p ∙ sym (ap (λ (xs : List Atom). preconditions xs p) (atoms-none w from))
+abbrev pub Counted : List Atom → List ℕ → Type 0
+Counted atoms counts = Each (Has atoms) counts
 
-  grown : (i p : ℕ) → from ≤ i →
-      preconditions (stretchIn w from (i + 1)) p ≡ preconditions (stretchIn w from i) p + one-if (isTest p (atomIn w i))
-  grown i p l =
-      ap (λ (xs : List Atom). preconditions xs p) (atoms-more w from i l)
-      ∙ tests-append p (stretchIn w from i) (atomIn w i)
+pub counted-none : Counted [] (replicate mostParts 0)
+counted-none = each-none (Has []) (λ p. sym (preconditions-none p))
 
-  module _ (counts : List ℕ) (i : ℕ) (l : from ≤ i) (h : AreCounts (stretchIn w from i) counts) where
-    -- an atom that is no precondition
-    pub counted-same : eqb (atomIn w i .role) precondition ≡ false → AreCounts (stretchIn w from (i + 1)) counts
-    unfolding one-if
-    counted-same e p =
-        let z : one-if (isTest p (atomIn w i)) ≡ 0 = rw e (go (eqb (atomIn w i .part) p)) in
-        omega (arith, h p, grown i p l)
-      where
-        go : (b : Bool) → one-if (b && false) ≡ 0
-        go true = refl
-        go false = refl
+-- before the last atom of a stretch there is room in a word for one more
+pub counted-room : (w : List ℕ) (from : ℕ) {i to : ℕ} {counts : List ℕ} → Counted (stretchIn w from i) counts →
+    i < to → to < 2 ^ 64 → (p : ℕ) → getD counts p 0 + 1 < 2 ^ 64
+unfolding stretchIn
+counted-room w from {i} c l h p =
+    let ks = upFrom from (i - from) in
+    let few = preconditions-few (stretchIn w from i) p in
+    omega (arith, few, c .at p, length-map ks (atomIn w), length-upFrom from (i - from))
 
-    -- a precondition of part q
-    pub counted-more : (q : ℕ) → eqb (atomIn w i .role) precondition ≡ true → q ≡ atomIn w i .part → q < length counts →
-        AreCounts (stretchIn w from (i + 1)) (set counts q (getD counts q 0 + 1))
-    unfolding one-if
-    counted-more q e f m p = go (eqb q p) refl
-      where
-        v : ℕ
-        v = getD counts q 0 + 1
+module _ (atoms : List Atom) (a : Atom) where
+  abbrev more : List Atom
+  more = atoms ++ (a ∷ [])
 
-        go : (b : Bool) → eqb q p ≡ b → getD (set counts q v) p 0 ≡ preconditions (stretchIn w from (i + 1)) p
-        go true k =
-            let z : one-if (isTest q (atomIn w i)) ≡ 1 = rw (e, eq-eqb (atomIn w i .part) q (sym f)) refl in
-            rw (← eqb-true q p k) (omega (arith, h q, grown i q l, getD-set-same counts q v 0 m))
-        go false k =
-            let z : one-if (isTest p (atomIn w i)) ≡ 0 = rw (← f, k) refl in
-            omega (arith, h p, grown i p l, getD-set-other counts q p v 0 (λ y. eqb-false q p k (sym y)))
+  -- a part of which the atom is no precondition
+  stays : (p n : ℕ) → isTest p a ≡ false → Has atoms p n → Has more p n
+  stays p n e h = let z = ap one e in omega (arith, preconditions-more atoms a p)
+
+  pub counted-same : {counts : List ℕ} → Counted atoms counts → eqb (a .role) precondition ≡ false →
+      Counted (atoms ++ (a ∷ [])) counts
+  counted-same {counts} c e = each-same (Has atoms) (Has more) counts c (λ p n. stays p n (test-of-none p a e))
+
+  pub counted-more : {counts : List ℕ} → Counted atoms counts → eqb (a .role) precondition ≡ true → (q : ℕ) →
+      q ≡ a .part → q < mostParts → Counted (atoms ++ (a ∷ [])) (set counts q (getD counts q 0 + 1))
+  counted-more {counts} c e q f l =
+      let z = ap one (test-of-part q a e ∙ eq-eqb q (a .part) f) in
+      let next : Has more q (getD counts q 0 + 1) = omega (arith, c .at q, preconditions-more atoms a q) in
+      each-stored (Has atoms) (Has more) counts c q (getD counts q 0 + 1) l next
+      (λ p n d. stays p n (test-of-part p a e ∙ ne-eqb p (a .part) (λ g. d (f ∙ sym g))))

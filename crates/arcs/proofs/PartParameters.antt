@@ -1,56 +1,71 @@
--- How the sets of parameters of the parts grow, an atom at a time: what the atom names joins the set of its part.
-use Prim.Native.Nat.{ℕ, _+_, _-_, _<_}
-use mathlib.Core.Path.{_≡_, refl, sym, _∙_, ap, subst}
+-- How the sets of parameters of the parts grow, an atom at a time: what the atom names joins the set of its part, and
+-- where the atom is a precondition the set of what the part's preconditions name.
+use Prim.Native.Nat.{ℕ, _+_, _-_, _^_, _<_}
+use mathlib.Core.Path.{_≡_, refl, sym, _∙_, subst}
 use mathlib.Core.Bool.{Bool, true, false, _&&_, _||_}
 use mathlib.Core.List.{List, [], _∷_, _++_}
 use native.Mathlib.Omega.{arith}
-use lib.ListN.{length, getD, set, replicate}
-use lib.Seq.{getD-set-same, getD-set-other}
+use lib.ListN.{getD, set, replicate}
 use lib.Dec.{eqb}
-use borrow.Author.Tests.{eqb-true, eqb-false, eq-eqb, ne-eqb}
+use borrow.Author.Tests.{eq-eqb, ne-eqb}
 use Rattle.words.specs.Lists.{any, upFrom}
 use Rattle.words.specs.Sets.{member}
-use Rattle.words.proofs.Lists.{and-right, any-in, map-in, upFrom-in}
+use Rattle.words.proofs.Lists.{and-left, and-right, and-both, any-in, in-any, map-in, upFrom-in}
 use Rattle.words.proofs.Ranges.{or-false, any-last}
 use Rattle.words.proofs.BitSets.{member-zero}
-use Rattle.task.specs.Limits.{mostParameters}
-use Rattle.task.specs.Task.{Atom, names}
+use Rattle.words.proofs.Sums.{eqb-turn}
+use Rattle.task.specs.Limits.{mostParts, mostParameters}
+use Rattle.task.specs.Task.{Atom, names, precondition}
 use Rattle.task.specs.Table.{atomIn}
 use Rattle.task.proofs.States.{names-in}
-use Rattle.arcs.specs.Order.{inPart}
-use Rattle.arcs.specs.Stretches.{IsStretch, Joins, SetsAre, stretchIn}
+use Rattle.arcs.specs.Order.{inPart, isTest, tests}
+use Rattle.arcs.specs.Stretches.{IsStretch, stretchIn}
 use Rattle.arcs.proofs.AtomWords.{argument-small}
-use Rattle.arcs.proofs.Stretches.{zeros-at, stretch-atom}
+use Rattle.arcs.proofs.Stretches.{stretch-atom}
+use Rattle.arcs.proofs.Counting.{Each, each-none, each-same, each-stored, test-of-part, test-of-none}
 
--- ---- sets of all parts
-pub sets-none : (n : ℕ) → SetsAre (λ x p. false) (replicate n 0)
-sets-none n x p = ap (λ (s : ℕ). member s x) (zeros-at n p) ∙ member-zero x
+-- ---- an array of sets
+-- the set of those x that a test takes with part p, in a word
+pub record SetOf (test : ℕ → ℕ → Bool) (p set : ℕ) : Type 0 where
+  pub word : set < 2 ^ 64
+  pub are : (x : ℕ) → member set x ≡ test x p
 
-pub sets-joined : (f g h : ℕ → ℕ → Bool) (sets after : List ℕ) → SetsAre f sets → Joins g sets after →
-    ((x p : ℕ) → h x p ≡ f x p || g x p) → SetsAre h after
-sets-joined f g h sets after a j e x p = j x p ∙ (ap (λ (b : Bool). b || g x p) (a x p) ∙ sym (e x p))
+abbrev pub Kept : (ℕ → ℕ → Bool) → List ℕ → Type 0
+Kept test sets = Each (SetOf test) sets
 
--- what holds of each set, after a store
-pub sets-stored : (P : ℕ → ℕ → Type 0) (sets : List ℕ) (q r : ℕ) → q < length sets → P q r →
-    ((p : ℕ) → (q ≡ p → ⊥) → P p (getD sets p 0)) → (p : ℕ) → P p (getD (set sets q r) p 0)
-sets-stored P sets q r b k h p = go (eqb q p) refl
-  where
-    go : (t : Bool) → eqb q p ≡ t → P p (getD (set sets q r) p 0)
-    go true z =
-        subst (λ (n : ℕ). P n (getD (set sets q r) n 0)) (eqb-true q p z)
-        (subst (P q) (sym (getD-set-same sets q r 0 b)) k)
-    go false z =
-        subst (P p) (sym (getD-set-other sets q p r 0 (λ y. eqb-false q p z (sym y)))) (h p (eqb-false q p z))
+pub kept-none : (test : ℕ → ℕ → Bool) → ((x p : ℕ) → test x p ≡ false) → Kept test (replicate mostParts 0)
+kept-none test h = each-none (SetOf test) (λ p. record {
+  word = omega arith;
+  are = λ x. member-zero x ∙ sym (h x p);
+})
 
--- the set of one part grows
-pub store-joins : (sets : List ℕ) (q r : ℕ) (brings : ℕ → Bool) → q < length sets →
-    ((x : ℕ) → member r x ≡ member (getD sets q 0) x || brings x) →
-    Joins (λ x p. eqb p q && brings x) sets (set sets q r)
-store-joins sets q r brings l h x p =
-    sets-stored (λ p v. (x : ℕ) → member v x ≡ member (getD sets p 0) x || (eqb p q && brings x)) sets q r l
-    (λ x. h x ∙ rw (eq-eqb q q refl) refl)
-    (λ p z x. rw (ne-eqb p q (λ e. z (sym e))) (sym (or-false (member (getD sets p 0) x))))
-    p x
+-- what is found of an atom: its part, and the set of its parameters
+pub record Found (a : Atom) (part parameters : ℕ) : Type 0 where
+  pub of : part ≡ a .part
+  pub below : part < mostParts
+  pub brings : (x : ℕ) → member parameters x ≡ names x a
+
+module _ (test later : ℕ → ℕ → Bool) (sets : List ℕ) (k : Kept test sets) where
+  -- a part with which the test takes nothing more
+  stays : (p s : ℕ) → ((x : ℕ) → later x p ≡ test x p) → SetOf test p s → SetOf later p s
+  stays p s h o = record { word = o .word; are = λ x. o .are x ∙ sym (h x) }
+
+  pub kept-same : ((x p : ℕ) → later x p ≡ test x p) → Kept later sets
+  kept-same h = each-same (SetOf test) (SetOf later) sets k (λ p s. stays p s (λ x. h x p))
+
+  -- what an atom names joins the set of its part, which becomes r
+  pub kept-more : {a : Atom} {part parameters : ℕ} → Found a part parameters →
+      ((x p : ℕ) → later x p ≡ test x p || (eqb p (a .part) && names x a)) → (r : ℕ) → r < 2 ^ 64 →
+      ((x : ℕ) → member r x ≡ member (getD sets part 0) x || member parameters x) → Kept later (set sets part r)
+  kept-more {a} {part} f h r w u =
+      each-stored (SetOf test) (SetOf later) sets k part r (f .below) (record { word = w; are = joined })
+      (λ p s d. stays p s (λ x. other x p d))
+    where
+      joined : (x : ℕ) → member r x ≡ later x part
+      joined x = rw (u x, k .at part .are x, f .brings x, h x part, eq-eqb part (a .part) (f .of)) refl
+
+      other : (x p : ℕ) → (part ≡ p → ⊥) → later x p ≡ test x p
+      other x p d = rw (h x p, ne-eqb p (a .part) (λ e. d (f .of ∙ sym e))) (or-false (test x p))
 
 -- ---- the parameters of parts
 pub in-part-none : (x p : ℕ) → inPart [] x p ≡ false
@@ -74,3 +89,30 @@ part-small w from to p x s h =
     let n : names x (atomIn w k) ≡ true =
     subst (λ (b : Atom). names x b ≡ true) q (and-right (eqb p (a .part)) _ e) in
     argument-small w k (stretch-atom s k (omega arith)) x (names-in x (atomIn w k) n)
+
+-- ---- those that preconditions name
+pub tests-none : (x p : ℕ) → tests [] x p ≡ false
+unfolding tests any
+tests-none x p = refl
+
+tests-last : (atoms : List Atom) (a : Atom) (x p : ℕ) →
+    tests (atoms ++ (a ∷ [])) x p ≡ tests atoms x p || (isTest p a && names x a)
+unfolding tests
+tests-last atoms a x p = any-last (λ a. isTest p a && names x a) atoms a
+
+pub tests-more : (atoms : List Atom) (a : Atom) → eqb (a .role) precondition ≡ true → (x p : ℕ) →
+    tests (atoms ++ (a ∷ [])) x p ≡ tests atoms x p || (eqb p (a .part) && names x a)
+tests-more atoms a e x p = rw (← test-of-part p a e) (tests-last atoms a x p)
+
+pub tests-same : (atoms : List Atom) (a : Atom) → eqb (a .role) precondition ≡ false → (x p : ℕ) →
+    tests (atoms ++ (a ∷ [])) x p ≡ tests atoms x p
+tests-same atoms a e x p = rw (tests-last atoms a x p, test-of-none p a e) (or-false (tests atoms x p))
+
+-- what a part's preconditions name stands in the part
+pub tests-in-part : (atoms : List Atom) (x p : ℕ) → tests atoms x p ≡ true → inPart atoms x p ≡ true
+unfolding tests inPart isTest
+tests-in-part atoms x p h =
+    let (a, i, e) = any-in (λ a. isTest p a && names x a) atoms h in
+    let q = and-left (eqb (a .part) p) _ (and-left (isTest p a) _ e) in
+    in-any (λ a. eqb p (a .part) && names x a) i
+    (and-both _ _ (eqb-turn p (a .part) ∙ q) (and-right (isTest p a) _ e))

@@ -1,8 +1,8 @@
 -- Placing parts one by one: the order is the parts placed, then the order of the unplaced ones. The unplaced parts are
 -- a set in the code and a list in the definition: its members, ascending.
 use Prim.Native.Nat.{ℕ, suc, _+_, _-_, _<_}
-use mathlib.Core.Path.{_≡_, refl, sym, _∙_, ap, ap₂}
-use mathlib.Core.Bool.{Bool, true, false, not, _&&_}
+use mathlib.Core.Path.{_≡_, refl, sym, _∙_, ap, ap₂, subst}
+use mathlib.Core.Bool.{Bool, true, false, not, _&&_, _||_}
 use mathlib.Core.List.{List, [], _∷_, _++_, map}
 use mathlib.Core.Option.{Option, none, some}
 use native.Mathlib.Omega.{arith}
@@ -15,7 +15,9 @@ use Rattle.task.specs.declared.Part.{Part}
 use Rattle.words.specs.Lists.{filter, keepIf, upTo}
 use Rattle.task.specs.Task.{Atom, Schema, partCount}
 use Rattle.words.proofs.Lists.{In, here, there, and-left, map-append, upTo-in}
-use Rattle.arcs.specs.Order.{nextPart, consTo, place, orderFrom, orderOf}
+use Rattle.arcs.specs.Order.{inPart, placedParts, nextPart, consTo, place, orderFrom, orderOf}
+use Rattle.arcs.specs.Stretches.{IsBound}
+use Rattle.arcs.proofs.PlacedParts.{bound-none, bound-more}
 use Rattle.words.specs.Sets.{SetBelow, member, members}
 
 -- ---- sets as lists
@@ -149,6 +151,22 @@ module _ (atoms : List Atom) (n : ℕ) (parts : List Part) where
       let xs = numbers n parts in
       let z : n - n ≡ 0 = omega arith in
       h ∙ (ap (λ (m : ℕ). consAll xs (orderFrom atoms m (members unplaced n))) z ∙ consAll-nothing xs)
+
+-- ---- the parameters of the parts placed
+module _ (atoms : List Atom) (n : ℕ) (all : n ≡ partCount atoms) where
+  pub bound-first : (unplaced : ℕ) → ((k : ℕ) → member unplaced k ≡ ltb k n) →
+      IsBound atoms (placedParts atoms (members unplaced n)) 0
+  bound-first unplaced h =
+      let e = members-all unplaced n h ∙ ap upTo all in
+      subst (λ (us : List ℕ). IsBound atoms (placedParts atoms us) 0) (sym e) (bound-none atoms)
+
+  pub bound-next : (unplaced less p bound own more : ℕ) → p < n → Without unplaced p less →
+      IsBound atoms (placedParts atoms (members unplaced n)) bound → ((x : ℕ) → member own x ≡ inPart atoms x p) →
+      ((x : ℕ) → member more x ≡ member bound x || member own x) →
+      IsBound atoms (placedParts atoms (members less n)) more
+  bound-next unplaced less p bound own more l w b o m =
+      subst (λ (us : List ℕ). IsBound atoms (placedParts atoms us) more) (members-without unplaced less p n w)
+      (bound-more atoms (members unplaced n) p bound own more (omega arith) b o m)
 
 -- ---- a schema of these atoms
 pub order-is : (s : Schema) (atoms : List Atom) (n : ℕ) → s .atoms ≡ atoms → n ≡ partCount atoms →

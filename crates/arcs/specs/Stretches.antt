@@ -1,22 +1,23 @@
 -- What the contracts of this crate's code speak of: stretches of a table's schema atoms, what is found of each part,
 -- and the order that is handed back.
-use Prim.Native.Nat.{ℕ, _-_, _≤_, _<_}
+use Prim.Native.Nat.{ℕ, _-_, _^_, _≤_, _<_}
 use mathlib.Core.Path.{_≡_}
 use mathlib.Core.Bool.{Bool, true, not, cond, _&&_, _||_}
 use mathlib.Core.List.{List, map}
 use mathlib.Core.Option.{Option, none, some}
-use lib.ListN.{getD, take}
+use lib.ListN.{length, getD, take}
 use lib.Dec.{eqb}
 use Rattle.words.specs.Lists.{any, upFrom}
 use Rattle.task.specs.Layout.{headIn}
+use Rattle.task.specs.Limits.{mostParts, mostParameters}
 use Rattle.task.specs.Task.{Atom, precondition, addition}
 use Rattle.task.specs.Table.{atomIn, isTable}
 use Rattle.task.specs.declared.Part.{Part}
 use Rattle.arcs.specs.declared.Order.{Order}
 use Rattle.arcs.specs.declared.choice.Choice.{Choice}
 use Rattle.arcs.specs.declared.choice.Choice.the-variants as choice
-use Rattle.arcs.specs.Order.{givesArc, arc, inPart, preconditions}
-use Rattle.words.specs.Sets.{member}
+use Rattle.arcs.specs.Order.{givesArc, arc, inPart, preconditions, tests}
+use Rattle.words.specs.Sets.{SetBelow, member}
 
 -- ---- atoms of a table
 -- words of a table, and a schema atom of it: its head says how many there are
@@ -65,12 +66,20 @@ abbrev pub AreArcs : List Atom → List ℕ → Type 0
 AreArcs atoms sets = SetsAre (arc atoms) sets
 
 -- for each part the set of its parameters
-abbrev pub AreParameters : List Atom → List ℕ → Type 0
-AreParameters atoms sets = SetsAre (inPart atoms) sets
+pub record AreParameters (atoms : List Atom) (sets : List ℕ) : Type 0 where
+  pub long : length sets ≡ mostParts
+  pub named : SetsAre (inPart atoms) sets
+  pub small : (p : ℕ) → getD sets p 0 < 2 ^ mostParameters
 
--- for each part its number of preconditions
-abbrev pub AreCounts : List Atom → List ℕ → Type 0
-AreCounts atoms counts = (p : ℕ) → getD counts p 0 ≡ preconditions atoms p
+-- for each part its number of preconditions, and the set of parameters that these name
+pub record AreTests (atoms : List Atom) (counts sets : List ℕ) : Type 0 where
+  pub counted : (p : ℕ) → getD counts p 0 ≡ preconditions atoms p
+  pub named : SetsAre (tests atoms) sets
+  pub below : (p : ℕ) → SetBelow mostParameters (getD sets p 0)
+
+-- the set of the parameters that stand in placed parts
+abbrev pub IsBound : List Atom → List ℕ → ℕ → Type 0
+IsBound atoms placed bound = (x : ℕ) → member bound x ≡ any (inPart atoms x) placed
 
 -- ---- the choice
 -- the part that is chosen, if one is ready

@@ -7,9 +7,6 @@ use native.Mathlib.Decide.{decLt}
 use lib.ListN.{length, getD}
 use Rattle.task.specs.declared.Part.{Part}
 use Rattle.words.proofs.Lists.{getD-map}
-use Rattle.words.specs.Sets.{member}
-use Rattle.arcs.specs.Order.{inPart}
-use Rattle.arcs.specs.Stretches.{stretchIn}
 use Rattle.tokens.specs.Acceptance.{partAt, OrderKept}
 use Rattle.task.specs.Limits.{mostSchemaAtoms}
 use Rattle.tokens.specs.Kept.{keptWords, orderPlace, ownPlace, partWord, ownWord, withPart}
@@ -18,21 +15,21 @@ use Rattle.tokens.proofs.KeptRows.{part-long, other-stays, part-put, ow
 pub part-is : (parts : List Part) (j : ℕ) → j < length parts → getD parts j (record { 0 = 0 }) .0 ≡ partAt parts j
 part-is parts j l = sym (getD-map (λ (p : Part). p .0) parts j (record { 0 = 0 }) 0 l)
 
-module _ (w : List ℕ) (from to : ℕ) (parts : List Part) (kept₀ : List ℕ) where
-  pub order-none : OrderKept w from to 0 parts kept₀ kept₀
+module _ (from : ℕ) (parts : List Part) (named kept₀ : List ℕ) where
+  pub order-none : OrderKept from 0 parts named kept₀ kept₀
   order-none = record {
     long = refl;
     rows = λ k l. refl;
     parts-before = λ i l. refl;
     owns-before = λ i l. refl;
     part = λ j l. absurd (omega arith);
-    params = λ j x l. absurd (omega arith);
+    own = λ j l. absurd (omega arith);
   }
 
   module _ (n p r : ℕ) (kept : List ℕ) (inside : from + n < mostSchemaAtoms)
       (wide : length kept ≡ keptWords) (is-part : p ≡ partAt parts n)
-      (is-own : (x : ℕ) → member r x ≡ inPart (stretchIn w from to) x p)
-      (old : OrderKept w from to n parts kept₀ kept) where
+      (is-own : r ≡ getD named p 0)
+      (old : OrderKept from n parts named kept₀ kept) where
     abbrev both : List ℕ
     both = withPart kept (from + n) p r
 
@@ -52,21 +49,17 @@ module _ (w : List ℕ) (from to : ℕ) (parts : List Part) (kept₀ : List ℕ)
         (λ j k. stays (orderPlace + (from + j)) (λ e. omega arith) (λ e. omega arith) ∙ old .part j k)
         (part-put kept (from + n) p r wide inside ∙ is-part)
 
-    own-more : (j : ℕ) → j < n + 1 → (x : ℕ) →
-        member (ownWord both (from + j)) x ≡ inPart (stretchIn w from to) x (partAt parts j)
-    own-more = up-to
-        (λ j. (x : ℕ) → member (ownWord both (from + j)) x ≡ inPart (stretchIn w from to) x (partAt parts j))
-        (λ j k x. ap (λ (v : ℕ). member v x) (stays (ownPlace + (from + j)) (λ e. omega arith) (λ e. omega arith)) ∙
-        old .params j x k)
-        (λ x. ap (λ (v : ℕ). member v x) (own-put kept (from + n) p r wide inside) ∙ is-own x ∙
-        ap (λ (q : ℕ). inPart (stretchIn w from to) x q) is-part)
+    own-more : (j : ℕ) → j < n + 1 → ownWord both (from + j) ≡ getD named (partAt parts j) 0
+    own-more = up-to (λ j. ownWord both (from + j) ≡ getD named (partAt parts j) 0)
+        (λ j k. stays (ownPlace + (from + j)) (λ e. omega arith) (λ e. omega arith) ∙ old .own j k)
+        (own-put kept (from + n) p r wide inside ∙ is-own ∙ ap (λ (q : ℕ). getD named q 0) is-part)
 
-    pub order-more : OrderKept w from to (n + 1) parts kept₀ both
+    pub order-more : OrderKept from (n + 1) parts named kept₀ both
     order-more = record {
       long = part-long kept (from + n) p r ∙ old .long;
       rows = λ k a. stays k (λ e. omega arith) (λ e. omega arith) ∙ old .rows k a;
       parts-before = λ i a. stays (orderPlace + i) (λ e. omega arith) (λ e. omega arith) ∙ old .parts-before i a;
       owns-before = λ i a. stays (ownPlace + i) (λ e. omega arith) (λ e. omega arith) ∙ old .owns-before i a;
       part = part-more;
-      params = λ j x k. own-more j k x;
+      own = own-more;
     }

@@ -29,7 +29,7 @@ use Rattle.task.proofs.StartLaws.{start-rises}
 use Rattle.arcs.specs.declared.Order.{Order}
 use Rattle.arcs.specs.Order.{inPart, orderOf}
 use Rattle.words.specs.Sets.{member}
-use Rattle.arcs.specs.Stretches.{stretchIn, orderTold}
+use Rattle.arcs.specs.Stretches.{AreParameters, stretchIn, orderTold}
 use Rattle.arcs.proofs.OrderTaken.{orderOf-laws}
 use Rattle.arcs.proofs.Stretches.{schema-stretch}
 use Rattle.tokens.specs.Split.{has, isNone, orderAt, orEmpty, orders, parts, firstOf}
@@ -196,8 +196,9 @@ module _ (w : List ℕ) (h : isTable w ≡ true) where
       (ends : to ≡ firstAtom (taskOf w) (suc s))
       (atoms : schemaAt (taskOf w) s .atoms ≡ stretchIn w from to) (f : Order) (fits : f .count ≤ length (f .parts))
       (found : f .found ≡ true) (told : orderTold f ≡ orderOf (schemaAt (taskOf w) s))
-      (goes-on : next ≡ firstOf (taskOf w) (s + 1)) (kept ordered : List ℕ)
-      (new : OrderKept w from to (f .count) (f .parts) (withField kept s countPlace (f .count)) ordered)
+      (goes-on : next ≡ firstOf (taskOf w) (s + 1)) (named : AreParameters (stretchIn w from to) (f .named))
+      (kept ordered : List ℕ)
+      (new : OrderKept from (f .count) (f .parts) (f .named) (withField kept s countPlace (f .count)) ordered)
       (old : PartsKept (taskOf w) s kept) where
     abbrev t : Task
     t = taskOf w
@@ -264,7 +265,8 @@ module _ (w : List ℕ) (h : isTable w ≡ true) where
         member (ownWord ordered (from + j)) x ≡ has (schemaAt t s) x (getD (orders t s) j 0)
     unfolding has
     here-params j x k =
-        new .params j x k ∙
+        ap (λ (v : ℕ). member v x) (new .own j k) ∙
+        named .named x (partAt (f .parts) j) ∙
         ap (λ (bs : List Atom). inPart bs x (partAt (f .parts) j)) (sym atoms) ∙
         ap (inPart (schemaAt t s .atoms) x) (here-part j k)
 

@@ -19,8 +19,6 @@ use Rattle.task.specs.declared.Place.{Place}
 use Rattle.task.specs.Run.{schemaAt}
 use Rattle.task.specs.Table.{taskOf, longEnough, isTable}
 use Rattle.words.specs.Sets.{member, wordBits}
-use Rattle.arcs.specs.Order.{inPart}
-use Rattle.arcs.specs.Stretches.{stretchIn}
 use Rattle.tokens.specs.Split.{has, laterParts, sharedBound, maximum, parCount, orders, firstHere, lastHere}
 use Rattle.tokens.specs.Split.{laterHere, splitSchema, splitTask, withinLimits, splitAs, split, splitCheck}
 use Rattle.tokens.specs.declared.pars.Pars.{Pars}
@@ -43,16 +41,15 @@ pub record ParsHere (t : Task) (s : ℕ) (o : List ℕ) (j : ℕ) (r : Pars) : T
 abbrev pub partAt : List Part → ℕ → ℕ
 partAt parts j = getD (map (λ (p : Part). p .0) parts) j 0
 
--- once the first n parts found of the schema of atoms `from` to `to - 1` are kept: the rows and what stands at the
+-- once the first n parts found of the schema whose atoms begin at `from` are kept: the rows and what stands at the
 -- places of earlier atoms still stand, then the parts and the parameters of each
-pub record OrderKept (w : List ℕ) (from to n : ℕ) (parts : List Part) (kept kept′ : List ℕ) : Type 0 where
+pub record OrderKept (from n : ℕ) (parts : List Part) (named kept kept′ : List ℕ) : Type 0 where
   pub long : length kept′ ≡ length kept
   pub rows : (k : ℕ) → k < orderPlace → getD kept′ k 0 ≡ getD kept k 0
   pub parts-before : (i : ℕ) → i < from → partWord kept′ i ≡ partWord kept i
   pub owns-before : (i : ℕ) → i < from → ownWord kept′ i ≡ ownWord kept i
   pub part : (j : ℕ) → j < n → partWord kept′ (from + j) ≡ partAt parts j
-  pub params : (j x : ℕ) → j < n →
-      member (ownWord kept′ (from + j)) x ≡ inPart (stretchIn w from to) x (partAt parts j)
+  pub own : (j : ℕ) → j < n → ownWord kept′ (from + j) ≡ getD named (partAt parts j) 0
 
 -- ---- sizes
 -- the schemas of the split that schema s becomes

@@ -5,7 +5,6 @@ use crate::kept::keep_count;
 use crate::kept::keep_part;
 use arcs::Order;
 use arcs::orders::order_of;
-use arcs::parameters::parameter_sets;
 use task::layout::schema_number;
 use task::limits::SCHEMA_ATOMS;
 use task::limits::SCHEMAS;
@@ -14,10 +13,10 @@ ghost use Prim.Native.Nat.{ℕ, suc, _+_, _≤_, _<_};
 ghost use mathlib.Core.Path.{_≡_};
 ghost use mathlib.Core.Bool.{true};
 ghost use mathlib.Core.Option.{none};
-ghost use lib.ListN.{length};
+ghost use lib.ListN.{length, getD};
 ghost use Rattle.words.specs.Lists.{first, upTo};
 ghost use Rattle.task.specs.Table.{taskOf, isTable};
-ghost use Rattle.arcs.specs.Stretches.{IsStretch};
+ghost use Rattle.words.specs.Words.{wordBound};
 ghost use Rattle.tokens.specs.Split.{isNone, orderAt};
 ghost use Rattle.tokens.specs.Acceptance.{partAt, OrderKept, circularTold};
 ghost use Rattle.task.specs.Limits.{mostParts, mostSchemaAtoms};
@@ -48,19 +47,18 @@ pub fn schema_end(table: &[u16], s: usize, from: usize) -> usize
     i
 }
 
-// Keeps the order found of the parts of the atoms `from` to `to - 1`, and the parameters of the part at each position.
-fn keep_order(table: &[u16], from: usize, to: usize, found: Order, kept: &mut Kept)
-    requires { ⌜ IsStretch (now table) from to ⌝ }
+// Keeps the order found of the parts of the atoms from `from` on, and the parameters of the part at each position.
+fn keep_order(from: usize, found: Order, kept: &mut Kept)
     requires { ⌜ from + found .count ≤ mostSchemaAtoms ⌝ }
     requires { ⌜ (found .count ≤ mostParts) × (length (found .parts) ≡ mostParts) ⌝ }
     requires { ⌜ length (now kept) ≡ keptWords ⌝ }
     requires { ⌜ ((j : ℕ) → j < found .count → partAt (found .parts) j < mostParts) ⌝ }
-    ensures { λ _. ⌜ OrderKept (now (table .entry)) from to (found .count) (found .parts) (now (kept .entry))
-        (now (kept .exit)) ⌝ }
+    requires { ⌜ ((p : ℕ) → getD (found .named) p 0 < wordBound) ⌝ }
+    ensures { λ _. ⌜ OrderKept from (found .count) (found .parts) (found .named) (now (kept .entry)) (now (kept .exit)) ⌝ }
 {
     let parts = found.parts;
+    let sets = found.named;
     let count = found.count;
-    let sets = parameter_sets(table, from, to);
     let mut j = 0;
     while j < count {
         let part = parts[j];
@@ -92,7 +90,7 @@ pub fn keep_parts(table: &[u16], kept: &mut Kept) -> Circular
             return Circular::At(s as u64);
         }
         keep_count(kept, s, found.count);
-        keep_order(table, from, to, found, kept);
+        keep_order(from, found, kept);
         from = to;
         first += found.count;
         s += 1;

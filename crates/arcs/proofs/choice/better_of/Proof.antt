@@ -1,7 +1,5 @@
--- `arcs::choice::better_of` meets its contract, case by case: nothing found before, fewer preconditions than what was
--- found, or not.
-use mathlib.Core.Path.{ap, _∙_}
-use native.Mathlib.Omega.{arith}
+-- `arcs::choice::better_of` meets its contract, case by case: nothing found before, what was found is ahead, or not.
+use mathlib.Core.Path.{ap, sym, _∙_}
 use borrow.Author.Needs.{needs}
 use Rattle.arcs.specs.Stretches.{chosen}
 use Rattle.arcs.proofs.Choosing.{better-first, better-keeps, better-takes, only-below}
@@ -13,41 +11,41 @@ unfolding chosen
 returns c =
     let p = c .before .before .args .p in
     let e = ap chosen (c .enum-told .given .1) in
-    (λ atoms k. better-first atoms p e, λ n l b. only-below n p l)
+    (λ atoms placed k b. better-first atoms placed p e, λ n l b. only-below n p l)
 
-element-copy-out-if1-2 : tie.Need-element-copy-out-if1-2
+is-ahead-requires : tie.Need-is-ahead-requires
 unfolding chosen
-element-copy-out-if1-2 c =
-    let g = c .before .before .before .found .given in
-    c .before .before .before .before .before .pre .1 (g .0 .0 .0) (ap chosen (g .1))
+is-ahead-requires c κs =
+    let g = c .before .before .found .given in
+    let s = c .before .before .before .before in
+    (s .pre .1 (g .0 .0 .0) (ap chosen (g .1)), s .pre .0)
 
 returns-2 : tie.Need-returns-2
 unfolding chosen
 returns-2 c =
-    let p = c .before .before .before .before .before .before .before .args .p in
-    let g = c .before .before .before .before .before .found .given in
+    let p = c .before .before .before .before .before .before .args .p in
+    let g = c .before .before .before .before .found .given in
     let q = g .0 .0 .0 in
     let e = ap chosen (g .1) in
-    let t = c .if1 .taken in (
-      λ atoms k. better-keeps atoms p q e (let x = k p in let y = k q in omega arith),
+    let ahead = c .before .is-ahead .ensures in (
+      λ atoms placed k b. better-keeps atoms placed p q e (sym (ahead atoms placed k b) ∙ c .if1 .taken),
       λ n l b x h. b x (e ∙ h),
     )
 
 returns-3 : tie.Need-returns-3
 unfolding chosen
 returns-3 c =
-    let p = c .before .before .before .before .before .before .before .args .p in
-    let g = c .before .before .before .before .before .found .given in
+    let p = c .before .before .before .before .before .before .args .p in
+    let g = c .before .before .before .before .found .given in
     let q = g .0 .0 .0 in
     let e = ap chosen (g .1) in
-    let t = c .if1 .left in (
-      λ atoms k. better-takes atoms p q e (let x = k p in let y = k q in omega arith),
+    let ahead = c .before .is-ahead .ensures in (
+      λ atoms placed k b. better-takes atoms placed p q e (sym (ahead atoms placed k b) ∙ c .if1 .left),
       λ n l b. only-below n p l,
     )
 
 pub better-of-spec : {M : Type 1} → statement M
 better-of-spec =
     tie.close
-    (tie.spec (λ c. search needs) (λ c. search needs) (λ c. search needs) returns (λ c. search needs)
-    (λ c. search needs) (λ c. search needs) (λ c. search needs) element-copy-out-if1-2 (λ c. search needs) returns-2
-    returns-3)
+    (tie.spec (λ c. search needs) (λ c. search needs) (λ c. search needs) returns (λ c. search needs) is-ahead-requires
+    (λ c. search needs) returns-2 returns-3)

@@ -9,11 +9,11 @@ use Rattle.arcs.proofs.choice.choose.Statement.{statement}
 use Rattle.arcs.proofs.choice.choose.Tie as tie
 
 abbrev Inv-loop : tie.InvT-loop
-Inv-loop before counts unplaced count found₀ p₀ found p =
-    (p ≤ count) × ChosenBelow count found × FoundFrom before counts unplaced count p (chosen found)
+Inv-loop before counts tested bound unplaced count found₀ p₀ found p =
+    (p ≤ count) × ChosenBelow count found × FoundFrom before counts tested bound unplaced count p (chosen found)
 
 abbrev μ-loop : tie.MeasureT-loop
-μ-loop before counts unplaced count found₀ p₀ found p = p
+μ-loop before counts tested bound unplaced count found₀ p₀ found p = p
 
 loop-holds : tie.Need-loop-holds Inv-loop μ-loop
 unfolding chosen
@@ -21,7 +21,7 @@ loop-holds c =
     let a = c .args in (
       omega arith,
       λ p e. let z : _≡_ {A = ℕ} 0 1 = cc in omega arith,
-      found-none (a .before .now) (a .counts .now) (a .unplaced) (a .count),
+      found-none (a .before .now) (a .counts .now) (a .tested .now) (a .bound) (a .unplaced) (a .count),
     )
 
 better-of-requires : tie.Need-better-of-requires Inv-loop μ-loop
@@ -37,7 +37,7 @@ loop-again c =
     let b = c .better-of .ensures in (
       omega arith,
       b .1 (a .count) (omega arith) (h .inv .1),
-      found-take (a .before .now) (a .counts .now) (a .unplaced) (a .count) (h .p) (chosen (h .found))
+      found-take (a .before .now) (a .counts .now) (a .tested .now) (a .bound) (a .unplaced) (a .count) (h .p) (chosen (h .found))
           (chosen (c .better-of .result)) (turn .loop-test .taken) (h .inv .0)
           (λ atoms k. sym (r atoms (a .count) k (s .pre .1)) ∙ c .before .if1 .taken) (h .inv .2) (b .0),
     )
@@ -51,7 +51,7 @@ loop-again-2 c =
     let r = c .before .is-ready .ensures in (
       omega arith,
       h .inv .1,
-      found-skip (a .before .now) (a .counts .now) (a .unplaced) (a .count) (h .p) (chosen (h .found))
+      found-skip (a .before .now) (a .counts .now) (a .tested .now) (a .bound) (a .unplaced) (a .count) (h .p) (chosen (h .found))
           (turn .loop-test .taken) (h .inv .0)
           (λ atoms k. sym (r atoms (a .count) k (s .pre .1)) ∙ c .if1 .left) (h .inv .2),
     )
@@ -61,10 +61,10 @@ returns c =
     let a = c .before .before .args in
     let h = c .before .loop in
     let found = chosen (h .found) in
-    let Found : ℕ → Type 0 = λ k. FoundFrom (a .before .now) (a .counts .now) (a .unplaced) (a .count) k found in
+    let Found : ℕ → Type 0 = λ k. FoundFrom (a .before .now) (a .counts .now) (a .tested .now) (a .bound) (a .unplaced) (a .count) k found in
     let z : h .p ≡ 0 = omega arith in
     let all = subst Found z (h .inv .2) in
-    (found-all (a .before .now) (a .counts .now) (a .unplaced) (a .count) found all, h .inv .1)
+    (found-all (a .before .now) (a .counts .now) (a .tested .now) (a .bound) (a .unplaced) (a .count) found all, h .inv .1)
 
 pub choose-spec : {M : Type 1} → statement M
 choose-spec =

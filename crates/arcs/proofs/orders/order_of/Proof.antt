@@ -1,138 +1,168 @@
 -- `arcs::orders::order_of` meets its contract.
--- The invariant: the order is the parts placed, then the order of the unplaced ones. The measure is the parts left.
-use Prim.Native.Nat.{ℕ, _-_, _≤_}
+-- The invariant: the order is the parts placed, then the order of the unplaced ones; `bound` has the parameters of those
+-- placed. The measure is the parts left.
+use Prim.Native.Nat.{ℕ, _-_, _≤_, _<_}
 use mathlib.Core.Path.{_≡_, refl, sym, _∙_, ap, subst}
 use mathlib.Core.List.{List}
 use native.Mathlib.Omega.{arith}
 use lib.ListN.{length, replicate, length-set}
 use borrow.Author.Needs.{needs}
 use Rattle.task.specs.declared.Part.{Part}
-use Rattle.task.specs.Task.{Atom}
-use Rattle.arcs.specs.Stretches.{AreArcs, AreCounts, stretchIn, chosen, orderTold}
-use Rattle.words.specs.Sets.{SetBelow}
+use Rattle.task.specs.Limits.{mostParts}
+use Rattle.task.specs.Task.{Atom, partCount}
+use Rattle.arcs.specs.Order.{placedParts, nextPart}
+use Rattle.arcs.specs.Stretches.{IsBound, stretchIn, chosen, orderTold}
+use Rattle.words.specs.Sets.{SetBelow, members}
 use Rattle.arcs.proofs.Placing.{Placed, placed-none, placed-more, placed-stuck, placed-all, order-is, below-all}
-use Rattle.arcs.proofs.Placing.{below-without}
+use Rattle.arcs.proofs.Placing.{below-without, bound-first, bound-next}
 use Rattle.arcs.proofs.orders.order_of.Statement.{statement}
 use Rattle.arcs.proofs.orders.order_of.Tie as tie
 
 abbrev Inv-loop : tie.InvT-loop
-Inv-loop table from to before preconditions count parts₀ unplaced₀ placed₀ parts unplaced placed =
-    (placed ≤ count) × (length parts ≡ 16) × SetBelow count unplaced ×
-    Placed (stretchIn table from to) count parts unplaced placed
+Inv-loop table from to before preconditions tested named count parts₀ unplaced₀ bound₀ placed₀ parts unplaced bound placed =
+    (placed ≤ count) × (length parts ≡ mostParts) × SetBelow count unplaced ×
+    Placed (stretchIn table from to) count parts unplaced placed ×
+    IsBound (stretchIn table from to) (placedParts (stretchIn table from to) (members unplaced count)) bound
 
 abbrev μ-loop : tie.MeasureT-loop
-μ-loop table from to before preconditions count parts₀ unplaced₀ placed₀ parts unplaced placed = count - placed
+μ-loop table from to before preconditions tested named count parts₀ unplaced₀ bound₀ placed₀ parts unplaced bound placed =
+    count - placed
 
 -- ---- what is known at the loop
 abbrev Loop : Type 0
 Loop = tie.At-loop Inv-loop μ-loop
 
-abbrev atoms : tie.Start Inv-loop μ-loop → List Atom
-atoms s = stretchIn (s .args .table .now) (s .args .from) (s .args .to)
+abbrev start : Loop → tie.Start Inv-loop μ-loop
+start l = l .before .before .before .before .before .before .before .before
 
 abbrev all : Loop → List Atom
-all l = atoms (l .before .before .before .before .before .before)
+all l = stretchIn (start l .args .table .now) (start l .args .from) (start l .args .to)
 
-arcs : (l : Loop) → AreArcs (all l) (l .before .before .before .before .arcs-of .result)
-arcs l = l .before .before .before .before .arcs-of .ensures
+abbrev count : Loop → ℕ
+count l = l .before .before .gather .result
 
-tests : (l : Loop) → AreCounts (all l) (l .before .before .before .preconditions-of .result)
-tests l = l .before .before .before .preconditions-of .ensures
+counted : (l : Loop) → count l ≡ partCount (all l)
+counted l = l .before .before .gather .ensures .0
+
+-- the turn in which a part is chosen, and what is chosen
+abbrev turn : tie.After-choose Inv-loop μ-loop → tie.In-loop Inv-loop μ-loop
+turn c = c .before .before .before .before
+
+next : (c : tie.After-choose Inv-loop μ-loop) →
+    chosen (c .choose .result) ≡ nextPart (all (turn c .before)) (members (turn c .before .loop .unplaced) (count (turn c .before)))
+next c =
+    let l = turn c .before in
+    let g = l .before .before in
+    c .choose .ensures .0 (all l) (g .before .before .before .before .arcs-of .ensures) (g .gather .ensures .1 .1 .0)
+    (l .loop .inv .4)
 
 -- ---- before the loop
 arcs-of-requires : tie.Need-arcs-of-requires Inv-loop μ-loop
 arcs-of-requires c κs = c .before .pre
 
-preconditions-of-requires : tie.Need-preconditions-of-requires Inv-loop μ-loop
-preconditions-of-requires c κs = c .before .before .pre
+gather-requires : tie.Need-gather-requires Inv-loop μ-loop
+gather-requires c κs = (c .before .before .before .before .before .pre, (refl, (refl, refl)))
 
-part-count-requires : tie.Need-part-count-requires Inv-loop μ-loop
-part-count-requires c κs = c .before .before .before .pre
+below-requires : tie.Need-below-requires Inv-loop μ-loop
+below-requires c κs = omega (arith, c .gather .ensures .1 .0)
 
 loop-holds : tie.Need-loop-holds Inv-loop μ-loop
 loop-holds c =
-    let n = c .before .part-count .result in
+    let g = c .before .gather in
+    let n = g .result in
     let u = c .below .result in
-    let none : List Part = replicate 16 (record { 0 = 0 }) in (
+    let a = c .before .before .before .before .before .before .before .args in
+    let atoms = stretchIn (a .table .now) (a .from) (a .to) in
+    let none : List Part = replicate mostParts (record { 0 = 0 }) in (
       omega arith,
       refl,
       below-all u n (c .below .ensures),
-      placed-none (atoms (c .before .before .before .before .before)) n none u (c .below .ensures),
+      placed-none atoms n none u (c .below .ensures),
+      bound-first atoms n (g .ensures .0) u (c .below .ensures),
     )
 
 -- ---- a turn
 choose-requires : tie.Need-choose-requires Inv-loop μ-loop
-choose-requires c κs = let l = c .before .before .before in (l .before .before .part-count .ensures .1, l .loop .inv .2)
+choose-requires c κs =
+    let l = c .before .before .before .before in
+    (l .before .before .gather .ensures .1 .0, l .loop .inv .2)
 
 -- no part is ready
 returns : tie.Need-returns Inv-loop μ-loop
 unfolding chosen orderTold
-returns c = (
-  λ s e.
-      let turn = c .before .before .before .before .before in
-      let l = turn .before in
-      let n = l .before .before .part-count in
-      let h = l .loop in
-      let none = sym (ap chosen (c .enum-told .given .1)) in
-      let best = none ∙ c .before .before .choose .ensures .0 (all l) (arcs l) (tests l) in
-      let t = turn .loop-test .taken in
-      sym (placed-stuck (all l) (n .result) (h .parts) (h .unplaced) (h .placed) t best (h .inv .3))
-      ∙ order-is s (all l) (n .result) e (n .ensures .0),
-  (omega arith, c .before .before .before .before .before .before .loop .inv .1),
-)
+returns c =
+    let d = c .before .before in
+    let l = turn d .before in
+    let h = l .loop in
+    let t = turn d .loop-test .taken in (
+      λ s e.
+          sym (placed-stuck (all l) (count l) (h .parts) (h .unplaced) (h .placed) t
+          (sym (ap chosen (c .enum-told .given .1)) ∙ next d) (h .inv .3))
+          ∙ order-is s (all l) (count l) e (counted l),
+      ((omega arith, h .inv .1), l .before .before .gather .ensures .1 .1 .1),
+    )
 
-cast-without : tie.Need-cast-without Inv-loop μ-loop
+-- the part chosen is one of the schema's
+part-known : (c : tie.After-known-told Inv-loop μ-loop) →
+    c .before .part .given .0 .0 .0 < count (turn (c .before .before .before) .before)
 unfolding chosen
-cast-without c =
-    let g = c .before .before .part .given in
-    let b = c .before .before .before .before .choose .ensures .1 (g .0 .0 .0) (ap chosen (g .1)) in
-    omega arith
+part-known c =
+    let g = c .before .part .given in
+    c .before .before .before .choose .ensures .1 (g .0 .0 .0) (ap chosen (g .1))
+
+part-small : (c : tie.After-known-told Inv-loop μ-loop) → c .before .part .given .0 .0 .0 < mostParts
+part-small c =
+    let l = turn (c .before .before .before) .before in
+    omega (arith, part-known c, l .before .before .gather .ensures .1 .0)
+
+cast-p : tie.Need-cast-p Inv-loop μ-loop
+cast-p c = omega (arith, part-small (c .before))
 
 without-requires : tie.Need-without-requires Inv-loop μ-loop
-unfolding chosen
-without-requires c κs =
-    let g = c .before .before .part .given in
-    let b = c .before .before .before .before .choose .ensures .1 (g .0 .0 .0) (ap chosen (g .1)) in
-    omega arith
+without-requires c κs = omega (arith, part-small (c .before))
+
+array-read-union : tie.Need-array-read-union Inv-loop μ-loop
+array-read-union c = omega (arith, part-small (c .before .before))
 
 loop-again : tie.Need-loop-again Inv-loop μ-loop
 unfolding chosen
 loop-again c =
-    let choice = c .before .before .before .before .before in
-    let turn = choice .before .before .before in
-    let l = turn .before in
-    let n = l .before .before .part-count .result in
+    let known = c .before .before .before in
+    let d = known .before .before .before in
+    let l = turn d .before in
     let h = l .loop in
-    let g = c .before .before .before .part .given in
+    let g = known .before .part .given in
     let p = g .0 .0 in
-    let u = c .without .result in
-    let w = c .without .ensures in
-    let t = turn .loop-test .taken in
-    let best = sym (ap chosen (g .1)) ∙ choice .choose .ensures .0 (all l) (arcs l) (tests l) in (
+    let u = c .before .without .result in
+    let w = c .before .without .ensures in
+    let t = turn d .loop-test .taken in
+    let own = l .before .before .gather .ensures .1 .1 .1 in (
       omega arith,
       length-set (h .parts) (h .placed) p ∙ h .inv .1,
-      below-without (h .unplaced) u (p .0) n w (h .inv .2),
-      placed-more (all l) n (h .parts) (h .unplaced) u (h .placed) p t (omega arith) best w (h .inv .3),
+      below-without (h .unplaced) u (p .0) (count l) w (h .inv .2),
+      placed-more (all l) (count l) (h .parts) (h .unplaced) u (h .placed) p t (omega arith)
+          (sym (ap chosen (g .1)) ∙ next d) w (h .inv .3),
+      bound-next (all l) (count l) (counted l) (h .unplaced) u (p .0) (h .bound) _ (c .union .result) (part-known known) w
+          (h .inv .4) (λ x. own .named x (p .0)) (c .union .ensures),
     )
 
 -- ---- after the loop
 returns-2 : tie.Need-returns-2 Inv-loop μ-loop
 unfolding orderTold
-returns-2 c = (
-  λ s e.
-      let l = c .before in
-      let n = l .before .before .part-count in
-      let h = l .loop in
-      let z : h .placed ≡ n .result = omega arith in
-      let done = subst (λ (k : ℕ). Placed (all l) (n .result) (h .parts) (h .unplaced) k) z (h .inv .3) in
-      sym (placed-all (all l) (n .result) (h .parts) (h .unplaced) done)
-      ∙ order-is s (all l) (n .result) e (n .ensures .0),
-  (omega (arith, c .before .before .before .part-count .ensures .1), c .before .loop .inv .1),
-)
+returns-2 c =
+    let l = c .before in
+    let h = l .loop in
+    let z : h .placed ≡ count l = omega arith in
+    let done = subst (λ (k : ℕ). Placed (all l) (count l) (h .parts) (h .unplaced) k) z (h .inv .3) in (
+      λ s e.
+          sym (placed-all (all l) (count l) (h .parts) (h .unplaced) done)
+          ∙ order-is s (all l) (count l) e (counted l),
+      ((l .before .before .gather .ensures .1 .0, h .inv .1), l .before .before .gather .ensures .1 .1 .1),
+    )
 
 pub order-of-spec : {M : Type 1} → statement M
 order-of-spec =
     tie.close
-    (tie.spec Inv-loop μ-loop arcs-of-requires preconditions-of-requires part-count-requires (λ c κs. omega arith)
-    loop-holds choose-requires (λ c. search needs) (λ c. search needs) returns (λ c. omega arith) (λ c. omega arith)
-    cast-without without-requires (λ c. omega arith) (λ c. omega arith) loop-again returns-2)
+    (tie.spec Inv-loop μ-loop arcs-of-requires gather-requires below-requires loop-holds choose-requires
+    (λ c. search needs) (λ c. search needs) returns cast-p (λ c. omega arith) (λ c. omega arith) without-requires
+    (λ c. omega arith) array-read-union (λ c κs. tt) (λ c. omega arith) (λ c. omega arith) loop-again returns-2)

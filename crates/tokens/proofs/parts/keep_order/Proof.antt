@@ -2,7 +2,7 @@
 -- positions left.
 use Rattle.tokens.proofs.parts.keep_order.Tie as tie
 use Prim.Native.Nat.{ℕ, _+_, _-_, _≤_, _<_}
-use mathlib.Core.Path.{_≡_, subst, sym, _∙_}
+use mathlib.Core.Path.{_≡_, refl, subst, sym, _∙_}
 use native.Mathlib.Omega.{arith}
 use lib.ListN.{length, getD}
 use Rattle.tokens.specs.Acceptance.{OrderKept}
@@ -14,15 +14,15 @@ use Rattle.tokens.proofs.KeptRows.{part-long}
 use Rattle.task.specs.Limits.{mostParts}
 
 abbrev Inv-loop : tie.InvT-loop
-Inv-loop table from to kept₀ parts count sets j₀ kept j =
-    (j ≤ count) × (length kept ≡ keptWords) × OrderKept table from to j parts kept₀ kept
+Inv-loop from kept₀ parts sets count j₀ kept j =
+    (j ≤ count) × (length kept ≡ keptWords) × OrderKept from j parts sets kept₀ kept
 
 abbrev μ-loop : tie.MeasureT-loop
-μ-loop table from to kept₀ parts count sets j₀ kept j = count - j
+μ-loop from kept₀ parts sets count j₀ kept j = count - j
 
 -- the places of a turn, one from the next
 abbrev start : tie.At-loop Inv-loop μ-loop → tie.Start Inv-loop μ-loop
-start c = c .before .before .before .before
+start c = c .before .before .before
 
 abbrev turn : tie.After-struct-known Inv-loop μ-loop → tie.At-loop Inv-loop μ-loop
 turn c = c .before .before .before
@@ -42,19 +42,16 @@ found c =
     let s = start (turn c) in
     let j = turn c .loop .j in
     let t = c .before .before .loop-test .taken in
-    let f = s .pre .1 .1 .0 in
+    let f = s .pre .1 .0 in
     let l : j < length (s .args .found .parts) = omega (arith, f .0, f .1) in
-    record { inside = l; small = omega (arith, part-is (s .args .found .parts) j l, s .pre .1 .1 .1 .1 j t) }
-
-parameter-sets-requires : tie.Need-parameter-sets-requires Inv-loop μ-loop
-parameter-sets-requires c κs = c .before .before .pre .0
+    record { inside = l; small = omega (arith, part-is (s .args .found .parts) j l, s .pre .1 .1 .1 .0 j t) }
 
 loop-holds : tie.Need-loop-holds Inv-loop μ-loop
 loop-holds c =
-    let s = c .before .before .before in
+    let s = c .before .before in
     let a = s .args in
-    let none = order-none (a .table .now) (a .from) (a .to) (a .found .parts) (a .kept .now) in
-    (omega arith, s .pre .1 .1 .1 .0, none)
+    let none = order-none (a .from) (a .found .parts) (a .found .named) (a .kept .now) in
+    (omega arith, s .pre .1 .1 .0, none)
 
 cast-named : tie.Need-cast-named Inv-loop μ-loop
 cast-named c = omega (arith, found c .small)
@@ -68,16 +65,15 @@ array-read-named c = omega (arith, found c .small)
 add-keep-part : tie.Need-add-keep-part Inv-loop μ-loop
 add-keep-part c =
     let t = c .before .before .before .loop-test .taken in
-    omega (arith, start (turn (c .before)) .pre .1 .0)
+    omega (arith, start (turn (c .before)) .pre .0)
 
 keep-part-requires : tie.Need-keep-part-requires Inv-loop μ-loop
 keep-part-requires c κs =
     let p = c .before in
     let s = start (turn (c .before)) in
-    let sets = turn (c .before) .before .parameter-sets in
-    let f = s .pre .1 .1 .0 .0 in
+    let f = s .pre .1 .0 .0 in
     let t = c .before .before .before .loop-test .taken in
-    (omega (arith, s .pre .1 .0), omega (arith, sets .ensures .1 .0 (found-part p)))
+    (omega (arith, s .pre .0), s .pre .1 .1 .1 .1 (found-part p))
 
 add-j : tie.Need-add-j Inv-loop μ-loop
 add-j c = omega (arith, c .before .before .before .before .loop-test .taken)
@@ -91,20 +87,17 @@ loop-again c =
     let a = s .args in
     let h = turn (c .before .before) .loop in
     let t = c .before .before .before .before .loop-test .taken in
-    let f = s .pre .1 .1 .0 .0 in
+    let f = s .pre .1 .0 .0 in
     let p = c .before .before in
-    let sets = turn (c .before .before) .before .parameter-sets in
     let part = found-part p in
-    let own = getD (sets .result) part 0 in
+    let own = getD (a .found .named) part 0 in
     let kept = sym (c .keep-part .ensures) in (
       omega arith,
       subst (λ (k : List ℕ). length k ≡ keptWords) kept
           (part-long (h .kept) (a .from + h .j) part own ∙ h .inv .1),
-      subst (λ (k : List ℕ). OrderKept (a .table .now) (a .from) (a .to) (h .j + 1) (a .found .parts)
-          (a .kept .now) k) kept
-          (order-more (a .table .now) (a .from) (a .to) (a .found .parts) (a .kept .now) (h .j) part own
-          (h .kept) (omega (arith, s .pre .1 .0)) (h .inv .1) (part-is (a .found .parts) (h .j) (found p .inside))
-          (λ x. sets .ensures .1 .1 x part) (h .inv .2)),
+      subst (λ (k : List ℕ). OrderKept (a .from) (h .j + 1) (a .found .parts) (a .found .named) (a .kept .now) k) kept
+          (order-more (a .from) (a .found .parts) (a .found .named) (a .kept .now) (h .j) part own (h .kept)
+          (omega (arith, s .pre .0)) (h .inv .1) (part-is (a .found .parts) (h .j) (found p .inside)) refl (h .inv .2)),
     )
 
 returns : tie.Need-returns Inv-loop μ-loop
@@ -112,11 +105,10 @@ returns c =
     let a = start (c .before) .args in
     let h = c .before .loop in
     let e : h .j ≡ a .found .count = omega arith in
-    subst (λ (n : ℕ). OrderKept (a .table .now) (a .from) (a .to) n (a .found .parts) (a .kept .now) (h .kept)) e
-    (h .inv .2)
+    subst (λ (n : ℕ). OrderKept (a .from) n (a .found .parts) (a .found .named) (a .kept .now) (h .kept)) e (h .inv .2)
 
 pub keep-order-spec : {M : Type 1} → statement M
 keep-order-spec =
     tie.close
-    (tie.spec Inv-loop μ-loop parameter-sets-requires loop-holds (λ c. omega arith) (λ c. omega arith) cast-named
+    (tie.spec Inv-loop μ-loop loop-holds (λ c. omega arith) (λ c. omega arith) cast-named
     mul-named array-read-named add-keep-part keep-part-requires add-j loop-less loop-again returns)

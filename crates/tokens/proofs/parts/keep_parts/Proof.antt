@@ -154,27 +154,26 @@ returns c =
 keep-count-requires : tie.Need-keep-count-requires Inv-loop μ-loop
 keep-count-requires c κs =
     let d = c .before .before .before in
-    let n = d .order-of .ensures .1 .0 in
+    let n = d .order-of .ensures .1 .0 .0 in
     (few (turn d), omega arith)
 
 keep-order-requires : tie.Need-keep-order-requires Inv-loop μ-loop
 keep-order-requires c κs =
     let d = ordered (c .before) in
     let l = turn d .before in
-    let to = ordered (c .before) .before .schema-end in
-    let n = d .order-of .ensures .1 in
+    let n = d .order-of .ensures .1 .0 in
     let yes = not-false (d .order-of .result .found) (c .before .before .before .if1 .left) in
     let inside = found-inside (words l) (is-table l) (l .loop .s) (known (turn d)) (d .order-of .result) (told d) yes
     (omega (arith, n .0, n .1)) in (
-      stretch (turn d) (to .result) (to .ensures),
+      omega (arith, l .loop .inv .1),
       (
-        omega (arith, l .loop .inv .1),
+        n,
         (
-          n,
+          count-kept (c .before),
           (
-            count-kept (c .before),
             found-small (task l) (l .loop .s) (d .order-of .result) (told d) yes (omega (arith, n .0, n .1))
                 (parts-few (words l) (is-table l) (l .loop .s) (known (turn d))),
+            λ p. omega (arith, d .order-of .ensures .1 .1 .small p),
           ),
         ),
       ),
@@ -184,7 +183,7 @@ add-first : tie.Need-add-first Inv-loop μ-loop
 add-first c =
     let d = ordered (c .before .before .before) in
     let h = turn d .before .loop .inv .3 in
-    omega (arith, d .order-of .ensures .1 .0, few (turn d))
+    omega (arith, d .order-of .ensures .1 .0 .0, few (turn d))
 
 add-s : tie.Need-add-s Inv-loop μ-loop
 add-s c = omega (arith, few (turn (ordered (c .before .before .before))))
@@ -197,7 +196,7 @@ keep-begin-requires-2 c κs =
     let h = l .loop .inv .3 in
     let k = few (turn d) in
     let e = stretch (turn d) (to .result) (to .ensures) .known in
-    (omega arith, (omega (arith, atoms-few (words l) (is-table l)), omega (arith, d .order-of .ensures .1 .0)))
+    (omega arith, (omega (arith, atoms-few (words l) (is-table l)), omega (arith, d .order-of .ensures .1 .0 .0)))
 
 loop-less : tie.Need-loop-less Inv-loop μ-loop
 loop-less c = omega (arith, turn (ordered (counting c)) .loop-test .taken)
@@ -210,17 +209,17 @@ loop-again c =
     let h = l .loop in
     let to = ordered (counting c) .before .schema-end in
     let f = d .order-of .result in
-    let n = d .order-of .ensures .1 in
+    let n = d .order-of .ensures .1 .0 in
     let atoms = atoms-are (turn d) (to .result) (to .ensures) in
     let yes = not-false (f .found) (counting c .before .before .if1 .left) in
     let order = c .before .before .before .keep-order in
-    let kept = order .last .1 .1 .1 .1 .0 in
-    let new = subst (λ (k : List ℕ). OrderKept w (h .from) (to .result) (f .count) (f .parts) k kept)
+    let kept = order .last .1 .1 .0 in
+    let new = subst (λ (k : List ℕ). OrderKept (h .from) (f .count) (f .parts) (f .named) k kept)
     (counting c .keep-count .ensures) (order .ensures) in
     let fits : f .count ≤ length (f .parts) = omega (arith, n .0, n .1) in
     let next = first-more (task l) (h .s) f (told d) yes fits (h .first) (h .inv .2) in
     let more = parts-more w (is-table l) (h .s) (h .from) (to .result) (h .first + f .count) (known (turn d))
-    (h .inv .1) (to .ensures) atoms f fits yes (told d) next (h .kept) kept new
+    (h .inv .1) (to .ensures) atoms f fits yes (told d) next (d .order-of .ensures .1 .1) (h .kept) kept new
     (h .inv .4) in (
       omega (arith, turn d .loop-test .taken),
       to .ensures ∙ ap (firstAtom (task l)) (sym (add-one (h .s))),
