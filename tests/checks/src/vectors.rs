@@ -82,17 +82,17 @@ fn shown(printed: &[u8]) -> String {
     String::from_utf8_lossy(printed).into_owned()
 }
 
-/// `split.txt`, put to the program.
+/// `02-split.txt`, put to the program.
 pub fn split_program_cases(program: impl Fn(&[u8]) -> Vec<u8>) {
-    each_case("split.txt", |case| {
+    each_case("02-split.txt", |case| {
         let [stdin, printed] = case.fields().map(bytes);
         assert_eq!(shown(&program(&stdin)), shown(&printed), "{}", case.label);
     });
 }
 
-/// `unfold_program.txt`, put to the program; an empty file may be missing too.
+/// `02-unfold_program.txt`, put to the program; an empty file may be missing too.
 pub fn unfold_program_cases(program: impl Fn(Option<&[u8]>, Option<&[u8]>) -> Vec<u8>) {
-    each_case("unfold_program.txt", |case| {
+    each_case("02-unfold_program.txt", |case| {
         let [task, plan, printed] = case.fields().map(bytes);
         let mut found = vec![program(Some(&task), Some(&plan))];
         if task.is_empty() {
@@ -144,7 +144,7 @@ pub fn run_cases(run: impl Fn(&[u16], &[u16], &mut [u16], u64) -> Row) {
     });
 }
 
-/// `unfold.txt` or `fold.txt`, which have the same fields.
+/// `02-unfold.txt` or `02-fold.txt`, which have the same fields.
 pub fn list_cases(file: &str, entry: impl Fn(&[u16], &[u16], &mut [u16]) -> Row) {
     each_case(file, |case| {
         let [text, steps, length, expected @ .., left] = case.fields::<8>();

@@ -1,4 +1,5 @@
-//! Examples E1 to E9 and the others of document 01.
+//! Examples E1 to E9 and the others of document 01, E3 as document 02's note 2
+//! has it.
 
 use checks::{changed_move, read_table, step, MOVE, MOVE_SPLIT};
 use reference::arcs::{arcs, order, RULES};
@@ -15,8 +16,9 @@ fn task_of(text: &str) -> Task {
 
 /// The order of a task's first schema.
 fn first_order(text: &str) -> Option<Vec<u16>> {
-    let schema = &task_of(text).schemas[0];
-    let order = order(schema, &arcs(schema, &RULES))?;
+    let task = task_of(text);
+    let schema = &task.schemas[0];
+    let order = order(schema, &task.arities, &arcs(schema, &RULES))?;
     Some(order.into_iter().map(u16::from).collect())
 }
 
@@ -72,7 +74,7 @@ fn e2_circular() {
 #[test]
 fn e3_order() {
     let alone = changed_move(PARTS, "part=0,1,2,3,4,5,6");
-    assert_eq!(first_order(&alone), Some(vec![0, 1, 2, 5, 3, 6, 4]));
+    assert_eq!(first_order(&alone), Some(vec![0, 2, 1, 5, 3, 6, 4]));
 }
 
 #[test]

@@ -55,7 +55,7 @@ impl Mutant {
         let orders = task
             .schemas
             .iter()
-            .map(|schema| order(schema, &arcs(schema, &self.rules)))
+            .map(|schema| order(schema, &task.arities, &arcs(schema, &self.rules)))
             .collect::<Option<Vec<_>>>()
             .ok_or(Refusal::nowhere(Reason::NoOrder))?;
         let mut split = decorate(task, &orders);

@@ -1,9 +1,10 @@
-//! Document 01, "Arcs and order of parts".
+//! Document 01, "Arcs and order of parts", with the choice among ready parts
+//! that document 02's note 2, "Bind early", gives it.
 
 use std::cmp::Reverse;
 use std::collections::BTreeSet;
 
-use crate::table::{PartNumber, Role, Schema};
+use crate::table::{used_arguments, ParameterNumber, PartNumber, Role, Schema, SchemaAtom};
 
 /// "An arc from precondition to add, precondition to delete, delete to add."
 pub const RULES: [(Role, Role); 3] = [
@@ -30,29 +31,48 @@ pub fn arcs(schema: &Schema, rules: &[(Role, Role)]) -> Arcs {
     arcs
 }
 
-/// "The order taken: among unplaced parts that no unplaced part has an arc to,
-/// the one with most preconditions, ties to the lowest number." `None` where
-/// no order complies.
-pub fn order(schema: &Schema, arcs: &Arcs) -> Option<Vec<PartNumber>> {
-    let preconditions = |part: PartNumber| {
-        schema
-            .atoms_of(Role::Precondition)
-            .filter(|atom| atom.part == part)
-            .count()
-    };
+/// The order taken: among ready parts "the one with most preconditions"; "when
+/// two ready parts have equally many preconditions, take the one whose
+/// preconditions name more parameters not in a part already placed; only then
+/// the lowest number". `None` where no order complies.
+pub fn order(schema: &Schema, arities: &[u16], arcs: &Arcs) -> Option<Vec<PartNumber>> {
     let mut unplaced: BTreeSet<PartNumber> = schema.atoms.iter().map(|atom| atom.part).collect();
     let mut order = Vec::with_capacity(unplaced.len());
+    // All parameters of placed parts, "in whatever role they stand there".
+    let mut placed: BTreeSet<ParameterNumber> = BTreeSet::new();
     while !unplaced.is_empty() {
-        let behind: BTreeSet<PartNumber> = arcs
-            .iter()
-            .filter(|(from, _)| unplaced.contains(from))
-            .map(|(_, to)| *to)
-            .collect();
-        let next = *unplaced
-            .difference(&behind)
-            .max_by_key(|part| (preconditions(**part), Reverse(**part)))?;
+        let next = ready(&unplaced, arcs).into_iter().max_by_key(|part| {
+            let tests = schema.atoms_of(Role::Precondition);
+            let tests: Vec<&SchemaAtom> = tests.filter(|atom| atom.part == *part).collect();
+            let named = parameters(tests.iter().copied(), arities);
+            let new = named.difference(&placed).count();
+            (tests.len(), new, Reverse(*part))
+        })?;
         unplaced.remove(&next);
         order.push(next);
+        let atoms = schema.atoms.iter().filter(|atom| atom.part == next);
+        placed.extend(parameters(atoms, arities));
     }
     Some(order)
+}
+
+/// "Unplaced parts that no unplaced part has an arc to."
+fn ready(unplaced: &BTreeSet<PartNumber>, arcs: &Arcs) -> BTreeSet<PartNumber> {
+    let behind: BTreeSet<PartNumber> = arcs
+        .iter()
+        .filter(|(from, _)| unplaced.contains(from))
+        .map(|(_, to)| *to)
+        .collect();
+    unplaced.difference(&behind).copied().collect()
+}
+
+/// The different parameters of some atoms.
+fn parameters<'a>(
+    atoms: impl Iterator<Item = &'a SchemaAtom>,
+    arities: &[u16],
+) -> BTreeSet<ParameterNumber> {
+    atoms
+        .flat_map(|atom| used_arguments(&atom.atom, arities))
+        .copied()
+        .collect()
 }

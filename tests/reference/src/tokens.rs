@@ -27,7 +27,7 @@ pub fn split(task: &Task) -> Answer<Split> {
     let orders = (0..)
         .zip(&task.schemas)
         .map(|(number, schema)| {
-            order(schema, &arcs(schema, &RULES))
+            order(schema, &task.arities, &arcs(schema, &RULES))
                 .ok_or(Refusal::new(Reason::NoOrder, Place::Schema(number)))
         })
         .collect::<Answer<Vec<_>>>()?;

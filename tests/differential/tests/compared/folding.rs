@@ -58,5 +58,5 @@ fn sound_and_damaged_lists() {
 
 #[test]
 fn vectors() {
-    list_cases("fold.txt", fold);
+    list_cases("02-fold.txt", fold);
 }

@@ -48,5 +48,5 @@ fn sound_and_damaged_lists() {
 
 #[test]
 fn vectors() {
-    list_cases("unfold.txt", unfold);
+    list_cases("02-unfold.txt", unfold);
 }
