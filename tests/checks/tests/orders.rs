@@ -3,12 +3,10 @@
 use std::collections::BTreeMap;
 
 use checks::report;
-use generate::tasks::{task, telling_task};
+use generate::tasks::{task, telling_task, tying_task};
 use generate::{Random, Shape};
 use reference::arcs::{arcs, order, Arcs, RULES};
-use reference::table::{
-    used_arguments, ParameterNumber, PartNumber, Role, Schema, SchemaAtom, Task,
-};
+use reference::table::{used_arguments, ParameterNumber, PartNumber, Role, Schema, SchemaAtom};
 
 /// "An order complies if no arc goes backwards."
 fn complies(order: &[PartNumber], arcs: &Arcs) -> bool {
@@ -40,149 +38,179 @@ enum Criterion {
     LowestNumber,
 }
 
-/// A place of an order, behind the parts placed before it.
-struct Place<'a> {
+/// A schema whose parts are put in order.
+struct Parted<'a> {
     schema: &'a Schema,
     arities: &'a [u16],
-    arcs: &'a Arcs,
-    placed: &'a [PartNumber],
+    arcs: Arcs,
 }
 
-impl Place<'_> {
-    fn is_unplaced(&self, part: PartNumber) -> bool {
-        !self.placed.contains(&part)
-    }
-
-    /// Of the "unplaced parts that no unplaced part has an arc to".
-    fn is_ready(&self, part: PartNumber) -> bool {
-        let waits = |(from, to): &(PartNumber, PartNumber)| *to == part && self.is_unplaced(*from);
-        self.is_unplaced(part) && !self.arcs.iter().any(waits)
-    }
-
-    fn preconditions(&self, part: PartNumber) -> usize {
-        let tests = self.schema.atoms_of(Role::Precondition);
-        tests.filter(|atom| atom.part == part).count()
+impl Parted<'_> {
+    fn parts(&self) -> Vec<PartNumber> {
+        let count = self.schema.part_count().expect("a partition") as u16;
+        (0..count).map(PartNumber).collect()
     }
 
     fn stands_in(&self, parameter: ParameterNumber, atom: &SchemaAtom) -> bool {
         used_arguments(&atom.atom, self.arities).contains(&parameter)
     }
 
+    /// The places of an order, each with its part.
+    fn places<'a>(
+        &'a self,
+        order: &'a [PartNumber],
+    ) -> impl Iterator<Item = (Place<'a>, PartNumber)> {
+        let place = |number| Place {
+            parted: self,
+            placed: &order[..number],
+        };
+        (0..order.len()).map(move |number| (place(number), order[number]))
+    }
+}
+
+/// A place of an order, behind the parts already placed.
+struct Place<'a> {
+    parted: &'a Parted<'a>,
+    placed: &'a [PartNumber],
+}
+
+impl Place<'_> {
+    fn is_placed(&self, part: PartNumber) -> bool {
+        self.placed.contains(&part)
+    }
+
+    /// "Among unplaced parts that no unplaced part has an arc to."
+    fn is_ready(&self, part: PartNumber) -> bool {
+        let mut arcs = self.parted.arcs.iter();
+        !self.is_placed(part) && arcs.all(|(from, to)| *to != part || self.is_placed(*from))
+    }
+
+    fn preconditions(&self, part: PartNumber) -> usize {
+        let tests = self.parted.schema.atoms_of(Role::Precondition);
+        tests.filter(|atom| atom.part == part).count()
+    }
+
     /// Whether the part's preconditions name the parameter, and it is "not in a
     /// part already placed".
     fn is_new(&self, parameter: ParameterNumber, part: PartNumber) -> bool {
-        let mut tests = self.schema.atoms_of(Role::Precondition);
-        let mut atoms = self.schema.atoms.iter();
-        tests.any(|atom| atom.part == part && self.stands_in(parameter, atom))
-            && !atoms.any(|atom| !self.is_unplaced(atom.part) && self.stands_in(parameter, atom))
+        let Parted { schema, .. } = self.parted;
+        let stands_in = |atom: &SchemaAtom| self.parted.stands_in(parameter, atom);
+        let mut tests = schema.atoms_of(Role::Precondition);
+        let mut atoms = schema.atoms.iter();
+        tests.any(|atom| atom.part == part && stands_in(atom))
+            && !atoms.any(|atom| self.is_placed(atom.part) && stands_in(atom))
     }
 
     fn new_parameters(&self, part: PartNumber) -> usize {
-        let parameters = (0..self.schema.parameters).map(ParameterNumber);
+        let parameters = (0..self.parted.schema.parameters).map(ParameterNumber);
         parameters
             .filter(|parameter| self.is_new(*parameter, part))
             .count()
     }
 
-    /// Whether the part goes before another that is ready too, and by what.
-    fn beats(&self, part: PartNumber, other: PartNumber) -> (bool, Criterion) {
-        let [tests, other_tests] = [part, other].map(|part| self.preconditions(part));
+    /// Whether the first of two ready parts goes before the second, and what
+    /// decides it.
+    fn beats(&self, first: PartNumber, second: PartNumber) -> (bool, Criterion) {
+        let [tests, other_tests] = [first, second].map(|part| self.preconditions(part));
         if tests != other_tests {
             return (tests > other_tests, Criterion::MostPreconditions);
         }
-        let [new, other_new] = [part, other].map(|part| self.new_parameters(part));
+        let [new, other_new] = [first, second].map(|part| self.new_parameters(part));
         if new != other_new {
             return (new > other_new, Criterion::MoreNewParameters);
         }
-        (part < other, Criterion::LowestNumber)
+        (first < second, Criterion::LowestNumber)
     }
 
     fn ready_besides(&self, part: PartNumber) -> impl Iterator<Item = PartNumber> + '_ {
-        let count = self.schema.part_count().expect("a partition") as u16;
-        let parts = (0..count).map(PartNumber);
+        let parts = self.parted.parts().into_iter();
         parts.filter(move |other| *other != part && self.is_ready(*other))
     }
 
     /// Whether the part is ready and no ready part beats it.
     fn takes(&self, part: PartNumber) -> bool {
-        self.is_ready(part)
-            && self
-                .ready_besides(part)
-                .all(|other| !self.beats(other, part).0)
+        let mut others = self.ready_besides(part);
+        self.is_ready(part) && others.all(|other| !self.beats(other, part).0)
     }
 
-    /// What the part needs against all the others; nothing where it alone is
-    /// ready.
+    /// The last criterion that the part taken needs against the other ready
+    /// parts, where there are any.
     fn decided_by(&self, part: PartNumber) -> Option<Criterion> {
         let others = self.ready_besides(part);
         others.map(|other| self.beats(part, other).1).max()
     }
 }
 
-/// The places of an order, each with its part.
-fn places<'a>(
-    task: &'a Task,
-    schema: &'a Schema,
-    arcs: &'a Arcs,
-    order: &'a [PartNumber],
-) -> impl Iterator<Item = (Place<'a>, PartNumber)> {
-    (0..order.len()).map(move |number| {
-        let place = Place {
+/// What was seen of schemas.
+#[derive(Default)]
+struct Seen {
+    ordered: usize,
+    circular: usize,
+    decided: BTreeMap<Criterion, usize>,
+}
+
+impl Seen {
+    /// Requires that the order taken is the only one that has, at each of its
+    /// places, a part that no ready part beats; and that there is one where any
+    /// order complies.
+    fn see(&mut self, schema: &Schema, arities: &[u16]) {
+        let parted = Parted {
             schema,
-            arities: &task.arities,
-            arcs,
-            placed: &order[..number],
+            arities,
+            arcs: arcs(schema, &RULES),
         };
-        (place, order[number])
-    })
+        let all = orders(&parted.parts());
+        let unbeaten = |order: &&Vec<PartNumber>| {
+            let mut places = parted.places(order);
+            places.all(|(place, part)| place.takes(part))
+        };
+        let unbeaten: Vec<&Vec<PartNumber>> = all.iter().filter(unbeaten).collect();
+        let taken = order(schema, arities, &parted.arcs);
+        assert_eq!(Vec::from_iter(&taken), unbeaten, "{schema:?}");
+        let some_complies = all.iter().any(|order| complies(order, &parted.arcs));
+        assert_eq!(taken.is_some(), some_complies, "{schema:?}");
+
+        let Some(taken) = taken else {
+            self.circular += 1;
+            return;
+        };
+        self.ordered += 1;
+        for (place, part) in parted.places(&taken) {
+            if let Some(criterion) = place.decided_by(part) {
+                *self.decided.entry(criterion).or_default() += 1;
+            }
+        }
+    }
 }
 
 #[test]
-fn at_no_place_does_a_ready_part_beat_the_one_taken() {
+fn no_ready_part_beats_the_one_taken() {
     let mut random = Random::new(51);
     let freely_parted = Shape {
         free: 8,
         ..Shape::SMALL
     };
-    let [mut ordered, mut circular] = [0; 2];
-    let mut decided: BTreeMap<Criterion, usize> = BTreeMap::new();
-    for number in 0..6000 {
-        let task = match number % 3 {
+    let mut seen = Seen::default();
+    for number in 0..8000 {
+        let task = match number % 4 {
             0 => telling_task(&mut random),
+            1 => tying_task(&mut random, &Shape::TYING),
             _ => task(&mut random, &freely_parted),
         };
         for schema in &task.schemas {
-            let arcs = arcs(schema, &RULES);
-            let count = schema.part_count().expect("a partition") as u16;
-            let parts: Vec<PartNumber> = (0..count).map(PartNumber).collect();
-            let all = orders(&parts);
-            let by_the_sentence: Vec<&Vec<PartNumber>> = all
-                .iter()
-                .filter(|order| {
-                    places(&task, schema, &arcs, order).all(|(place, part)| place.takes(part))
-                })
-                .collect();
-            let taken = order(schema, &task.arities, &arcs);
-            assert_eq!(by_the_sentence, Vec::from_iter(&taken), "{schema:?}");
-            let some_complies = all.iter().any(|order| complies(order, &arcs));
-            assert_eq!(taken.is_some(), some_complies, "{schema:?}");
-            match &taken {
-                Some(order) => {
-                    ordered += 1;
-                    let criteria = places(&task, schema, &arcs, order)
-                        .filter_map(|(place, part)| place.decided_by(part));
-                    for criterion in criteria {
-                        *decided.entry(criterion).or_default() += 1;
-                    }
-                }
-                None => circular += 1,
-            }
+            seen.see(schema, &task.arities);
         }
     }
-    assert!(circular > 500, "only {circular} circular partitions");
-    report("orders", ordered);
-    report("circular partitions", circular);
-    for (criterion, places) in &decided {
-        report(&format!("places decided by {criterion:?}"), *places);
+    report("orders", seen.ordered);
+    report("circular partitions", seen.circular);
+    assert!(seen.circular > 500, "only {} circular", seen.circular);
+    for (criterion, least) in [
+        (Criterion::MostPreconditions, 1500),
+        (Criterion::MoreNewParameters, 1000),
+        (Criterion::LowestNumber, 2000),
+    ] {
+        let places = seen.decided.get(&criterion).copied().unwrap_or(0);
+        report(&format!("places decided by {criterion:?}"), places);
+        assert!(places > least, "{criterion:?} decides only {places}");
     }
 }

@@ -79,6 +79,26 @@ impl Shape {
         goal: 50..=100,
         free: 0,
     };
+
+    /// For tasks whose parts tie; the atoms are those before they are filled up.
+    pub const TYING: Shape = Shape {
+        predicates: 6..=9,
+        arity: 0..=3,
+        schemas: 1..=2,
+        parameters: 2..=6,
+        atoms: 2..=8,
+        parts: 2..=5,
+        ..Shape::SMALL_SPLITTABLE
+    };
+
+    /// With up to as many parameters and parts as a schema may have.
+    pub const WIDE_TYING: Shape = Shape {
+        arity: 0..=4,
+        parameters: 6..=12,
+        atoms: 4..=16,
+        parts: 6..=16,
+        ..Shape::TYING
+    };
 }
 
 pub fn task(random: &mut Random, shape: &Shape) -> Task {
@@ -292,6 +312,53 @@ fn telling_schema(random: &mut Random, arities: &[u16]) -> Schema {
         let predicate = (told + skip) % arities.len();
         let atom = lifted_atom(random, arities, predicate, parameters);
         push(&mut atoms, Role::Precondition, *part, atom);
+    }
+    finished(random, atoms, arities)
+}
+
+/// A task with schemas whose ready parts often have equally many preconditions
+/// and name different numbers of parameters in them.
+pub fn tying_task(random: &mut Random, shape: &Shape) -> Task {
+    let arities = arities(random, shape);
+    let schemas = (0..random.within(&shape.schemas))
+        .map(|_| tying_schema(random, shape, &arities))
+        .collect();
+    with_ground_atoms(random, shape, arities, schemas)
+}
+
+/// A task whose parts tie, most of them small.
+pub fn any_tying_task(random: &mut Random) -> Task {
+    if random.chance(1, 8) {
+        tying_task(random, &Shape::WIDE_TYING)
+    } else {
+        tying_task(random, &Shape::TYING)
+    }
+}
+
+/// The first predicates stand in any role, parted along their arcs. The others
+/// are only tested, so that they give no arc, and fill every part up to the
+/// same number of preconditions, but for a part that has more already or is
+/// given an atom twice.
+fn tying_schema(random: &mut Random, shape: &Shape, arities: &[u16]) -> Schema {
+    let parameters = random.within(&shape.parameters);
+    let parts = random.within(&shape.parts);
+    let in_any_role = arities.len() / 2;
+    let mut atoms = Vec::new();
+    for _ in 0..random.within(&shape.atoms) {
+        let role = random.pick(&Role::ALL);
+        let predicate = random.below(in_any_role);
+        let atom = lifted_atom(random, arities, predicate, parameters);
+        push(&mut atoms, role, PartNumber(0), atom);
+    }
+    part_along_arcs(random, &mut atoms, parts);
+    let equally_many = random.within(&(1..=3));
+    for part in (0..parts as u16).map(PartNumber) {
+        let tests = |atom: &&SchemaAtom| atom.role == Role::Precondition && atom.part == part;
+        for _ in atoms.iter().filter(tests).count()..equally_many {
+            let predicate = random.within(&(in_any_role..=arities.len() - 1));
+            let atom = lifted_atom(random, arities, predicate, parameters);
+            push(&mut atoms, Role::Precondition, part, atom);
+        }
     }
     finished(random, atoms, arities)
 }
