@@ -10,8 +10,10 @@ pub mod vectors;
 
 use std::io::Write;
 
+use reference::arcs::{arcs, order, RULES};
 use reference::run::STEP_WORDS;
 use reference::table::{PartNumber, Task, TABLE_WORDS};
+use reference::text::read_task;
 
 /// Tells the log how many cases were compared, past the capture of a test's
 /// output.
@@ -27,6 +29,14 @@ pub fn read_table(text: &[u8]) -> Vec<u16> {
     let mut table = vec![0; TABLE_WORDS];
     reference::read(text, &mut table).expect("a text that can be read");
     table
+}
+
+/// The order of the first schema of a text's task; `None` where none complies.
+pub fn first_order(text: &str) -> Option<Vec<u16>> {
+    let task = read_task(text.as_bytes()).expect("a task");
+    let schema = &task.schemas[0];
+    let order = order(schema, &task.arities, &arcs(schema, &RULES))?;
+    Some(order.into_iter().map(u16::from).collect())
 }
 
 /// The task less its parts, as PDDL tells it: every schema atom in part 0.

@@ -1,8 +1,7 @@
 //! Examples E1 to E9 and the others of document 01, E3 as document 02's note 2
 //! has it.
 
-use checks::{changed_move, read_table, step, MOVE, MOVE_SPLIT};
-use reference::arcs::{arcs, order, RULES};
+use checks::{changed_move, first_order, read_table, step, MOVE, MOVE_SPLIT};
 use reference::programs::split_program;
 use reference::table::{Task, TABLE_WORDS};
 use reference::text::read_task;
@@ -12,14 +11,6 @@ const PARTS: &str = "part=0,0,1,1,2,0,1";
 
 fn task_of(text: &str) -> Task {
     read_task(text.as_bytes()).expect("a task")
-}
-
-/// The order of a task's first schema.
-fn first_order(text: &str) -> Option<Vec<u16>> {
-    let task = task_of(text);
-    let schema = &task.schemas[0];
-    let order = order(schema, &task.arities, &arcs(schema, &RULES))?;
-    Some(order.into_iter().map(u16::from).collect())
 }
 
 fn printed(stdin: &str) -> String {
