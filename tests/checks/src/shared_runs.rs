@@ -1,7 +1,7 @@
 //! Demand 3: a list runs in the original exactly where its unfolding runs in
 //! the split, and what runs in the split is blocks.
 
-use generate::tasks::task;
+use generate::tasks::{any_tying_task, task};
 use generate::{cases, steps, Case, Random, Shape};
 use reference::run::{State, Step};
 use reference::table::{Atom, Task, MAX_PARTS};
@@ -216,7 +216,14 @@ pub fn usual_tasks(subject: &impl Subject, what: &str, count: usize) {
     };
     shared_runs(subject, what, count, Random::new(32), |random| {
         let task = task(random, &shape);
-        let (state, steps) = cases::run(random, &task);
-        Case { task, state, steps }
+        cases::with_run(random, task)
+    });
+}
+
+/// Tasks whose order is decided by what preconditions name.
+pub fn tying_tasks(subject: &impl Subject, what: &str, count: usize) {
+    shared_runs(subject, what, count, Random::new(33), |random| {
+        let task = any_tying_task(random);
+        cases::with_run(random, task)
     });
 }

@@ -1,6 +1,6 @@
 //! Demand 3 on random tasks, states and lists.
 
-use checks::shared_runs::{small_tasks, usual_tasks};
+use checks::shared_runs::{small_tasks, tying_tasks, usual_tasks};
 use checks::subject::{OnWords, Reference};
 
 #[test]
@@ -11,4 +11,9 @@ fn small_tasks_share_runs() {
 #[test]
 fn usual_tasks_share_runs() {
     usual_tasks(&OnWords(Reference), "usual shared runs", 500);
+}
+
+#[test]
+fn tying_tasks_share_runs() {
+    tying_tasks(&OnWords(Reference), "tying shared runs", 3000);
 }

@@ -22,6 +22,11 @@ pub fn case(random: &mut Random) -> Case {
     } else {
         task(random, &Shape::SMALL_SPLITTABLE)
     };
+    with_run(random, task)
+}
+
+/// The task with a state and a list of it.
+pub fn with_run(random: &mut Random, task: Task) -> Case {
     let (state, steps) = run(random, &task);
     Case { task, state, steps }
 }

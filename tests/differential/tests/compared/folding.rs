@@ -7,7 +7,8 @@ use checks::vectors::list_cases;
 use differential::beside::{compare, lent_words, short_or_long, shown};
 use differential::folding::fold;
 use generate::split_lists::split_list;
-use generate::{steps, Random};
+use generate::tasks::any_tying_task;
+use generate::{steps, tables, Random};
 use reference::blocks;
 use reference::run::STEP_WORDS;
 use reference::table::Task;
@@ -53,6 +54,17 @@ fn sound_and_damaged_lists() {
         let (task, table) = task_and_table(random);
         let table = short_or_long(random, table);
         some_list(random, &task, &table, tokens::split(&task).ok().as_ref())
+    });
+}
+
+/// Orders that what preconditions name decides.
+#[test]
+fn parts_that_tie() {
+    let entry = "folding of parts that tie compared";
+    each_answer(entry, 195, 20_000, &[0, 12, 13, 14], |random| {
+        let task = any_tying_task(random);
+        let split = tokens::split(&task).expect("tying tasks have a split");
+        some_list(random, &task, &tables::table(&task), Some(&split))
     });
 }
 

@@ -1,6 +1,6 @@
 //! Demand 3 on the proved code.
 
-use checks::shared_runs::{small_tasks, usual_tasks};
+use checks::shared_runs::{small_tasks, tying_tasks, usual_tasks};
 use checks::subject::OnWords;
 use differential::shared_runs::Proved;
 
@@ -19,5 +19,14 @@ fn usual_tasks_share_runs() {
         &OnWords(Proved),
         "usual shared runs in the proved code",
         500,
+    );
+}
+
+#[test]
+fn tying_tasks_share_runs() {
+    tying_tasks(
+        &OnWords(Proved),
+        "tying shared runs in the proved code",
+        3000,
     );
 }

@@ -9,6 +9,7 @@ use differential::beside::{compare, short_or_long, shown, table_to_write};
 use differential::reading::read;
 use differential::splitting::split;
 use differential::writing::write;
+use generate::tasks::any_tying_task;
 use generate::{limits, tables};
 use reference::programs::INPUT_BYTES;
 use reference::table::{Task, TABLE_WORDS};
@@ -35,6 +36,16 @@ fn sound_and_damaged_tables() {
             compared(&table, &table_to_write(random))
         },
     );
+}
+
+/// Orders that what preconditions name decides.
+#[test]
+fn parts_that_tie() {
+    let entry = "splitting of parts that tie compared";
+    each_answer(entry, 193, 20_000, &[0], |random| {
+        let table = tables::table(&any_tying_task(random));
+        compared(&table, &[7; TABLE_WORDS])
+    });
 }
 
 #[test]

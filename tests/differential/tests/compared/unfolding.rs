@@ -6,7 +6,8 @@ use checks::rows::unfold_row;
 use checks::vectors::list_cases;
 use differential::beside::{compare, lent_words, short_or_long, shown};
 use differential::unfolding::unfold;
-use generate::steps;
+use generate::tasks::any_tying_task;
+use generate::{steps, tables, Random};
 use reference::run::STEP_WORDS;
 use reference::table::Task;
 
@@ -32,17 +33,32 @@ fn needed(task: &Task, steps: &[u16]) -> usize {
     STEP_WORDS * counts.sum::<usize>()
 }
 
+/// Compares unfolding of some list of the task, sound or damaged.
+fn some_list(random: &mut Random, task: &Task, table: &[u16]) -> u64 {
+    let length = random.pick(&[0, 1, 2, 3, 4, 5, 6, 7, 40]);
+    let list = steps::list(random, task, length);
+    let steps = step_words(random, &list);
+    let lent = lent_words(random, needed(task, &steps));
+    compared(table, &steps, &lent)
+}
+
 #[test]
 fn sound_and_damaged_lists() {
     let expected = [0, 1, 2, 9, 10, 12, 13];
     each_answer("unfolding compared", 185, 50_000, &expected, |random| {
         let (task, table) = task_and_table(random);
         let table = short_or_long(random, table);
-        let length = random.pick(&[0, 1, 2, 3, 4, 5, 6, 7, 40]);
-        let list = steps::list(random, &task, length);
-        let steps = step_words(random, &list);
-        let lent = lent_words(random, needed(&task, &steps));
-        compared(&table, &steps, &lent)
+        some_list(random, &task, &table)
+    });
+}
+
+/// Orders that what preconditions name decides.
+#[test]
+fn parts_that_tie() {
+    let entry = "unfolding of parts that tie compared";
+    each_answer(entry, 194, 20_000, &[0, 12, 13], |random| {
+        let task = any_tying_task(random);
+        some_list(random, &task, &tables::table(&task))
     });
 }
 
