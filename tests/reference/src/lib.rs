@@ -1,6 +1,7 @@
 //! A second implementation of document 01, "Splitting STRIPS action schemas
-//! for station work", and of document 02's note 1, with one module for each
-//! section or note and the entry points on lent words and bytes here.
+//! for station work", and of document 02's notes 1 and 2, with one module for
+//! each section, `pddl` for note 1 and the entry points on lent words and bytes
+//! here. Note 2 changes the choice among ready parts in `arcs`.
 
 pub mod answer;
 pub mod arcs;
