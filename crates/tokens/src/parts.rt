@@ -56,14 +56,12 @@ fn keep_order(from: usize, found: Order, kept: &mut Kept)
     requires { ⌜ ((p : ℕ) → getD (found .named) p 0 < wordBound) ⌝ }
     ensures { λ _. ⌜ OrderKept from (found .count) (found .parts) (found .named) (now (kept .entry)) (now (kept .exit)) ⌝ }
 {
-    let parts = found.parts;
-    let sets = found.named;
     let count = found.count;
     let mut j = 0;
     while j < count {
-        let part = parts[j];
-        let named = sets[part.0 as usize];
-        keep_part(kept, from + j, part, named);
+        let part = found.parts[j];
+        let own = found.named[part.0 as usize];
+        keep_part(kept, from + j, part, own);
         j += 1;
     }
 }
