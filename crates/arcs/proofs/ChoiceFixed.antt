@@ -1,6 +1,6 @@
 -- The choice at each place of the order taken is the one that the documents fix, and it decides the order.
--- A part unplaced at a place is one that stands at none before it, and those before it are placed, so the choice is said
--- of the order alone; by induction over the order as it is taken.
+-- A part unplaced at a place is one that stands at none before it, and those before it are placed, so the choice is
+-- said of the order alone; by induction over the order as it is taken.
 use Prim.Native.Nat.{ℕ, zero, suc, _≤_, _<_}
 use mathlib.Core.Path.{_≡_, sym, _∙_, subst}
 use mathlib.Core.Bool.{true, false, not}
@@ -171,7 +171,8 @@ unfolding ChosenThroughout
 choice-decides s o u h e c = ext-getD 0 u o e (λ i l. same (suc i) i (omega arith) l)
   where
     at : (i : ℕ) → ((k : ℕ) → k < i → getD u k 0 ≡ getD o k 0) → i < length u → getD u i 0 ≡ getD o i 0
-    at i before l = chosen-one (chosen-same placed-forth placed-back forth back (c i l)) (choice-fixed s o h i (omega arith))
+    at i before l =
+        chosen-one (chosen-same placed-forth placed-back forth back (c i l)) (choice-fixed s o h i (omega arith))
       where
         begins : take i u ≡ take i o
         begins =

@@ -1,6 +1,6 @@
 -- The choice among ready parts, tried from the highest number down. A part is ready where its set and the unplaced
--- parts have no number in common; its new parameters are the numbers left of a set; the candidates from a number on grow
--- at the front, as `best` takes them.
+-- parts have no number in common; its new parameters are the numbers left of a set; the candidates from a number on
+-- grow at the front, as `best` takes them.
 use Prim.Native.Nat.{ℕ, suc, _-_, _^_, _≤_, _<_}
 use mathlib.Core.Path.{_≡_, refl, sym, _∙_, ap}
 use mathlib.Core.Bool.{Bool, true, false, not, _&&_}
@@ -164,7 +164,8 @@ pub only-below : (n p : ℕ) → p < n → (q : ℕ) → some p ≡ some q → q
 only-below n p l q e = let z : p ≡ q = cc in omega arith
 
 -- ---- what is found among the parts from a number on
-module _ (before counts tested : List ℕ) (bound unplaced n : ℕ) where
+-- of all atoms of which something is known, the sets and counts that the choice goes by
+module _ (Known : List Atom → Type 0) (unplaced n : ℕ) where
   abbrev isReady : List Atom → ℕ → Bool
   isReady atoms = ready atoms (members unplaced n)
 
@@ -173,34 +174,32 @@ module _ (before counts tested : List ℕ) (bound unplaced n : ℕ) where
 
   -- the best of the candidates from p on
   abbrev pub FoundFrom : ℕ → Option ℕ → Type 0
-  FoundFrom p found = (atoms : List Atom) → AreArcs atoms before → AreTests atoms counts tested →
-      IsBound atoms (placed atoms) bound → found ≡ best atoms (placed atoms) (candidates unplaced (isReady atoms) n p)
+  FoundFrom p found = (atoms : List Atom) → Known atoms →
+      found ≡ best atoms (placed atoms) (candidates unplaced (isReady atoms) n p)
 
   -- whether p is unplaced and ready
   abbrev Passes : ℕ → Bool → Type 0
-  Passes p b = (atoms : List Atom) → AreArcs atoms before → member unplaced p && isReady atoms p ≡ b
+  Passes p b = (atoms : List Atom) → Known atoms → member unplaced p && isReady atoms p ≡ b
 
   pub found-none : FoundFrom n none
   unfolding best
-  found-none atoms a k b = sym (ap (best atoms (placed atoms)) (candidates-none unplaced (isReady atoms) n))
+  found-none atoms k = sym (ap (best atoms (placed atoms)) (candidates-none unplaced (isReady atoms) n))
 
   pub found-skip : (p : ℕ) (found : Option ℕ) → 0 < p → p ≤ n → Passes (p - 1) false →
       FoundFrom p found → FoundFrom (p - 1) found
-  found-skip p found z l t h atoms a k b =
-      h atoms a k b ∙ sym (ap (best atoms (placed atoms)) (candidates-skip unplaced (isReady atoms) n p z l (t atoms a)))
+  found-skip p found z l t h atoms k =
+      h atoms k
+      ∙ sym (ap (best atoms (placed atoms)) (candidates-skip unplaced (isReady atoms) n p z l (t atoms k)))
 
   pub found-take : (p : ℕ) (found r : Option ℕ) → 0 < p → p ≤ n → Passes (p - 1) true → FoundFrom p found →
-      ((atoms : List Atom) (placed : List ℕ) → AreTests atoms counts tested → IsBound atoms placed bound →
-      r ≡ better atoms placed (p - 1) found) → FoundFrom (p - 1) r
+      ((atoms : List Atom) → Known atoms → r ≡ better atoms (placed atoms) (p - 1) found) → FoundFrom (p - 1) r
   unfolding best
-  found-take p found r z l t h e atoms a k b =
-      e atoms (placed atoms) k b
-      ∙ (ap (better atoms (placed atoms) (p - 1)) (h atoms a k b)
-      ∙ sym (ap (best atoms (placed atoms)) (candidates-take unplaced (isReady atoms) n p z l (t atoms a))))
+  found-take p found r z l t h e atoms k =
+      e atoms k
+      ∙ (ap (better atoms (placed atoms) (p - 1)) (h atoms k)
+      ∙ sym (ap (best atoms (placed atoms)) (candidates-take unplaced (isReady atoms) n p z l (t atoms k))))
 
-  pub found-all : (found : Option ℕ) → FoundFrom 0 found → (atoms : List Atom) → AreArcs atoms before →
-      AreTests atoms counts tested → IsBound atoms (placed atoms) bound →
+  pub found-all : (found : Option ℕ) → FoundFrom 0 found → (atoms : List Atom) → Known atoms →
       found ≡ nextPart atoms (members unplaced n)
   unfolding nextPart
-  found-all found h atoms a k b =
-      h atoms a k b ∙ ap (best atoms (placed atoms)) (candidates-all unplaced (isReady atoms) n)
+  found-all found h atoms k = h atoms k ∙ ap (best atoms (placed atoms)) (candidates-all unplaced (isReady atoms) n)

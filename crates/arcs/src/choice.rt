@@ -71,8 +71,8 @@ fn better_of(counts: &PartCounts, tested: &PartSets, bound: u64, p: usize, found
     }
 }
 
-// The choice among the parts that are ready, tried from the highest number down. `bound` has the parameters of the parts
-// already placed.
+// The choice among the parts that are ready, tried from the highest number down. `bound` has the parameters of the
+// parts already placed.
 pub fn choose(
     before: &PartSets,
     counts: &PartCounts,

@@ -28,7 +28,8 @@ pub fn gather(
     requires { ⌜ now named ≡ replicate mostParts 0 ⌝ }
     ensures { λ r. ⌜ r ≡ partCount (stretchIn (now (table .entry)) from to) ⌝ }
     ensures { λ r. ⌜ r ≤ mostParts ⌝ }
-    ensures { λ _. ⌜ AreTests (stretchIn (now (table .entry)) from to) (now (preconditions .exit)) (now (tested .exit)) ⌝ }
+    ensures { λ _. ⌜ AreTests (stretchIn (now (table .entry)) from to) (now (preconditions .exit))
+        (now (tested .exit)) ⌝ }
     ensures { λ _. ⌜ AreParameters (stretchIn (now (table .entry)) from to) (now (named .exit)) ⌝ }
 {
     let mut count = 0;

@@ -54,7 +54,8 @@ fn keep_order(from: usize, found: Order, kept: &mut Kept)
     requires { ⌜ length (now kept) ≡ keptWords ⌝ }
     requires { ⌜ ((j : ℕ) → j < found .count → partAt (found .parts) j < mostParts) ⌝ }
     requires { ⌜ ((p : ℕ) → getD (found .named) p 0 < wordBound) ⌝ }
-    ensures { λ _. ⌜ OrderKept from (found .count) (found .parts) (found .named) (now (kept .entry)) (now (kept .exit)) ⌝ }
+    ensures { λ _. ⌜ OrderKept from (found .count) (found .parts) (found .named) (now (kept .entry))
+        (now (kept .exit)) ⌝ }
 {
     let count = found.count;
     let mut j = 0;

@@ -2,27 +2,42 @@
 -- The measure is p.
 use Prim.Native.Nat.{ℕ, _≤_}
 use mathlib.Core.Path.{_≡_, sym, _∙_, subst}
+use mathlib.Core.List.{List}
 use native.Mathlib.Omega.{arith}
-use Rattle.arcs.specs.Stretches.{ChosenBelow, chosen}
+use Rattle.words.specs.Sets.{members}
+use Rattle.task.specs.Task.{Atom}
+use Rattle.arcs.specs.Order.{placedParts}
+use Rattle.arcs.specs.Stretches.{AreArcs, AreTests, ChosenBelow, IsBound, chosen}
 use Rattle.arcs.proofs.Choosing.{FoundFrom, found-none, found-skip, found-take, found-all}
 use Rattle.arcs.proofs.choice.choose.Statement.{statement}
 use Rattle.arcs.proofs.choice.choose.Tie as tie
 
+-- what the promise takes for granted of the atoms
+record Known (before counts tested : List ℕ) (bound unplaced count : ℕ) (atoms : List Atom) : Type 0 where
+  arcs : AreArcs atoms before
+  tests : AreTests atoms counts tested
+  placed : IsBound atoms (placedParts atoms (members unplaced count)) bound
+
 abbrev Inv-loop : tie.InvT-loop
 Inv-loop before counts tested bound unplaced count found₀ p₀ found p =
-    (p ≤ count) × ChosenBelow count found × FoundFrom before counts tested bound unplaced count p (chosen found)
+    (p ≤ count) × ChosenBelow count found ×
+    FoundFrom (Known before counts tested bound unplaced count) unplaced count p (chosen found)
 
 abbrev μ-loop : tie.MeasureT-loop
 μ-loop before counts tested bound unplaced count found₀ p₀ found p = p
 
+abbrev KnownAt : tie.Start Inv-loop μ-loop → List Atom → Type 0
+KnownAt s =
+    let a = s .args in
+    Known (a .before .now) (a .counts .now) (a .tested .now) (a .bound) (a .unplaced) (a .count)
+
 loop-holds : tie.Need-loop-holds Inv-loop μ-loop
 unfolding chosen
-loop-holds c =
-    let a = c .args in (
-      omega arith,
-      λ p e. let z : _≡_ {A = ℕ} 0 1 = cc in omega arith,
-      found-none (a .before .now) (a .counts .now) (a .tested .now) (a .bound) (a .unplaced) (a .count),
-    )
+loop-holds c = (
+  omega arith,
+  λ p e. let z : _≡_ {A = ℕ} 0 1 = cc in omega arith,
+  found-none (KnownAt c) (c .args .unplaced) (c .args .count),
+)
 
 better-of-requires : tie.Need-better-of-requires Inv-loop μ-loop
 better-of-requires c κs = (omega arith, λ p e. let l = c .before .before .before .loop .inv .1 p e in omega arith)
@@ -32,14 +47,15 @@ loop-again c =
     let turn = c .before .before .before in
     let h = turn .before .loop in
     let s = turn .before .before in
-    let a = s .args in
+    let n = s .args .count in
     let r = c .before .before .is-ready .ensures in
     let b = c .better-of .ensures in (
       omega arith,
-      b .1 (a .count) (omega arith) (h .inv .1),
-      found-take (a .before .now) (a .counts .now) (a .tested .now) (a .bound) (a .unplaced) (a .count) (h .p) (chosen (h .found))
-          (chosen (c .better-of .result)) (turn .loop-test .taken) (h .inv .0)
-          (λ atoms k. sym (r atoms (a .count) k (s .pre .1)) ∙ c .before .if1 .taken) (h .inv .2) (b .0),
+      b .1 n (omega arith) (h .inv .1),
+      found-take (KnownAt s) (s .args .unplaced) n (h .p) (chosen (h .found)) (chosen (c .better-of .result))
+          (turn .loop-test .taken) (h .inv .0)
+          (λ atoms k. sym (r atoms n (k .arcs) (s .pre .1)) ∙ c .before .if1 .taken) (h .inv .2)
+          (λ atoms k. b .0 atoms (placedParts atoms (members (s .args .unplaced) n)) (k .tests) (k .placed)),
     )
 
 loop-again-2 : tie.Need-loop-again-2 Inv-loop μ-loop
@@ -47,24 +63,26 @@ loop-again-2 c =
     let turn = c .before .before in
     let h = turn .before .loop in
     let s = turn .before .before in
-    let a = s .args in
+    let n = s .args .count in
     let r = c .before .is-ready .ensures in (
       omega arith,
       h .inv .1,
-      found-skip (a .before .now) (a .counts .now) (a .tested .now) (a .bound) (a .unplaced) (a .count) (h .p) (chosen (h .found))
-          (turn .loop-test .taken) (h .inv .0)
-          (λ atoms k. sym (r atoms (a .count) k (s .pre .1)) ∙ c .if1 .left) (h .inv .2),
+      found-skip (KnownAt s) (s .args .unplaced) n (h .p) (chosen (h .found)) (turn .loop-test .taken) (h .inv .0)
+          (λ atoms k. sym (r atoms n (k .arcs) (s .pre .1)) ∙ c .if1 .left) (h .inv .2),
     )
 
 returns : tie.Need-returns Inv-loop μ-loop
 returns c =
-    let a = c .before .before .args in
+    let s = c .before .before in
     let h = c .before .loop in
     let found = chosen (h .found) in
-    let Found : ℕ → Type 0 = λ k. FoundFrom (a .before .now) (a .counts .now) (a .tested .now) (a .bound) (a .unplaced) (a .count) k found in
     let z : h .p ≡ 0 = omega arith in
-    let all = subst Found z (h .inv .2) in
-    (found-all (a .before .now) (a .counts .now) (a .tested .now) (a .bound) (a .unplaced) (a .count) found all, h .inv .1)
+    let all = subst (λ (k : ℕ). FoundFrom (KnownAt s) (s .args .unplaced) (s .args .count) k found) z (h .inv .2) in (
+      λ atoms a t b.
+          found-all (KnownAt s) (s .args .unplaced) (s .args .count) found all atoms
+          (record { arcs = a; tests = t; placed = b }),
+      h .inv .1,
+    )
 
 pub choose-spec : {M : Type 1} → statement M
 choose-spec =

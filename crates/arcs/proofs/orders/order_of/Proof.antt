@@ -1,6 +1,6 @@
 -- `arcs::orders::order_of` meets its contract.
--- The invariant: the order is the parts placed, then the order of the unplaced ones; `bound` has the parameters of those
--- placed. The measure is the parts left.
+-- The invariant: the order is the parts placed, then the order of the unplaced ones; `bound` has the parameters of
+-- those placed. The measure is the parts left.
 use Prim.Native.Nat.{ℕ, _-_, _≤_, _<_}
 use mathlib.Core.Path.{_≡_, refl, sym, _∙_, ap, subst}
 use mathlib.Core.List.{List}
@@ -19,13 +19,13 @@ use Rattle.arcs.proofs.orders.order_of.Statement.{statement}
 use Rattle.arcs.proofs.orders.order_of.Tie as tie
 
 abbrev Inv-loop : tie.InvT-loop
-Inv-loop table from to before preconditions tested named count parts₀ unplaced₀ bound₀ placed₀ parts unplaced bound placed =
+Inv-loop table from to before tests tested named count parts₀ unplaced₀ bound₀ placed₀ parts unplaced bound placed =
     (placed ≤ count) × (length parts ≡ mostParts) × SetBelow count unplaced ×
     Placed (stretchIn table from to) count parts unplaced placed ×
     IsBound (stretchIn table from to) (placedParts (stretchIn table from to) (members unplaced count)) bound
 
 abbrev μ-loop : tie.MeasureT-loop
-μ-loop table from to before preconditions tested named count parts₀ unplaced₀ bound₀ placed₀ parts unplaced bound placed =
+μ-loop table from to before tests tested named count parts₀ unplaced₀ bound₀ placed₀ parts unplaced bound placed =
     count - placed
 
 -- ---- what is known at the loop
@@ -48,8 +48,11 @@ counted l = l .before .before .gather .ensures .0
 abbrev turn : tie.After-choose Inv-loop μ-loop → tie.In-loop Inv-loop μ-loop
 turn c = c .before .before .before .before
 
+abbrev unplaced : Loop → List ℕ
+unplaced l = members (l .loop .unplaced) (count l)
+
 next : (c : tie.After-choose Inv-loop μ-loop) →
-    chosen (c .choose .result) ≡ nextPart (all (turn c .before)) (members (turn c .before .loop .unplaced) (count (turn c .before)))
+    chosen (c .choose .result) ≡ nextPart (all (turn c .before)) (unplaced (turn c .before))
 next c =
     let l = turn c .before in
     let g = l .before .before in
@@ -142,8 +145,8 @@ loop-again c =
       below-without (h .unplaced) u (p .0) (count l) w (h .inv .2),
       placed-more (all l) (count l) (h .parts) (h .unplaced) u (h .placed) p t (omega arith)
           (sym (ap chosen (g .1)) ∙ next d) w (h .inv .3),
-      bound-next (all l) (count l) (counted l) (h .unplaced) u (p .0) (h .bound) _ (c .union .result) (part-known known) w
-          (h .inv .4) (λ x. own .named x (p .0)) (c .union .ensures),
+      bound-next (all l) (count l) (counted l) (h .unplaced) u (p .0) (h .bound) _ (c .union .result)
+          (part-known known) w (h .inv .4) (λ x. own .named x (p .0)) (c .union .ensures),
     )
 
 -- ---- after the loop
