@@ -1,6 +1,6 @@
 -- How the sets of parameters of the parts grow, an atom at a time: what the atom names joins the set of its part, and
 -- where the atom is a precondition the set of what the part's preconditions name.
-use Prim.Native.Nat.{ℕ, _+_, _-_, _^_, _<_}
+use Prim.Native.Nat.{ℕ, _-_, _<_}
 use mathlib.Core.Path.{_≡_, refl, sym, _∙_, subst}
 use mathlib.Core.Bool.{Bool, true, false, _&&_, _||_}
 use mathlib.Core.List.{List, [], _∷_, _++_}
@@ -25,19 +25,15 @@ use Rattle.arcs.proofs.Stretches.{stretch-atom}
 use Rattle.arcs.proofs.Counting.{Each, each-none, each-same, each-stored, test-of-part, test-of-none}
 
 -- ---- an array of sets
--- the set of those x that a test takes with part p, in a word
-pub record SetOf (test : ℕ → ℕ → Bool) (p set : ℕ) : Type 0 where
-  pub word : set < 2 ^ 64
-  pub are : (x : ℕ) → member set x ≡ test x p
+-- the set of those x that a test takes with part p
+abbrev SetOf : (ℕ → ℕ → Bool) → ℕ → ℕ → Type 0
+SetOf test p set = (x : ℕ) → member set x ≡ test x p
 
 abbrev pub Kept : (ℕ → ℕ → Bool) → List ℕ → Type 0
 Kept test sets = Each (SetOf test) sets
 
 pub kept-none : (test : ℕ → ℕ → Bool) → ((x p : ℕ) → test x p ≡ false) → Kept test (replicate mostParts 0)
-kept-none test h = each-none (SetOf test) (λ p. record {
-  word = omega arith;
-  are = λ x. member-zero x ∙ sym (h x p);
-})
+kept-none test h = each-none (SetOf test) (λ p x. member-zero x ∙ sym (h x p))
 
 -- what is found of an atom: its part, and the set of its parameters
 pub record Found (a : Atom) (part parameters : ℕ) : Type 0 where
@@ -46,23 +42,19 @@ pub record Found (a : Atom) (part parameters : ℕ) : Type 0 where
   pub brings : (x : ℕ) → member parameters x ≡ names x a
 
 module _ (test later : ℕ → ℕ → Bool) (sets : List ℕ) (k : Kept test sets) where
-  -- a part with which the test takes nothing more
-  stays : (p s : ℕ) → ((x : ℕ) → later x p ≡ test x p) → SetOf test p s → SetOf later p s
-  stays p s h o = record { word = o .word; are = λ x. o .are x ∙ sym (h x) }
-
   pub kept-same : ((x p : ℕ) → later x p ≡ test x p) → Kept later sets
-  kept-same h = each-same (SetOf test) (SetOf later) sets k (λ p s. stays p s (λ x. h x p))
+  kept-same h = each-same (SetOf test) (SetOf later) sets k (λ p s o x. o x ∙ sym (h x p))
 
   -- what an atom names joins the set of its part, which becomes r
   pub kept-more : {a : Atom} {part parameters : ℕ} → Found a part parameters →
-      ((x p : ℕ) → later x p ≡ test x p || (eqb p (a .part) && names x a)) → (r : ℕ) → r < 2 ^ 64 →
+      ((x p : ℕ) → later x p ≡ test x p || (eqb p (a .part) && names x a)) → (r : ℕ) →
       ((x : ℕ) → member r x ≡ member (getD sets part 0) x || member parameters x) → Kept later (set sets part r)
-  kept-more {a} {part} f h r w u =
-      each-stored (SetOf test) (SetOf later) sets k part r (f .below) (record { word = w; are = joined })
-      (λ p s d. stays p s (λ x. other x p d))
+  kept-more {a} {part} f h r u =
+      each-stored (SetOf test) (SetOf later) sets k part r (f .below) joined
+      (λ p s d o x. o x ∙ sym (other x p d))
     where
       joined : (x : ℕ) → member r x ≡ later x part
-      joined x = rw (u x, k .at part .are x, f .brings x, h x part, eq-eqb part (a .part) (f .of)) refl
+      joined x = rw (u x, k .at part x, f .brings x, h x part, eq-eqb part (a .part) (f .of)) refl
 
       other : (x p : ℕ) → (part ≡ p → ⊥) → later x p ≡ test x p
       other x p d = rw (h x p, ne-eqb p (a .part) (λ e. d (f .of ∙ sym e))) (or-false (test x p))

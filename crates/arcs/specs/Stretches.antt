@@ -1,6 +1,6 @@
 -- What the contracts of this crate's code speak of: stretches of a table's schema atoms, what is found of each part,
 -- and the order that is handed back.
-use Prim.Native.Nat.{ℕ, _-_, _^_, _≤_, _<_}
+use Prim.Native.Nat.{ℕ, _-_, _≤_, _<_}
 use mathlib.Core.Path.{_≡_}
 use mathlib.Core.Bool.{Bool, true, not, cond, _&&_, _||_}
 use mathlib.Core.List.{List, map}
@@ -69,7 +69,6 @@ AreArcs atoms sets = SetsAre (arc atoms) sets
 pub record AreParameters (atoms : List Atom) (sets : List ℕ) : Type 0 where
   pub long : length sets ≡ mostParts
   pub named : SetsAre (inPart atoms) sets
-  pub small : (p : ℕ) → getD sets p 0 < 2 ^ mostParameters
 
 -- for each part its number of preconditions, and the set of parameters that these name
 pub record AreTests (atoms : List Atom) (counts sets : List ℕ) : Type 0 where

@@ -95,7 +95,7 @@ pub fn argument(table: &[u16], i: usize, k: usize) -> Parameter
 }
 
 // The parameters that atom i names.
-pub fn parameters_of(table: &[u16], i: usize) -> u64
+pub fn parameters_of(table: &[u16], i: usize) -> u16
     requires { ⌜ IsSchemaAtom (now table) i ⌝ }
     ensures { λ r. ⌜ ((x : ℕ) → member r x ≡ names x (atomIn (now (table .entry)) i)) ⌝ }
 {
@@ -106,5 +106,5 @@ pub fn parameters_of(table: &[u16], i: usize) -> u64
         named = with(named, argument(table, i, k).0 as usize);
         k += 1;
     }
-    named
+    named as u16
 }

@@ -8,6 +8,7 @@ ghost use Rattle.task.specs.Task.{Atom};
 ghost use Rattle.arcs.specs.Order.{newParameters, placedParts, ready, ahead, better, nextPart};
 ghost use Rattle.arcs.specs.Stretches.{AreArcs, AreTests, ChosenBelow, IsBound, chosen};
 ghost use Rattle.words.specs.Sets.{SetBelow, member, members};
+use crate::ParameterSets;
 use crate::PartCounts;
 use crate::PartSets;
 use task::Part;
@@ -29,18 +30,18 @@ fn is_ready(before: &PartSets, unplaced: u64, p: usize) -> bool
 }
 
 // How many "parameters not in a part already placed" the preconditions of part p name.
-fn new_parameters(tested: &PartSets, bound: u64, p: usize) -> usize
+fn new_parameters(tested: &ParameterSets, bound: u64, p: usize) -> usize
     requires { ⌜ p < mostParts ⌝ }
     ensures { λ r. ⌜ ((atoms : List Atom) (counts placed : List ℕ) →
         AreTests atoms counts (now (tested .entry)) → IsBound atoms placed bound →
         r ≡ newParameters atoms placed p) ⌝ }
 {
-    sets::size(sets::minus(tested[p], bound))
+    sets::size(sets::minus(sets::held(tested[p]), bound))
 }
 
 // "the one with most preconditions"; among "equally many", "the one whose preconditions name more parameters not in a
 // part already placed": whether part q is ahead of part p by these.
-fn is_ahead(counts: &PartCounts, tested: &PartSets, bound: u64, q: usize, p: usize) -> bool
+fn is_ahead(counts: &PartCounts, tested: &ParameterSets, bound: u64, q: usize, p: usize) -> bool
     requires { ⌜ (q < mostParts) × (p < mostParts) ⌝ }
     ensures { λ r. ⌜ ((atoms : List Atom) (placed : List ℕ) →
         AreTests atoms (now (counts .entry)) (now (tested .entry)) → IsBound atoms placed bound →
@@ -53,7 +54,13 @@ fn is_ahead(counts: &PartCounts, tested: &PartSets, bound: u64, q: usize, p: usi
 }
 
 // "only then the lowest number": part p against what was found of higher numbers.
-fn better_of(counts: &PartCounts, tested: &PartSets, bound: u64, p: usize, found: Choice) -> Choice
+fn better_of(
+    counts: &PartCounts,
+    tested: &ParameterSets,
+    bound: u64,
+    p: usize,
+    found: Choice,
+) -> Choice
     requires { ⌜ p < mostParts ⌝ }
     requires { ⌜ ChosenBelow mostParts found ⌝ }
     ensures { λ r. ⌜ ((atoms : List Atom) (placed : List ℕ) →
@@ -76,7 +83,7 @@ fn better_of(counts: &PartCounts, tested: &PartSets, bound: u64, p: usize, found
 pub fn choose(
     before: &PartSets,
     counts: &PartCounts,
-    tested: &PartSets,
+    tested: &ParameterSets,
     bound: u64,
     unplaced: u64,
     count: usize,

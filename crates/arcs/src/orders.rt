@@ -15,6 +15,7 @@ use crate::parts::gather;
 use task::Part;
 use task::limits::MOST_PARTS;
 use words::sets::below;
+use words::sets::held;
 use words::sets::union;
 use words::sets::without;
 
@@ -47,7 +48,7 @@ pub fn order_of(table: &[u16], from: usize, to: usize) -> Order
         let p = part.0 as usize;
         parts[placed] = part;
         unplaced = without(unplaced, p);
-        bound = union(bound, named[p]);
+        bound = union(bound, held(named[p]));
         placed += 1;
     }
     Order {

@@ -5,12 +5,12 @@ ghost use lib.ListN.{replicate};
 ghost use Rattle.task.specs.Limits.{mostParts};
 ghost use Rattle.task.specs.Task.{partCount};
 ghost use Rattle.arcs.specs.Stretches.{AreParameters, AreTests, IsStretch, stretchIn};
+use crate::ParameterSets;
 use crate::PartCounts;
-use crate::PartSets;
 use crate::atoms::is_precondition;
 use crate::atoms::parameters_of;
 use crate::atoms::part_of;
-use words::sets::union;
+use words::sets::word_union;
 
 // Gathers how many preconditions each part has, the parameters that these name, and all that the part has. The arrays
 // are lent all 0. Hands back the number of parts, one more than the highest.
@@ -19,8 +19,8 @@ pub fn gather(
     from: usize,
     to: usize,
     preconditions: &mut PartCounts,
-    tested: &mut PartSets,
-    named: &mut PartSets,
+    tested: &mut ParameterSets,
+    named: &mut ParameterSets,
 ) -> usize
     requires { ⌜ IsStretch (now table) from to ⌝ }
     requires { ⌜ now preconditions ≡ replicate mostParts 0 ⌝ }
@@ -37,10 +37,10 @@ pub fn gather(
     while i < to {
         let part = part_of(table, i).0 as usize;
         let parameters = parameters_of(table, i);
-        named[part] = union(named[part], parameters);
+        named[part] = word_union(named[part], parameters);
         if is_precondition(table, i) {
             preconditions[part] += 1;
-            tested[part] = union(tested[part], parameters);
+            tested[part] = word_union(tested[part], parameters);
         }
         if count <= part {
             count = part + 1;

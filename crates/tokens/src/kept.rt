@@ -131,10 +131,10 @@ pub(crate) fn keep_count(kept: &mut Kept, s: usize, count: usize)
 }
 
 // A part and its parameters, at the place of atom i.
-pub(crate) fn keep_part(kept: &mut Kept, i: usize, part: Part, own: u64)
-    requires { ⌜ (i < mostSchemaAtoms) × (own < wordBound) ⌝ }
+pub(crate) fn keep_part(kept: &mut Kept, i: usize, part: Part, own: u16)
+    requires { ⌜ i < mostSchemaAtoms ⌝ }
     ensures { λ _. ⌜ now (kept .exit) ≡ withPart (now (kept .entry)) i (part .0) own ⌝ }
 {
     kept[ORDER + i] = part.0;
-    kept[OWN + i] = own as u16;
+    kept[OWN + i] = own;
 }

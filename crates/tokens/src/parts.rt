@@ -13,10 +13,9 @@ ghost use Prim.Native.Nat.{ℕ, suc, _+_, _≤_, _<_};
 ghost use mathlib.Core.Path.{_≡_};
 ghost use mathlib.Core.Bool.{true};
 ghost use mathlib.Core.Option.{none};
-ghost use lib.ListN.{length, getD};
+ghost use lib.ListN.{length};
 ghost use Rattle.words.specs.Lists.{first, upTo};
 ghost use Rattle.task.specs.Table.{taskOf, isTable};
-ghost use Rattle.words.specs.Words.{wordBound};
 ghost use Rattle.tokens.specs.Split.{isNone, orderAt};
 ghost use Rattle.tokens.specs.Acceptance.{partAt, OrderKept, circularTold};
 ghost use Rattle.task.specs.Limits.{mostParts, mostSchemaAtoms};
@@ -53,7 +52,6 @@ fn keep_order(from: usize, found: Order, kept: &mut Kept)
     requires { ⌜ (found .count ≤ mostParts) × (length (found .parts) ≡ mostParts) ⌝ }
     requires { ⌜ length (now kept) ≡ keptWords ⌝ }
     requires { ⌜ ((j : ℕ) → j < found .count → partAt (found .parts) j < mostParts) ⌝ }
-    requires { ⌜ ((p : ℕ) → getD (found .named) p 0 < wordBound) ⌝ }
     ensures { λ _. ⌜ OrderKept from (found .count) (found .parts) (found .named) (now (kept .entry))
         (now (kept .exit)) ⌝ }
 {

@@ -68,6 +68,13 @@ pub fn union(a: u64, b: u64) -> u64
     a | b
 }
 
+// The same of the sets that two words hold.
+pub fn word_union(a: u16, b: u16) -> u16
+    ensures { λ r. ⌜ ((k : ℕ) → member r k ≡ member a k || member b k) ⌝ }
+{
+    a | b
+}
+
 // The numbers in both sets.
 pub fn common(a: u64, b: u64) -> u64
     ensures { λ r. ⌜ ((k : ℕ) → member r k ≡ member a k && member b k) ⌝ }

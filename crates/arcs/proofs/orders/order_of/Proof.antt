@@ -12,7 +12,7 @@ use Rattle.task.specs.Limits.{mostParts}
 use Rattle.task.specs.Task.{Atom, partCount}
 use Rattle.arcs.specs.Order.{placedParts, nextPart}
 use Rattle.arcs.specs.Stretches.{IsBound, stretchIn, chosen, orderTold}
-use Rattle.words.specs.Sets.{SetBelow, members}
+use Rattle.words.specs.Sets.{SetBelow, member, members}
 use Rattle.arcs.proofs.Placing.{Placed, placed-none, placed-more, placed-stuck, placed-all, order-is, below-all}
 use Rattle.arcs.proofs.Placing.{below-without, bound-first, bound-next}
 use Rattle.arcs.proofs.orders.order_of.Statement.{statement}
@@ -124,29 +124,31 @@ cast-p c = omega (arith, part-small (c .before))
 without-requires : tie.Need-without-requires Inv-loop μ-loop
 without-requires c κs = omega (arith, part-small (c .before))
 
-array-read-union : tie.Need-array-read-union Inv-loop μ-loop
-array-read-union c = omega (arith, part-small (c .before .before))
+array-read-held : tie.Need-array-read-held Inv-loop μ-loop
+array-read-held c = omega (arith, part-small (c .before .before))
 
 loop-again : tie.Need-loop-again Inv-loop μ-loop
 unfolding chosen
 loop-again c =
-    let known = c .before .before .before in
+    let known = c .before .before .before .before in
     let d = known .before .before .before in
     let l = turn d .before in
     let h = l .loop in
     let g = known .before .part .given in
     let p = g .0 .0 in
-    let u = c .before .without .result in
-    let w = c .before .without .ensures in
+    let u = c .before .before .without .result in
+    let w = c .before .before .without .ensures in
     let t = turn d .loop-test .taken in
-    let own = l .before .before .gather .ensures .1 .1 .1 in (
+    let own = l .before .before .gather .ensures .1 .1 .1 in
+    let held = c .before .held in (
       omega arith,
       length-set (h .parts) (h .placed) p ∙ h .inv .1,
       below-without (h .unplaced) u (p .0) (count l) w (h .inv .2),
       placed-more (all l) (count l) (h .parts) (h .unplaced) u (h .placed) p t (omega arith)
           (sym (ap chosen (g .1)) ∙ next d) w (h .inv .3),
-      bound-next (all l) (count l) (counted l) (h .unplaced) u (p .0) (h .bound) _ (c .union .result)
-          (part-known known) w (h .inv .4) (λ x. own .named x (p .0)) (c .union .ensures),
+      bound-next (all l) (count l) (counted l) (h .unplaced) u (p .0) (h .bound) (held .result)
+          (c .union .result)
+          (part-known known) w (h .inv .4) (λ x. ap (λ (s : ℕ). member s x) (held .ensures) ∙ own .named x (p .0)) (c .union .ensures),
     )
 
 -- ---- after the loop
@@ -168,4 +170,4 @@ order-of-spec =
     tie.close
     (tie.spec Inv-loop μ-loop arcs-of-requires gather-requires below-requires loop-holds choose-requires
     (λ c. search needs) (λ c. search needs) returns cast-p (λ c. omega arith) (λ c. omega arith) without-requires
-    (λ c. omega arith) array-read-union (λ c κs. tt) (λ c. omega arith) (λ c. omega arith) loop-again returns-2)
+    (λ c. omega arith) array-read-held (λ c κs. tt) (λ c κs. tt) (λ c. omega arith) (λ c. omega arith) loop-again returns-2)

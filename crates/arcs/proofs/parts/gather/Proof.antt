@@ -1,14 +1,12 @@
 -- `arcs::parts::gather` meets its contract. The invariant: count and arrays are those of the atoms before i. The
 -- measure is the atoms left. A turn takes one more atom to them, and each of the four grows by a law of its own.
--- Parameters are below 12, so a set is below 2 ^ 12.
 use Prim.Native.Nat.{ℕ, suc, _+_, _-_, _≤_, max}
 use mathlib.Core.Path.{_≡_, sym, _∙_, subst}
 use mathlib.Core.List.{List, [], _∷_, _++_}
 use mathlib.Core.Logic.{⊎-elim}
 use native.Mathlib.Omega.{arith}
-use lib.ListN.{getD, set, replicate}
-use Rattle.words.proofs.SetMembers.{set-small}
-use Rattle.task.specs.Limits.{mostParts, mostParameters}
+use lib.ListN.{set, replicate}
+use Rattle.task.specs.Limits.{mostParts}
 use Rattle.task.specs.Task.{Atom, partCount}
 use Rattle.task.specs.Table.{atomIn}
 use Rattle.arcs.specs.Order.{inPart, tests}
@@ -42,17 +40,15 @@ module _ {w : List ℕ} {from to : ℕ} {preconditions tested named : List ℕ} 
   are-tests : AreTests (stretchIn w from to) preconditions tested
   are-tests = record {
     counted = g .counts .at;
-    named = λ x p. g .tests .at p .are x;
+    named = λ x p. g .tests .at p x;
     below = λ p x m.
-        part-small w from to p x s (tests-in-part (stretchIn w from to) x p (sym (g .tests .at p .are x) ∙ m));
+        part-small w from to p x s (tests-in-part (stretchIn w from to) x p (sym (g .tests .at p x) ∙ m));
   }
 
   are-parameters : AreParameters (stretchIn w from to) named
   are-parameters = record {
     long = g .names .long;
-    named = λ x p. g .names .at p .are x;
-    small = λ p. set-small mostParameters (getD named p 0) (g .names .at p .word)
-        (λ x m. part-small w from to p x s (sym (g .names .at p .are x) ∙ m));
+    named = λ x p. g .names .at p x;
   }
 
 -- ---- the loop
@@ -135,7 +131,7 @@ tested-more c =
     let u = x .3 in
     let sets = kept-more (tests xs) (tests (more c)) (h .tested) (g .tests) f (tests-more xs a e) in (
       subst (Counted (more c)) (sym (x .4)) (counted-more xs a (g .counts) e (part c) (f .of) (f .below)),
-      subst (Kept (tests (more c))) (sym (x .5)) (sets (u .result) (u .ok) (u .ensures)),
+      subst (Kept (tests (more c))) (sym (x .5)) (sets (u .result) (u .ensures)),
     ))
     (λ x.
     let e = test ∙ x .0 .left in
@@ -146,14 +142,14 @@ tested-more c =
     (c .if1 .came)
 
 abbrev joined : Turn → List ℕ
-joined c = set (begun c .before .loop .named) (part c) (c .before .before .union .result)
+joined c = set (begun c .before .loop .named) (part c) (c .before .before .word-union .result)
 
 named-more : (c : Turn) → Kept (inPart (more c)) (joined c)
 named-more c =
     let h = begun c .before .loop in
-    let u = c .before .before .union in
+    let u = c .before .before .word-union in
     kept-more (inPart (passed c)) (inPart (more c)) (h .named) (h .inv .3 .names) (found c)
-    (in-part-more (passed c) (atom c)) (u .result) (u .ok) (u .ensures)
+    (in-part-more (passed c) (atom c)) (u .result) (u .ensures)
 
 -- the count goes to the larger of itself and one more than the part
 larger : (c : tie.Joined2 Inv-loop μ-loop) →

@@ -49,7 +49,7 @@ found c =
     let t = c .before .before .loop-test .taken in
     let f = s .pre .1 .0 in
     let l : j < length (order s .parts) = omega (arith, f .0, f .1) in
-    record { inside = l; small = omega (arith, part-is (order s .parts) j l, s .pre .1 .1 .1 .0 j t) }
+    record { inside = l; small = omega (arith, part-is (order s .parts) j l, s .pre .1 .1 .1 j t) }
 
 loop-holds : tie.Need-loop-holds Inv-loop μ-loop
 loop-holds c =
@@ -77,7 +77,7 @@ keep-part-requires c κs =
     let s = start (turn p) in
     let f = s .pre .1 .0 .0 in
     let t = p .before .before .loop-test .taken in
-    (omega (arith, s .pre .0), s .pre .1 .1 .1 .1 (found-part p))
+    omega (arith, s .pre .0)
 
 add-j : tie.Need-add-j Inv-loop μ-loop
 add-j c = omega (arith, c .before .before .before .before .before .loop-test .taken)

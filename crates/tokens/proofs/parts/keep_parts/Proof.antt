@@ -170,11 +170,8 @@ keep-order-requires c κs =
         n,
         (
           count-kept (c .before),
-          (
-            found-small (task l) (l .loop .s) (d .order-of .result) (told d) yes (omega (arith, n .0, n .1))
-                (parts-few (words l) (is-table l) (l .loop .s) (known (turn d))),
-            λ p. omega (arith, d .order-of .ensures .1 .1 .small p),
-          ),
+          found-small (task l) (l .loop .s) (d .order-of .result) (told d) yes (omega (arith, n .0, n .1))
+              (parts-few (words l) (is-table l) (l .loop .s) (known (turn d))),
         ),
       ),
     )
