@@ -147,8 +147,8 @@ loop-again c =
       placed-more (all l) (count l) (h .parts) (h .unplaced) u (h .placed) p t (omega arith)
           (sym (ap chosen (g .1)) ∙ next d) w (h .inv .3),
       bound-next (all l) (count l) (counted l) (h .unplaced) u (p .0) (h .bound) (held .result)
-          (c .union .result)
-          (part-known known) w (h .inv .4) (λ x. ap (λ (s : ℕ). member s x) (held .ensures) ∙ own .named x (p .0)) (c .union .ensures),
+          (c .union .result) (part-known known) w (h .inv .4)
+          (λ x. ap (λ (s : ℕ). member s x) (held .ensures) ∙ own .named x (p .0)) (c .union .ensures),
     )
 
 -- ---- after the loop
@@ -170,4 +170,5 @@ order-of-spec =
     tie.close
     (tie.spec Inv-loop μ-loop arcs-of-requires gather-requires below-requires loop-holds choose-requires
     (λ c. search needs) (λ c. search needs) returns cast-p (λ c. omega arith) (λ c. omega arith) without-requires
-    (λ c. omega arith) array-read-held (λ c κs. tt) (λ c κs. tt) (λ c. omega arith) (λ c. omega arith) loop-again returns-2)
+    (λ c. omega arith) array-read-held (λ c κs. tt) (λ c κs. tt) (λ c. omega arith) (λ c. omega arith) loop-again
+    returns-2)
