@@ -1,7 +1,8 @@
--- The sets of arcs of a stretch of atoms. They grow by an atom at a time: first in the atoms that the arcs go to, which
--- starts from a pair of atoms, then in those they come from. Joining is carried as a fact about every pair of parts.
-use Prim.Native.Nat.{ℕ, zero, suc, _+_, _-_, _≤_, _<_}
-use mathlib.Core.Path.{_≡_, refl, sym, _∙_, ap, subst}
+-- The sets of arcs of a stretch of atoms. They grow by a stretch at a time: first in the atoms that the arcs go to,
+-- which starts from a pair of atoms, then in those they come from. Joining is carried as a fact about every pair of
+-- parts.
+use Prim.Native.Nat.{ℕ, _≤_, _<_}
+use mathlib.Core.Path.{_≡_, refl, sym, _∙_, ap}
 use mathlib.Core.Bool.{Bool, true, false, not, _&&_, _||_}
 use mathlib.Core.List.{List, [], _∷_, _++_}
 use native.Mathlib.Omega.{arith}
@@ -10,15 +11,16 @@ use lib.Dec.{eqb}
 use lib.Seq.{getD-set-same, getD-set-other}
 use borrow.Author.Tests.{eqb-true, eqb-false, eq-eqb, ne-eqb, not-true}
 use Rattle.words.specs.Lists.{any}
-use Rattle.task.specs.Task.{Atom, precondition, addition, deletion}
+use Rattle.task.specs.Task.{Atom}
 use Rattle.task.specs.Table.{atomIn}
-use Rattle.words.proofs.Ranges.{or-false, or-assoc, any-last}
-use Rattle.words.proofs.Lists.{and-left, and-right, both-ft, bool-ext, false-if, In, here, there, in-empty, any-in}
+use Rattle.words.proofs.Ranges.{or-false, or-assoc, any-append}
+use Rattle.words.proofs.Words.{and-false}
+use Rattle.words.proofs.Lists.{and-left, and-right, both-ft, bool-ext, false-if, In, any-in}
 use Rattle.arcs.specs.Order.{givesArc, roleBefore, arc}
-use Rattle.arcs.specs.Stretches.{AreArcs, ArePreconditions, Joins, stretchIn, arcsBetween}
+use Rattle.arcs.specs.Stretches.{AreArcs, Joins, stretchIn, arcsBetween}
 use Rattle.words.specs.Sets.{member}
 use Rattle.words.proofs.BitSets.{member-zero}
-use Rattle.arcs.proofs.Stretches.{zeros-at, atoms-none, atoms-more}
+use Rattle.arcs.proofs.Stretches.{zeros-at, stretch-in, atoms-none, atoms-append}
 
 -- ---- joining
 joins-none : (test : ℕ → ℕ → Bool) (sets : List ℕ) → ((p q : ℕ) → test p q ≡ false) → Joins test sets sets
@@ -42,71 +44,40 @@ between-none bs p q = go (not (eqb p q))
     go true = refl
     go false = refl
 
-between-more-right : (a : Atom) (bs : List Atom) (b : Atom) (p q : ℕ) →
-    arcsBetween (a ∷ []) (bs ++ (b ∷ [])) p q ≡ arcsBetween (a ∷ []) bs p q || arcsBetween (a ∷ []) (b ∷ []) p q
+between-right : (a : Atom) (bs cs : List Atom) (p q : ℕ) →
+    arcsBetween (a ∷ []) (bs ++ cs) p q ≡ arcsBetween (a ∷ []) bs p q || arcsBetween (a ∷ []) cs p q
 unfolding arcsBetween any
-between-more-right a bs b p q =
-    ap (λ (s : Bool). not (eqb p q) && ((eqb (a .part) p && s) || false)) (any-last test bs b)
-    ∙ go (not (eqb p q)) (eqb (a .part) p) (any test bs) (test b)
+between-right a bs cs p q =
+    ap (λ (s : Bool). not (eqb p q) && ((eqb (a .part) p && s) || false)) (any-append test bs cs)
+    ∙ go (not (eqb p q)) (eqb (a .part) p) (any test bs) (any test cs)
   where
     test : Atom → Bool
     test b = eqb (b .part) q && givesArc a b
 
     go : (n e u v : Bool) →
-        n && ((e && (u || v)) || false) ≡ (n && ((e && u) || false)) || (n && ((e && (v || false)) || false))
+        n && ((e && (u || v)) || false) ≡ (n && ((e && u) || false)) || (n && ((e && v) || false))
     go false e u v = refl
     go true false u v = refl
     go true true true v = refl
-    go true true false v = ap (λ (s : Bool). s || false) (sym (or-false v))
+    go true true false v = refl
 
-between-more : (xs : List Atom) (a : Atom) (bs : List Atom) (p q : ℕ) →
-    arcsBetween (xs ++ (a ∷ [])) bs p q ≡ arcsBetween xs bs p q || arcsBetween (a ∷ []) bs p q
-unfolding arcsBetween any
-between-more xs a bs p q =
-    ap (λ (s : Bool). not (eqb p q) && s) (any-last test xs a) ∙ go (not (eqb p q)) (any test xs) (test a)
+between-left : (xs ys bs : List Atom) (p q : ℕ) →
+    arcsBetween (xs ++ ys) bs p q ≡ arcsBetween xs bs p q || arcsBetween ys bs p q
+unfolding arcsBetween
+between-left xs ys bs p q =
+    ap (λ (s : Bool). not (eqb p q) && s) (any-append test xs ys) ∙ go (not (eqb p q)) (any test xs) (any test ys)
   where
     test : Atom → Bool
     test a = eqb (a .part) p && any (λ b. eqb (b .part) q && givesArc a b) bs
 
-    go : (n u v : Bool) → n && (u || v) ≡ (n && u) || (n && (v || false))
+    go : (n u v : Bool) → n && (u || v) ≡ (n && u) || (n && v)
     go false u v = refl
-    go true true v = refl
-    go true false v = sym (or-false v)
+    go true u v = refl
 
 -- ---- atoms that no arc joins
--- no arc goes to a precondition
-to-precondition : (a b : Atom) → b .role ≡ precondition → givesArc a b ≡ false
-unfolding givesArc roleBefore
-to-precondition a b e =
-    rw e (go (eqb (a .pred) (b .pred)) (eqb (a .role) 0) (eqb (a .role) 2))
-  where
-    go : (n x y : Bool) → n && ((x && false) || (y && false)) ≡ false
-    go false x y = refl
-    go true true true = refl
-    go true true false = refl
-    go true false true = refl
-    go true false false = refl
-
--- and none comes from an add
-from-addition : (a b : Atom) → a .role ≡ addition → givesArc a b ≡ false
-unfolding givesArc roleBefore
-from-addition a b e = rw e (go (eqb (a .pred) (b .pred)))
-  where
-    go : (n : Bool) → n && false ≡ false
-    go false = refl
-    go true = refl
-
--- nor does one go from an atom that is no precondition to one that is no add
-pub to-no-addition : (a b : Atom) → (a .role ≡ precondition → ⊥) → (b .role ≡ addition → ⊥) → givesArc a b ≡ false
-unfolding givesArc roleBefore
-to-no-addition a b f g =
-    rw (ne-eqb (a .role) precondition f, ne-eqb (b .role) addition g)
-    (go (eqb (a .pred) (b .pred)) (eqb (a .role) deletion))
-  where
-    go : (n x : Bool) → n && (x && false) ≡ false
-    go false x = refl
-    go true false = refl
-    go true true = refl
+no-arc : (a b : Atom) → roleBefore (a .role) (b .role) ≡ false → givesArc a b ≡ false
+unfolding givesArc
+no-arc a b e = rw e (and-false (eqb (a .pred) (b .pred)))
 
 none-join : (a : Atom) (bs : List Atom) → ((b : Atom) → In b bs → givesArc a b ≡ false) → (sets : List ℕ) →
     Joins (arcsBetween (a ∷ []) bs) sets sets
@@ -120,9 +91,15 @@ none-join a bs h sets =
     let (b, m, y) = any-in test bs s in
     both-ft (and-right (eqb (b .part) q) _ y) (h b m)))
 
-pub addition-joins : (a : Atom) (bs : List Atom) → a .role ≡ addition → (sets : List ℕ) →
-    Joins (arcsBetween (a ∷ []) bs) sets sets
-addition-joins a bs e sets = none-join a bs (λ b m. from-addition a b e) sets
+-- role r comes before that of no atom of a stretch
+abbrev pub NoneAfter : List ℕ → ℕ → ℕ → ℕ → Type 0
+NoneAfter w r from to = (k : ℕ) → from ≤ k → k < to → roleBefore r (atomIn w k .role) ≡ false
+
+pub none-after : (w : List ℕ) (a : Atom) (from to : ℕ) → NoneAfter w (a .role) from to → (sets : List ℕ) →
+    Joins (arcsBetween (a ∷ []) (stretchIn w from to)) sets sets
+none-after w a from to h sets = none-join a (stretchIn w from to) (λ b i.
+    let (k, l, m, e) = stretch-in w from to b i in
+    no-arc a b (ap (λ (b : Atom). roleBefore (a .role) (b .role)) e ∙ h k l m)) sets
 
 -- the arcs of all atoms have joined empty sets
 pub all-joined : (atoms : List Atom) (n : ℕ) (sets : List ℕ) →
@@ -182,56 +159,32 @@ module _ (a b : Atom) where
           )
           (sym (or-false (member (getD sets q 0) p)))
 
--- ---- a stretch that grows by an atom
-module _ (w : List ℕ) (from : ℕ) where
-  pub to-more : (a : Atom) (j : ℕ) (x y z : List ℕ) → from ≤ j → Joins (arcsBetween (a ∷ []) (stretchIn w from j)) x y →
-      Joins (arcsBetween (a ∷ []) (atomIn w j ∷ [])) y z → Joins (arcsBetween (a ∷ []) (stretchIn w from (j + 1))) x z
-  to-more a j x y z l h k =
-      joins-more (arcsBetween (a ∷ []) (stretchIn w from j)) (arcsBetween (a ∷ []) (atomIn w j ∷ []))
-      (arcsBetween (a ∷ []) (stretchIn w from (j + 1))) x y z h k
-      (λ p q. rw (atoms-more w from j l) (between-more-right a (stretchIn w from j) (atomIn w j) p q))
+-- ---- a stretch, and one behind it
+module _ (w : List ℕ) (from i to : ℕ) (l : from ≤ i) (m : i ≤ to) where
+  pub to-more : (a : Atom) (x y z : List ℕ) → Joins (arcsBetween (a ∷ []) (stretchIn w from i)) x y →
+      Joins (arcsBetween (a ∷ []) (stretchIn w i to)) y z → Joins (arcsBetween (a ∷ []) (stretchIn w from to)) x z
+  to-more a x y z h k =
+      joins-more (arcsBetween (a ∷ []) (stretchIn w from i)) (arcsBetween (a ∷ []) (stretchIn w i to))
+      (arcsBetween (a ∷ []) (stretchIn w from to)) x y z h k
+      (λ p q. rw (atoms-append w from i to l m) (between-right a (stretchIn w from i) (stretchIn w i to) p q))
 
-  -- no arc goes to the n atoms from j on
-  to-no-more : (a : Atom) (j n : ℕ) (x y : List ℕ) → from ≤ j →
-      ((k : ℕ) → j ≤ k → k < j + n → givesArc a (atomIn w k) ≡ false) →
-      Joins (arcsBetween (a ∷ []) (stretchIn w from j)) x y →
-      Joins (arcsBetween (a ∷ []) (stretchIn w from (j + n))) x y
-  to-no-more a j zero x y l f h =
-      let e : j ≡ j + 0 = omega arith in
-      subst (λ (k : ℕ). Joins (arcsBetween (a ∷ []) (stretchIn w from k)) x y) e h
-  to-no-more a j (suc n) x y l f h =
-      let e : j + n + 1 ≡ j + suc n = omega arith in
-      subst (λ (k : ℕ). Joins (arcsBetween (a ∷ []) (stretchIn w from k)) x y) e
-      (to-more a (j + n) x y y (omega arith) (to-no-more a j n x y l (λ k b c. f k b (omega arith)) h)
-      (none-join a (atomIn w (j + n) ∷ []) (λ b m. only b m (f (j + n) (omega arith) (omega arith))) y))
-    where
-      only : {c : Atom} (b : Atom) → In b (c ∷ []) → givesArc a c ≡ false → givesArc a b ≡ false
-      only b (here i) e = ap (givesArc a) i ∙ e
-      only b (there i) e = absurd (in-empty i)
+  pub from-more : (bs : List Atom) (x y z : List ℕ) → Joins (arcsBetween (stretchIn w from i) bs) x y →
+      Joins (arcsBetween (stretchIn w i to) bs) y z → Joins (arcsBetween (stretchIn w from to) bs) x z
+  from-more bs x y z h k =
+      joins-more (arcsBetween (stretchIn w from i) bs) (arcsBetween (stretchIn w i to) bs)
+      (arcsBetween (stretchIn w from to) bs) x y z h k
+      (λ p q. rw (atoms-append w from i to l m) (between-left (stretchIn w from i) (stretchIn w i to) bs p q))
 
-  pub to-rest : (a : Atom) (end to : ℕ) (x y : List ℕ) → from ≤ end → end ≤ to →
-      ((k : ℕ) → end ≤ k → k < to → givesArc a (atomIn w k) ≡ false) →
-      Joins (arcsBetween (a ∷ []) (stretchIn w from end)) x y →
-      Joins (arcsBetween (a ∷ []) (stretchIn w from to)) x y
-  to-rest a end to x y l m f h =
-      let e : end + (to - end) ≡ to = omega arith in
-      subst (λ (k : ℕ). Joins (arcsBetween (a ∷ []) (stretchIn w from k)) x y) e
-      (to-no-more a end (to - end) x y l (λ k b c. f k b (omega arith)) h)
+pub from-none : (w : List ℕ) (from : ℕ) (bs : List Atom) (sets : List ℕ) →
+    Joins (arcsBetween (stretchIn w from from) bs) sets sets
+from-none w from bs sets =
+    joins-none (arcsBetween (stretchIn w from from) bs) sets (λ p q. rw (atoms-none w from) (between-none bs p q))
 
-  pub to-preconditions : (a : Atom) (to : ℕ) → from ≤ to → ArePreconditions w from to → (sets : List ℕ) →
-      Joins (arcsBetween (a ∷ []) (stretchIn w from to)) sets sets
-  to-preconditions a to l h sets =
-      to-rest a from to sets sets (omega arith) l (λ k b c. to-precondition a (atomIn w k) (h k b c))
-      (λ p q. rw (atoms-none w from) (none-join a [] (λ b i. absurd (in-empty i)) sets p q))
-
-  pub from-none : (bs : List Atom) (sets : List ℕ) → Joins (arcsBetween (stretchIn w from from) bs) sets sets
-  from-none bs sets =
-      joins-none (arcsBetween (stretchIn w from from) bs) sets (λ p q. rw (atoms-none w from) (between-none bs p q))
-
-  pub from-more : (bs : List Atom) (i : ℕ) (x y z : List ℕ) → from ≤ i →
-      Joins (arcsBetween (stretchIn w from i) bs) x y →
-      Joins (arcsBetween (atomIn w i ∷ []) bs) y z → Joins (arcsBetween (stretchIn w from (i + 1)) bs) x z
-  from-more bs i x y z l h k =
-      joins-more (arcsBetween (stretchIn w from i) bs) (arcsBetween (atomIn w i ∷ []) bs)
-      (arcsBetween (stretchIn w from (i + 1)) bs) x y z h k
-      (λ p q. rw (atoms-more w from i l) (between-more (stretchIn w from i) (atomIn w i) bs p q))
+-- an atom's arcs to a stretch are those to what lies within, where its role has none to what lies before and behind
+pub within-reach : (w : List ℕ) (a : Atom) (from first end to : ℕ) → from ≤ first → first ≤ end → end ≤ to →
+    NoneAfter w (a .role) from first → NoneAfter w (a .role) end to → (x y : List ℕ) →
+    Joins (arcsBetween (a ∷ []) (stretchIn w first end)) x y →
+    Joins (arcsBetween (a ∷ []) (stretchIn w from to)) x y
+within-reach w a from first end to l m n h k x y j =
+    to-more w from end to (omega arith) n a x y y
+    (to-more w from first end l m a x x y (none-after w a from first h x) j) (none-after w a end to k y)

@@ -1,4 +1,5 @@
--- The words of a table's schema atom: what is known of its predicate and its arguments, and where they stand.
+-- The words of a table's schema atom: what is known of its role, its predicate and its arguments, and
+-- where these stand.
 -- An atom lies in the schema that its first word names, and a schema's atoms fit.
 use Prim.Native.Nat.{ℕ, _+_, _-_, _≤_, _<_}
 use mathlib.Core.Path.{_≡_, sym, _∙_, ap, subst}
@@ -9,7 +10,7 @@ use lib.ListN.{length, getD, length-map}
 use borrow.Author.Tests.{leb-true}
 use Rattle.words.specs.Lists.{upFrom}
 use Rattle.task.specs.Layout.{headIn, arityIn, atomBase}
-use Rattle.task.specs.Task.{Atom, schemaFits, noSchema}
+use Rattle.task.specs.Task.{Atom, schemaRoles, schemaFits, noSchema}
 use Rattle.task.specs.Run.{schemaAt}
 use Rattle.words.specs.Words.{wordsAt}
 use Rattle.task.specs.Table.{atomIn, schemaNumberIn, taskOf, isTable}
@@ -18,6 +19,7 @@ use Rattle.task.proofs.Tests.{schema-tests, task-tests}
 use Rattle.task.proofs.AtomsStand.{noAtom}
 use Rattle.task.proofs.Tables.{of-table}
 use Rattle.task.proofs.TablesByIndex.{table-frame, schemas-word, arities-word, arity-at, atom-at, atom-lies, start-suc}
+use Rattle.task.proofs.SchemaAtoms.{role-most}
 use Rattle.task.proofs.States.{Fitting, schemaFits-fits}
 use Rattle.arcs.specs.Stretches.{IsSchemaAtom}
 use Rattle.task.specs.Turns.{firstAtom}
@@ -64,6 +66,12 @@ module _ (w : List ℕ) (i : ℕ) (is : IsSchemaAtom w i) where
   fitting =
       let t = taskOf w in
       schemaFits-fits (t .arities) (schemaAt t (schemaNumberIn w i)) fits .fit (atomIn w i) (placed .atom)
+
+  -- a table's schema atom has one of the three roles: an index by role needs no test
+  pub role-known : atomIn w i .role < schemaRoles
+  role-known =
+      let lies = atom-lies w (table-frame w (is .table)) i (is .known) in
+      omega (arith, role-most w (is .table) (schemaNumberIn w i) (lies .known) i (lies .from-start) (lies .before-next))
 
   pub predicate-known : atomIn w i .pred < headIn w .predicates
   predicate-known = let f = fitting .known in let e = arities-word w (table-frame w (is .table)) in omega arith

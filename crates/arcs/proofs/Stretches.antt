@@ -1,22 +1,21 @@
 -- Stretches of a table's schema atoms: where their words lie, their parts, and how a stretch grows by an atom.
 -- A schema's atoms are such a stretch.
 use Prim.Native.Nat.{ℕ, zero, suc, _+_, _-_, _≤_, _<_}
-use mathlib.Core.Path.{_≡_, refl, sym, _∙_, ap, subst}
+use mathlib.Core.Path.{_≡_, refl, sym, _∙_, ap}
 use mathlib.Core.Bool.{true}
 use mathlib.Core.List.{List, [], _∷_, _++_, map}
 use native.Mathlib.Omega.{arith}
-use native.Mathlib.Decide.{decLe}
 use lib.ListN.{length, getD, take, replicate, length-map}
 use lib.Seq.{ext-getD}
 use borrow.Author.Tests.{leb-true}
 use Rattle.words.specs.Lists.{sum, upFrom}
 use Rattle.task.specs.Layout.{headIn, atomTotal}
-use Rattle.task.specs.Task.{Atom, addition, partCount, schemaFits, noSchema}
+use Rattle.task.specs.Task.{Atom, partCount, schemaFits, noSchema}
 use Rattle.task.specs.Run.{schemaAt}
 use Rattle.task.specs.Table.{atomIn, schemaNumberIn, taskOf, isTable}
 use Rattle.task.specs.WordTests.{Roomy}
-use Rattle.words.proofs.Lists.{all-in, in-getD, getD-map, map-append, upFrom-last, length-upFrom}
-use Rattle.words.proofs.Lists.{getD-upFrom}
+use Rattle.words.proofs.Lists.{In, all-in, in-getD, getD-map, map-in, map-append, length-upFrom, getD-upFrom}
+use Rattle.words.proofs.Lists.{upFrom-in, upFrom-append}
 use Rattle.task.proofs.Tests.{schema-tests, task-tests}
 use Rattle.task.proofs.AtomsStand.{noAtom, counts}
 use Rattle.task.proofs.Tables.{startOf, of-table}
@@ -24,7 +23,7 @@ use Rattle.task.proofs.TableReads.{table-roomy}
 use Rattle.task.proofs.TablesByIndex.{table-frame, schemas-word, atom-at, atom-lies, start-suc}
 use Rattle.task.proofs.TablesByIndex.{start-end}
 use Rattle.task.proofs.SchemaWords.{part-small}
-use Rattle.arcs.specs.Stretches.{IsSchemaAtom, IsStretch, NoAdditions, stretchIn}
+use Rattle.arcs.specs.Stretches.{IsSchemaAtom, IsStretch, stretchIn}
 
 -- what an array begins with
 pub zeros-at : (n i : ℕ) → _≡_ {A = ℕ} (getD (replicate n 0) i 0) 0
@@ -65,28 +64,44 @@ stretch-atom s i l = record { table = s .table; known = let k = s .known in omeg
 pub stretch-rest : {w : List ℕ} {from to : ℕ} → IsStretch w from to → (i : ℕ) → i ≤ to → IsStretch w i to
 stretch-rest s i l = record { table = s .table; forward = l; known = s .known }
 
--- no add among those from i on, nor just before them
-pub no-addition-before : (w : List ℕ) (i to : ℕ) → NoAdditions w i to → (atomIn w (i - 1) .role ≡ addition → ⊥) →
-    NoAdditions w (i - 1) to
-no-addition-before w i to h f k l m = elim (decLe i k) [
-  | yes a ↦ h k a m
-  | no a ↦ let e : i - 1 ≡ k = omega arith in subst (λ (n : ℕ). atomIn w n .role ≡ addition → ⊥) e f
-]
+-- what a stretch begins with
+pub stretch-front : {w : List ℕ} {from to : ℕ} → IsStretch w from to → (i : ℕ) → from ≤ i → i ≤ to → IsStretch w from i
+stretch-front s i l m = record { table = s .table; forward = l; known = let k = s .known in omega arith }
+
+-- an atom of a stretch, by its place
+pub stretch-in : (w : List ℕ) (from to : ℕ) (a : Atom) → In a (stretchIn w from to) →
+    (k : ℕ) × (from ≤ k) × (k < to) × (a ≡ atomIn w k)
+unfolding stretchIn
+stretch-in w from to a i =
+    let (k, j, e) = map-in (atomIn w) (upFrom from (to - from)) a i in
+    let (l, m) = upFrom-in from (to - from) k j in
+    (k, l, omega arith, e)
 
 pub atoms-none : (w : List ℕ) (from : ℕ) → stretchIn w from from ≡ []
 unfolding stretchIn upFrom
 atoms-none w from = ap (λ (n : ℕ). map (atomIn w) (upFrom from n)) (let z : from - from ≡ 0 = omega arith in z)
 
-pub atoms-more : (w : List ℕ) (from i : ℕ) → from ≤ i →
-    stretchIn w from (i + 1) ≡ stretchIn w from i ++ (atomIn w i ∷ [])
+pub atoms-one : (w : List ℕ) (i : ℕ) → stretchIn w i (i + 1) ≡ atomIn w i ∷ []
+unfolding stretchIn upFrom
+atoms-one w i = ap (λ (n : ℕ). map (atomIn w) (upFrom i n)) (let z : i + 1 - i ≡ 1 = omega arith in z)
+
+-- a stretch and the one behind it
+pub atoms-append : (w : List ℕ) (from i to : ℕ) → from ≤ i → i ≤ to →
+    stretchIn w from to ≡ stretchIn w from i ++ stretchIn w i to
 unfolding stretchIn
-atoms-more w from i l =
-    let e : i + 1 - from ≡ suc (i - from) = omega arith in
+atoms-append w from i to l m =
+    let e : to - from ≡ (i - from) + (to - i) = omega arith in
     let q : from + (i - from) ≡ i = omega arith in
     ap (λ (n : ℕ). map (atomIn w) (upFrom from n)) e
-    ∙ (ap (map (atomIn w)) (upFrom-last from (i - from))
-    ∙ (map-append (atomIn w) (upFrom from (i - from)) ((from + (i - from)) ∷ [])
-    ∙ ap (λ (k : ℕ). map (atomIn w) (upFrom from (i - from)) ++ (atomIn w k ∷ [])) q))
+    ∙ (ap (map (atomIn w)) (upFrom-append from (i - from) (to - i))
+    ∙ (map-append (atomIn w) (upFrom from (i - from)) (upFrom (from + (i - from)) (to - i))
+    ∙ ap (λ (k : ℕ). map (atomIn w) (upFrom from (i - from)) ++ map (atomIn w) (upFrom k (to - i))) q))
+
+pub atoms-more : (w : List ℕ) (from i : ℕ) → from ≤ i →
+    stretchIn w from (i + 1) ≡ stretchIn w from i ++ (atomIn w i ∷ [])
+atoms-more w from i l =
+    atoms-append w from i (i + 1) l (omega arith)
+    ∙ ap (λ (more : List Atom). stretchIn w from i ++ more) (atoms-one w i)
 
 -- ---- the stretch of a schema's atoms
 -- what begins later begins no earlier

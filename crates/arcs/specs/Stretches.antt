@@ -2,7 +2,7 @@
 -- and the order that is handed back.
 use Prim.Native.Nat.{ℕ, _-_, _≤_, _<_}
 use mathlib.Core.Path.{_≡_}
-use mathlib.Core.Bool.{Bool, true, not, cond, _&&_, _||_}
+use mathlib.Core.Bool.{Bool, true, false, not, cond, _&&_, _||_}
 use mathlib.Core.List.{List, map}
 use mathlib.Core.Option.{Option, none, some}
 use lib.ListN.{length, getD, take}
@@ -10,13 +10,14 @@ use lib.Dec.{eqb}
 use Rattle.words.specs.Lists.{any, upFrom}
 use Rattle.task.specs.Layout.{headIn}
 use Rattle.task.specs.Limits.{mostParts, mostParameters}
-use Rattle.task.specs.Task.{Atom, precondition, addition}
+use Rattle.task.specs.Task.{Atom}
 use Rattle.task.specs.Table.{atomIn, isTable}
 use Rattle.task.specs.declared.Part.{Part}
 use Rattle.arcs.specs.declared.Order.{Order}
+use Rattle.arcs.specs.declared.before.Reach.{Reach}
 use Rattle.arcs.specs.declared.choice.Choice.{Choice}
 use Rattle.arcs.specs.declared.choice.Choice.the-variants as choice
-use Rattle.arcs.specs.Order.{givesArc, arc, inPart, preconditions, tests}
+use Rattle.arcs.specs.Order.{roleBefore, givesArc, arc, inPart, preconditions, tests}
 use Rattle.words.specs.Sets.{SetBelow, member}
 
 -- ---- atoms of a table
@@ -36,13 +37,20 @@ unfoldable pub stretchIn : List ℕ → ℕ → ℕ → List Atom
 unfolding upFrom atomIn
 stretchIn w from to = map (atomIn w) (upFrom from (to - from))
 
--- each atom of a stretch is a precondition
-abbrev pub ArePreconditions : List ℕ → ℕ → ℕ → Type 0
-ArePreconditions w from to = (k : ℕ) → from ≤ k → k < to → atomIn w k .role ≡ precondition
+-- the roles that an arc goes to from role r
+abbrev pub AreAfter : ℕ → ℕ → Type 0
+AreAfter r roles = (q : ℕ) → member roles q ≡ roleBefore r q
 
--- no atom of a stretch is an add
-abbrev pub NoAdditions : List ℕ → ℕ → ℕ → Type 0
-NoAdditions w from to = (k : ℕ) → from ≤ k → k < to → atomIn w k .role ≡ addition → ⊥
+-- no atom of a stretch has one of these roles
+abbrev pub NoneOf : List ℕ → ℕ → ℕ → ℕ → Type 0
+NoneOf w roles from to = (k : ℕ) → from ≤ k → k < to → member roles (atomIn w k .role) ≡ false
+
+-- what atoms of role r have arcs to in a stretch: the roles after it, and an end from which on no atom has one of them
+pub record IsReach (w : List ℕ) (r from to : ℕ) (reach : Reach) : Type 0 where
+  pub after : AreAfter r (reach .after)
+  pub behind : from ≤ reach .end
+  pub within : reach .end ≤ to
+  pub none : NoneOf w (reach .after) (reach .end) to
 
 -- whether one of these atoms and one of others give an arc from part p to part q; the arcs of a list are those between
 -- it and itself

@@ -1,53 +1,53 @@
-// What is asked of a table's schema atoms: whether two give an arc, and an atom's part, role and arguments.
+// What is asked of a table's schema atoms: whether two give an arc, and an atom's role, part and arguments.
 ghost use Prim.Native.Nat.{ℕ, _≤_, _<_};
 ghost use mathlib.Core.Path.{_≡_};
 ghost use lib.ListN.{length, getD};
 ghost use lib.Dec.{eqb};
 ghost use Rattle.words.specs.Sets.{member};
 ghost use Rattle.task.specs.Limits.{mostParts, mostArity, mostParameters};
-ghost use Rattle.task.specs.Task.{precondition, addition, names};
+ghost use Rattle.task.specs.Task.{precondition, schemaRoles, names};
 ghost use Rattle.task.specs.Table.{atomIn};
-ghost use Rattle.arcs.specs.Order.{roleBefore, givesArc};
-ghost use Rattle.arcs.specs.Stretches.{IsSchemaAtom};
+ghost use Rattle.arcs.specs.Order.{givesArc};
+ghost use Rattle.arcs.specs.Stretches.{AreAfter, IsSchemaAtom};
 use task::Parameter;
 use task::Part;
 use task::layout::arguments;
 use task::layout::arity;
 use task::layout::part_at;
 use task::layout::predicate;
-use task::layout::predicate_at;
+use task::layout::role;
 use task::layout::role_at;
 use task::layout::row_of;
-use task::limits::ADDITION;
-use task::limits::DELETION;
 use task::limits::PRECONDITION;
 use words::runs::word_at;
+use words::sets::has;
 use words::sets::with;
 
-// "from precondition to add, precondition to delete, delete to add"
-pub fn role_before(r: u16, q: u16) -> bool
-    ensures { λ b. ⌜ b ≡ roleBefore r q ⌝ }
-{
-    if r == PRECONDITION {
-        q == ADDITION || q == DELETION
-    } else {
-        r == DELETION && q == ADDITION
-    }
-}
-
-// "Two atoms of one schema with the same predicate give an arc"
-pub fn gives_arc(table: &[u16], i: usize, j: usize) -> bool
+// "Two atoms of one schema with the same predicate give an arc", here by the roles that come after the first's.
+pub fn gives_arc(table: &[u16], i: usize, j: usize, after: u64) -> bool
     requires { ⌜ IsSchemaAtom (now table) i ⌝ }
     requires { ⌜ IsSchemaAtom (now table) j ⌝ }
+    requires { ⌜ AreAfter (atomIn (now table) i .role) after ⌝ }
     ensures { λ r. ⌜ r ≡ givesArc (atomIn (now (table .entry)) i) (atomIn (now (table .entry)) j) ⌝ }
 {
-    let a = row_of(table, i);
-    let b = row_of(table, j);
-    if predicate_at(table, a) == predicate_at(table, b) {
-        role_before(role_at(table, a), role_at(table, b))
-    } else {
-        false
-    }
+    predicate(table, i) == predicate(table, j) && has_role(table, j, after)
+}
+
+// "preconditions first, then adds, then deletes": an atom's role is one of the three.
+pub fn role_of(table: &[u16], i: usize) -> usize
+    requires { ⌜ IsSchemaAtom (now table) i ⌝ }
+    ensures { λ r. ⌜ r ≡ atomIn (now (table .entry)) i .role ⌝ }
+    ensures { λ r. ⌜ r < schemaRoles ⌝ }
+{
+    role(table, i)
+}
+
+// Whether atom i has one of these roles.
+pub fn has_role(table: &[u16], i: usize, roles: u64) -> bool
+    requires { ⌜ IsSchemaAtom (now table) i ⌝ }
+    ensures { λ r. ⌜ r ≡ member roles (atomIn (now (table .entry)) i .role) ⌝ }
+{
+    has(roles, role_of(table, i))
 }
 
 // "It has 1 to 16 parts"
@@ -65,14 +65,6 @@ pub fn is_precondition(table: &[u16], i: usize) -> bool
     ensures { λ r. ⌜ r ≡ eqb (atomIn (now (table .entry)) i .role) precondition ⌝ }
 {
     role_at(table, row_of(table, i)) == PRECONDITION
-}
-
-// Whether atom i is an add.
-pub fn is_addition(table: &[u16], i: usize) -> bool
-    requires { ⌜ IsSchemaAtom (now table) i ⌝ }
-    ensures { λ r. ⌜ r ≡ eqb (atomIn (now (table .entry)) i .role) addition ⌝ }
-{
-    role_at(table, row_of(table, i)) == ADDITION
 }
 
 // An atom has as many arguments as its predicate's arity.

@@ -1,47 +1,60 @@
 // The arcs between the parts of a stretch of atoms: for each part, the set of parts that have an arc to it.
-ghost use Prim.Native.Nat.{_≤_};
+ghost use Prim.Native.Nat.{_≤_, _<_};
 ghost use mathlib.Core.Path.{_≡_};
 ghost use mathlib.Core.List.{[], _∷_};
 ghost use lib.ListN.{length};
 ghost use Rattle.task.specs.Limits.{mostParts};
+ghost use Rattle.task.specs.Task.{schemaRoles};
 ghost use Rattle.task.specs.Table.{atomIn};
-ghost use Rattle.arcs.specs.Stretches.{AreArcs, ArePreconditions, IsSchemaAtom, IsStretch, Joins, NoAdditions};
-ghost use Rattle.arcs.specs.Stretches.{stretchIn, arcsBetween};
+ghost use Rattle.arcs.specs.Stretches.{AreAfter, AreArcs, IsReach, IsSchemaAtom, IsStretch, Joins};
+ghost use Rattle.arcs.specs.Stretches.{NoneOf, stretchIn, arcsBetween};
 use crate::PartSets;
 use crate::atoms::gives_arc;
-use crate::atoms::is_addition;
-use crate::atoms::is_precondition;
+use crate::atoms::has_role;
 use crate::atoms::part_of;
+use crate::atoms::role_of;
+use crate::rule::roles_after;
+use crate::rule::roles_reached;
+use task::limits::ADDITION;
+use task::limits::DELETION;
 use task::limits::MOST_PARTS;
-use words::sets;
+use task::limits::PRECONDITION;
+use words::sets::with;
+
+// What atoms of a role have arcs to in a stretch: the roles after it, and an end from which on no atom has one of them.
+struct Reach {
+    after: u64,
+    end: usize,
+}
 
 // The arc from atom i to atom j joins the sets, if there is one. "Arcs inside a part don't count".
-fn add_pair(table: &[u16], i: usize, j: usize, before: &mut PartSets)
+fn add_pair(table: &[u16], i: usize, j: usize, after: u64, before: &mut PartSets)
     requires { ⌜ IsSchemaAtom (now table) i ⌝ }
     requires { ⌜ IsSchemaAtom (now table) j ⌝ }
+    requires { ⌜ AreAfter (atomIn (now table) i .role) after ⌝ }
     requires { ⌜ length (now before) ≡ mostParts ⌝ }
     ensures { λ _. ⌜ length (now (before .exit)) ≡ mostParts ⌝ }
     ensures { λ _. ⌜ Joins (arcsBetween (atomIn (now (table .entry)) i ∷ []) (atomIn (now (table .entry)) j ∷ []))
         (now (before .entry)) (now (before .exit)) ⌝ }
 {
-    if !gives_arc(table, i, j) {
+    if !gives_arc(table, i, j, after) {
         return;
     }
     let p = part_of(table, i).0 as usize;
     let q = part_of(table, j).0 as usize;
     if p != q {
-        before[q] = sets::with(before[q], p);
+        before[q] = with(before[q], p);
     }
 }
 
-// Where the preconditions that a stretch begins with end: no arc goes to one of them.
-fn effects_of(table: &[u16], from: usize, to: usize) -> usize
+// Where the atoms end that a stretch begins with and whose roles are not among these.
+fn first_of(table: &[u16], roles: u64, from: usize, to: usize) -> usize
     requires { ⌜ IsStretch (now table) from to ⌝ }
-    ensures { λ r. ⌜ (from ≤ r) × (r ≤ to) × ArePreconditions (now (table .entry)) from r ⌝ }
+    ensures { λ k. ⌜ (from ≤ k) × (k ≤ to) × NoneOf (now (table .entry)) roles from k ⌝ }
 {
     let mut i = from;
     while i < to {
-        if !is_precondition(table, i) {
+        if has_role(table, i, roles) {
             return i;
         }
         i += 1;
@@ -49,14 +62,14 @@ fn effects_of(table: &[u16], from: usize, to: usize) -> usize
     i
 }
 
-// Where the deletes that a stretch ends with begin: no arc goes from a delete to one of them.
-fn deletes_of(table: &[u16], from: usize, to: usize) -> usize
+// Where the atoms begin that a stretch ends with and whose roles are not among these.
+fn end_of(table: &[u16], roles: u64, from: usize, to: usize) -> usize
     requires { ⌜ IsStretch (now table) from to ⌝ }
-    ensures { λ r. ⌜ (from ≤ r) × (r ≤ to) × NoAdditions (now (table .entry)) r to ⌝ }
+    ensures { λ k. ⌜ (from ≤ k) × (k ≤ to) × NoneOf (now (table .entry)) roles k to ⌝ }
 {
     let mut i = to;
     while from < i {
-        if is_addition(table, i - 1) {
+        if has_role(table, i - 1, roles) {
             return i;
         }
         i -= 1;
@@ -64,52 +77,53 @@ fn deletes_of(table: &[u16], from: usize, to: usize) -> usize
     i
 }
 
-// The arcs from atom i join the sets: none comes from an add, none goes to the preconditions before `effects`, and
-// only a precondition's go to the atoms from `deletes` on.
-fn add_from(
-    table: &[u16],
-    i: usize,
-    from: usize,
-    effects: usize,
-    deletes: usize,
-    to: usize,
-    before: &mut PartSets,
-)
+// The reach of role r.
+fn reach_of(table: &[u16], r: usize, from: usize, to: usize) -> Reach
+    requires { ⌜ r < schemaRoles ⌝ }
+    requires { ⌜ IsStretch (now table) from to ⌝ }
+    ensures { λ reach. ⌜ IsReach (now (table .entry)) r from to reach ⌝ }
+{
+    let after = roles_after(r);
+    Reach {
+        after,
+        end: end_of(table, after, from, to),
+    }
+}
+
+// The arcs from atom i to the atoms of a stretch join the sets.
+fn add_from(table: &[u16], i: usize, from: usize, to: usize, after: u64, before: &mut PartSets)
     requires { ⌜ IsSchemaAtom (now table) i ⌝ }
     requires { ⌜ IsStretch (now table) from to ⌝ }
-    requires { ⌜ (from ≤ effects) × (effects ≤ to) × ArePreconditions (now table) from effects ⌝ }
-    requires { ⌜ (effects ≤ deletes) × (deletes ≤ to) × NoAdditions (now table) deletes to ⌝ }
+    requires { ⌜ AreAfter (atomIn (now table) i .role) after ⌝ }
     requires { ⌜ length (now before) ≡ mostParts ⌝ }
     ensures { λ _. ⌜ length (now (before .exit)) ≡ mostParts ⌝ }
     ensures { λ _. ⌜ Joins (arcsBetween (atomIn (now (table .entry)) i ∷ []) (stretchIn (now (table .entry)) from to))
         (now (before .entry)) (now (before .exit)) ⌝ }
 {
-    if is_addition(table, i) {
-        return;
-    }
-    let end = if is_precondition(table, i) {
-        to
-    } else {
-        deletes
-    };
-    let mut j = effects;
-    while j < end {
-        add_pair(table, i, j, before);
+    let mut j = from;
+    while j < to {
+        add_pair(table, i, j, after, before);
         j += 1;
     }
 }
 
-// For each part the set of parts that have an arc to it.
+// For each part the set of parts that have an arc to it. What no arc goes to is not tried: the atoms that the stretch
+// begins with and no role comes before, and those that it ends with and an atom's own role doesn't come before.
 pub fn arcs_of(table: &[u16], from: usize, to: usize) -> PartSets
     requires { ⌜ IsStretch (now table) from to ⌝ }
     ensures { λ r. ⌜ AreArcs (stretchIn (now (table .entry)) from to) r ⌝ }
 {
-    let effects = effects_of(table, from, to);
-    let deletes = deletes_of(table, effects, to);
+    let first = first_of(table, roles_reached(), from, to);
+    let reaches = [
+        reach_of(table, PRECONDITION as usize, first, to),
+        reach_of(table, ADDITION as usize, first, to),
+        reach_of(table, DELETION as usize, first, to),
+    ];
     let mut before = [0; MOST_PARTS];
     let mut i = from;
     while i < to {
-        add_from(table, i, from, effects, deletes, to, &mut before);
+        let reach = reaches[role_of(table, i)];
+        add_from(table, i, first, reach.end, reach.after, &mut before);
         i += 1;
     }
     before

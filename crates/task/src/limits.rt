@@ -46,6 +46,9 @@ pub const INITIAL: u16 = 3;
 
 pub const GOAL: u16 = 4;
 
+// The first three are those of a schema's atoms.
+pub const SCHEMA_ROLES: usize = 3;
+
 // The places of the six counts.
 pub const OBJECTS: usize = 0;
 

@@ -3,9 +3,10 @@
 -- index that doesn't decide (`-more`), and says what is answered where one does (`-fails`, `-found`), and at the end
 -- (`-ends`). In a function's proof `search all-ends` and the like find the invariant and what was tested.
 use Prim.Native.Nat.{ℕ, zero, suc, _+_, _-_, _≤_, _<_}
-use mathlib.Core.Path.{_≡_, refl, sym, _∙_, ap}
+use mathlib.Core.Path.{_≡_, refl, sym, _∙_, ap, subst}
 use mathlib.Core.Bool.{Bool, true, false, not, _&&_, _||_}
 use mathlib.Core.List.{List, _∷_, map}
+use native.Mathlib.Decide.{decLe}
 use native.Mathlib.Omega.{arith}
 use native.Mathlib.Numerals.{add-one}
 use lib.ListN.{length, getD, take}
@@ -84,6 +85,14 @@ pub run-more : (P : ℕ → Type 0) {from i : ℕ} → ((k : ℕ) → from ≤ k
     (k : ℕ) → from ≤ k → k < i + 1 → P k
 run-more P {from} {i} h here k a l =
     below-more (λ j. from ≤ j → P j) i (λ j m b. h j b m) (λ _. here) k l a
+
+-- the same, downwards
+pub run-before : (P : ℕ → Type 0) {i to : ℕ} → ((k : ℕ) → i ≤ k → k < to → P k) → P (i - 1) →
+    (k : ℕ) → i - 1 ≤ k → k < to → P k
+run-before P {i} h here k a l = elim (decLe i k) [
+  | yes b ↦ h k b l
+  | no b ↦ let e : i - 1 ≡ k = omega arith in subst P e here
+]
 
 -- ---- a set that grows by what each index brings
 pub record SetLeft (p : ℕ → ℕ → Bool) (e : ℕ) (whole : ℕ → Bool) (set i : ℕ) : Type 0 where

@@ -20,11 +20,15 @@ pub or-assoc : (a b c : Bool) → (a || b) || c ≡ a || (b || c)
 or-assoc true b c = refl
 or-assoc false b c = refl
 
--- one element more, at the end
+-- one list behind another, and one element more
+pub any-append : {A : Type 0} (p : A → Bool) (xs ys : List A) → any p (xs ++ ys) ≡ any p xs || any p ys
+unfolding any
+any-append p [] ys = refl
+any-append p (x ∷ xs) ys = ap (λ (b : Bool). p x || b) (any-append p xs ys) ∙ sym (or-assoc (p x) (any p xs) (any p ys))
+
 pub any-last : {A : Type 0} (p : A → Bool) (xs : List A) (x : A) → any p (xs ++ (x ∷ [])) ≡ any p xs || p x
 unfolding any
-any-last p [] x = or-false (p x)
-any-last p (y ∷ ys) x = ap (λ (b : Bool). p y || b) (any-last p ys x) ∙ sym (or-assoc (p y) (any p ys) (p x))
+any-last p xs x = any-append p xs (x ∷ []) ∙ ap (λ (b : Bool). any p xs || b) (or-false (p x))
 
 pub and-more : {t rest whole : Bool} → whole ≡ t && rest → t ≡ true → whole ≡ rest
 and-more {rest = rest} h e = h ∙ ap (λ (b : Bool). b && rest) e

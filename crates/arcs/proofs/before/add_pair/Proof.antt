@@ -23,7 +23,7 @@ second s = atomIn (s .args .table .now) (s .args .j)
 returns : tie.Need-returns
 returns c =
     let s = c .before .before .before in (
-      s .pre .1 .1,
+      s .pre .1 .1 .1,
       pair-joins-none (first s) (second s)
           (λ n g. both-ft g (sym (c .before .gives-arc .ensures) ∙ not-true _ (c .if1 .taken))) (s .args .before .now),
     )
@@ -38,7 +38,7 @@ returns-2 c =
     let sets = s .args .before .now in
     let g = sym (given .before .gives-arc .ensures) ∙ not-false _ (given .if1 .left) in
     let l : to .result .0 < 16 = to .ensures .1 in (
-      length-set sets (to .result .0) (c .with .result) ∙ s .pre .1 .1,
+      length-set sets (to .result .0) (c .with .result) ∙ s .pre .1 .1 .1,
       pair-joins (first s) (second s) sets (c .with .result) (from .result .0) (to .result .0) (from .ensures .0)
           (to .ensures .0) (omega arith) (tested .if2 .taken) g (c .with .ensures),
     )
@@ -48,7 +48,7 @@ returns-3 c =
     let s = c .before .before .before .before .before .before .before .before in
     let p = c .before .before .before .before .part-of .ensures .0 in
     let q = c .before .before .part-of2 .ensures .0 in (
-      s .pre .1 .1,
+      s .pre .1 .1 .1,
       pair-joins-none (first s) (second s) (λ n g. n (sym p ∙ (c .if2 .left ∙ q))) (s .args .before .now),
     )
 
