@@ -2,7 +2,7 @@
 
 use checks::answers::each_answer;
 use checks::inputs::task_and_table;
-use checks::report;
+use checks::{read_table, report};
 use checks::rows::plain_row;
 use checks::vectors::split_program_cases;
 use differential::beside::{compare, short_or_long, shown, table_to_write};
@@ -46,6 +46,45 @@ fn parts_that_tie() {
         let table = tables::table(&any_tying_task(random));
         compared(&table, &[7; TABLE_WORDS])
     });
+}
+
+/// A schema of two parts, with an atom of each role on predicate 0: the first's
+/// in part 0, the second's in part 1. A delete and an add of predicate 1 give an
+/// arc back, so that no order complies just when the two roles give an arc.
+fn roles_in_two_parts(first: &str, second: &str) -> Vec<u16> {
+    let placed = [
+        (format!("{first}=0:0\n"), 0),
+        (format!("{second}=0:1\n"), 1),
+        ("del=1:\n".to_string(), 1),
+        ("add=1:\n".to_string(), 0),
+    ];
+    let ordered = ["pre", "add", "del"]
+        .into_iter()
+        .flat_map(|key| placed.iter().filter(move |(line, _)| line.starts_with(key)));
+    let (lines, parts): (Vec<&str>, Vec<String>) = ordered
+        .map(|(line, part)| (line.as_str(), part.to_string()))
+        .unzip();
+    let (lines, parts) = (lines.concat(), parts.join(","));
+    let text = format!("task=1\nobjects=2\narity=1,0\nschema=2\n{lines}part={parts}\nend=1\n");
+    read_table(text.as_bytes())
+}
+
+/// "An arc from precondition to add, precondition to delete, delete to add":
+/// nine pairs, of which these three and no others are refused.
+#[test]
+fn pairs_of_roles() {
+    let rows = [
+        ("pre", [("pre", 0), ("add", 9), ("del", 9)]),
+        ("add", [("pre", 0), ("add", 0), ("del", 0)]),
+        ("del", [("pre", 0), ("add", 9), ("del", 0)]),
+    ];
+    for (first, row) in rows {
+        for (second, expected) in row {
+            let table = roles_in_two_parts(first, second);
+            let answer = compared(&table, &[7; TABLE_WORDS]);
+            assert_eq!(answer, expected, "from {first} to {second}");
+        }
+    }
 }
 
 #[test]
