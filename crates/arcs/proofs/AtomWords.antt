@@ -1,5 +1,4 @@
--- The words of a table's schema atom: what is known of its role, its predicate and its arguments, and
--- where these stand.
+-- The words of a table's schema atom: what is known of its role, predicate and arguments, and where these stand.
 -- An atom lies in the schema that its first word names, and a schema's atoms fit.
 use Prim.Native.Nat.{ℕ, _+_, _-_, _≤_, _<_}
 use mathlib.Core.Path.{_≡_, sym, _∙_, ap, subst}
