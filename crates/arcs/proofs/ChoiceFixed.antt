@@ -12,7 +12,7 @@ use lib.ListN.{length, getD, take}
 use lib.Seq.{ext-getD, getD-take, length-take-le}
 use lib.Dec.{eqb}
 use Rattle.words.specs.Lists.{upTo}
-use Rattle.task.specs.Task.{Atom, Schema, partCount}
+use Rattle.task.specs.Task.{Atom, Pair, Schema, partCount}
 use Rattle.arcs.specs.Order.{arc, preconditions, newParameters, placedParts, ready, nextPart, orderOf}
 use Rattle.words.proofs.Lists.{In, here, there, in-eq, in-empty, in-left, in-right, in-append, in-filter}
 use Rattle.words.proofs.Lists.{filter-in, in-upTo, upTo-in}
@@ -24,17 +24,18 @@ use Rattle.arcs.proofs.Best.{Best, candidates, next-ready, next-best}
 
 -- ---- the choice, in plain terms
 -- "among unplaced parts that no unplaced part has an arc to"
-abbrev pub Ready : List Atom → (ℕ → Type 0) → ℕ → Type 0
-Ready atoms Unplaced p = Unplaced p × ((q : ℕ) → Unplaced q → arc atoms q p ≡ false)
+abbrev pub Ready : List Pair → List Atom → (ℕ → Type 0) → ℕ → Type 0
+Ready pairs atoms Unplaced p = Unplaced p × ((q : ℕ) → Unplaced q → arc pairs atoms q p ≡ false)
 
 -- "the one with most preconditions"; of "equally many", "the one whose preconditions name more parameters not in a part
 -- already placed; only then the lowest number"
-pub record Chosen (atoms : List Atom) (placed : List ℕ) (Unplaced : ℕ → Type 0) (p : ℕ) : Type 0 where
-  pub is-ready : Ready atoms Unplaced p
-  pub most : (q : ℕ) → Ready atoms Unplaced q → preconditions atoms q ≤ preconditions atoms p
-  pub newest : (q : ℕ) → Ready atoms Unplaced q → preconditions atoms q ≡ preconditions atoms p →
+pub record Chosen (pairs : List Pair) (atoms : List Atom) (placed : List ℕ) (Unplaced : ℕ → Type 0) (p : ℕ) : Type 0
+    where
+  pub is-ready : Ready pairs atoms Unplaced p
+  pub most : (q : ℕ) → Ready pairs atoms Unplaced q → preconditions atoms q ≤ preconditions atoms p
+  pub newest : (q : ℕ) → Ready pairs atoms Unplaced q → preconditions atoms q ≡ preconditions atoms p →
       newParameters atoms placed q ≤ newParameters atoms placed p
-  pub lowest : (q : ℕ) → Ready atoms Unplaced q → preconditions atoms q ≡ preconditions atoms p →
+  pub lowest : (q : ℕ) → Ready pairs atoms Unplaced q → preconditions atoms q ≡ preconditions atoms p →
       newParameters atoms placed q ≡ newParameters atoms placed p → p ≤ q
 
 -- parts that stand at no place before i
@@ -47,7 +48,7 @@ PartOf s p = p < partCount (s .atoms)
 -- at each place of the order stands the part chosen there: those before it are placed, the others unplaced
 pub ChosenThroughout : Schema → List ℕ → Type 0
 ChosenThroughout s o =
-    (i : ℕ) → i < length o → Chosen (s .atoms) (take i o) (UnplacedAt (PartOf s) o i) (getD o i 0)
+    (i : ℕ) → i < length o → Chosen (s .pairs) (s .atoms) (take i o) (UnplacedAt (PartOf s) o i) (getD o i 0)
 
 -- ---- lists of the same parts
 abbrev Within : List ℕ → List ℕ → Type 0
@@ -60,41 +61,41 @@ without-first : (a b : List ℕ) → ((q : ℕ) → In q a → ⊥) → Within (
 without-first a b n q j = elim (in-append a {ys = b} j) [ inl m ↦ absurd (n q m) | inr m ↦ m ]
 
 -- the same parts placed and the same unplaced, the same choice
-chosen-same : {atoms : List Atom} {a b : List ℕ} {U W : ℕ → Type 0} {p : ℕ} → Within a b → Within b a →
-    ((q : ℕ) → U q → W q) → ((q : ℕ) → W q → U q) → Chosen atoms a U p → Chosen atoms b W p
-chosen-same {atoms} {a} {b} {U} {W} {p} ab ba forth back c = record {
+chosen-same : {pairs : List Pair} {atoms : List Atom} {a b : List ℕ} {U W : ℕ → Type 0} {p : ℕ} → Within a b →
+    Within b a → ((q : ℕ) → U q → W q) → ((q : ℕ) → W q → U q) → Chosen pairs atoms a U p → Chosen pairs atoms b W p
+chosen-same {pairs} {atoms} {a} {b} {U} {W} {p} ab ba forth back c = record {
   is-ready = (forth p (c .is-ready .0), λ q u. c .is-ready .1 q (back q u));
   most = λ q r. c .most q (over q r);
   newest = λ q r e. let m = c .newest q (over q r) e in omega (arith, new q, new p);
   lowest = λ q r e f. c .lowest q (over q r) e (new q ∙ f ∙ sym (new p));
 }
   where
-    over : (q : ℕ) → Ready atoms W q → Ready atoms U q
+    over : (q : ℕ) → Ready pairs atoms W q → Ready pairs atoms U q
     over q r = (back q (r .0), λ x u. r .1 x (forth x u))
 
     new : (q : ℕ) → newParameters atoms a q ≡ newParameters atoms b q
     new = new-same atoms a b ab ba
 
-next-chosen : (atoms : List Atom) (unplaced : List ℕ) (p : ℕ) → Ascend unplaced →
-    nextPart atoms unplaced ≡ some p → Chosen atoms (placedParts atoms unplaced) (λ q. In q unplaced) p
-next-chosen atoms unplaced p a h = record {
-  is-ready = (i, ready-no-arc atoms unplaced p r);
+next-chosen : (pairs : List Pair) (atoms : List Atom) (unplaced : List ℕ) (p : ℕ) → Ascend unplaced →
+    nextPart pairs atoms unplaced ≡ some p → Chosen pairs atoms (placedParts atoms unplaced) (λ q. In q unplaced) p
+next-chosen pairs atoms unplaced p a h = record {
+  is-ready = (i, ready-no-arc pairs atoms unplaced p r);
   most = λ q k. b .none-ahead q (candidate q k) .0;
   newest = λ q k. b .none-ahead q (candidate q k) .1;
   lowest = λ q k. b .lowest q (candidate q k);
 }
   where
-    b : Best atoms (placedParts atoms unplaced) (candidates atoms unplaced) p
-    b = next-best atoms unplaced a p h
+    b : Best atoms (placedParts atoms unplaced) (candidates pairs atoms unplaced) p
+    b = next-best pairs atoms unplaced a p h
 
     i : In p unplaced
-    i = filter-in (ready atoms unplaced) unplaced p (b .one) .0
+    i = filter-in (ready pairs atoms unplaced) unplaced p (b .one) .0
 
-    r : ready atoms unplaced p ≡ true
-    r = filter-in (ready atoms unplaced) unplaced p (b .one) .1
+    r : ready pairs atoms unplaced p ≡ true
+    r = filter-in (ready pairs atoms unplaced) unplaced p (b .one) .1
 
-    candidate : (q : ℕ) → Ready atoms (λ q. In q unplaced) q → In q (candidates atoms unplaced)
-    candidate q k = in-filter (ready atoms unplaced) (k .0) (no-arc-ready atoms unplaced q (k .1))
+    candidate : (q : ℕ) → Ready pairs atoms (λ q. In q unplaced) q → In q (candidates pairs atoms unplaced)
+    candidate q k = in-filter (ready pairs atoms unplaced) (k .0) (no-arc-ready pairs atoms unplaced q (k .1))
 
 -- parts placed, then p, then others: p is first of those to come, or the last of those placed
 module _ (atoms : List Atom) (us ps : List ℕ) (p : ℕ) where
@@ -118,16 +119,16 @@ module _ (atoms : List Atom) (us ps : List ℕ) (p : ℕ) where
 abbrev ArePartsOf : List Atom → List ℕ → Type 0
 ArePartsOf atoms unplaced = (q : ℕ) → In q unplaced → q < partCount atoms
 
-taken-chosen : {atoms : List Atom} {n : ℕ} {unplaced o : List ℕ} → Taken atoms n unplaced o → Ascend unplaced →
-    ArePartsOf atoms unplaced → (i : ℕ) → i < length o →
-    Chosen atoms (placedParts atoms unplaced ++ take i o) (UnplacedAt (λ q. In q unplaced) o i) (getD o i 0)
+taken-chosen : {pairs : List Pair} {atoms : List Atom} {n : ℕ} {unplaced o : List ℕ} →
+    Taken pairs atoms n unplaced o → Ascend unplaced → ArePartsOf atoms unplaced → (i : ℕ) → i < length o →
+    Chosen pairs atoms (placedParts atoms unplaced ++ take i o) (UnplacedAt (λ q. In q unplaced) o i) (getD o i 0)
 taken-chosen all-placed a f i l = absurd (omega arith)
-taken-chosen {atoms} (place-next {p = p} {unplaced = us} b k) a f zero l =
+taken-chosen {pairs} {atoms} (place-next {p = p} {unplaced = us} b k) a f zero l =
     chosen-same (λ q i. in-left [] i) (without-last (placedParts atoms us))
-    (λ q u. (u, λ k m. absurd (omega arith))) (λ q u. u .0) (next-chosen atoms us p a b)
-taken-chosen {atoms} (place-next {p = p} {unplaced = us} {o = o} b k) a f (suc i) l =
-    chosen-same (next-first atoms us (take i o) p) (first-next atoms us (take i o) p (f p (next-ready atoms us p b .0)))
-    forth back
+    (λ q u. (u, λ k m. absurd (omega arith))) (λ q u. u .0) (next-chosen pairs atoms us p a b)
+taken-chosen {pairs} {atoms} (place-next {p = p} {unplaced = us} {o = o} b k) a f (suc i) l =
+    chosen-same (next-first atoms us (take i o) p)
+    (first-next atoms us (take i o) p (f p (next-ready pairs atoms us p b .0))) forth back
     (taken-chosen k (ascend-filter (λ q. not (eqb p q)) a) (λ q j. f q (others-in p us q j .0)) i (omega arith))
   where
     forth : (q : ℕ) → UnplacedAt (λ q. In q (others p us)) o i q → UnplacedAt (λ q. In q us) (p ∷ o) (suc i) q
@@ -153,8 +154,8 @@ choice-fixed s o h i l =
     (taken-chosen (order-as-taken s o h) (ascend-upTo n) (upTo-in n) i l)
 
 -- ---- the choice decides the order
-chosen-one : {atoms : List Atom} {placed : List ℕ} {U : ℕ → Type 0} {p q : ℕ} → Chosen atoms placed U p →
-    Chosen atoms placed U q → p ≡ q
+chosen-one : {pairs : List Pair} {atoms : List Atom} {placed : List ℕ} {U : ℕ → Type 0} {p q : ℕ} →
+    Chosen pairs atoms placed U p → Chosen pairs atoms placed U q → p ≡ q
 chosen-one {p = p} {q = q} a b =
     let m = a .most q (b .is-ready) in
     let n = b .most p (a .is-ready) in

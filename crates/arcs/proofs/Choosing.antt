@@ -13,7 +13,7 @@ use lib.Dec.{ltb}
 use borrow.Author.Tests.{eq-eqb, ne-eqb, le-ltb}
 use Rattle.words.specs.Lists.{any, filter, keepIf, upFrom, upTo}
 use Rattle.task.specs.Limits.{mostParameters}
-use Rattle.task.specs.Task.{Atom}
+use Rattle.task.specs.Task.{Atom, Pair}
 use Rattle.words.proofs.Lists.{and-left, and-right, and-both, bool-ext, both-ft, any-in, in-any, in-filter, filter-in}
 use Rattle.words.proofs.Lists.{filter-same, in-upTo}
 use Rattle.words.proofs.Ranges.{or-false}
@@ -32,18 +32,19 @@ member-small set k f h = elim (decLt k 64) [
 ]
 
 -- an unplaced part has an arc to p where its set and the unplaced parts have a number in common
-pub ready-apart : (atoms : List Atom) (before : List ℕ) (unplaced n p : ℕ) → unplaced < 2 ^ 64 →
-    AreArcs atoms before → SetBelow n unplaced →
-    not (any (λ k. member (getD before p 0) k && member unplaced k) (upTo 64)) ≡ ready atoms (members unplaced n) p
+pub ready-apart : (pairs : List Pair) (atoms : List Atom) (before : List ℕ) (unplaced n p : ℕ) → unplaced < 2 ^ 64 →
+    AreArcs pairs atoms before → SetBelow n unplaced →
+    not (any (λ k. member (getD before p 0) k && member unplaced k) (upTo 64)) ≡
+    ready pairs atoms (members unplaced n) p
 unfolding ready members
-ready-apart atoms before unplaced n p f a b =
+ready-apart pairs atoms before unplaced n p f a b =
     ap not (bool-ext (any common (upTo 64)) (any arcs (members unplaced n)) to from)
   where
     common : ℕ → Bool
     common k = member (getD before p 0) k && member unplaced k
 
     arcs : ℕ → Bool
-    arcs k = arc atoms k p
+    arcs k = arc pairs atoms k p
 
     to : any common (upTo 64) ≡ true → any arcs (members unplaced n) ≡ true
     to h =
@@ -164,42 +165,48 @@ pub only-below : (n p : ℕ) → p < n → (q : ℕ) → some p ≡ some q → q
 only-below n p l q e = let z : p ≡ q = cc in omega arith
 
 -- ---- what is found among the parts from a number on
--- of all atoms of which something is known, the sets and counts that the choice goes by
-module _ (Known : List Atom → Type 0) (unplaced n : ℕ) where
-  abbrev isReady : List Atom → ℕ → Bool
-  isReady atoms = ready atoms (members unplaced n)
+-- of all pairs and atoms of which something is known, the sets and counts that the choice goes by
+module _ (Known : List Pair → List Atom → Type 0) (unplaced n : ℕ) where
+  abbrev isReady : List Pair → List Atom → ℕ → Bool
+  isReady pairs atoms = ready pairs atoms (members unplaced n)
 
   abbrev placed : List Atom → List ℕ
   placed atoms = placedParts atoms (members unplaced n)
 
   -- the best of the candidates from p on
   abbrev pub FoundFrom : ℕ → Option ℕ → Type 0
-  FoundFrom p found = (atoms : List Atom) → Known atoms →
-      found ≡ best atoms (placed atoms) (candidates unplaced (isReady atoms) n p)
+  FoundFrom p found = (pairs : List Pair) (atoms : List Atom) → Known pairs atoms →
+      found ≡ best atoms (placed atoms) (candidates unplaced (isReady pairs atoms) n p)
 
   -- whether p is unplaced and ready
   abbrev Passes : ℕ → Bool → Type 0
-  Passes p b = (atoms : List Atom) → Known atoms → member unplaced p && isReady atoms p ≡ b
+  Passes p b = (pairs : List Pair) (atoms : List Atom) → Known pairs atoms →
+      member unplaced p && isReady pairs atoms p ≡ b
 
   pub found-none : FoundFrom n none
   unfolding best
-  found-none atoms k = sym (ap (best atoms (placed atoms)) (candidates-none unplaced (isReady atoms) n))
+  found-none pairs atoms k =
+      sym (ap (best atoms (placed atoms)) (candidates-none unplaced (isReady pairs atoms) n))
 
   pub found-skip : (p : ℕ) (found : Option ℕ) → 0 < p → p ≤ n → Passes (p - 1) false →
       FoundFrom p found → FoundFrom (p - 1) found
-  found-skip p found z l t h atoms k =
-      h atoms k
-      ∙ sym (ap (best atoms (placed atoms)) (candidates-skip unplaced (isReady atoms) n p z l (t atoms k)))
+  found-skip p found z l t h pairs atoms k =
+      h pairs atoms k
+      ∙ sym (ap (best atoms (placed atoms))
+      (candidates-skip unplaced (isReady pairs atoms) n p z l (t pairs atoms k)))
 
   pub found-take : (p : ℕ) (found r : Option ℕ) → 0 < p → p ≤ n → Passes (p - 1) true → FoundFrom p found →
-      ((atoms : List Atom) → Known atoms → r ≡ better atoms (placed atoms) (p - 1) found) → FoundFrom (p - 1) r
+      ((pairs : List Pair) (atoms : List Atom) → Known pairs atoms → r ≡ better atoms (placed atoms) (p - 1) found) →
+      FoundFrom (p - 1) r
   unfolding best
-  found-take p found r z l t h e atoms k =
-      e atoms k
-      ∙ (ap (better atoms (placed atoms) (p - 1)) (h atoms k)
-      ∙ sym (ap (best atoms (placed atoms)) (candidates-take unplaced (isReady atoms) n p z l (t atoms k))))
+  found-take p found r z l t h e pairs atoms k =
+      e pairs atoms k
+      ∙ (ap (better atoms (placed atoms) (p - 1)) (h pairs atoms k)
+      ∙ sym (ap (best atoms (placed atoms))
+      (candidates-take unplaced (isReady pairs atoms) n p z l (t pairs atoms k))))
 
-  pub found-all : (found : Option ℕ) → FoundFrom 0 found → (atoms : List Atom) → Known atoms →
-      found ≡ nextPart atoms (members unplaced n)
+  pub found-all : (found : Option ℕ) → FoundFrom 0 found → (pairs : List Pair) (atoms : List Atom) →
+      Known pairs atoms → found ≡ nextPart pairs atoms (members unplaced n)
   unfolding nextPart
-  found-all found h atoms k = h atoms k ∙ ap (best atoms (placed atoms)) (candidates-all unplaced (isReady atoms) n)
+  found-all found h pairs atoms k =
+      h pairs atoms k ∙ ap (best atoms (placed atoms)) (candidates-all unplaced (isReady pairs atoms) n)

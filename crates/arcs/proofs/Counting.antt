@@ -17,8 +17,8 @@ use Rattle.task.specs.Limits.{mostParts}
 use Rattle.task.specs.Task.{Atom, partCount, precondition}
 use Rattle.task.specs.Table.{atomIn}
 use Rattle.arcs.specs.Order.{isTest, preconditions}
-use Rattle.arcs.specs.Stretches.{stretchIn}
-use Rattle.arcs.proofs.Stretches.{zeros-at}
+use Rattle.arcs.specs.Stretches.{stretch, stretchIn}
+use Rattle.arcs.proofs.Joining.{zeros-at}
 
 -- ---- the number of parts
 pub part-count-none : partCount [] ≡ 0
@@ -106,7 +106,7 @@ counted-none = each-none (Has []) (λ p. sym (preconditions-none p))
 -- before the last atom of a stretch there is room in a word for one more
 pub counted-room : (w : List ℕ) (from : ℕ) {i to : ℕ} {counts : List ℕ} → Counted (stretchIn w from i) counts →
     i < to → to < 2 ^ 64 → (p : ℕ) → getD counts p 0 + 1 < 2 ^ 64
-unfolding stretchIn
+unfolding stretch
 counted-room w from {i} c l h p =
     let ks = upFrom from (i - from) in
     let few = preconditions-few (stretchIn w from i) p in

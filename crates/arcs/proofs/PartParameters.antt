@@ -19,7 +19,7 @@ use Rattle.task.specs.Task.{Atom, names, precondition}
 use Rattle.task.specs.Table.{atomIn}
 use Rattle.task.proofs.States.{names-in}
 use Rattle.arcs.specs.Order.{inPart, isTest, tests}
-use Rattle.arcs.specs.Stretches.{IsStretch, stretchIn}
+use Rattle.arcs.specs.Stretches.{IsStretch, stretch, stretchIn}
 use Rattle.arcs.proofs.AtomWords.{argument-small}
 use Rattle.arcs.proofs.Stretches.{stretch-atom}
 use Rattle.arcs.proofs.Counting.{Each, each-none, each-same, each-stored, test-of-part, test-of-none}
@@ -72,7 +72,7 @@ in-part-more atoms a x p = any-last (λ a. eqb p (a .part) && names x a) atoms a
 -- parameters are below 12
 pub part-small : (w : List ℕ) (from to p x : ℕ) → IsStretch w from to → inPart (stretchIn w from to) x p ≡ true →
     x < mostParameters
-unfolding inPart stretchIn
+unfolding inPart stretch
 part-small w from to p x s h =
     let (a, i, e) = any-in (λ a. eqb p (a .part) && names x a) (stretchIn w from to) h in
     let (k, m, q) = map-in (atomIn w) (upFrom from (to - from)) a i in

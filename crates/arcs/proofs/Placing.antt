@@ -13,7 +13,7 @@ use lib.Seq.{take-suc-set}
 use borrow.Author.Tests.{lt-ltb, ltb-true}
 use Rattle.task.specs.declared.Part.{Part}
 use Rattle.words.specs.Lists.{filter, keepIf, upTo}
-use Rattle.task.specs.Task.{Atom, Schema, partCount}
+use Rattle.task.specs.Task.{Atom, Pair, Schema, partCount}
 use Rattle.words.proofs.Lists.{In, here, there, and-left, map-append, upTo-in}
 use Rattle.arcs.specs.Order.{inPart, placedParts, nextPart, consTo, place, orderFrom, orderOf}
 use Rattle.arcs.specs.Stretches.{IsBound}
@@ -78,15 +78,15 @@ consAll-last [] p o = refl
 consAll-last (q ∷ ps) p o = ap (consTo q) (consAll-last ps p o)
 
 -- ---- a turn of the definition
-order-step : (atoms : List Atom) (m : ℕ) (us : List ℕ) (p : ℕ) → some p ≡ nextPart atoms us →
-    orderFrom atoms (suc m) us ≡ consTo p (orderFrom atoms m (filter (λ q. not (eqb p q)) us))
-unfolding orderFrom place
-order-step atoms m us p c = ap (place (λ ps. orderFrom atoms m ps) us) (sym c)
+module _ (pairs : List Pair) (atoms : List Atom) (m : ℕ) (us : List ℕ) where
+  order-step : (p : ℕ) → some p ≡ nextPart pairs atoms us →
+      orderFrom pairs atoms (suc m) us ≡ consTo p (orderFrom pairs atoms m (filter (λ q. not (eqb p q)) us))
+  unfolding orderFrom place
+  order-step p c = ap (place (λ ps. orderFrom pairs atoms m ps) us) (sym c)
 
-order-stuck : (atoms : List Atom) (m : ℕ) (us : List ℕ) → none ≡ nextPart atoms us →
-    orderFrom atoms (suc m) us ≡ none
-unfolding orderFrom place
-order-stuck atoms m us c = ap (place (λ ps. orderFrom atoms m ps) us) (sym c)
+  order-stuck : none ≡ nextPart pairs atoms us → orderFrom pairs atoms (suc m) us ≡ none
+  unfolding orderFrom place
+  order-stuck c = ap (place (λ ps. orderFrom pairs atoms m ps) us) (sym c)
 
 -- ---- a turn of the code
 -- the numbers of the parts placed
@@ -103,54 +103,55 @@ numbers-more placed parts p l =
     ∙ (ap (map numberOf) (take-suc-set parts placed p l) ∙ map-append numberOf (take placed parts) (p ∷ []))
 
 -- the order of all n parts is the parts placed, then an order of the unplaced ones
-pub Placed : List Atom → ℕ → List Part → ℕ → ℕ → Type 0
-Placed atoms n parts unplaced placed =
-    orderFrom atoms n (upTo n) ≡ consAll (numbers placed parts) (orderFrom atoms (n - placed) (members unplaced n))
+pub Placed : List Pair → List Atom → ℕ → List Part → ℕ → ℕ → Type 0
+Placed pairs atoms n parts unplaced placed =
+    orderFrom pairs atoms n (upTo n) ≡
+    consAll (numbers placed parts) (orderFrom pairs atoms (n - placed) (members unplaced n))
 
-module _ (atoms : List Atom) (n : ℕ) (parts : List Part) where
-  pub placed-none : (unplaced : ℕ) → ((k : ℕ) → member unplaced k ≡ ltb k n) → Placed atoms n parts unplaced 0
+module _ (pairs : List Pair) (atoms : List Atom) (n : ℕ) (parts : List Part) where
+  pub placed-none : (unplaced : ℕ) → ((k : ℕ) → member unplaced k ≡ ltb k n) → Placed pairs atoms n parts unplaced 0
   unfolding Placed consAll
   placed-none unplaced h =
       let z : n ≡ n - 0 = omega arith in
-      ap₂ (λ (m : ℕ) (us : List ℕ). orderFrom atoms m us) z (sym (members-all unplaced n h))
+      ap₂ (λ (m : ℕ) (us : List ℕ). orderFrom pairs atoms m us) z (sym (members-all unplaced n h))
 
   pub placed-more : (unplaced less placed : ℕ) (p : Part) → placed < n → placed < length parts →
-      some (p .0) ≡ nextPart atoms (members unplaced n) →
+      some (p .0) ≡ nextPart pairs atoms (members unplaced n) →
       Without unplaced (p .0) less →
-      Placed atoms n parts unplaced placed → Placed atoms n (set parts placed p) less (placed + 1)
+      Placed pairs atoms n parts unplaced placed → Placed pairs atoms n (set parts placed p) less (placed + 1)
   unfolding Placed
   placed-more unplaced less placed p l i c w h =
       let xs = numbers placed parts in
       let us = members unplaced n in
       let m = n - (placed + 1) in
       let e : n - placed ≡ suc m = omega arith in
-      let o = orderFrom atoms m (members less n) in
+      let o = orderFrom pairs atoms m (members less n) in
       let f = members-without unplaced less (p .0) n w in
       h
-      ∙ (ap (λ (k : ℕ). consAll xs (orderFrom atoms k us)) e
-      ∙ (ap (consAll xs) (order-step atoms m us (p .0) c)
-      ∙ (ap (λ (vs : List ℕ). consAll xs (consTo (p .0) (orderFrom atoms m vs))) f
+      ∙ (ap (λ (k : ℕ). consAll xs (orderFrom pairs atoms k us)) e
+      ∙ (ap (consAll xs) (order-step pairs atoms m us (p .0) c)
+      ∙ (ap (λ (vs : List ℕ). consAll xs (consTo (p .0) (orderFrom pairs atoms m vs))) f
       ∙ (sym (consAll-last xs (p .0) o) ∙ ap (λ (ys : List ℕ). consAll ys o) (sym (numbers-more placed parts p i))))))
 
   pub placed-stuck : (unplaced placed : ℕ) → placed < n →
-      none ≡ nextPart atoms (members unplaced n) →
-      Placed atoms n parts unplaced placed → orderFrom atoms n (upTo n) ≡ none
+      none ≡ nextPart pairs atoms (members unplaced n) →
+      Placed pairs atoms n parts unplaced placed → orderFrom pairs atoms n (upTo n) ≡ none
   unfolding Placed
   placed-stuck unplaced placed l c h =
       let xs = numbers placed parts in
       let us = members unplaced n in
       let e : n - placed ≡ suc (n - (placed + 1)) = omega arith in
       h
-      ∙ (ap (λ (m : ℕ). consAll xs (orderFrom atoms m us)) e
-      ∙ (ap (consAll xs) (order-stuck atoms (n - (placed + 1)) us c) ∙ consAll-none xs))
+      ∙ (ap (λ (m : ℕ). consAll xs (orderFrom pairs atoms m us)) e
+      ∙ (ap (consAll xs) (order-stuck pairs atoms (n - (placed + 1)) us c) ∙ consAll-none xs))
 
-  pub placed-all : (unplaced : ℕ) → Placed atoms n parts unplaced n →
-      orderFrom atoms n (upTo n) ≡ some (numbers n parts)
+  pub placed-all : (unplaced : ℕ) → Placed pairs atoms n parts unplaced n →
+      orderFrom pairs atoms n (upTo n) ≡ some (numbers n parts)
   unfolding Placed orderFrom
   placed-all unplaced h =
       let xs = numbers n parts in
       let z : n - n ≡ 0 = omega arith in
-      h ∙ (ap (λ (m : ℕ). consAll xs (orderFrom atoms m (members unplaced n))) z ∙ consAll-nothing xs)
+      h ∙ (ap (λ (m : ℕ). consAll xs (orderFrom pairs atoms m (members unplaced n))) z ∙ consAll-nothing xs)
 
 -- ---- the parameters of the parts placed
 module _ (atoms : List Atom) (n : ℕ) (all : n ≡ partCount atoms) where
@@ -168,10 +169,10 @@ module _ (atoms : List Atom) (n : ℕ) (all : n ≡ partCount atoms) where
       subst (λ (us : List ℕ). IsBound atoms (placedParts atoms us) more) (members-without unplaced less p n w)
       (bound-more atoms (members unplaced n) p bound own more (omega arith) b o m)
 
--- ---- a schema of these atoms
-pub order-is : (s : Schema) (atoms : List Atom) (n : ℕ) → s .atoms ≡ atoms → n ≡ partCount atoms →
-    orderFrom atoms n (upTo n) ≡ orderOf s
+-- ---- a schema of these pairs and atoms
+pub order-is : (s : Schema) (pairs : List Pair) (atoms : List Atom) (n : ℕ) → s .pairs ≡ pairs → s .atoms ≡ atoms →
+    n ≡ partCount atoms → orderFrom pairs atoms n (upTo n) ≡ orderOf s
 unfolding orderOf
-order-is s atoms n e k =
-    ap (λ (m : ℕ). orderFrom atoms m (upTo m)) k
-    ∙ ap (λ (bs : List Atom). orderFrom bs (partCount bs) (upTo (partCount bs))) (sym e)
+order-is s pairs atoms n d e k =
+    ap (λ (m : ℕ). orderFrom pairs atoms m (upTo m)) k
+    ∙ ap₂ (λ (ps : List Pair) (bs : List Atom). orderFrom ps bs (partCount bs) (upTo (partCount bs))) (sym d) (sym e)

@@ -1,26 +1,26 @@
--- What the contracts of this crate's code speak of: stretches of a table's schema atoms, what is found of each part,
--- and the order that is handed back.
+-- What the contracts of this crate's code speak of: stretches of a table's schema atoms and of its pairs, what is found
+-- of each parameter and each part, and the order that is handed back.
 use Prim.Native.Nat.{ℕ, _-_, _≤_, _<_}
 use mathlib.Core.Path.{_≡_}
 use mathlib.Core.Bool.{Bool, true, false, not, cond, _&&_, _||_}
-use mathlib.Core.List.{List, map}
+use mathlib.Core.List.{List, [], map}
 use mathlib.Core.Option.{Option, none, some}
 use lib.ListN.{length, getD, take}
 use lib.Dec.{eqb}
 use Rattle.words.specs.Lists.{any, upFrom}
 use Rattle.task.specs.Layout.{headIn}
 use Rattle.task.specs.Limits.{mostParts, mostParameters}
-use Rattle.task.specs.Task.{Atom}
-use Rattle.task.specs.Table.{atomIn, isTable}
+use Rattle.task.specs.Task.{Atom, Pair}
+use Rattle.task.specs.Table.{pairIn, atomIn, isTable}
 use Rattle.task.specs.declared.Part.{Part}
 use Rattle.arcs.specs.declared.Order.{Order}
 use Rattle.arcs.specs.declared.before.Reach.{Reach}
 use Rattle.arcs.specs.declared.choice.Choice.{Choice}
 use Rattle.arcs.specs.declared.choice.Choice.the-variants as choice
-use Rattle.arcs.specs.Order.{roleBefore, givesArc, arc, inPart, preconditions, tests}
+use Rattle.arcs.specs.Order.{roleBefore, arePair, givesArc, arc, inPart, preconditions, tests}
 use Rattle.words.specs.Sets.{SetBelow, member}
 
--- ---- atoms of a table
+-- ---- atoms and pairs of a table
 -- words of a table, and a schema atom of it: its head says how many there are
 pub record IsSchemaAtom (w : List ℕ) (i : ℕ) : Type 0 where
   pub table : isTable w ≡ true
@@ -32,10 +32,23 @@ pub record IsStretch (w : List ℕ) (from to : ℕ) : Type 0 where
   pub forward : from ≤ to
   pub known : to ≤ headIn w .schemaAtoms
 
--- the atoms of a stretch
-unfoldable pub stretchIn : List ℕ → ℕ → ℕ → List Atom
-unfolding upFrom atomIn
-stretchIn w from to = map (atomIn w) (upFrom from (to - from))
+-- the same of its pairs, as those of a schema are
+pub record IsPairStretch (w : List ℕ) (from to : ℕ) : Type 0 where
+  pub table : isTable w ≡ true
+  pub forward : from ≤ to
+  pub known : to ≤ headIn w .pairs
+
+-- what is read of the rows `from` to `to - 1`
+unfoldable pub stretch : {Row : Type 0} → (ℕ → Row) → ℕ → ℕ → List Row
+unfolding upFrom
+stretch row from to = map row (upFrom from (to - from))
+
+-- the atoms of a stretch, and the pairs of one
+abbrev pub stretchIn : List ℕ → ℕ → ℕ → List Atom
+stretchIn w from to = stretch (atomIn w) from to
+
+abbrev pub pairStretchIn : List ℕ → ℕ → ℕ → List Pair
+pairStretchIn w from to = stretch (pairIn w) from to
 
 -- the roles that an arc goes to from role r
 abbrev pub AreAfter : ℕ → ℕ → Type 0
@@ -54,24 +67,33 @@ pub record IsReach (w : List ℕ) (r from to : ℕ) (reach : Reach) : Type 0 whe
 
 -- whether one of these atoms and one of others give an arc from part p to part q; the arcs of a list are those between
 -- it and itself
-unfoldable pub arcsBetween : List Atom → List Atom → ℕ → ℕ → Bool
+unfoldable pub arcsBetween : List Pair → List Atom → List Atom → ℕ → ℕ → Bool
 unfolding any givesArc
-arcsBetween these others p q =
+arcsBetween pairs these others p q =
     not (eqb p q) &&
-    any (λ a. eqb (a .part) p && any (λ b. eqb (b .part) q && givesArc a b) others) these
+    any (λ a. eqb (a .part) p && any (λ b. eqb (b .part) q && givesArc pairs a b) others) these
 
--- ---- what is found of each part
+-- ---- what is found of each parameter and each part
 -- p joins the set of q where a test takes p and q; nothing else changes
 abbrev pub Joins : (ℕ → ℕ → Bool) → List ℕ → List ℕ → Type 0
 Joins test sets after = (p q : ℕ) → member (getD after q 0) p ≡ member (getD sets q 0) p || test p q
 
--- for each part q the set of those p that a test takes with it
+-- for each q the set of those p that a test takes with it
 abbrev pub SetsAre : (ℕ → ℕ → Bool) → List ℕ → Type 0
 SetsAre test sets = (p q : ℕ) → member (getD sets q 0) p ≡ test p q
 
+-- for each parameter the set of those that it is a declared pair with
+abbrev pub ArePartners : List Pair → List ℕ → Type 0
+ArePartners pairs sets = SetsAre (arePair pairs) sets
+
+-- the same, and whether there is a pair at all
+pub record Pairing (pairs : List Pair) (paired : Bool) (sets : List ℕ) : Type 0 where
+  pub partners : ArePartners pairs sets
+  pub unpaired : paired ≡ false → pairs ≡ []
+
 -- for each part the set of parts that have an arc to it
-abbrev pub AreArcs : List Atom → List ℕ → Type 0
-AreArcs atoms sets = SetsAre (arc atoms) sets
+abbrev pub AreArcs : List Pair → List Atom → List ℕ → Type 0
+AreArcs pairs atoms sets = SetsAre (arc pairs atoms) sets
 
 -- for each part the set of its parameters
 pub record AreParameters (atoms : List Atom) (sets : List ℕ) : Type 0 where

@@ -1,14 +1,16 @@
 // What is asked of a table's schema atoms: whether two give an arc, and an atom's role, part and arguments.
 ghost use Prim.Native.Nat.{ℕ, _≤_, _<_};
 ghost use mathlib.Core.Path.{_≡_};
+ghost use mathlib.Core.List.{List};
 ghost use lib.ListN.{length, getD};
 ghost use lib.Dec.{eqb};
 ghost use Rattle.words.specs.Sets.{member};
 ghost use Rattle.task.specs.Limits.{mostParts, mostArity, mostParameters};
-ghost use Rattle.task.specs.Task.{precondition, schemaRoles, names};
+ghost use Rattle.task.specs.Task.{Pair, precondition, schemaRoles, names};
 ghost use Rattle.task.specs.Table.{atomIn};
-ghost use Rattle.arcs.specs.Order.{givesArc};
-ghost use Rattle.arcs.specs.Stretches.{AreAfter, IsSchemaAtom};
+ghost use Rattle.arcs.specs.Order.{holdPair, givesArc};
+ghost use Rattle.arcs.specs.Stretches.{AreAfter, ArePartners, IsSchemaAtom, Pairing};
+use crate::PartnerSets;
 use task::Parameter;
 use task::Part;
 use task::layout::arguments;
@@ -23,14 +25,54 @@ use words::runs::word_at;
 use words::sets::has;
 use words::sets::with;
 
-// "Two atoms of one schema with the same predicate give an arc", here by the roles that come after the first's.
-pub fn gives_arc(table: &[u16], i: usize, j: usize, after: u64) -> bool
+// "at some argument position they hold a declared pair": whether two atoms of one predicate do, by the partners of each
+// parameter.
+fn hold_pair(table: &[u16], i: usize, j: usize, partners: &PartnerSets) -> bool
+    requires { ⌜ IsSchemaAtom (now table) i ⌝ }
+    requires { ⌜ IsSchemaAtom (now table) j ⌝ }
+    requires { ⌜ atomIn (now table) i .pred ≡ atomIn (now table) j .pred ⌝ }
+    ensures { λ r. ⌜ ((pairs : List Pair) → ArePartners pairs (now (partners .entry)) →
+        r ≡ holdPair pairs (atomIn (now (table .entry)) i .args) (atomIn (now (table .entry)) j .args)) ⌝ }
+{
+    let n = argument_count(table, i);
+    let mut k = 0;
+    while k < n {
+        let x = argument(table, i, k).0 as usize;
+        let y = argument(table, j, k).0 as usize;
+        if has(partners[y], x) {
+            return true;
+        }
+        k += 1;
+    }
+    false
+}
+
+// "Two atoms of one schema with the same predicate give an arc", here by the roles that come after the first's, and "no
+// arc if .. they hold a declared pair". Where no parameters are `paired` no argument is read.
+pub fn gives_arc(
+    table: &[u16],
+    i: usize,
+    j: usize,
+    after: u64,
+    paired: bool,
+    partners: &PartnerSets,
+) -> bool
     requires { ⌜ IsSchemaAtom (now table) i ⌝ }
     requires { ⌜ IsSchemaAtom (now table) j ⌝ }
     requires { ⌜ AreAfter (atomIn (now table) i .role) after ⌝ }
-    ensures { λ r. ⌜ r ≡ givesArc (atomIn (now (table .entry)) i) (atomIn (now (table .entry)) j) ⌝ }
+    ensures { λ r. ⌜ ((pairs : List Pair) → Pairing pairs paired (now (partners .entry)) →
+        r ≡ givesArc pairs (atomIn (now (table .entry)) i) (atomIn (now (table .entry)) j)) ⌝ }
 {
-    predicate(table, i) == predicate(table, j) && has_role(table, j, after)
+    if predicate(table, i) != predicate(table, j) {
+        return false;
+    }
+    if !has_role(table, j, after) {
+        return false;
+    }
+    if paired {
+        return !hold_pair(table, i, j, partners);
+    }
+    true
 }
 
 // "preconditions first, then adds, then deletes": an atom's role is one of the three.

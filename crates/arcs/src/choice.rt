@@ -4,7 +4,7 @@ ghost use mathlib.Core.Path.{_≡_};
 ghost use mathlib.Core.Bool.{_&&_};
 ghost use mathlib.Core.List.{List};
 ghost use Rattle.task.specs.Limits.{mostParts};
-ghost use Rattle.task.specs.Task.{Atom};
+ghost use Rattle.task.specs.Task.{Atom, Pair};
 ghost use Rattle.arcs.specs.Order.{newParameters, placedParts, ready, ahead, better, nextPart};
 ghost use Rattle.arcs.specs.Stretches.{AreArcs, AreTests, ChosenBelow, IsBound, chosen};
 ghost use Rattle.words.specs.Sets.{SetBelow, member, members};
@@ -23,8 +23,8 @@ pub enum Choice {
 // "unplaced parts that no unplaced part has an arc to"
 fn is_ready(before: &PartSets, unplaced: u64, p: usize) -> bool
     requires { ⌜ p < mostParts ⌝ }
-    ensures { λ r. ⌜ ((atoms : List Atom) (n : ℕ) → AreArcs atoms (now (before .entry)) → SetBelow n unplaced →
-        r ≡ member unplaced p && ready atoms (members unplaced n) p) ⌝ }
+    ensures { λ r. ⌜ ((pairs : List Pair) (atoms : List Atom) (n : ℕ) → AreArcs pairs atoms (now (before .entry)) →
+        SetBelow n unplaced → r ≡ member unplaced p && ready pairs atoms (members unplaced n) p) ⌝ }
 {
     sets::has(unplaced, p) && !sets::meet(before[p], unplaced)
 }
@@ -90,10 +90,10 @@ pub fn choose(
 ) -> Choice
     requires { ⌜ count ≤ mostParts ⌝ }
     requires { ⌜ SetBelow count unplaced ⌝ }
-    ensures { λ r. ⌜ ((atoms : List Atom) → AreArcs atoms (now (before .entry)) →
+    ensures { λ r. ⌜ ((pairs : List Pair) (atoms : List Atom) → AreArcs pairs atoms (now (before .entry)) →
         AreTests atoms (now (counts .entry)) (now (tested .entry)) →
         IsBound atoms (placedParts atoms (members unplaced count)) bound →
-        chosen r ≡ nextPart atoms (members unplaced count)) ⌝ }
+        chosen r ≡ nextPart pairs atoms (members unplaced count)) ⌝ }
     ensures { λ r. ⌜ ChosenBelow count r ⌝ }
 {
     let mut found = Choice::Circular;

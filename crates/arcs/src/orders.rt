@@ -6,7 +6,8 @@ ghost use lib.ListN.{length};
 ghost use Rattle.task.specs.Task.{Schema};
 ghost use Rattle.arcs.specs.Order.{orderOf};
 ghost use Rattle.task.specs.Limits.{mostParts};
-ghost use Rattle.arcs.specs.Stretches.{AreParameters, IsStretch, stretchIn, orderTold};
+ghost use Rattle.arcs.specs.Stretches.{AreParameters, IsPairStretch, IsStretch, stretchIn, pairStretchIn};
+ghost use Rattle.arcs.specs.Stretches.{orderTold};
 use crate::Order;
 use crate::before::arcs_of;
 use crate::choice::Choice;
@@ -19,14 +20,17 @@ use words::sets::held;
 use words::sets::union;
 use words::sets::without;
 
-// The order taken of the parts of the schema whose atoms are atoms `from` to `to - 1` of the table.
-pub fn order_of(table: &[u16], from: usize, to: usize) -> Order
+// The order taken of the parts of the schema whose atoms are atoms `from` to `to - 1` of the table, and whose pairs are
+// pairs `pair` to `end - 1`.
+pub fn order_of(table: &[u16], from: usize, to: usize, pair: usize, end: usize) -> Order
     requires { ⌜ IsStretch (now table) from to ⌝ }
-    ensures { λ r. ⌜ ((s : Schema) → s .atoms ≡ stretchIn (now (table .entry)) from to → orderTold r ≡ orderOf s) ⌝ }
+    requires { ⌜ IsPairStretch (now table) pair end ⌝ }
+    ensures { λ r. ⌜ ((s : Schema) → s .pairs ≡ pairStretchIn (now (table .entry)) pair end →
+        s .atoms ≡ stretchIn (now (table .entry)) from to → orderTold r ≡ orderOf s) ⌝ }
     ensures { λ r. ⌜ (r .count ≤ mostParts) × (length (r .parts) ≡ mostParts) ⌝ }
     ensures { λ r. ⌜ AreParameters (stretchIn (now (table .entry)) from to) (r .named) ⌝ }
 {
-    let before = arcs_of(table, from, to);
+    let before = arcs_of(table, from, to, pair, end);
     let mut preconditions = [0; MOST_PARTS];
     let mut tested = [0; MOST_PARTS];
     let mut named = [0; MOST_PARTS];

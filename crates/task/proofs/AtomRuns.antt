@@ -1,8 +1,8 @@
 -- The tests of a run of atoms, one atom further: what is left of a test at atom i is what atom i says and what is left
 -- at the next. So 'the facts ascend' and 'the atoms differ' are tests of each atom, as a loop makes them; a loop over
--- the roles goes on by `and-more` and ends by `and-fails`.
+-- the roles goes on by `and-more` and ends by `and-fails`. `neighbours-start` says it of all that ascends, so of pairs.
 use Prim.Native.Nat.{ℕ, zero, suc, _+_, _-_, _≤_, _<_, max}
-use mathlib.Core.Path.{_≡_, sym, _∙_, ap, subst}
+use mathlib.Core.Path.{_≡_, refl, sym, _∙_, ap, subst}
 use mathlib.Core.Bool.{Bool, true, not, _&&_}
 use mathlib.Core.List.{List, [], _∷_, map}
 use native.Mathlib.Nat.{max-eq-left, max-eq-right}
@@ -26,12 +26,34 @@ one-step : (i e : ℕ) → i + 1 ≡ e → upFrom i (e - i) ≡ i ∷ []
 one-step i e l =
     range-step i e (omega arith) ∙ ap {B = List ℕ} (λ (is : List ℕ). i ∷ is) (range-done (i + 1) e (omega arith))
 
+-- ---- a test of each element beside the next
+module _ {A : Type 0} (less : A → A → Bool) (test : List A → Bool) (none : test [] ≡ true)
+    (one : (x : A) → test (x ∷ []) ≡ true)
+    (more : (x y : A) (xs : List A) → test (x ∷ y ∷ xs) ≡ less x y && test (y ∷ xs)) (f : ℕ → A) where
+  abbrev testLeft : ℕ → ℕ → Bool
+  testLeft e k = test (map f (upFrom k (e - k)))
+
+  neighbours-step : (i e : ℕ) → i + 1 < e → testLeft e i ≡ less (f i) (f (i + 1)) && testLeft e (i + 1)
+  neighbours-step i e l =
+      ap (λ (is : List ℕ). test (map f is)) (two-step i e l) ∙
+      (more (f i) (f (i + 1)) (map f (upFrom (i + 1 + 1) (e - (i + 1 + 1)))) ∙
+      ap (λ (is : List ℕ). less (f i) (f (i + 1)) && test (map f is)) (sym (range-step (i + 1) e l)))
+
+  neighbours-end : (i e : ℕ) → e ≤ i + 1 → testLeft e i ≡ true
+  neighbours-end i e l = elim (decLe e i) [
+    | yes m ↦ ap (λ (is : List ℕ). test (map f is)) (range-done i e m) ∙ none
+    | no m ↦ ap (λ (is : List ℕ). test (map f is)) (one-step i e (omega arith)) ∙ one (f i)
+  ]
+
+  pub neighbours-start : (first e : ℕ) → AllLeft (λ k. less (f k) (f (k + 1))) (e - 1)
+      (test (map f (upFrom first (e - first)))) first
+  neighbours-start first e = all-steps (testLeft e) (λ k. less (f k) (f (k + 1))) (e - 1)
+      (λ k l. neighbours-step k e (omega arith)) (λ k l. neighbours-end k e (omega arith)) first
+
+-- ---- one atom further
 module _ (w : List ℕ) (i e : ℕ) where
   abbrev pub rolesLeft : ℕ → Bool
   rolesLeft k = rolesAscend (atomsIn w k (e - k))
-
-  abbrev ascendLeft : ℕ → Bool
-  ascendLeft k = ascending (factsIn w k (e - k))
 
   abbrev distinctLeft : ℕ → Bool
   distinctLeft k = distinct (atomsIn w k (e - k))
@@ -47,20 +69,6 @@ module _ (w : List ℕ) (i e : ℕ) where
   unfolding rolesAscend
   roles-last l = ap (λ (is : List ℕ). rolesAscend (map (atomIn w) is)) (one-step i e l)
 
-  ascend-step : i + 1 < e → ascendLeft i ≡ factLess (factIn w i) (factIn w (i + 1)) && ascendLeft (i + 1)
-  unfolding ascending
-  ascend-step l =
-      ap (λ (is : List ℕ). ascending (map (factIn w) is)) (two-step i e l) ∙
-      ap (λ (is : List ℕ). factLess (factIn w i) (factIn w (i + 1)) && ascending (map (factIn w) is))
-      (sym (range-step (i + 1) e l))
-
-  ascend-ends : e ≤ i + 1 → ascendLeft i ≡ true
-  unfolding ascending
-  ascend-ends l = elim (decLe e i) [
-    | yes m ↦ ap (λ (is : List ℕ). ascending (map (factIn w) is)) (range-done i e m)
-    | no m ↦ ap (λ (is : List ℕ). ascending (map (factIn w) is)) (one-step i e (omega arith))
-  ]
-
   pub distinct-step : i < e → distinctLeft i ≡ not (standsAgain w i e) && distinctLeft (i + 1)
   unfolding distinct standsAgain
   distinct-step l =
@@ -74,9 +82,10 @@ module _ (w : List ℕ) (i e : ℕ) where
 
 -- ---- as tests of each atom
 module _ (w : List ℕ) (first e : ℕ) where
-  pub ascend-start : AllLeft (λ k. factLess (factIn w k) (factIn w (k + 1))) (e - 1) (ascendLeft w first e first) first
-  ascend-start = all-steps (ascendLeft w first e) (λ k. factLess (factIn w k) (factIn w (k + 1))) (e - 1)
-      (λ k l. ascend-step w k e (omega arith)) (λ k l. ascend-ends w k e (omega arith)) first
+  pub ascend-start : AllLeft (λ k. factLess (factIn w k) (factIn w (k + 1))) (e - 1)
+      (ascending (factsIn w first (e - first))) first
+  unfolding ascending
+  ascend-start = neighbours-start factLess ascending refl (λ f. refl) (λ f g fs. refl) (factIn w) first e
 
   pub distinct-start : AllLeft (λ k. not (standsAgain w k e)) e (distinctLeft w first e first) first
   distinct-start = all-steps (distinctLeft w first e) (λ k. not (standsAgain w k e)) e

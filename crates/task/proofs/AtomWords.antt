@@ -13,8 +13,7 @@ use Rattle.task.specs.Layout.{headIn, arityIn, atomBase}
 use Rattle.task.specs.Task.{argsFit, sameAtom, factLess, ascending}
 use Rattle.words.specs.Words.{wordsAt, zerosAt}
 use Rattle.task.specs.Table.{atomIn, schemaNumberIn, factIn, aritiesIn}
-use Rattle.task.specs.WordTests.{unusedZero, argWordsFit, numberFits, factWordsFit, factsWordsFit}
-use Rattle.task.specs.WordTests.{factsIn}
+use Rattle.task.specs.WordTests.{unusedZero, argWordsFit, factWordsFit, factsWordsFit, factsIn}
 use Rattle.words.proofs.Lists.{and-left, and-right, and-both, both-ft, false-if}
 use Rattle.words.proofs.Ranges.{or-false, all-map, all-from}
 use Rattle.words.proofs.Words.{length-wordsAt, at-wordsAt}
@@ -151,30 +150,3 @@ pub facts-words : (w : List ℕ) (r i n : ℕ) → factsWordsFit w r i n ≡ all
     ascending (factsIn w i n)
 unfolding factsWordsFit
 facts-words w r i n = refl
-
--- ---- schema numbers, by one that compares as that of the atom before
-module _ (w : List ℕ) (i before : ℕ)
-    (h : leb before (schemaNumberIn w i) ≡ leb (schemaNumberIn w (i - 1)) (schemaNumberIn w i)) where
-  pub number-low : schemaNumberIn w i < before → numberFits w i ≡ false
-  unfolding numberFits
-  number-low l =
-      false-if (numberFits w i) (λ k. both-ft (and-right (ltb (schemaNumberIn w i) (headIn w .schemas)) _ k)
-      (sym h ∙ lt-leb _ _ l))
-
-  pub number-high : headIn w .schemas ≤ schemaNumberIn w i → numberFits w i ≡ false
-  unfolding numberFits
-  number-high l = ap (λ (b : Bool). b && leb (schemaNumberIn w (i - 1)) (schemaNumberIn w i)) (le-ltb _ _ l)
-
-  pub number-right : before ≤ schemaNumberIn w i → schemaNumberIn w i < headIn w .schemas → numberFits w i ≡ true
-  unfolding numberFits
-  number-right l k = and-both _ _ (lt-ltb _ _ k) (sym h ∙ le-leb _ _ l)
-
-pub number-first : (w : List ℕ) → leb 0 (schemaNumberIn w 0) ≡ leb (schemaNumberIn w (0 - 1)) (schemaNumberIn w 0)
-number-first w =
-    le-leb 0 (schemaNumberIn w 0) (omega arith) ∙ sym (le-leb (schemaNumberIn w 0) (schemaNumberIn w 0) (omega arith))
-
-pub number-next : (w : List ℕ) (i before : ℕ) → before ≡ schemaNumberIn w i → leb before (schemaNumberIn w (i + 1)) ≡
-    leb (schemaNumberIn w (i + 1 - 1)) (schemaNumberIn w (i + 1))
-number-next w i before e =
-    let z : i ≡ i + 1 - 1 = omega arith in
-    ap (λ (n : ℕ). leb n (schemaNumberIn w (i + 1))) (e ∙ ap (schemaNumberIn w) z)

@@ -1,4 +1,4 @@
--- Atoms and schemas in words: how many words they take, and what is read where they stand.
+-- Atoms in words: how many words they take, and what is read where they stand.
 use Prim.Native.Nat.{ℕ, zero, suc, _+_, _-_, _*_, _≤_, _<_}
 use mathlib.Core.Path.{_≡_, refl, sym, _∙_, ap, subst}
 use mathlib.Core.Bool.{true}
@@ -12,11 +12,12 @@ use Rattle.words.specs.Words.{wordsAt}
 use Rattle.task.specs.Layout.{arityIn, atomBase}
 use Rattle.task.specs.Limits.{headWords, atomSize}
 use Rattle.task.specs.Task.{Atom, Fact, Schema, Task, argsFit, schemaFits, noSchema}
-use Rattle.task.specs.Table.{atomIn, schemaNumberIn, factIn, atomWords, factWords, schemasFrom}
+use Rattle.task.specs.Table.{atomIn, schemaNumberIn, factIn, atomWords, factWords}
 use Rattle.words.proofs.Lists.{In, here, there, in-getD, all-in, length-padded}
 use Rattle.words.proofs.Words.{At, at-left, at-move, at-right, wordsAt-at, length-rows}
 use Rattle.task.proofs.States.{argsFit-fitting}
 use Rattle.task.proofs.Tests.{schema-tests, fits, fact-tests, TaskTests}
+use Rattle.task.proofs.SchemaRows.{rowCounts, Even}
 
 pub base-step : (w : List ℕ) (i j : ℕ) → atomBase w (i + j) ≡ atomBase w i + atomSize * j
 unfolding atomBase
@@ -86,42 +87,14 @@ abbrev pub noAtom : Atom
 noAtom = record { role = 0; pred = 0; part = 0; args = [] }
 
 abbrev pub counts : List Schema → List ℕ
-counts ss = map (λ s. length (s .atoms)) ss
+counts ss = rowCounts (λ s. s .atoms) ss
 
 abbrev pub Short : List Schema → Type 0
 Short ss = (s : Schema) → In s ss → (a : Atom) → In a (s .atoms) → length (a .args) ≤ 4
 
-pub length-schemasFrom : (n : ℕ) (ss : List Schema) → Short ss → length (schemasFrom n ss) ≡ atomSize * sum (counts ss)
-unfolding schemasFrom sum
-length-schemasFrom n [] h = omega arith
-length-schemasFrom n (s ∷ ss) h =
-    let a = length-rows (atomWords n) atomSize (s .atoms) (λ a i. length-atomWords n a (h s (here refl) a i)) in
-    let b = length-schemasFrom (suc n) ss (λ s i. h s (there i)) in
-    omega (arith, length-append (concatMap (atomWords n) (s .atoms)) (schemasFrom (suc n) ss))
-
-pub at-schema : (w : List ℕ) (b n : ℕ) (ss : List Schema) → Short ss → At w b (schemasFrom n ss) → (m : ℕ) →
-    m < length ss →
-    At w (b + atomSize * sum (take m (counts ss))) (concatMap (atomWords (n + m)) (getD ss m noSchema .atoms))
-unfolding schemasFrom sum
-at-schema w b n [] h a m l = absurd (omega arith)
-at-schema w b n (s ∷ ss) h a zero l =
-    let z : n ≡ n + 0 = omega arith in
-    subst (λ (x : ℕ). At w (b + atomSize * 0) (concatMap (atomWords x) (s .atoms))) z
-    (at-move w b (b + atomSize * 0) (concatMap (atomWords n) (s .atoms)) (omega arith)
-    (at-left w b (concatMap (atomWords n) (s .atoms)) (schemasFrom (suc n) ss) a))
-at-schema w b n (s ∷ ss) h a (suc m) l =
-    let e = length-rows (atomWords n) atomSize (s .atoms) (λ a i. length-atomWords n a (h s (here refl) a i)) in
-    let c : ℕ = length (concatMap (atomWords n) (s .atoms)) in
-    let z : suc n + m ≡ n + suc m = omega arith in
-    let q : (b + c) + atomSize * sum (take m (counts ss)) ≡
-    b + atomSize * (length (s .atoms) + sum (take m (counts ss))) = omega arith in
-    let r = at-schema w (b + c) (suc n) ss (λ s i. h s (there i))
-    (at-right w b (concatMap (atomWords n) (s .atoms)) (schemasFrom (suc n) ss) a) m (omega arith) in
-    subst (λ (x : ℕ). At w (b + atomSize * (length (s .atoms) + sum (take m (counts ss))))
-    (concatMap (atomWords x) (getD ss m noSchema .atoms))) z
-    (at-move w ((b + c) + atomSize * sum (take m (counts ss)))
-    (b + atomSize * (length (s .atoms) + sum (take m (counts ss))))
-    (concatMap (atomWords (suc n + m)) (getD ss m noSchema .atoms)) q r)
+-- each has the words of a row
+pub atoms-even : (ss : List Schema) → Short ss → Even atomWords (λ s. s .atoms) atomSize ss
+atoms-even ss h s i a j n = length-atomWords n a (h s i a j)
 
 -- what the tests say of the lengths
 pub record Lengths (t : Task) : Type 0 where

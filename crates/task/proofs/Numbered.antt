@@ -171,3 +171,22 @@ blocks num (suc many) n i whole low high up =
 
     shift′ : (s k : ℕ) → (i + s) + suc k ≡ i + suc (s + k)
     shift′ s k = omega arith
+
+-- ---- where in blocks a place is
+pub locate : (cs : List ℕ) (i : ℕ) → i < sum cs → (m : ℕ) × (m < length cs) × (sum (take m cs) ≤ i) ×
+    (i < sum (take m cs) + getD cs m 0)
+unfolding sum
+locate [] i h = absurd (omega arith)
+locate (c ∷ cs) i h = go (decLt i c) (locate cs (i - c))
+  where
+    go : Dec (i < c) → ((i - c) < sum cs → (m : ℕ) × (m < length cs) × (sum (take m cs) ≤ i - c) ×
+        (i - c < sum (take m cs) + getD cs m 0)) →
+        (m : ℕ) × (m < length (c ∷ cs)) × (sum (take m (c ∷ cs)) ≤ i) × (i < sum (take m (c ∷ cs)) + getD (c ∷ cs) m 0)
+    go (yes l) r = (0, omega arith, omega arith, omega arith)
+    go (no l) r = let (m, a, b, d) = r (omega arith) in (suc m, omega arith, omega arith, omega arith)
+
+pub sum-take-suc : (cs : List ℕ) (m : ℕ) → m < length cs → sum (take (suc m) cs) ≡ sum (take m cs) + getD cs m 0
+unfolding sum
+sum-take-suc [] m h = absurd (omega arith)
+sum-take-suc (c ∷ cs) zero h = omega arith
+sum-take-suc (c ∷ cs) (suc m) h = let e = sum-take-suc cs m (omega arith) in omega arith

@@ -1,6 +1,6 @@
--- A schema in words: the tests of its atoms in the order of the code, and which indices its atoms have where the schema
--- numbers ascend.
-use Prim.Native.Nat.{ℕ, zero, suc, _+_, _-_, _≤_, _<_}
+-- A schema in words: the tests of its atoms and pairs in the order of the code, and which indices its rows have where the
+-- schema numbers ascend.
+use Prim.Native.Nat.{ℕ, _+_, _-_, _≤_, _<_}
 use mathlib.Core.Path.{_≡_, sym, _∙_, ap, ap₂, subst}
 use mathlib.Core.Bool.{Bool, true, false, _&&_}
 use mathlib.Core.List.{List, [], _∷_, _++_, append-nil}
@@ -10,17 +10,18 @@ use lib.ListN.{length, length-map}
 use lib.Dec.{eqb, leb}
 use borrow.Author.Tests.{le-leb, lt-leb, eq-eqb, ne-eqb}
 use Rattle.words.specs.Lists.{all, any, every, filter, upTo, upFrom}
-use Rattle.task.specs.Layout.{headIn, paramsIn}
-use Rattle.task.specs.Task.{Atom, Schema, argsFit, distinct, rolesAscend, names, partCount, noGap, schemaFits}
-use Rattle.task.specs.Table.{atomIn, schemaNumberIn, aritiesIn}
-use Rattle.task.specs.WordTests.{unusedZero, argWordsFit, numbersFit, partsFit, atomsIn}
-use Rattle.task.specs.WordTests.{schemaWordsFit, indicesOf, RunOf}
+use Rattle.task.specs.Layout.{paramsIn}
+use Rattle.task.specs.Task.{Atom, Pair, Schema, argsFit, distinct, rolesAscend, names, partCount, noGap, pairFits}
+use Rattle.task.specs.Task.{schemaFits}
+use Rattle.task.specs.Table.{atomIn, aritiesIn, naming}
+use Rattle.task.specs.WordTests.{unusedZero, argWordsFit, inFileOrder, partsFit, atomsIn, pairsIn, pairsFit}
+use Rattle.task.specs.WordTests.{schemaWordsFit, RunOf}
 use Rattle.words.proofs.Lists.{and-left, and-right, and-both, bool-ext, every-at, met-none, met-more, met-every, In}
 use Rattle.words.proofs.Lists.{here, there, in-map, in-upFrom, upFrom-in, length-upFrom, upFrom-append, filter-append}
 use Rattle.words.proofs.Lists.{filter-all, filter-none}
 use Rattle.words.proofs.Ranges.{all-map, all-and}
 use Rattle.task.proofs.Tests.{hasPart, schema-tests, tests-schema}
-use Rattle.task.proofs.WordTables.{numbers-rise}
+use Rattle.task.proofs.FileOrder.{ordered, rises-far}
 
 -- ---- parts
 pub parts-many : (atoms : List Atom) (n : ℕ) → n ≡ partCount atoms → 16 < n → false ≡ partsFit atoms
@@ -45,12 +46,15 @@ pub part-below : (w : List ℕ) (i first end : ℕ) → first ≤ i → i < end 
 part-below w i first end l m = part-small (in-map (atomIn w) (in-upFrom first (end - first) i l (omega arith)))
 
 -- ---- a schema
-module _ (w : List ℕ) (s first n : ℕ) where
+module _ (w : List ℕ) (s pair m first n : ℕ) where
+  abbrev pairs : List Pair
+  pairs = pairsIn w pair m
+
   abbrev atoms : List Atom
   atoms = atomsIn w first n
 
   abbrev schema : Schema
-  schema = record { params = paramsIn w s; atoms = atoms }
+  schema = record { params = paramsIn w s; pairs = pairs; atoms = atoms }
 
   abbrev argsOf : ℕ → Bool
   argsOf i = argsFit (aritiesIn w) (paramsIn w s) (atomIn w i .pred) (atomIn w i .args)
@@ -68,7 +72,8 @@ module _ (w : List ℕ) (s first n : ℕ) where
       all (argWordsFit w (paramsIn w s)) (upFrom first n) ∷
       distinct atoms ∷
       allNamedIn ∷
-      partsFit atoms ∷ []
+      partsFit atoms ∷
+      pairsFit (paramsIn w s) pairs ∷ []
 
   many : length atoms ≡ n
   many = length-map (upFrom first n) (atomIn w) ∙ length-upFrom first n
@@ -81,18 +86,19 @@ module _ (w : List ℕ) (s first n : ℕ) where
       (sym (all-map (λ a. argsFit (aritiesIn w) (paramsIn w s) (a .pred) (a .args)) (atomIn w) (upFrom first n)))
 
   in-order : schemaFits (aritiesIn w) schema && all (unusedZero w) (upFrom first n) ≡ true → every orderTests ≡ true
-  unfolding partsFit noGap
+  unfolding partsFit noGap pairsFit
   in-order h =
       let c = schema-tests (aritiesIn w) schema (and-left (schemaFits (aritiesIn w) schema) _ h) in
       met-every {bs = orderTests}
       (met-more (c .params) (met-more (subst (λ (m : ℕ). leb 1 m ≡ true) many (c .some-atom))
       (met-more (subst (λ (m : ℕ). leb m 64 ≡ true) many (c .few)) (met-more (c .roles)
       (met-more (args-all ∙ and-both _ _ (c .fit) (and-right (schemaFits (aritiesIn w) schema) _ h))
-      (met-more (c .apart) (met-more (c .used) (met-more (and-both _ _ (c .parts) (c .filled)) met-none))))))))
+      (met-more (c .apart) (met-more (c .used) (met-more (and-both _ _ (c .parts) (c .filled))
+      (met-more (and-both _ _ (c .pairs) (c .pairs-order)) met-none)))))))))
 
   fits-in-order : every orderTests ≡ true → schemaFits (aritiesIn w) schema && all (unusedZero w) (upFrom first n) ≡
       true
-  unfolding partsFit noGap
+  unfolding partsFit noGap pairsFit
   fits-in-order h =
       let at = every-at orderTests h in
       let a = sym args-all ∙ at 4 in
@@ -107,9 +113,11 @@ module _ (w : List ℕ) (s first n : ℕ) where
         used = at 6;
         parts = and-left (leb (partCount atoms) 16) _ (at 7);
         filled = and-right (leb (partCount atoms) 16) _ (at 7);
+        pairs = and-left (all (pairFits (paramsIn w s)) pairs) _ (at 8);
+        pairs-order = and-right (all (pairFits (paramsIn w s)) pairs) _ (at 8);
       })) (and-right fit _ a)
 
-  pub schema-words : schemaWordsFit w s (upFrom first n) ≡ every orderTests
+  pub schema-words : schemaWordsFit w s (upFrom pair m) (upFrom first n) ≡ every orderTests
   unfolding schemaWordsFit
   schema-words =
       bool-ext (schemaFits (aritiesIn w) schema && all (unusedZero w) (upFrom first n)) (every orderTests) in-order
@@ -137,49 +145,38 @@ filter-between p a b n l m before inside behind =
     (filter-none p (upFrom b (n - b)) (λ i k. let (u, v) = upFrom-in b (n - b) i k in behind i u (omega arith)))) ∙
     append-nil (upFrom a (b - a))))
 
--- ---- where the atoms of schema s begin: those before are of lower schemas, those from there on of no lower one
-pub record Cut (w : List ℕ) (first s : ℕ) : Type 0 where
-  pub inside : first ≤ headIn w .schemaAtoms
-  pub before : (i : ℕ) → i < first → schemaNumberIn w i < s
-  pub behind : (i : ℕ) → first ≤ i → i < headIn w .schemaAtoms → s ≤ schemaNumberIn w i
+-- ---- where the rows of schema s begin: those before are of lower schemas, those from there on of no lower one
+pub record Cut (number : ℕ → ℕ) (n first s : ℕ) : Type 0 where
+  pub inside : first ≤ n
+  pub before : (i : ℕ) → i < first → number i < s
+  pub behind : (i : ℕ) → first ≤ i → i < n → s ≤ number i
 
-pub cut-start : (w : List ℕ) → Cut w 0 0
-cut-start w = record { inside = omega arith; before = λ i l. absurd (omega arith); behind = λ i l m. omega arith }
+pub cut-start : (number : ℕ → ℕ) (n : ℕ) → Cut number n 0 0
+cut-start number n =
+    record { inside = omega arith; before = λ i l. absurd (omega arith); behind = λ i l m. omega arith }
 
-module _ (w : List ℕ) (numbers : numbersFit w ≡ true) where
-  rises : (i k : ℕ) → i + k < headIn w .schemaAtoms → schemaNumberIn w i ≤ schemaNumberIn w (i + k)
-  rises i zero l = let e : i + 0 ≡ i = omega arith in rw e (omega arith)
-  rises i (suc k) l =
-      let e : i + suc k ≡ suc (i + k) = omega arith in
-      let a = rises i k (omega arith) in
-      let b = numbers-rise w numbers (i + k) (omega arith) in
-      rw e (omega arith)
+module _ (number : ℕ → ℕ) (schemas n : ℕ) (order : inFileOrder number schemas n ≡ true) (first s end : ℕ)
+    (cut : Cut number n first s) (run : RunOf number n s first end) where
+  above : (i : ℕ) → end ≤ i → i < n → s < number i
+  above i l m =
+      let a = run .from in
+      let b = cut .behind end (run .from) (omega arith) in
+      let c = rises-far number schemas n (ordered number schemas n order) end i l m in
+      elim (decLt s (number end))
+      [ yes k ↦ omega arith | no k ↦ absurd (run .beyond (omega arith) (omega arith)) ]
 
-  module _ (first s end : ℕ) (cut : Cut w first s) (run : RunOf w s first end) where
-    above : (i : ℕ) → end ≤ i → i < headIn w .schemaAtoms → s < schemaNumberIn w i
-    above i l m =
-        let z : end + (i - end) ≡ i = omega arith in
-        let a = run .from in
-        let b = cut .behind end (run .from) (omega arith) in
-        let c : schemaNumberIn w end ≤ schemaNumberIn w i = subst
-        (λ (j : ℕ). schemaNumberIn w end ≤ schemaNumberIn w j) z (rises end (i - end) (omega arith)) in
-        elim (decLt s (schemaNumberIn w end))
-        [ yes k ↦ omega arith | no k ↦ absurd (run .beyond (omega arith) (omega arith)) ]
+  pub cut-next : Cut number n end (s + 1)
+  cut-next = record {
+    inside = run .to;
+    before = λ i l. elim (decLt i first) [
+      | yes a ↦ let b = cut .before i a in omega arith
+      | no a ↦ let b = run .inside i (omega arith) l in omega arith
+    ];
+    behind = λ i l m. let a = above i l m in omega arith;
+  }
 
-    pub cut-next : Cut w end (s + 1)
-    cut-next = record {
-      inside = run .to;
-      before = λ i l. elim (decLt i first) [
-        | yes a ↦ let b = cut .before i a in omega arith
-        | no a ↦ let b = run .inside i (omega arith) l in omega arith
-      ];
-      behind = λ i l m. let a = above i l m in omega arith;
-    }
-
-    pub cut-indices : indicesOf w s ≡ upFrom first (end - first)
-    unfolding indicesOf
-    cut-indices = filter-between (λ i. eqb s (schemaNumberIn w i)) first end (headIn w .schemaAtoms) (run .from)
-        (run .to)
-        (λ i l. ne-eqb s (schemaNumberIn w i) (λ e. let a = cut .before i l in omega arith))
-        (λ i l m. eq-eqb s (schemaNumberIn w i) (sym (run .inside i l m)))
-        (λ i l m. ne-eqb s (schemaNumberIn w i) (λ e. let a = above i l m in omega arith))
+  pub cut-indices : naming number n s ≡ upFrom first (end - first)
+  cut-indices = filter-between (λ i. eqb s (number i)) first end n (run .from) (run .to)
+      (λ i l. ne-eqb s (number i) (λ e. let a = cut .before i l in omega arith))
+      (λ i l m. eq-eqb s (number i) (sym (run .inside i l m)))
+      (λ i l m. ne-eqb s (number i) (λ e. let a = above i l m in omega arith))

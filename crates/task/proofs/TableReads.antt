@@ -1,6 +1,6 @@
 -- What code reads out of a table: every word of an atom lies in it (`table-roomy`), and so do the counts, the arities
 -- and the parameter counts, which are those of its task.
-use Prim.Native.Nat.{ℕ, _+_, _<_}
+use Prim.Native.Nat.{ℕ, _+_, _≤_, _<_}
 use mathlib.Core.Path.{_≡_}
 use mathlib.Core.Bool.{true}
 use mathlib.Core.List.{List}
@@ -9,6 +9,7 @@ use lib.ListN.{length, getD}
 use Rattle.task.specs.Layout.{paramsBase, arityIn, paramsIn}
 use Rattle.task.specs.Run.{paramCount}
 use Rattle.task.specs.Table.{taskOf, isTable}
+use Rattle.task.specs.Limits.{headWords}
 use Rattle.task.specs.WordTests.{Roomy}
 use Rattle.task.proofs.Tables.{tableWords-is}
 use Rattle.task.proofs.TablesByIndex.{table-frame, arities-word, schemas-word, arity-at, params-at}
@@ -23,7 +24,7 @@ module _ (w : List ℕ) (h : isTable w ≡ true) where
       let i = f .inside in
       record { inside = omega arith; few = omega arith; arities = f .arity }
 
-  pub counts-inside : 5 < length w
+  pub counts-inside : headWords ≤ length w
   counts-inside = let l = table-roomy .inside in omega arith
 
   pub arity-word : (p : ℕ) → p < length (taskOf w .arities) → arityIn w p ≡ getD (taskOf w .arities) p 0

@@ -13,15 +13,18 @@ use Rattle.words.specs.Lists.{padded}
 use Rattle.task.specs.Layout.{headIn, goalsFrom, atomTotal, arityIn, atomBase}
 use Rattle.task.specs.Limits.{tableWords}
 use Rattle.task.specs.Run.{schemaAt}
-use Rattle.task.specs.Table.{schemaNumberIn, taskOf, atomWords, isTable}
+use Rattle.task.specs.Table.{pairIn, pairNumberIn, atomIn, schemaNumberIn, taskOf, atomWords, isTable}
 use Rattle.task.specs.Task.{Atom, Fact, Schema, noSchema, initial, goalRole}
-use Rattle.words.proofs.Lists.{all-in, in-getD, sum-take-rises}
+use Rattle.words.proofs.Lists.{all-in, in-getD}
 use Rattle.words.proofs.Words.{At, at-right}
 use Rattle.task.proofs.Tests.{task-tests}
-use Rattle.task.proofs.AtomsStand.{Sized, Stands, factAtom, noFact, noAtom, counts}
+use Rattle.task.proofs.SchemaRows.{numbers-rise}
+use Rattle.task.proofs.AtomsStand.{Sized, Stands, factAtom, noFact, noAtom}
+use Rattle.task.proofs.PairsStand.{noPair}
 use Rattle.task.proofs.Tables.{startOf, content-used, zero-behind, schema-stands, init-stands, goal-stands}
-use Rattle.task.proofs.Tables.{of-table}
+use Rattle.task.proofs.Tables.{of-table, atoms-read, pairs-read}
 use Rattle.task.proofs.TablesByIndex.{Frame, table-frame, table-long, used-inside, atom-lies, start-suc}
+use Rattle.task.proofs.TablesByIndex.{pair-lies, atoms-word, pairs-word}
 use Rattle.task.proofs.TablesByIndex.{arity-at, schemas-word, arities-word, init-word, goal-word}
 use Rattle.task.proofs.TablesByWords.{FactWord, WordsFit}
 
@@ -133,7 +136,13 @@ table-words w h =
           let d = p .size .count in
           unused-words w i (p .number) (p .atom) (p .stands .words) k (omega arith) x;
       schema = λ i l. atom-lies w fr i l .known;
-      order = λ i l. rises fr i l (decLt (schemaNumberIn w (suc i)) (schemaNumberIn w i));
+      order = λ i l. let e = atoms-word w fr in
+          numbers-rise (λ s. s .atoms) noAtom (schemaNumberIn w) (atomIn w) (taskOf w .schemas)
+          (atoms-read w (taskOf w) (fr .sizes) (fr .tabled)) i (omega arith);
+      pair-schema = λ i l. pair-lies w fr i l .known;
+      pair-order = λ i l. let e = pairs-word w fr in
+          numbers-rise (λ s. s .pairs) noPair (pairNumberIn w) (pairIn w) (taskOf w .schemas)
+          (pairs-read w (taskOf w) (fr .sizes) (fr .tabled)) i (omega arith);
       init = λ i l. fact-word w (headIn w .schemaAtoms + i) 3 (getD (taskOf w .init) i noFact)
           (init-stands w (taskOf w) (fr .sizes) (fr .tabled) i (omega arith));
       goal = λ i l. fact-word w (goalsFrom w + i) 4 (getD (taskOf w .goal) i noFact)
@@ -141,15 +150,3 @@ table-words w h =
       rest = λ k l m. sym (getD-take tableWords w k 0 m) ∙
           (ap (λ (x : List ℕ). getD x k 0) (sym b) ∙ zero-behind (taskOf w) k (omega arith) m);
     }
-  where
-    rises : (fr : Frame w) (i : ℕ) → suc i < headIn w .schemaAtoms →
-        Dec (schemaNumberIn w (suc i) < schemaNumberIn w i) → schemaNumberIn w i ≤ schemaNumberIn w (suc i)
-    rises fr i l (no m) = omega arith
-    rises fr i l (yes m) =
-        let p = atom-lies w fr i (omega arith) in
-        let q = atom-lies w fr (suc i) l in
-        let x = q .before-next in
-        let y = p .from-start in
-        let z = sum-take-rises (counts (taskOf w .schemas)) (suc (schemaNumberIn w (suc i))) (schemaNumberIn w i)
-        (omega arith) in
-        absurd (omega arith)

@@ -11,12 +11,12 @@ use lib.Dec.{eqb, ltb, leb}
 use borrow.Author.Tests.{ltb-true, leb-true, eqb-true, lt-ltb, le-leb, eq-eqb}
 use Rattle.words.specs.Lists.{all, every, upTo, upFrom}
 use Rattle.task.specs.Layout.{headIn, goalsFrom, atomTotal, paramsBase, wordsUsed, arityIn, atomBase}
-use Rattle.task.specs.Limits.{tableWords, headWords}
+use Rattle.task.specs.Limits.{tableWords, headWords, mostPairs}
 use Rattle.task.specs.Task.{argsFit, schemaFits, factsFit}
-use Rattle.task.specs.Table.{atomIn, schemaNumberIn, factIn, taskOf, isTable, aritiesIn, schemaIn}
-use Rattle.task.specs.WordTests.{countTests, aritiesFit, unusedZero, argWordsFit, numberFits}
-use Rattle.task.specs.WordTests.{numbersFit, schemaWordsFit, indicesOf, schemasFit, factWordsFit, factsWordsFit}
-use Rattle.task.specs.WordTests.{factsIn, Roomy}
+use Rattle.task.specs.Table.{pairNumberIn, atomIn, schemaNumberIn, factIn, taskOf, isTable, aritiesIn, schemaIn}
+use Rattle.task.specs.WordTests.{countTests, aritiesFit, unusedZero, argWordsFit, inFileOrder, schemaWordsFit}
+use Rattle.task.specs.WordTests.{pairIndicesOf, indicesOf, schemasFit, factWordsFit, factsWordsFit, factsIn}
+use Rattle.task.specs.WordTests.{Roomy}
 use Rattle.words.specs.Words.{zerosAt}
 use Rattle.words.proofs.Lists.{and-left, and-right, and-both, bool-ext, false-if, met-none, met-more, met-every, all-in}
 use Rattle.words.proofs.Lists.{in-all, In, filter-in, in-filter, in-upTo, upTo-in, upFrom-in, in-map, map-in}
@@ -27,13 +27,15 @@ use Rattle.task.proofs.Tables.{of-table}
 use Rattle.words.proofs.Words.{length-wordsAt}
 use Rattle.task.proofs.TablesByWords.{FactWord, WordsFit, words-table, arities-count}
 use Rattle.task.proofs.TablesPass.{table-words}
-use Rattle.task.proofs.TablesByWords.{schemas-count, atoms-count, inits-count, goals-count}
+use Rattle.task.proofs.TablesByWords.{schemas-count, atoms-count, inits-count, goals-count, pairs-count}
+use Rattle.task.proofs.FileOrder.{Ordered, ordered, in-order}
 
 -- ---- the tests by name
 pub record Passed (w : List ℕ) : Type 0 where
   pub counts : every (countTests w) ≡ true
   pub arities : aritiesFit w ≡ true
-  pub numbers : numbersFit w ≡ true
+  pub pair-numbers : inFileOrder (pairNumberIn w) (headIn w .schemas) (headIn w .pairs) ≡ true
+  pub numbers : inFileOrder (schemaNumberIn w) (headIn w .schemas) (headIn w .schemaAtoms) ≡ true
   pub schemas : schemasFit w ≡ true
   pub init : factsWordsFit w 3 (headIn w .schemaAtoms) (headIn w .initialAtoms) ≡ true
   pub goal : factsWordsFit w 4 (goalsFrom w) (headIn w .goalAtoms) ≡ true
@@ -79,29 +81,21 @@ module _ (w : List ℕ) (h : isTable w ≡ true) where
       (met-more (subst (λ (n : ℕ). leb n 200 ≡ true) (schemas-count w fit) (tests .schemas))
       (met-more (subst (λ (n : ℕ). leb n 1000 ≡ true) (atoms-count w fit) (tests .atoms))
       (met-more (subst (λ (n : ℕ). leb n 500 ≡ true) (inits-count w fit) (tests .inits))
-      (met-more (subst (λ (n : ℕ). leb n 100 ≡ true) (goals-count w fit) (tests .goals)) met-none))))))))
+      (met-more (subst (λ (n : ℕ). leb n 100 ≡ true) (goals-count w fit) (tests .goals))
+      (met-more (subst (λ (n : ℕ). leb n mostPairs ≡ true) (pairs-count w fit) (tests .pairs)) met-none)))))))))
 
   arities-met : aritiesFit w ≡ true
   unfolding aritiesFit
   arities-met = below-all (λ p. leb (arityIn w p) 4) (headIn w .predicates)
       (λ p l. le-leb (arityIn w p) 4 (fit .arity p l))
 
-  numbers-met : numbersFit w ≡ true
-  unfolding numbersFit numberFits
-  numbers-met =
-      below-all (numberFits w) (headIn w .schemaAtoms)
-      (λ i l. and-both _ _ (lt-ltb _ _ (fit .schema i l)) (le-leb _ _ (rises i l)))
-    where
-      rises : (i : ℕ) → i < headIn w .schemaAtoms → schemaNumberIn w (i - 1) ≤ schemaNumberIn w i
-      rises zero l = omega arith
-      rises (suc i) l = let e : suc i - 1 ≡ i = omega arith in rw e (fit .order i l)
-
   unused-met : (i : ℕ) → i < atomTotal w → unusedZero w i ≡ true
   unused-met i l = unused-zero w i (λ k. fit .unused i k l)
 
   schemas-met : schemasFit w ≡ true
-  unfolding schemasFit schemaWordsFit indicesOf taskOf
-  schemas-met = below-all (λ s. schemaWordsFit w s (indicesOf w s)) (headIn w .schemas) (λ s l. and-both _ _
+  unfolding schemasFit schemaWordsFit pairIndicesOf indicesOf taskOf
+  schemas-met = below-all (λ s. schemaWordsFit w s (pairIndicesOf w s) (indicesOf w s)) (headIn w .schemas)
+      (λ s l. and-both _ _
       (all-in (schemaFits (aritiesIn w)) (tests .fit) (in-map (schemaIn w) (in-upTo (headIn w .schemas) s l)))
       (in-all (unusedZero w) (indicesOf w s) (λ i k.
       let (a, b) = filter-in (λ i. eqb s (schemaNumberIn w i)) (upTo (headIn w .schemaAtoms)) i k in
@@ -134,7 +128,8 @@ module _ (w : List ℕ) (h : isTable w ≡ true) where
   table-passes = record {
     counts = counts-met;
     arities = arities-met;
-    numbers = numbers-met;
+    pair-numbers = in-order (pairNumberIn w) (headIn w .schemas) (headIn w .pairs) (fit .pair-schema) (fit .pair-order);
+    numbers = in-order (schemaNumberIn w) (headIn w .schemas) (headIn w .schemaAtoms) (fit .schema) (fit .order);
     schemas = schemas-met;
     init = facts-met 3 (headIn w .schemaAtoms) (headIn w .initialAtoms) (omega arith) (fit .init) (tests .init);
     goal = facts-met 4 (goalsFrom w) (headIn w .goalAtoms) (omega arith) (fit .goal) (tests .goal);
@@ -156,23 +151,6 @@ args-known w bound i a u =
     let e = length-wordsAt w headWords (headIn w .predicates) in
     record { known = omega arith; unused = u }
 
--- each schema atom's number, and its neighbour's
-module _ (w : List ℕ) (h : numbersFit w ≡ true) where
-  number-fits : (i : ℕ) → i < headIn w .schemaAtoms → numberFits w i ≡ true
-  unfolding numbersFit
-  number-fits = all-below (numberFits w) (headIn w .schemaAtoms) h
-
-  pub number-known : (i : ℕ) → i < headIn w .schemaAtoms → schemaNumberIn w i < headIn w .schemas
-  unfolding numberFits
-  number-known i l = ltb-true _ _ (and-left (ltb (schemaNumberIn w i) (headIn w .schemas)) _ (number-fits i l))
-
-  pub numbers-rise : (i : ℕ) → suc i < headIn w .schemaAtoms → schemaNumberIn w i ≤ schemaNumberIn w (suc i)
-  unfolding numberFits
-  numbers-rise i l =
-      let e : suc i - 1 ≡ i = omega arith in
-      subst (λ (k : ℕ). schemaNumberIn w k ≤ schemaNumberIn w (suc i)) e
-      (leb-true _ _ (and-right (ltb (schemaNumberIn w (suc i)) (headIn w .schemas)) _ (number-fits (suc i) l)))
-
 module _ (w : List ℕ) (long : tableWords ≤ length w) (c : Passed w) where
   abbrev limits : Counted w
   limits = counted w (c .counts)
@@ -180,18 +158,25 @@ module _ (w : List ℕ) (long : tableWords ≤ length w) (c : Passed w) where
   abbrev room : Roomy w
   room = roomy w long (c .counts) (c .arities)
 
+  abbrev numbers : Ordered (schemaNumberIn w) (headIn w .schemas) (headIn w .schemaAtoms)
+  numbers = ordered (schemaNumberIn w) (headIn w .schemas) (headIn w .schemaAtoms) (c .numbers)
+
+  abbrev pair-numbers : Ordered (pairNumberIn w) (headIn w .schemas) (headIn w .pairs)
+  pair-numbers = ordered (pairNumberIn w) (headIn w .schemas) (headIn w .pairs) (c .pair-numbers)
+
   abbrev schemaOk : ℕ → Bool
   schemaOk s = schemaFits (aritiesIn w) (schemaIn w s)
 
   schema-ok : (s : ℕ) → s < headIn w .schemas → schemaOk s && all (unusedZero w) (indicesOf w s) ≡ true
-  unfolding schemasFit schemaWordsFit indicesOf
-  schema-ok s l = all-below (λ s. schemaWordsFit w s (indicesOf w s)) (headIn w .schemas) (c .schemas) s l
+  unfolding schemasFit schemaWordsFit pairIndicesOf indicesOf
+  schema-ok s l = all-below (λ s. schemaWordsFit w s (pairIndicesOf w s) (indicesOf w s)) (headIn w .schemas)
+      (c .schemas) s l
 
   atom-known : (i : ℕ) → i < headIn w .schemaAtoms → Known w i
   unfolding indicesOf
   atom-known i l =
       let s = schemaNumberIn w i in
-      let b = schema-ok s (number-known w (c .numbers) i l) in
+      let b = schema-ok s (numbers .known i l) in
       let k : In i (indicesOf w s) = in-filter (λ i. eqb s (schemaNumberIn w i)) (in-upTo (headIn w .schemaAtoms) i l)
       (eq-eqb s s refl) in
       let t = schema-tests (aritiesIn w) (schemaIn w s) (and-left (schemaOk s) _ b) in
@@ -268,8 +253,10 @@ module _ (w : List ℕ) (long : tableWords ≤ length w) (c : Passed w) where
         arity = room .arities;
         known = λ i l. each-known i l .known;
         unused = λ i k l. zero-unused w i (each-known i l .unused) k;
-        schema = number-known w (c .numbers);
-        order = numbers-rise w (c .numbers);
+        schema = numbers .known;
+        order = numbers .rise;
+        pair-schema = pair-numbers .known;
+        pair-order = pair-numbers .rise;
         init = init-ok .words;
         goal = goal-ok .words;
         rest = λ k a b. eqb-true (getD w k 0) 0
@@ -293,6 +280,7 @@ module _ (w : List ℕ) (long : tableWords ≤ length w) (c : Passed w) where
         atoms = subst (λ (m : ℕ). leb m 1000 ≡ true) (sym (atoms-count w words-fit)) (le-leb _ _ (n .atoms));
         inits = subst (λ (m : ℕ). leb m 500 ≡ true) (sym (inits-count w words-fit)) (le-leb _ _ (n .inits));
         goals = subst (λ (m : ℕ). leb m 100 ≡ true) (sym (goals-count w words-fit)) (le-leb _ _ (n .goals));
+        pairs = subst (λ (m : ℕ). leb m mostPairs ≡ true) (sym (pairs-count w words-fit)) (le-leb _ _ (n .pairs));
         fit = all-map (schemaFits (aritiesIn w)) (schemaIn w) (upTo (headIn w .schemas)) ∙
             below-all schemaOk (headIn w .schemas) (λ s l. and-left (schemaOk s) _ (schema-ok s l));
         init = init-ok .facts;

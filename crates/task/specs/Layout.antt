@@ -3,9 +3,10 @@
 use Prim.Native.Nat.{ℕ, _+_, _*_}
 use mathlib.Core.List.{List, [], _∷_}
 use lib.ListN.{getD}
-use Rattle.task.specs.Limits.{headWords, atomSize}
+use Rattle.task.specs.Limits.{headWords, pairSize, atomSize}
 
--- "objects N .., predicates P .., schemas .., schema atoms .., initial atoms .., goal atoms ..": the head of a table
+-- "objects N .., predicates P .., schemas .., schema atoms .., initial atoms .., goal atoms ..", and the pairs' "count in
+-- a seventh head word" (document 02, note 4): the head of a table
 pub record Head : Type 0 where
   pub objects : ℕ
   pub predicates : ℕ
@@ -13,11 +14,12 @@ pub record Head : Type 0 where
   pub schemaAtoms : ℕ
   pub initialAtoms : ℕ
   pub goalAtoms : ℕ
+  pub pairs : ℕ
 
 -- its words
 abbrev pub headBlock : Head → List ℕ
 headBlock h =
-    h .objects ∷ h .predicates ∷ h .schemas ∷ h .schemaAtoms ∷ h .initialAtoms ∷ h .goalAtoms ∷ []
+    h .objects ∷ h .predicates ∷ h .schemas ∷ h .schemaAtoms ∷ h .initialAtoms ∷ h .goalAtoms ∷ h .pairs ∷ []
 
 -- the head that some words have; words that are not there count as 0
 abbrev pub headIn : List ℕ → Head
@@ -28,6 +30,7 @@ headIn w = record {
   schemaAtoms = getD w 3 0;
   initialAtoms = getD w 4 0;
   goalAtoms = getD w 5 0;
+  pairs = getD w 6 0;
 }
 
 -- "all atoms in file order": behind those of the schemas the initial ones, then the goal's
@@ -37,13 +40,16 @@ goalsFrom w = headIn w .schemaAtoms + headIn w .initialAtoms
 abbrev pub atomTotal : List ℕ → ℕ
 atomTotal w = goalsFrom w + headIn w .goalAtoms
 
--- "P arities .., then each schema's parameter count", then the atoms: where the parameter counts begin, where the atoms
--- do, and which words come before "Zeros fill the rest"
+-- "P arities .., then each schema's parameter count", the pairs "after the parameter counts", then the atoms: where the
+-- parameter counts begin, where the pairs and the atoms do, and which words come before "Zeros fill the rest"
 abbrev pub paramsBase : List ℕ → ℕ
 paramsBase w = headWords + headIn w .predicates
 
+abbrev pub pairsBase : List ℕ → ℕ
+pairsBase w = paramsBase w + headIn w .schemas
+
 abbrev pub rowsBase : List ℕ → ℕ
-rowsBase w = paramsBase w + headIn w .schemas
+rowsBase w = pairsBase w + pairSize * headIn w .pairs
 
 abbrev pub wordsUsed : List ℕ → ℕ
 wordsUsed w = rowsBase w + atomSize * atomTotal w
@@ -54,6 +60,10 @@ arityIn w p = getD w (headWords + p) 0
 
 abbrev pub paramsIn : List ℕ → ℕ → ℕ
 paramsIn w s = getD w (paramsBase w + s) 0
+
+-- where pair i begins
+unfoldable pub pairBase : List ℕ → ℕ → ℕ
+pairBase w i = pairsBase w + pairSize * i
 
 -- where the initial and goal atoms begin, and where atom i does
 abbrev pub factsBase : List ℕ → ℕ

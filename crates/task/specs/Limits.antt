@@ -35,17 +35,25 @@ mostAtoms = 64
 abbrev pub mostParts : ℕ
 mostParts = 16
 
--- "A table takes 13,406 words"
+-- pairs of parameters that must differ (document 02, note 4): "at most 200", of all schemas together
+abbrev pub mostPairs : ℕ
+mostPairs = 200
+
+-- "a table then takes 14,007 words"
 abbrev pub tableLength : ℕ
-tableLength = 13406
+tableLength = 14007
 
 -- the same, shut, for lists of so many words: a list function would count a numeral down
 unfoldable pub tableWords : ℕ
 tableWords = tableLength
 
--- "all atoms in file order, 8 words each", after a head of six counts
+-- a head of six counts, and that of the pairs "in a seventh head word"
 abbrev pub headWords : ℕ
-headWords = 6
+headWords = 7
+
+-- "a block of three words per pair", "all atoms in file order, 8 words each"
+abbrev pub pairSize : ℕ
+pairSize = 3
 
 abbrev pub atomSize : ℕ
 atomSize = 8

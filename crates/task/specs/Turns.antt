@@ -20,6 +20,10 @@ use Rattle.task.specs.Records.{Keeps}
 abbrev pub firstAtom : Task → ℕ → ℕ
 firstAtom t s = sum (take s (map (λ (s : Schema). length (s .atoms)) (t .schemas)))
 
+-- the index of its first pair
+abbrev pub firstPair : Task → ℕ → ℕ
+firstPair t s = sum (take s (map (λ (s : Schema). length (s .pairs)) (t .schemas)))
+
 -- the starts of the schemas' atoms, and the end of the last
 abbrev pub Starts : Task → List ℕ → Type 0
 Starts t starts = (s : ℕ) → s ≤ length (t .schemas) → getD starts s 0 ≡ firstAtom t s

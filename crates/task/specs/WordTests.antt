@@ -9,15 +9,16 @@ use lib.Dec.{eqb, ltb, leb}
 use Rattle.words.specs.Lists.{all, any, filter, upTo, upFrom}
 use Rattle.task.specs.Layout.{headIn, wordsUsed, arityIn, paramsIn, atomBase}
 use Rattle.task.specs.Limits.{mostObjects, mostPredicates, mostSchemas, mostSchemaAtoms, mostInitial, mostGoal}
-use Rattle.task.specs.Limits.{mostArity, mostParts, tableLength}
-use Rattle.task.specs.Task.{Atom, Fact, argsFit, sameAtom, partCount, noGap, schemaFits, ascending}
+use Rattle.task.specs.Limits.{mostArity, mostParts, mostPairs, tableLength}
+use Rattle.task.specs.Task.{Atom, Fact, Pair, argsFit, sameAtom, partCount, noGap, schemaFits, ascending}
+use Rattle.task.specs.Task.{pairFits, pairsAscend}
 use Rattle.words.specs.Words.{wordsAt}
-use Rattle.task.specs.Table.{atomIn, schemaNumberIn, factIn, aritiesIn}
+use Rattle.task.specs.Table.{pairIn, pairNumberIn, atomIn, schemaNumberIn, factIn, aritiesIn, naming}
 use Rattle.words.specs.Words.{zerosAt}
 use Rattle.words.specs.Sets.{member}
 
 -- "objects N (1 to 1000), predicates P (1 to 400), schemas (0 to 200), schema atoms (at most 1000), initial atoms (at
--- most 500), goal atoms (at most 100)"
+-- most 500), goal atoms (at most 100)"; pairs "at most 200"
 unfoldable pub countTests : List ℕ → List Bool
 countTests w =
     leb 1 (headIn w .objects) ∷
@@ -27,7 +28,8 @@ countTests w =
     leb (headIn w .schemas) mostSchemas ∷
     leb (headIn w .schemaAtoms) mostSchemaAtoms ∷
     leb (headIn w .initialAtoms) mostInitial ∷
-    leb (headIn w .goalAtoms) mostGoal ∷ []
+    leb (headIn w .goalAtoms) mostGoal ∷
+    leb (headIn w .pairs) mostPairs ∷ []
 
 -- "P arities (0 to 4)"
 unfoldable pub aritiesFit : List ℕ → Bool
@@ -46,16 +48,11 @@ unfoldable pub argWordsFit : List ℕ → ℕ → ℕ → Bool
 unfolding argsFit wordsAt atomIn unusedZero
 argWordsFit w bound i = argsFit (aritiesIn w) bound (atomIn w i .pred) (atomIn w i .args) && unusedZero w i
 
--- schema atom i names a schema, and none lower than the atom before it
-unfoldable pub numberFits : List ℕ → ℕ → Bool
-unfolding schemaNumberIn
-numberFits w i =
-    ltb (schemaNumberIn w i) (headIn w .schemas) && leb (schemaNumberIn w (i - 1)) (schemaNumberIn w i)
-
--- "all atoms in file order": the atoms of each schema follow those of the schema before it
-unfoldable pub numbersFit : List ℕ → Bool
-unfolding all upTo numberFits
-numbersFit w = all (numberFits w) (upTo (headIn w .schemaAtoms))
+-- "in file order": the rows of each schema follow those of the schema before it. Each of n rows, by the schema's number
+-- in it, names one of the schemas, and none lower than the row before it
+unfoldable pub inFileOrder : (ℕ → ℕ) → ℕ → ℕ → Bool
+unfolding all upTo
+inFileOrder number schemas n = all (λ i. ltb (number i) schemas && leb (number (i - 1)) (number i)) (upTo n)
 
 -- "no atom twice in one role": atom i stands again behind it, before an end
 unfoldable pub standsAgain : List ℕ → ℕ → ℕ → Bool
@@ -83,21 +80,35 @@ unfoldable pub partsFit : List Atom → Bool
 unfolding partCount noGap
 partsFit atoms = leb (partCount atoms) mostParts && noGap atoms
 
--- the atoms at these indices, with the parameter count of schema s, are a schema in words
-unfoldable pub schemaWordsFit : List ℕ → ℕ → List ℕ → Bool
-unfolding all schemaFits wordsAt atomIn unusedZero
-schemaWordsFit w s is =
-    schemaFits (aritiesIn w) (record { params = paramsIn w s; atoms = map (atomIn w) is }) && all (unusedZero w) is
+-- the n pairs from pair i on
+abbrev pub pairsIn : List ℕ → ℕ → ℕ → List Pair
+pairsIn w i n = map (pairIn w) (upFrom i n)
 
--- the indices of the atoms of schema s
+-- the pairs of a schema with so many parameters
+unfoldable pub pairsFit : ℕ → List Pair → Bool
+unfolding all pairFits pairsAscend
+pairsFit params qs = all (pairFits params) qs && pairsAscend qs
+
+-- the pairs and the atoms at these indices, with the parameter count of schema s, are a schema in words
+unfoldable pub schemaWordsFit : List ℕ → ℕ → List ℕ → List ℕ → Bool
+unfolding all schemaFits wordsAt pairIn atomIn unusedZero
+schemaWordsFit w s qs is =
+    schemaFits (aritiesIn w) (record { params = paramsIn w s; pairs = map (pairIn w) qs; atoms = map (atomIn w) is }) &&
+    all (unusedZero w) is
+
+-- the indices of the pairs, and of the atoms, of schema s
+unfoldable pub pairIndicesOf : List ℕ → ℕ → List ℕ
+unfolding filter upTo pairNumberIn
+pairIndicesOf w s = naming (pairNumberIn w) (headIn w .pairs) s
+
 unfoldable pub indicesOf : List ℕ → ℕ → List ℕ
 unfolding filter upTo schemaNumberIn
-indicesOf w s = filter (λ i. eqb s (schemaNumberIn w i)) (upTo (headIn w .schemaAtoms))
+indicesOf w s = naming (schemaNumberIn w) (headIn w .schemaAtoms) s
 
--- the atoms that name each schema are one
+-- the pairs and the atoms that name each schema are one
 unfoldable pub schemasFit : List ℕ → Bool
-unfolding all upTo schemaWordsFit indicesOf
-schemasFit w = all (λ s. schemaWordsFit w s (indicesOf w s)) (upTo (headIn w .schemas))
+unfolding all upTo schemaWordsFit pairIndicesOf indicesOf
+schemasFit w = all (λ s. schemaWordsFit w s (pairIndicesOf w s) (indicesOf w s)) (upTo (headIn w .schemas))
 
 -- "schema and part of roles 3 and 4, are 0"
 unfoldable pub factWordsFit : List ℕ → ℕ → ℕ → Bool
@@ -111,7 +122,7 @@ unfoldable pub factsWordsFit : List ℕ → ℕ → ℕ → ℕ → Bool
 unfolding all upFrom factWordsFit ascending factIn
 factsWordsFit w r i n = all (factWordsFit w r) (upFrom i n) && ascending (factsIn w i n)
 
--- what the tests of the counts and the arities leave known: every word of an atom lies in the table
+-- what the tests of the counts and the arities leave known: every word of a pair and of an atom lies in the table
 pub record Roomy (w : List ℕ) : Type 0 where
   pub inside : wordsUsed w ≤ length w
   pub few : wordsUsed w ≤ tableLength
@@ -125,9 +136,9 @@ KnownIn w from to = (i : ℕ) → from ≤ i → i < to → atomIn w i .pred < h
 abbrev pub RolesRise : List ℕ → ℕ → ℕ → Type 0
 RolesRise w from to = (i j : ℕ) → from ≤ i → i ≤ j → j < to → atomIn w i .role ≤ atomIn w j .role
 
--- `end` is where the atoms of schema s, which begin at `start`, end
-pub record RunOf (w : List ℕ) (s start end : ℕ) : Type 0 where
+-- of n rows, by the schema's number in each, `end` is where those of schema s, which begin at `start`, end
+pub record RunOf (number : ℕ → ℕ) (n s start end : ℕ) : Type 0 where
   pub from : start ≤ end
-  pub to : end ≤ headIn w .schemaAtoms
-  pub inside : (i : ℕ) → start ≤ i → i < end → schemaNumberIn w i ≡ s
-  pub beyond : end < headIn w .schemaAtoms → schemaNumberIn w end ≡ s → ⊥
+  pub to : end ≤ n
+  pub inside : (i : ℕ) → start ≤ i → i < end → number i ≡ s
+  pub beyond : end < n → number end ≡ s → ⊥

@@ -3,7 +3,11 @@
 use crate::limits::ARGUMENTS;
 use crate::limits::ATOM_SIZE;
 use crate::limits::HEAD_WORDS;
+use crate::limits::HIGHER;
+use crate::limits::LOWER;
 use crate::limits::OBJECTS;
+use crate::limits::PAIR_SIZE;
+use crate::limits::PAIRS;
 use crate::limits::PART;
 use crate::limits::PREDICATE;
 use crate::limits::PREDICATES;
@@ -18,10 +22,10 @@ ghost use mathlib.Core.Bool.{true};
 ghost use Prim.Native.Nat.{ℕ, _+_, _*_, _<_, _≤_};
 ghost use lib.ListN.{length, getD};
 ghost use Rattle.words.specs.Words.{wordBound};
-ghost use Rattle.task.specs.Limits.{headWords, atomSize, mostArity};
-ghost use Rattle.task.specs.Layout.{headIn, atomTotal, paramsBase, rowsBase, factsBase, atomBase};
-ghost use Rattle.task.specs.Layout.{arityIn, paramsIn};
-ghost use Rattle.task.specs.Table.{taskOf, isTable, schemaNumberIn, atomIn};
+ghost use Rattle.task.specs.Limits.{headWords, pairSize, atomSize, mostArity};
+ghost use Rattle.task.specs.Layout.{headIn, atomTotal, paramsBase, pairsBase, rowsBase, factsBase, pairBase};
+ghost use Rattle.task.specs.Layout.{arityIn, paramsIn, atomBase};
+ghost use Rattle.task.specs.Table.{taskOf, isTable, pairNumberIn, pairIn, schemaNumberIn, atomIn};
 ghost use Rattle.task.specs.Run.{paramCount};
 ghost use Rattle.task.specs.WordTests.{Roomy};
 
@@ -92,14 +96,57 @@ pub fn params_of(table: &[u16], s: usize) -> usize
     word(table, params_base(table) + s)
 }
 
+// "a block of three words per pair (schema, lower, higher), in file order, .. after the parameter counts": where the
+// first pair begins, and the words of pair i.
+pub fn pairs_base(table: &[u16]) -> usize
+    requires { ⌜ headWords ≤ length (now table) ⌝ }
+    ensures { λ r. ⌜ r ≡ pairsBase (now (table .entry)) ⌝ }
+    ensures { λ r. ⌜ r < headWords + 2 * wordBound ⌝ }
+{
+    params_base(table) + word(table, SCHEMAS)
+}
+
+pub fn pair_of(table: &[u16], i: usize) -> usize
+    requires { ⌜ Roomy (now table) ⌝ }
+    requires { ⌜ i < headIn (now table) .pairs ⌝ }
+    ensures { λ r. ⌜ r ≡ pairBase (now (table .entry)) i ⌝ }
+    ensures { λ r. ⌜ r + pairSize ≤ length (now (table .entry)) ⌝ }
+{
+    pairs_base(table) + PAIR_SIZE * i
+}
+
+pub fn pair_number(table: &[u16], i: usize) -> usize
+    requires { ⌜ Roomy (now table) ⌝ }
+    requires { ⌜ i < headIn (now table) .pairs ⌝ }
+    ensures { λ r. ⌜ r ≡ pairNumberIn (now (table .entry)) i ⌝ }
+{
+    word(table, pair_of(table, i))
+}
+
+pub fn lower(table: &[u16], i: usize) -> usize
+    requires { ⌜ Roomy (now table) ⌝ }
+    requires { ⌜ i < headIn (now table) .pairs ⌝ }
+    ensures { λ r. ⌜ r ≡ pairIn (now (table .entry)) i .lower ⌝ }
+{
+    word(table, pair_of(table, i) + LOWER)
+}
+
+pub fn higher(table: &[u16], i: usize) -> usize
+    requires { ⌜ Roomy (now table) ⌝ }
+    requires { ⌜ i < headIn (now table) .pairs ⌝ }
+    ensures { λ r. ⌜ r ≡ pairIn (now (table .entry)) i .higher ⌝ }
+{
+    word(table, pair_of(table, i) + HIGHER)
+}
+
 // "all atoms in file order, 8 words each": where the first row begins, where that of atom i does, and where those of
 // the initial and goal atoms do.
 pub fn rows_base(table: &[u16]) -> usize
     requires { ⌜ headWords ≤ length (now table) ⌝ }
     ensures { λ r. ⌜ r ≡ rowsBase (now (table .entry)) ⌝ }
-    ensures { λ r. ⌜ r < headWords + 2 * wordBound ⌝ }
+    ensures { λ r. ⌜ r < headWords + 5 * wordBound ⌝ }
 {
-    params_base(table) + word(table, SCHEMAS)
+    pairs_base(table) + PAIR_SIZE * word(table, PAIRS)
 }
 
 pub fn atom_base(table: &[u16], i: usize) -> usize

@@ -23,10 +23,15 @@ pub const MOST_ATOMS: usize = 64;
 
 pub const MOST_PARTS: usize = 16;
 
-// "A table takes 13,406 words", of which six counts stand first and each atom takes eight
-pub const TABLE_WORDS: usize = 13406;
+// Pairs of parameters that must differ (document 02, note 4): "at most 200", of all schemas together.
+pub const MOST_PAIRS: usize = 200;
 
-pub const HEAD_WORDS: usize = 6;
+// "a table then takes 14,007 words", of which seven counts stand first, each pair takes three and each atom eight
+pub const TABLE_WORDS: usize = 14007;
+
+pub const HEAD_WORDS: usize = 7;
+
+pub const PAIR_SIZE: usize = 3;
 
 pub const ATOM_SIZE: usize = 8;
 
@@ -49,7 +54,7 @@ pub const GOAL: u16 = 4;
 // The first three are those of a schema's atoms.
 pub const SCHEMA_ROLES: usize = 3;
 
-// The places of the six counts.
+// The places of the seven counts.
 pub const OBJECTS: usize = 0;
 
 pub const PREDICATES: usize = 1;
@@ -61,6 +66,13 @@ pub const SCHEMA_ATOMS: usize = 3;
 pub const INITIAL_ATOMS: usize = 4;
 
 pub const GOAL_ATOMS: usize = 5;
+
+pub const PAIRS: usize = 6;
+
+// "three words per pair (schema, lower, higher)": the places of a pair's words in its row, the schema's being the first.
+pub const LOWER: usize = 1;
+
+pub const HIGHER: usize = 2;
 
 // "8 words each: schema, role .., predicate, part, four arguments": the places of an atom's words in its row, the
 // schema's being the first.

@@ -3,22 +3,28 @@ use crate::BadStep;
 use crate::Object;
 use crate::Parameter;
 use crate::layout::object_count;
+use crate::layout::pairs_base;
 use crate::layout::param_count;
 use crate::layout::schema_count;
+use crate::limits::HIGHER;
+use crate::limits::LOWER;
 use crate::limits::MOST_PARAMETERS;
+use crate::limits::PAIR_SIZE;
+use crate::limits::PAIRS;
 use crate::limits::STEP_SIZE;
 use words::putting::fill;
 use words::runs::wide;
+use words::runs::word;
 ghost use mathlib.Core.Path.{_≡_};
 ghost use mathlib.Core.Bool.{true};
 ghost use Prim.Native.Nat.{ℕ, _*_, _≤_, _+_, _-_, _<_};
 ghost use lib.ListN.{length, getD};
 ghost use lib.Dec.{eqb};
-ghost use Rattle.words.specs.Lists.{all, upFrom};
-ghost use Rattle.task.specs.Limits.{mostParameters, stepSize};
+ghost use Rattle.words.specs.Lists.{all, upFrom, upTo};
+ghost use Rattle.task.specs.Limits.{mostParameters, stepSize, pairSize};
 ghost use Rattle.task.specs.Table.{taskOf, isTable};
 ghost use Rattle.task.specs.Run.{isStepAt, badStep, badStepFound};
-ghost use Rattle.task.specs.StepTests.{limitsFor, isWithin, objectsThenZeros};
+ghost use Rattle.task.specs.StepTests.{limitsFor, isWithin, objectsThenZeros, wordsDiffer, apartAt, PairsFew};
 
 // The schema of the step whose words begin at `at`.
 pub fn schema_at(steps: &[u16], at: usize) -> usize
@@ -82,6 +88,44 @@ pub fn are_within(steps: &[u16], at: usize, params: usize, limits: &Limits) -> b
     front | back == 0
 }
 
+// Whether the step at `at` has different objects at the pair whose row begins at `row`.
+fn differ_at(rows: &[u16], row: usize, steps: &[u16], at: usize) -> bool
+    requires { ⌜ row + pairSize ≤ length (now rows) ⌝ }
+    requires { ⌜ (getD (now rows) (row + 1) 0 < mostParameters) × (getD (now rows) (row + 2) 0 < mostParameters) ⌝ }
+    requires { ⌜ at + stepSize ≤ length (now steps) ⌝ }
+    ensures { λ r. do
+      let pair = now (rows .entry)
+      ⌜ r ≡ wordsDiffer (now (steps .entry)) (at + 1) (record {
+        lower = getD pair (row + 1) 0;
+        higher = getD pair (row + 2) 0;
+      }) ⌝ }
+{
+    let lower = word(rows, row + LOWER);
+    let higher = word(rows, row + HIGHER);
+    word(steps, at + 1 + lower) != word(steps, at + 1 + higher)
+}
+
+// "A step with equal objects there isn't a step of the task": whether the step of a schema at `at` has different objects
+// at each pair of the schema, of `count` rows of pairs that begin at `base`.
+pub fn keep_apart(rows: &[u16], base: usize, count: usize, steps: &[u16], at: usize, schema: usize) -> bool
+    requires { ⌜ base + pairSize * count ≤ length (now rows) ⌝ }
+    requires { ⌜ PairsFew (now rows) base count ⌝ }
+    requires { ⌜ at + stepSize ≤ length (now steps) ⌝ }
+    ensures { λ r. ⌜ r ≡ all (apartAt (now (rows .entry)) base (now (steps .entry)) (at + 1) schema) (upTo count) ⌝ }
+{
+    let mut i = 0;
+    while i < count {
+        let row = base + PAIR_SIZE * i;
+        if word(rows, row) == schema {
+            if !differ_at(rows, row, steps, at) {
+                return false;
+            }
+        }
+        i += 1;
+    }
+    true
+}
+
 // Whether the list's words have a whole step of the task at index i.
 pub fn is_step(table: &[u16], steps: &[u16], i: usize, limits: &Limits) -> bool
     requires { ⌜ isTable (now table) ≡ true ⌝ }
@@ -97,7 +141,17 @@ pub fn is_step(table: &[u16], steps: &[u16], i: usize, limits: &Limits) -> bool
     if schema_count(table) <= schema {
         return false;
     }
-    are_within(steps, at, param_count(table, schema), limits)
+    if !are_within(steps, at, param_count(table, schema), limits) {
+        return false;
+    }
+    keep_apart(
+        table,
+        pairs_base(table),
+        word(table, PAIRS),
+        steps,
+        at,
+        wide(schema),
+    )
 }
 
 // The first step that is none of this task, or incomplete: words left over begin one.

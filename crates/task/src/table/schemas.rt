@@ -1,13 +1,16 @@
-// The schemas of a table: the atoms that name one follow one another, and together are what document 01 asks of it.
+// The schemas of a table: the pairs and the atoms that name one follow one another, and together are what document 01,
+// and of pairs document 02's note 4, asks of it.
 use super::atoms::atom_fits;
 use super::atoms::same_atom;
+use super::pairs::pairs_fit;
 use crate::layout::arguments;
 use crate::layout::arity;
+use crate::layout::pairs_base;
 use crate::layout::params_of;
 use crate::layout::part;
 use crate::layout::predicate;
 use crate::layout::role;
-use crate::layout::schema_number;
+use crate::layout::rows_base;
 use crate::limits;
 use words::runs::word;
 use words::sets::has;
@@ -16,14 +19,15 @@ use words::sets::joined_words;
 use words::sets::with;
 ghost use mathlib.Core.Path.{_≡_};
 ghost use mathlib.Core.Bool.{true};
-ghost use Prim.Native.Nat.{ℕ, _-_, _<_, _≤_};
+ghost use Prim.Native.Nat.{ℕ, _+_, _-_, _*_, _<_, _≤_};
+ghost use lib.ListN.{length, getD};
 ghost use lib.Dec.{eqb};
 ghost use Rattle.words.specs.Lists.{all, any, upTo, upFrom};
 ghost use Rattle.task.specs.Layout.{headIn, atomTotal};
 ghost use Rattle.task.specs.Task.{distinct, rolesAscend, names, partCount};
-ghost use Rattle.task.specs.Table.{atomIn};
+ghost use Rattle.task.specs.Table.{atomIn, pairNumberIn, schemaNumberIn};
 ghost use Rattle.words.specs.Sets.{member};
-ghost use Rattle.task.specs.WordTests.{argWordsFit, numbersFit, schemaWordsFit, schemasFit, partsFit};
+ghost use Rattle.task.specs.WordTests.{argWordsFit, inFileOrder, schemaWordsFit, schemasFit, partsFit};
 ghost use Rattle.task.specs.WordTests.{standsAgain, predicateBit, atomsIn, Roomy, KnownIn, RolesRise};
 ghost use Rattle.task.specs.WordTests.{HoldsBehind, RunOf};
 
@@ -210,12 +214,14 @@ fn parts_fit(table: &[u16], first: usize, end: usize) -> bool
     has_all(parts(table, first, end), count)
 }
 
-// Whether the atoms from one index to another, with the parameter count of schema s, are a schema.
-fn schema_fits(table: &[u16], s: usize, first: usize, end: usize) -> bool
+// Whether the pairs and the atoms from one index to another, with the parameter count of schema s, are a schema.
+fn schema_fits(table: &[u16], s: usize, pair: usize, stop: usize, first: usize, end: usize) -> bool
     requires { ⌜ Roomy (now table) ⌝ }
     requires { ⌜ s < headIn (now table) .schemas ⌝ }
+    requires { ⌜ (pair ≤ stop) × (stop ≤ headIn (now table) .pairs) ⌝ }
     requires { ⌜ (first ≤ end) × (end ≤ headIn (now table) .schemaAtoms) ⌝ }
-    ensures { λ r. ⌜ r ≡ schemaWordsFit (now (table .entry)) s (upFrom first (end - first)) ⌝ }
+    ensures { λ r. ⌜ r ≡ schemaWordsFit (now (table .entry)) s (upFrom pair (stop - pair))
+        (upFrom first (end - first)) ⌝ }
 {
     let params = params_of(table, s);
     if limits::MOST_PARAMETERS < params {
@@ -239,19 +245,21 @@ fn schema_fits(table: &[u16], s: usize, first: usize, end: usize) -> bool
     if !all_named(table, params, first, end) {
         return false;
     }
-    parts_fit(table, first, end)
+    if !parts_fit(table, first, end) {
+        return false;
+    }
+    pairs_fit(table, params, pair, stop)
 }
 
-// Where the atoms of schema s end, which begin at `start`.
-fn run_end(table: &[u16], s: usize, start: usize) -> usize
-    requires { ⌜ Roomy (now table) ⌝ }
-    requires { ⌜ start ≤ headIn (now table) .schemaAtoms ⌝ }
-    ensures { λ r. ⌜ RunOf (now (table .entry)) s start r ⌝ }
+// Of `count` rows of `size` words from `base` on, where those of schema s end, which begin at `start`.
+fn run_end(table: &[u16], base: usize, size: usize, count: usize, s: usize, start: usize) -> usize
+    requires { ⌜ (1 ≤ size) × (base + size * count ≤ length (now table)) ⌝ }
+    requires { ⌜ start ≤ count ⌝ }
+    ensures { λ r. ⌜ RunOf (λ (i : ℕ). getD (now (table .entry)) (base + size * i) 0) count s start r ⌝ }
 {
-    let atoms = word(table, limits::SCHEMA_ATOMS);
     let mut i = start;
-    while i < atoms {
-        if schema_number(table, i) != s {
+    while i < count {
+        if word(table, base + size * i) != s {
             return i;
         }
         i += 1;
@@ -259,20 +267,27 @@ fn run_end(table: &[u16], s: usize, start: usize) -> usize
     i
 }
 
-// Whether each schema, with the atoms that name it, is one; they follow one another.
+// Whether each schema, with the pairs and the atoms that name it, is one; they follow one another.
 pub(crate) fn schemas_fit(table: &[u16]) -> bool
     requires { ⌜ Roomy (now table) ⌝ }
-    requires { ⌜ numbersFit (now table) ≡ true ⌝ }
+    requires { ⌜ inFileOrder (pairNumberIn (now table)) (headIn (now table) .schemas) (headIn (now table) .pairs) ≡ true ⌝ }
+    requires { ⌜ inFileOrder (schemaNumberIn (now table)) (headIn (now table) .schemas)
+        (headIn (now table) .schemaAtoms) ≡ true ⌝ }
     ensures { λ r. ⌜ r ≡ schemasFit (now (table .entry)) ⌝ }
 {
     let schemas = word(table, limits::SCHEMAS);
+    let pairs = word(table, limits::PAIRS);
+    let atoms = word(table, limits::SCHEMA_ATOMS);
+    let mut pair = 0;
     let mut first = 0;
     let mut s = 0;
     while s < schemas {
-        let end = run_end(table, s, first);
-        if !schema_fits(table, s, first, end) {
+        let stop = run_end(table, pairs_base(table), limits::PAIR_SIZE, pairs, s, pair);
+        let end = run_end(table, rows_base(table), limits::ATOM_SIZE, atoms, s, first);
+        if !schema_fits(table, s, pair, stop, first, end) {
             return false;
         }
+        pair = stop;
         first = end;
         s += 1;
     }

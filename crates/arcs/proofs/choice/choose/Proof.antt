@@ -5,16 +5,17 @@ use mathlib.Core.Path.{_≡_, sym, _∙_, subst}
 use mathlib.Core.List.{List}
 use native.Mathlib.Omega.{arith}
 use Rattle.words.specs.Sets.{members}
-use Rattle.task.specs.Task.{Atom}
+use Rattle.task.specs.Task.{Atom, Pair}
 use Rattle.arcs.specs.Order.{placedParts}
 use Rattle.arcs.specs.Stretches.{AreArcs, AreTests, ChosenBelow, IsBound, chosen}
 use Rattle.arcs.proofs.Choosing.{FoundFrom, found-none, found-skip, found-take, found-all}
 use Rattle.arcs.proofs.choice.choose.Statement.{statement}
 use Rattle.arcs.proofs.choice.choose.Tie as tie
 
--- what the promise takes for granted of the atoms
-record Known (before counts tested : List ℕ) (bound unplaced count : ℕ) (atoms : List Atom) : Type 0 where
-  arcs : AreArcs atoms before
+-- what the promise takes for granted of the pairs and the atoms
+record Known (before counts tested : List ℕ) (bound unplaced count : ℕ) (pairs : List Pair) (atoms : List Atom) : Type 0
+    where
+  arcs : AreArcs pairs atoms before
   tests : AreTests atoms counts tested
   placed : IsBound atoms (placedParts atoms (members unplaced count)) bound
 
@@ -26,7 +27,7 @@ Inv-loop before counts tested bound unplaced count found₀ p₀ found p =
 abbrev μ-loop : tie.MeasureT-loop
 μ-loop before counts tested bound unplaced count found₀ p₀ found p = p
 
-abbrev KnownAt : tie.Start Inv-loop μ-loop → List Atom → Type 0
+abbrev KnownAt : tie.Start Inv-loop μ-loop → List Pair → List Atom → Type 0
 KnownAt s =
     let a = s .args in
     Known (a .before .now) (a .counts .now) (a .tested .now) (a .bound) (a .unplaced) (a .count)
@@ -54,8 +55,8 @@ loop-again c =
       b .1 n (omega arith) (h .inv .1),
       found-take (KnownAt s) (s .args .unplaced) n (h .p) (chosen (h .found)) (chosen (c .better-of .result))
           (turn .loop-test .taken) (h .inv .0)
-          (λ atoms k. sym (r atoms n (k .arcs) (s .pre .1)) ∙ c .before .if1 .taken) (h .inv .2)
-          (λ atoms k. b .0 atoms (placedParts atoms (members (s .args .unplaced) n)) (k .tests) (k .placed)),
+          (λ pairs atoms k. sym (r pairs atoms n (k .arcs) (s .pre .1)) ∙ c .before .if1 .taken) (h .inv .2)
+          (λ pairs atoms k. b .0 atoms (placedParts atoms (members (s .args .unplaced) n)) (k .tests) (k .placed)),
     )
 
 loop-again-2 : tie.Need-loop-again-2 Inv-loop μ-loop
@@ -68,7 +69,7 @@ loop-again-2 c =
       omega arith,
       h .inv .1,
       found-skip (KnownAt s) (s .args .unplaced) n (h .p) (chosen (h .found)) (turn .loop-test .taken) (h .inv .0)
-          (λ atoms k. sym (r atoms n (k .arcs) (s .pre .1)) ∙ c .if1 .left) (h .inv .2),
+          (λ pairs atoms k. sym (r pairs atoms n (k .arcs) (s .pre .1)) ∙ c .if1 .left) (h .inv .2),
     )
 
 returns : tie.Need-returns Inv-loop μ-loop
@@ -78,8 +79,8 @@ returns c =
     let found = chosen (h .found) in
     let z : h .p ≡ 0 = omega arith in
     let all = subst (λ (k : ℕ). FoundFrom (KnownAt s) (s .args .unplaced) (s .args .count) k found) z (h .inv .2) in (
-      λ atoms a t b.
-          found-all (KnownAt s) (s .args .unplaced) (s .args .count) found all atoms
+      λ pairs atoms a t b.
+          found-all (KnownAt s) (s .args .unplaced) (s .args .count) found all pairs atoms
           (record { arcs = a; tests = t; placed = b }),
       h .inv .1,
     )

@@ -11,21 +11,21 @@ use Rattle.arcs.proofs.choice.is_ready.Statement.{statement}
 use Rattle.arcs.proofs.choice.is_ready.Tie as tie
 
 returns : tie.Need-returns
-returns c = λ atoms n a b.
+returns c = λ pairs atoms n a b.
     let s = c .before .before .before .before in
     let u = s .args .unplaced in
     let p = s .args .p in
     let m = sym (c .before .before .before .has .ensures) ∙ c .before .before .if1 .taken in
     ap not (c .meet .ensures)
-    ∙ (ready-apart atoms (s .args .before .now) u n p (s .fits .unplaced .fits) a b
-    ∙ ap (λ (x : Bool). x && ready atoms (members u n) p) (sym m))
+    ∙ (ready-apart pairs atoms (s .args .before .now) u n p (s .fits .unplaced .fits) a b
+    ∙ ap (λ (x : Bool). x && ready pairs atoms (members u n) p) (sym m))
 
 returns-2 : tie.Need-returns-2
-returns-2 c = λ atoms n a b.
+returns-2 c = λ pairs atoms n a b.
     let s = c .before .before in
     let u = s .args .unplaced in
     let m = sym (c .before .has .ensures) ∙ c .if1 .left in
-    c .if1 .left ∙ ap (λ (x : Bool). x && ready atoms (members u n) (s .args .p)) (sym m)
+    c .if1 .left ∙ ap (λ (x : Bool). x && ready pairs atoms (members u n) (s .args .p)) (sym m)
 
 pub is-ready-spec : {M : Type 1} → statement M
 is-ready-spec =

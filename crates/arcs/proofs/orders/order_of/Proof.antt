@@ -9,9 +9,9 @@ use lib.ListN.{length, replicate, length-set}
 use borrow.Author.Needs.{needs}
 use Rattle.task.specs.declared.Part.{Part}
 use Rattle.task.specs.Limits.{mostParts}
-use Rattle.task.specs.Task.{Atom, partCount}
+use Rattle.task.specs.Task.{Atom, Pair, partCount}
 use Rattle.arcs.specs.Order.{placedParts, nextPart}
-use Rattle.arcs.specs.Stretches.{IsBound, stretchIn, chosen, orderTold}
+use Rattle.arcs.specs.Stretches.{IsBound, stretchIn, pairStretchIn, chosen, orderTold}
 use Rattle.words.specs.Sets.{SetBelow, member, members}
 use Rattle.arcs.proofs.Placing.{Placed, placed-none, placed-more, placed-stuck, placed-all, order-is, below-all}
 use Rattle.arcs.proofs.Placing.{below-without, bound-first, bound-next}
@@ -19,13 +19,15 @@ use Rattle.arcs.proofs.orders.order_of.Statement.{statement}
 use Rattle.arcs.proofs.orders.order_of.Tie as tie
 
 abbrev Inv-loop : tie.InvT-loop
-Inv-loop table from to before tests tested named count parts₀ unplaced₀ bound₀ placed₀ parts unplaced bound placed =
+Inv-loop table from to pair end before tests tested named count parts₀ unplaced₀ bound₀ placed₀ parts unplaced bound
+    placed =
     (placed ≤ count) × (length parts ≡ mostParts) × SetBelow count unplaced ×
-    Placed (stretchIn table from to) count parts unplaced placed ×
+    Placed (pairStretchIn table pair end) (stretchIn table from to) count parts unplaced placed ×
     IsBound (stretchIn table from to) (placedParts (stretchIn table from to) (members unplaced count)) bound
 
 abbrev μ-loop : tie.MeasureT-loop
-μ-loop table from to before tests tested named count parts₀ unplaced₀ bound₀ placed₀ parts unplaced bound placed =
+μ-loop table from to pair end before tests tested named count parts₀ unplaced₀ bound₀ placed₀ parts unplaced bound
+    placed =
     count - placed
 
 -- ---- what is known at the loop
@@ -37,6 +39,9 @@ start l = l .before .before .before .before .before .before .before .before
 
 abbrev all : Loop → List Atom
 all l = stretchIn (start l .args .table .now) (start l .args .from) (start l .args .to)
+
+abbrev pairs : Loop → List Pair
+pairs l = pairStretchIn (start l .args .table .now) (start l .args .pair) (start l .args .end)
 
 abbrev count : Loop → ℕ
 count l = l .before .before .gather .result
@@ -52,19 +57,19 @@ abbrev unplaced : Loop → List ℕ
 unplaced l = members (l .loop .unplaced) (count l)
 
 next : (c : tie.After-choose Inv-loop μ-loop) →
-    chosen (c .choose .result) ≡ nextPart (all (turn c .before)) (unplaced (turn c .before))
+    chosen (c .choose .result) ≡ nextPart (pairs (turn c .before)) (all (turn c .before)) (unplaced (turn c .before))
 next c =
     let l = turn c .before in
     let g = l .before .before in
-    c .choose .ensures .0 (all l) (g .before .before .before .before .arcs-of .ensures) (g .gather .ensures .1 .1 .0)
-    (l .loop .inv .4)
+    c .choose .ensures .0 (pairs l) (all l) (g .before .before .before .before .arcs-of .ensures)
+    (g .gather .ensures .1 .1 .0) (l .loop .inv .4)
 
 -- ---- before the loop
 arcs-of-requires : tie.Need-arcs-of-requires Inv-loop μ-loop
 arcs-of-requires c κs = c .before .pre
 
 gather-requires : tie.Need-gather-requires Inv-loop μ-loop
-gather-requires c κs = (c .before .before .before .before .before .pre, (refl, (refl, refl)))
+gather-requires c κs = (c .before .before .before .before .before .pre .0, (refl, (refl, refl)))
 
 below-requires : tie.Need-below-requires Inv-loop μ-loop
 below-requires c κs = omega (arith, c .gather .ensures .1 .0)
@@ -80,7 +85,7 @@ loop-holds c =
       omega arith,
       refl,
       below-all u n (c .below .ensures),
-      placed-none atoms n none u (c .below .ensures),
+      placed-none (pairStretchIn (a .table .now) (a .pair) (a .end)) atoms n none u (c .below .ensures),
       bound-first atoms n (g .ensures .0) u (c .below .ensures),
     )
 
@@ -98,10 +103,10 @@ returns c =
     let l = turn d .before in
     let h = l .loop in
     let t = turn d .loop-test .taken in (
-      λ s e.
-          sym (placed-stuck (all l) (count l) (h .parts) (h .unplaced) (h .placed) t
+      λ s p e.
+          sym (placed-stuck (pairs l) (all l) (count l) (h .parts) (h .unplaced) (h .placed) t
           (sym (ap chosen (c .enum-told .given .1)) ∙ next d) (h .inv .3))
-          ∙ order-is s (all l) (count l) e (counted l),
+          ∙ order-is s (pairs l) (all l) (count l) p e (counted l),
       ((omega arith, h .inv .1), l .before .before .gather .ensures .1 .1 .1),
     )
 
@@ -144,7 +149,7 @@ loop-again c =
       omega arith,
       length-set (h .parts) (h .placed) p ∙ h .inv .1,
       below-without (h .unplaced) u (p .0) (count l) w (h .inv .2),
-      placed-more (all l) (count l) (h .parts) (h .unplaced) u (h .placed) p t (omega arith)
+      placed-more (pairs l) (all l) (count l) (h .parts) (h .unplaced) u (h .placed) p t (omega arith)
           (sym (ap chosen (g .1)) ∙ next d) w (h .inv .3),
       bound-next (all l) (count l) (counted l) (h .unplaced) u (p .0) (h .bound) (held .result)
           (c .union .result) (part-known known) w (h .inv .4)
@@ -158,10 +163,10 @@ returns-2 c =
     let l = c .before in
     let h = l .loop in
     let z : h .placed ≡ count l = omega arith in
-    let done = subst (λ (k : ℕ). Placed (all l) (count l) (h .parts) (h .unplaced) k) z (h .inv .3) in (
-      λ s e.
-          sym (placed-all (all l) (count l) (h .parts) (h .unplaced) done)
-          ∙ order-is s (all l) (count l) e (counted l),
+    let done = subst (λ (k : ℕ). Placed (pairs l) (all l) (count l) (h .parts) (h .unplaced) k) z (h .inv .3) in (
+      λ s p e.
+          sym (placed-all (pairs l) (all l) (count l) (h .parts) (h .unplaced) done)
+          ∙ order-is s (pairs l) (all l) (count l) p e (counted l),
       ((l .before .before .gather .ensures .1 .0, h .inv .1), l .before .before .gather .ensures .1 .1 .1),
     )
 

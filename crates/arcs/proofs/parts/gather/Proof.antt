@@ -11,7 +11,7 @@ use Rattle.task.specs.Task.{Atom, partCount}
 use Rattle.task.specs.Table.{atomIn}
 use Rattle.arcs.specs.Order.{inPart, tests}
 use Rattle.arcs.specs.Stretches.{AreParameters, AreTests, IsStretch, stretchIn}
-use Rattle.arcs.proofs.Stretches.{stretch-atom, atoms-none, atoms-more}
+use Rattle.arcs.proofs.Stretches.{stretch-atom, rows-none, rows-more}
 use Rattle.arcs.proofs.Counting.{part-count-none, part-count-more, Counted, counted-none, counted-room}
 use Rattle.arcs.proofs.Counting.{counted-same, counted-more}
 use Rattle.arcs.proofs.PartParameters.{Kept, kept-none, kept-same, kept-more, Found, in-part-none, in-part-more}
@@ -66,7 +66,7 @@ loop-holds c =
       omega arith,
       s .pre .0 .forward,
       omega arith,
-      rw (atoms-none (s .args .table .now) (s .args .from), zeros .0, zeros .1 .0, zeros .1 .1) gathered-none,
+      rw (rows-none (atomIn (s .args .table .now)) (s .args .from), zeros .0, zeros .1 .0, zeros .1 .1) gathered-none,
     )
 
 part-of-requires : tie.Need-part-of-requires Inv-loop μ-loop
@@ -171,7 +171,7 @@ loop-again c =
       tests = t .1;
       names = named-more d;
     } in
-    let e = atoms-more (table d) (begun d .before .before .before .args .from) (h .i) (h .inv .0) in (
+    let e = rows-more (atomIn (table d)) (begun d .before .before .before .args .from) (h .i) (h .inv .0) in (
       omega arith,
       omega arith,
       omega (arith, f .below),

@@ -2,17 +2,25 @@
 -- `step-unknown`, `step-whole`), and the numbers of parameters and objects are the task's. A schema has at most 12
 -- parameters, so that the words tested have their limits.
 use Prim.Native.Nat.{ℕ, _+_, _*_, _≤_, _<_}
-use mathlib.Core.Path.{_≡_, sym, _∙_}
-use mathlib.Core.Bool.{true}
+use mathlib.Core.Path.{_≡_, sym, _∙_, ap}
+use mathlib.Core.Bool.{Bool, true, _&&_}
 use mathlib.Core.List.{List}
 use native.Mathlib.Omega.{arith}
 use lib.ListN.{length, getD}
+use borrow.Author.Tests.{not-true, not-false}
 use borrow.Author.Needs.{needs}
 use Rattle.task.specs.Limits.{stepSize}
 use Rattle.task.specs.Task.{Task, wellFormed}
 use Rattle.task.specs.Table.{taskOf}
+use Rattle.words.specs.Lists.{all, upTo}
+use Rattle.task.specs.Layout.{headIn, pairsBase, pairBase}
+use Rattle.task.specs.Run.{isStepAt}
+use Rattle.task.specs.StepTests.{apartAt}
 use Rattle.task.proofs.Tables.{of-table}
-use Rattle.task.proofs.StepWords.{params-few, step-short, step-unknown, step-whole}
+use Rattle.task.proofs.TableReads.{table-roomy, counts-inside}
+use Rattle.task.proofs.TablesByIndex.{table-frame, schemas-word}
+use Rattle.task.proofs.StepPairs.{pairs-few, pairs-apart}
+use Rattle.task.proofs.StepWords.{params-few, pairsDiffer, step-short, step-unknown, step-whole}
 use Rattle.task.proofs.steps.is_step.Statement.{statement}
 use Rattle.task.proofs.steps.is_step.Tie as tie
 
@@ -58,16 +66,70 @@ are-within-requires c κs =
     let l = params-few (T start) (well start) (getD (W start) (stepSize * start .args .i) 0) in
     (whole (c .before), omega arith)
 
-returns-3 : tie.Need-returns-3
-returns-3 c =
+-- what is left behind these tests: the words behind the schema, then the pairs
+rest : (c : tie.After-are-within) → let start = start₂ (c .before .before) in
+    isStepAt (T start) (W start) (start .args .i) ≡
+    c .are-within .result && pairsDiffer (T start) (well start) (W start) (start .args .i) (c .before .param-count .result)
+rest c =
     let known₂ = c .before .before in
     let start = start₂ known₂ in
-    c .are-within .ensures (T start .objects) (start .pre .1 .1) ∙
-    sym (step-whole (T start) (well start) (W start) (start .args .i) (c .before .param-count .result)
-    (c .before .param-count .ensures) (whole known₂) (known known₂))
+    let n = c .before .param-count .result in
+    step-whole (T start) (well start) (W start) (start .args .i) n (c .before .param-count .ensures) (whole known₂)
+    (known known₂) ∙
+    ap (λ (b : Bool). b && pairsDiffer (T start) (well start) (W start) (start .args .i) n)
+    (sym (c .are-within .ensures (T start .objects) (start .pre .1 .1)))
+
+returns-3 : tie.Need-returns-3
+returns-3 c =
+    let start = start₂ (c .before .before .before) in
+    let pairs = pairsDiffer (T start) (well start) (W start) (start .args .i) (c .before .before .param-count .result) in
+    sym (rest (c .before) ∙ ap (λ (b : Bool). b && pairs) (not-true (c .before .are-within .result) (c .if3 .taken)))
+
+-- past the test of the objects
+abbrev start₃ : tie.Else3 → tie.Start
+start₃ c = start₂ (c .before .before .before)
+
+pairs-base-requires : tie.Need-pairs-base-requires
+pairs-base-requires c κs = counts-inside (start₃ c .args .table .now) (start₃ c .pre .0)
+
+word-requires : tie.Need-word-requires
+word-requires c κs = let l = counts-inside (start₃ (c .before) .args .table .now) (start₃ (c .before) .pre .0) in
+    omega arith
+
+keep-apart-requires : tie.Need-keep-apart-requires
+unfolding pairBase
+keep-apart-requires c κs =
+    let passed = c .before .before .before in
+    let start = start₃ passed in
+    let w = start .args .table .now in
+    let base = c .before .before .pairs-base .ensures .0 in
+    let count = c .before .word .ensures .0 in
+    let room = table-roomy w (start .pre .0) .inside in
+    (omega (arith, base, count), (rw (base, count) (pairs-few w (start .pre .0)), whole (passed .before .before .before)))
+
+returns-4 : tie.Need-returns-4
+returns-4 c =
+    let passed = c .before .before .before .before in
+    let tested = passed .before in
+    let start = start₃ passed in
+    let w = start .args .table .now in
+    let steps = W start in
+    let at : ℕ = stepSize * start .args .i in
+    let schema = getD steps at 0 in
+    let pairs = pairsDiffer (T start) (well start) steps (start .args .i) in
+    let schemas = schemas-word w (table-frame w (start .pre .0)) in
+    let rows : c .keep-apart .result ≡ all (apartAt w (pairsBase w) steps (at + 1) schema) (upTo (headIn w .pairs)) =
+    rw (← c .before .before .before .pairs-base .ensures .0, ← c .before .before .word .ensures .0,
+    ← c .before .wide .ensures) (c .keep-apart .ensures) in
+    rows ∙
+    (sym (pairs-apart w (start .pre .0) schema (omega (arith, known (tested .before .before))) steps (at + 1)) ∙
+    (ap pairs (sym (tested .before .param-count .ensures)) ∙
+    sym (rest tested ∙ ap (λ (b : Bool). b && pairs (tested .before .param-count .result))
+    (not-false (tested .are-within .result) (passed .if3 .left)))))
 
 pub is-step-spec : {M : Type 1} → statement M
 is-step-spec =
     tie.close
     (tie.spec (λ c. search needs) (λ c. search needs) returns (λ c. search needs) (λ c. search needs)
-    (λ c κs. search needs) returns-2 param-count-requires are-within-requires returns-3)
+    (λ c κs. search needs) returns-2 param-count-requires are-within-requires returns-3 pairs-base-requires
+    word-requires (λ c κs. search needs) keep-apart-requires returns-4)

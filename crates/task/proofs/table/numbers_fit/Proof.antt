@@ -1,71 +1,94 @@
 -- `task::table::numbers_fit` meets its contract.
--- The invariant: the whole test is what is left of it from i on, and `before` compares with atom i's number as that of
--- the atom before it does. The measure is how many atoms are left.
-use Prim.Native.Nat.{_-_}
-use mathlib.Core.Path.{_≡_, sym}
+-- The invariant: the whole test is what is left of it from i on, and `before` compares with row i's number as that of
+-- the row before it does. The measure is how many rows are left.
+use Prim.Native.Nat.{ℕ, _+_, _-_, _*_, _<_}
+use mathlib.Core.Path.{_≡_, refl}
+use mathlib.Core.List.{List}
 use native.Mathlib.Omega.{arith}
+use lib.ListN.{length, getD}
 use lib.Dec.{leb}
-use Rattle.task.specs.Table.{schemaNumberIn}
-use Rattle.task.specs.WordTests.{numberFits, numbersFit}
+use Rattle.task.specs.Layout.{headIn}
+use Rattle.task.specs.WordTests.{inFileOrder}
 use Rattle.words.proofs.Loops.{AllLeft, all-up-to, all-more, all-fails, all-ends}
-use Rattle.task.proofs.AtomWords.{number-low, number-high, number-right, number-first, number-next}
+use Rattle.task.proofs.FileOrder.{rowFits, number-low, number-high, number-right, number-first, number-next}
+use Rattle.task.proofs.FileOrder.{row-below}
 use Rattle.task.proofs.table.numbers_fit.Statement.{statement}
 use Rattle.task.proofs.table.numbers_fit.Tie as tie
 
+-- the number of row i
+abbrev number : List ℕ → ℕ → ℕ → ℕ → ℕ
+number w base size i = getD w (base + size * i) 0
+
 abbrev Inv-loop : tie.InvT-loop
-Inv-loop table schemas atoms before₀ i₀ before i =
-    AllLeft (numberFits table) atoms (numbersFit table) i ×
-    (leb before (schemaNumberIn table i) ≡ leb (schemaNumberIn table (i - 1)) (schemaNumberIn table i))
+Inv-loop table base size count schemas before₀ i₀ before i =
+    let row = number table base size in
+    AllLeft (rowFits row (headIn table .schemas) count) count (inFileOrder row (headIn table .schemas) count) i ×
+    (leb before (row i) ≡ leb (row (i - 1)) (row i))
 
 abbrev μ-loop : tie.MeasureT-loop
-μ-loop table schemas atoms before₀ i₀ before i = atoms - i
+μ-loop table base size count schemas before₀ i₀ before i = count - i
 
 word-requires : tie.Need-word-requires Inv-loop μ-loop
-word-requires c κs = let r = c .before .pre in omega arith
-
-word-requires-2 : tie.Need-word-requires-2 Inv-loop μ-loop
-word-requires-2 c κs = let r = c .before .before .pre in omega arith
+word-requires c κs = let r = c .before .pre .0 in omega arith
 
 loop-holds : tie.Need-loop-holds Inv-loop μ-loop
-unfolding numbersFit
-loop-holds c = (all-up-to (sym (c .word2 .ensures .0)), number-first (c .before .before .before .args .table .now))
+unfolding inFileOrder
+loop-holds c =
+    let given = c .before .before .args in
+    (all-up-to refl, number-first (number (given .table .now) (given .base) (given .size)))
 
-schema-number-requires : tie.Need-schema-number-requires Inv-loop μ-loop
-schema-number-requires c κs =
-    let start = c .before .before .before .before .before in
-    (start .pre, omega (arith, c .before .before .word2 .ensures .0))
+-- row i lies in the table
+abbrev start : tie.In-loop Inv-loop μ-loop → tie.Start Inv-loop μ-loop
+start c = c .before .before .before .before
+
+inside : (c : tie.In-loop Inv-loop μ-loop) → let given = start c .args in
+    given .base + given .size * c .before .loop .i < length (given .table .now)
+inside c =
+    let given = start c .args in
+    let (some, fits) = start c .pre .1 in
+    let below = row-below (given .size) (c .before .loop .i) (given .count) some (c .loop-test .taken) in
+    omega arith
+
+mul-word : tie.Need-mul-word Inv-loop μ-loop
+mul-word c = let r = inside c in omega arith
+
+add-word : tie.Need-add-word Inv-loop μ-loop
+add-word c = let r = inside c in omega arith
+
+word-requires-2 : tie.Need-word-requires-2 Inv-loop μ-loop
+word-requires-2 c κs = inside c
 
 returns : tie.Need-returns Inv-loop μ-loop
 returns c =
     let k = c .before in
     let at = k .before .before in
-    let w = at .before .before .before .before .args .table .now in
-    let i = at .loop .i in
-    let e = k .schema-number .ensures in
+    let given = start (k .before) .args in
+    let e = k .word2 .ensures .0 in
     all-fails (at .loop .inv .0) (k .before .loop-test .taken)
-    (number-low w i (at .loop .before) (at .loop .inv .1) (omega arith))
+    (number-low (number (given .table .now) (given .base) (given .size)) (headIn (given .table .now) .schemas)
+    (given .count) (at .loop .i) (at .loop .before) (at .loop .inv .1) (omega arith))
 
 returns-2 : tie.Need-returns-2 Inv-loop μ-loop
 returns-2 c =
     let k = c .before .before in
     let at = k .before .before in
-    let w = at .before .before .before .before .args .table .now in
-    let i = at .loop .i in
-    let e = k .schema-number .ensures in
+    let given = start (k .before) .args in
+    let e = k .word2 .ensures .0 in
     all-fails (at .loop .inv .0) (k .before .loop-test .taken)
-    (number-high w i (at .loop .before) (at .loop .inv .1) (omega (arith, at .before .before .word .ensures .0)))
+    (number-high (number (given .table .now) (given .base) (given .size)) (headIn (given .table .now) .schemas)
+    (given .count) (at .loop .i) (at .loop .before) (at .loop .inv .1) (omega (arith, at .before .word .ensures .0)))
 
 loop-again : tie.Need-loop-again Inv-loop μ-loop
 loop-again c =
     let k = c .before .before in
     let at = k .before .before in
-    let w = at .before .before .before .before .args .table .now in
-    let i = at .loop .i in
-    let e = k .schema-number .ensures in (
+    let given = start (k .before) .args in
+    let row = number (given .table .now) (given .base) (given .size) in
+    let e = k .word2 .ensures .0 in (
       all-more (at .loop .inv .0) (k .before .loop-test .taken)
-          (number-right w i (at .loop .before) (at .loop .inv .1) (omega arith)
-          (omega (arith, at .before .before .word .ensures .0))),
-      number-next w i (k .schema-number .result) e,
+          (number-right row (headIn (given .table .now) .schemas) (given .count) (at .loop .i) (at .loop .before)
+          (at .loop .inv .1) (omega arith) (omega (arith, at .before .word .ensures .0))),
+      number-next row (at .loop .i) (k .word2 .result) e,
     )
 
 returns-3 : tie.Need-returns-3 Inv-loop μ-loop
@@ -74,5 +97,5 @@ returns-3 c = all-ends (c .before .loop .inv .0) (c .loop-test .left)
 pub numbers-fit-spec : {M : Type 1} → statement M
 numbers-fit-spec =
     tie.close
-    (tie.spec Inv-loop μ-loop word-requires word-requires-2 loop-holds schema-number-requires returns returns-2
+    (tie.spec Inv-loop μ-loop word-requires loop-holds mul-word add-word word-requires-2 returns returns-2
     (λ c. omega arith) (λ c. omega arith) loop-again returns-3)

@@ -1,49 +1,63 @@
 -- `task::table::schemas::run_end` meets its contract.
--- The invariant: the atoms from the start to i name schema s. The measure is how many atoms are left.
-use Prim.Native.Nat.{ℕ, _-_, _≤_, _<_}
+-- The invariant: the rows from the start to i name schema s. The measure is how many rows are left.
+use Prim.Native.Nat.{ℕ, _+_, _-_, _*_, _≤_, _<_}
 use mathlib.Core.Path.{_≡_, sym, _∙_}
 use native.Mathlib.Omega.{arith}
-use Rattle.task.specs.Table.{schemaNumberIn}
+use lib.ListN.{length, getD}
 use Rattle.words.proofs.Loops.{run-more}
+use Rattle.task.proofs.FileOrder.{row-below}
 use Rattle.task.proofs.table.schemas.run_end.Statement.{statement}
 use Rattle.task.proofs.table.schemas.run_end.Tie as tie
 
 abbrev Inv-loop : tie.InvT-loop
-Inv-loop table s start atoms i₀ i =
-    (start ≤ i) × (i ≤ atoms) × ((k : ℕ) → start ≤ k → k < i → schemaNumberIn table k ≡ s)
+Inv-loop table base size count s start i₀ i =
+    (start ≤ i) × (i ≤ count) × ((k : ℕ) → start ≤ k → k < i → getD table (base + size * k) 0 ≡ s)
 
 abbrev μ-loop : tie.MeasureT-loop
-μ-loop table s start atoms i₀ i = atoms - i
-
-word-requires : tie.Need-word-requires Inv-loop μ-loop
-word-requires c κs = let r = c .before .pre .0 in omega arith
+μ-loop table base size count s start i₀ i = count - i
 
 loop-holds : tie.Need-loop-holds Inv-loop μ-loop
-loop-holds c = (omega arith, omega (arith, c .word .ensures .0), λ k a b. absurd (omega arith))
+loop-holds c = (omega arith, omega arith, λ k a b. absurd (omega arith))
 
-schema-number-requires : tie.Need-schema-number-requires Inv-loop μ-loop
-schema-number-requires c κs =
-    let start = c .before .before .before .before in
-    (start .pre .0, omega (arith, c .before .before .word .ensures .0))
+-- row i lies in the table
+abbrev begin : tie.In-loop Inv-loop μ-loop → tie.Start Inv-loop μ-loop
+begin c = c .before .before .before
+
+inside : (c : tie.In-loop Inv-loop μ-loop) → let given = begin c .args in
+    given .base + given .size * c .before .loop .i < length (given .table .now)
+inside c =
+    let given = begin c .args in
+    let (some, fits) = begin c .pre .0 in
+    let below = row-below (given .size) (c .before .loop .i) (given .count) some (c .loop-test .taken) in
+    omega arith
+
+mul-word : tie.Need-mul-word Inv-loop μ-loop
+mul-word c = let r = inside c in omega arith
+
+add-word : tie.Need-add-word Inv-loop μ-loop
+add-word c = let r = inside c in omega arith
+
+word-requires : tie.Need-word-requires Inv-loop μ-loop
+word-requires c κs = inside c
 
 returns : tie.Need-returns Inv-loop μ-loop
 returns c =
     let at = c .before .before .before in
     record {
       from = at .loop .inv .0;
-      to = omega (arith, at .before .word .ensures .0);
+      to = at .loop .inv .1;
       inside = at .loop .inv .2;
-      beyond = λ l e. c .if1 .taken (c .before .schema-number .ensures ∙ e);
+      beyond = λ l e. c .if1 .taken (c .before .word .ensures .0 ∙ e);
     }
 
 loop-again : tie.Need-loop-again Inv-loop μ-loop
 loop-again c =
     let at = c .before .before .before in
-    let here = sym (c .before .schema-number .ensures) ∙ c .if1 .left in
-    let given = at .before .before .before .args in (
+    let here = sym (c .before .word .ensures .0) ∙ c .if1 .left in
+    let given = begin (c .before .before) .args in (
       omega arith,
       omega arith,
-      run-more (λ k. schemaNumberIn (given .table .now) k ≡ given .s) (at .loop .inv .2) here,
+      run-more (λ k. getD (given .table .now) (given .base + given .size * k) 0 ≡ given .s) (at .loop .inv .2) here,
     )
 
 returns-2 : tie.Need-returns-2 Inv-loop μ-loop
@@ -51,13 +65,13 @@ returns-2 c =
     let at = c .before in
     record {
       from = at .loop .inv .0;
-      to = omega (arith, at .before .word .ensures .0);
+      to = at .loop .inv .1;
       inside = at .loop .inv .2;
-      beyond = λ l. absurd (omega (arith, at .before .word .ensures .0));
+      beyond = λ l. absurd (omega arith);
     }
 
 pub run-end-spec : {M : Type 1} → statement M
 run-end-spec =
     tie.close
-    (tie.spec Inv-loop μ-loop word-requires loop-holds schema-number-requires returns (λ c. omega arith)
-    (λ c. omega arith) loop-again returns-2)
+    (tie.spec Inv-loop μ-loop loop-holds mul-word add-word word-requires returns (λ c. omega arith) (λ c. omega arith)
+    loop-again returns-2)

@@ -10,7 +10,7 @@ use borrow.Author.Tests.{le-leb, lt-leb, not-true, not-false}
 use Rattle.words.specs.Lists.{all, any, every, upTo, upFrom}
 use Rattle.task.specs.Layout.{paramsIn}
 use Rattle.task.specs.Task.{names}
-use Rattle.task.specs.WordTests.{argWordsFit, atomsIn, schemaWordsFit, KnownIn}
+use Rattle.task.specs.WordTests.{argWordsFit, atomsIn, pairsIn, pairsFit, schemaWordsFit, KnownIn}
 use Rattle.words.proofs.Lists.{met-none, met-more}
 use Rattle.words.proofs.Ranges.{some-fails, last-decides, all-from}
 use Rattle.task.proofs.AtomWords.{args-fit-known}
@@ -35,6 +35,9 @@ start₄ c = start₃ (c .before .before)
 abbrev start₅ : tie.After-all-named → tie.Start
 start₅ c = start₄ (c .before .before)
 
+abbrev start₆ : tie.After-parts-fit → tie.Start
+start₆ c = start₅ (c .before .before)
+
 abbrev words : tie.Start → List ℕ
 words c = c .args .table .now
 
@@ -44,14 +47,19 @@ many c = c .args .end - c .args .first
 abbrev indices : tie.Start → List ℕ
 indices c = upFrom (c .args .first) (many c)
 
+abbrev pairsMany : tie.Start → ℕ
+pairsMany c = c .args .stop - c .args .pair
+
+abbrev fits : tie.Start → Bool
+fits c = schemaWordsFit (words c) (c .args .s) (upFrom (c .args .pair) (pairsMany c)) (indices c)
+
 abbrev tests : tie.Start → List Bool
-tests c = orderTests (words c) (c .args .s) (c .args .first) (many c)
+tests c = orderTests (words c) (c .args .s) (c .args .pair) (pairsMany c) (c .args .first) (many c)
 
-whole : (c : tie.Start) → schemaWordsFit (words c) (c .args .s) (indices c) ≡ every (tests c)
-whole c = schema-words (words c) (c .args .s) (c .args .first) (many c)
+whole : (c : tie.Start) → fits c ≡ every (tests c)
+whole c = schema-words (words c) (c .args .s) (c .args .pair) (pairsMany c) (c .args .first) (many c)
 
-fails : (c : tie.Start) (k : ℕ) → getD (tests c) k true ≡ false → false ≡
-    schemaWordsFit (words c) (c .args .s) (indices c)
+fails : (c : tie.Start) (k : ℕ) → getD (tests c) k true ≡ false → false ≡ fits c
 fails c k e = some-fails (tests c) k e ∙ sym (whole c)
 
 params : (c : tie.After-params-of) → c .params-of .result ≡ paramsIn (words (start₁ c)) (start₁ c .args .s)
@@ -120,25 +128,35 @@ returns-7 : tie.Need-returns-7
 returns-7 c = fails (start₅ (c .before)) 6 (sym (named-are (c .before)) ∙ not-true _ (c .if7 .taken))
 
 returns-8 : tie.Need-returns-8
-returns-8 c =
-    let named = c .before in
+returns-8 c = fails (start₆ (c .before)) 7 (sym (c .before .parts-fit .ensures) ∙ not-true _ (c .if8 .taken))
+
+pairs-fit-requires : tie.Need-pairs-fit-requires
+pairs-fit-requires c κs = let start = start₆ (c .before) in (start .pre .0, start .pre .1 .1 .0)
+
+returns-9 : tie.Need-returns-9
+returns-9 c =
+    let parts = c .before in
+    let named = parts .before .before in
     let apart = named .before .before in
     let args = apart .before .before in
     let roles = args .before .before in
-    let start = start₅ (named .before) in
+    let start = start₆ (parts .before) in
     let e = params (roles .before .before .before .before .before) in
-    c .parts-fit .ensures ∙ (last-decides _
+    let last = ap (λ (n : ℕ). pairsFit n (pairsIn (words start) (start .args .pair) (pairsMany start))) e in
+    c .pairs-fit .ensures ∙ (last ∙ (last-decides _
     (met-more (le-leb (paramsIn (words start) (start .args .s)) 12 (omega arith))
     (met-more (le-leb 1 (many start) (omega arith))
     (met-more (le-leb (many start) 64 (omega arith))
     (met-more (sym (roles .before .roles-ascend .ensures) ∙ not-false _ (roles .if4 .left))
     (met-more (sym (args-are (args .before)) ∙ not-false _ (args .if5 .left))
     (met-more (sym (apart .before .atoms-differ .ensures) ∙ not-false _ (apart .if6 .left))
-    (met-more (sym (named-are (named .before)) ∙ not-false _ (named .if7 .left)) met-none))))))) ∙ sym (whole start))
+    (met-more (sym (named-are (named .before)) ∙ not-false _ (named .if7 .left))
+    (met-more (sym (parts .before .parts-fit .ensures) ∙ not-false _ (parts .if8 .left)) met-none)))))))) ∙
+    sym (whole start)))
 
 pub schema-fits-spec : {M : Type 1} → statement M
 schema-fits-spec =
     tie.close
     (tie.spec (λ c κs. search needs) returns (λ c. search needs) returns-2 (λ c. search needs) returns-3
     (λ c κs. search needs) returns-4 (λ c κs. search needs) returns-5 atoms-differ-requires returns-6 all-named-requires
-    returns-7 (λ c κs. search needs) returns-8)
+    returns-7 (λ c κs. search needs) returns-8 pairs-fit-requires returns-9)
