@@ -11,16 +11,19 @@ use mathlib.Core.Option.{Option}
 use lib.ListN.{length, getD}
 use lib.Dec.{ltb, leb}
 use Rattle.task.specs.Limits.{tableWords, mostInitial, mostGoal, mostObjects, mostPredicates, mostSchemas}
-use Rattle.task.specs.Limits.{mostSchemaAtoms, mostArity, mostParameters, mostAtoms, mostParts, headWords, atomSize}
+use Rattle.task.specs.Limits.{mostSchemaAtoms, mostArity, mostParameters, mostAtoms, mostParts, mostPairs, headWords}
+use Rattle.task.specs.Limits.{pairSize, atomSize}
 use Rattle.words.specs.Lists.{all, concatMap, joined}
-use Rattle.task.specs.Task.{Task, Fact, argsFit, schemaAtoms, initial, goalRole, deletion, noSchema, withAtoms}
-use Rattle.task.specs.Table.{atomWords, factWords, schemasFrom}
+use Rattle.task.specs.Task.{Task, Fact, Pair, argsFit, schemaAtoms, schemaPairs, initial, goalRole, deletion, noSchema}
+use Rattle.task.specs.Task.{withPairs, withAtoms}
+use Rattle.task.specs.Table.{rowsFrom, pairWords, atomWords, factWords, pairsFrom, schemasFrom}
 use Rattle.text.specs.declared.cursor.Cursor.{Cursor}
 use Rattle.text.specs.Lines.{Taken, Entry}
 use Rattle.text.specs.Reading.{Reading, goOn, refuse, refusedAt, atEnd, lineAt}
 use Rattle.text.specs.Text.{Line, between, Draft, rolePhase, atPhase, withSchemas, withParts}
-use Rattle.text.specs.Text.{closeSchema, takeLine, Key, init, goal, initLine, goalLine, Phase, inInit, inGoal}
-use Rattle.text.specs.Text.{withInit, withGoal, pre, roleKey, atTask, atArity, inPre, inDel}
+use Rattle.text.specs.Text.{addPair, closeSchema, takeLine, Key, init, goal, initLine, goalLine, Phase, inInit}
+use Rattle.text.specs.Text.{inGoal}
+use Rattle.text.specs.Text.{withInit, withGoal, pre, roleKey, atTask, atArity, inDiffer, inDel}
 use Rattle.text.specs.ReadCode.{rest, Standing, NextLine, phaseNumber, bareAtom, keyNumber, mayStand}
 use Rattle.text.specs.declared.draft.Counts.{Counts}
 use Rattle.text.specs.declared.draft.Facts.{Facts}
@@ -39,6 +42,7 @@ pub record Few (c : Counts) : Type 0 where
   pub total : c .closed + c .atoms ≤ mostSchemaAtoms
   pub initial : c .initial ≤ mostInitial
   pub goal : c .goal ≤ mostGoal
+  pub pairs : c .pairs + c .apart ≤ mostPairs
 
 -- nothing is read yet
 abbrev pub noCounts : Counts
@@ -52,11 +56,21 @@ noCounts = record {
   atoms = 0;
   initial = 0;
   goal = 0;
+  pairs = 0;
+  apart = 0;
 }
 
--- where the rows of the atoms begin: behind the counts, room for all parameter counts that may come, and the arities
+-- where the pairs begin: behind the counts, room for all parameter counts that may come, and the arities; and where the
+-- rows of the atoms do: behind room for all pairs that may come
+abbrev pub pairsAt : ℕ → ℕ
+pairsAt predicates = headWords + mostSchemas + predicates
+
 abbrev pub rowsAt : ℕ → ℕ
-rowsAt predicates = headWords + mostSchemas + predicates
+rowsAt predicates = headWords + mostSchemas + pairSize * mostPairs + predicates
+
+-- where the next pair comes
+abbrev pub pairAt : Counts → ℕ
+pairAt c = pairsAt (c .predicates) + pairSize * (c .pairs + c .apart)
 
 -- where the rows of the schema that is being read begin, and where the next atom's row comes
 abbrev pub firstRow : Counts → ℕ
@@ -69,7 +83,7 @@ rowAt c = rowsAt (c .predicates) + atomSize * (((c .closed + c .atoms) + c .init
 -- the words of the atoms that are read: of the schemas before, of the one that is being read, the initial ones, the
 -- goal's
 unfoldable pub rowBlocks : Draft → List (List ℕ)
-unfolding schemasFrom concatMap atomWords factWords
+unfolding rowsFrom concatMap atomWords factWords
 rowBlocks d =
     schemasFrom 0 (d .task .schemas) ∷
     concatMap (atomWords (length (d .task .schemas))) (d .current .atoms) ∷
@@ -79,6 +93,11 @@ rowBlocks d =
 abbrev pub rowsOf : Draft → List ℕ
 rowsOf d = joined (rowBlocks d)
 
+-- the words of the pairs that are read: of the schemas before, and of the one that is being read
+unfoldable pub pairsOf : Draft → List ℕ
+unfolding rowsFrom concatMap pairWords
+pairsOf d = pairsFrom 0 (d .task .schemas) ++ concatMap (pairWords (length (d .task .schemas))) (d .current .pairs)
+
 -- "Fixed order": what cannot have come yet, by the number of the place in the order
 pub record Order (d : Draft) (phase : ℕ) : Type 0 where
   pub no-arity : phase ≤ phaseNumber atArity → d .task .arities ≡ []
@@ -87,7 +106,7 @@ pub record Order (d : Draft) (phase : ℕ) : Type 0 where
   pub closed : phaseNumber between ≤ phase → d .current ≡ noSchema
   pub no-init : phase ≤ phaseNumber between → d .task .init ≡ []
   pub no-goal : phase ≤ phaseNumber inInit → d .task .goal ≡ []
-  pub room : phaseNumber inPre ≤ phase → phase ≤ phaseNumber inDel → length (d .task .schemas) < mostSchemas
+  pub room : phaseNumber inDiffer ≤ phase → phase ≤ phaseNumber inDel → length (d .task .schemas) < mostSchemas
 
 pub record Holds (d : Draft) (w : List ℕ) (c : Counts) : Type 0 where
   pub phase : c .phase ≡ phaseNumber (d .phase)
@@ -99,6 +118,8 @@ pub record Holds (d : Draft) (w : List ℕ) (c : Counts) : Type 0 where
   pub atoms : c .atoms ≡ length (d .current .atoms)
   pub initial : c .initial ≡ length (d .task .init)
   pub goal : c .goal ≡ length (d .task .goal)
+  pub pairs : c .pairs ≡ schemaPairs (d .task .schemas)
+  pub apart : c .apart ≡ length (d .current .pairs)
   pub few : Few c
   pub order : Order d (c .phase)
   pub low : all (λ n. leb n mostArity) (d .task .arities) ≡ true
@@ -108,6 +129,7 @@ pub record Holds (d : Draft) (w : List ℕ) (c : Counts) : Type 0 where
   pub long : tableWords ≤ length w
   pub arities-stand : Standing w headWords (d .task .arities)
   pub params-stand : Standing w (headWords + length (d .task .arities)) (map (λ s. s .params) (d .task .schemas))
+  pub pairs-stand : Standing w (pairsAt (length (d .task .arities))) (pairsOf d)
   pub rows-stand : Standing w (rowsAt (length (d .task .arities))) (rowsOf d)
   pub rows-length : length (rowsOf d) ≡ atomSize * (((c .closed + c .atoms) + c .initial) + c .goal)
 
@@ -116,7 +138,7 @@ pub record Drafted (w : List ℕ) (c : Counts) : Type 0 where
   pub draft : Draft
   pub holds : Holds draft w c
 
--- "words past 13,406 are never touched"
+-- "words past 14,007 are never touched"
 pub record Touched (w after : List ℕ) : Type 0 where
   pub size : length after ≡ length w
   pub beyond : (j : ℕ) → tableWords ≤ j → getD after j 0 ≡ getD w j 0
@@ -172,6 +194,39 @@ Checked d l read (check.Refuses k) after = takeLine d l ≡ refuse k
 abbrev pub entryOf : ℕ → List ℕ → Entry
 entryOf p args = record { head = p; list = args }
 
+-- ---- pairs
+-- a pair by its two numbers
+abbrev pub pairOf : List ℕ → Pair
+pairOf ns = record { lower = getD ns 0 0; higher = getD ns 1 0 }
+
+-- the draft and the counts with one pair more
+unfoldable pub withPair : Draft → Pair → Draft
+withPair d q = record {
+  phase = inDiffer;
+  task = d .task;
+  current = withPairs (d .current) (d .current .pairs ++ (q ∷ []));
+}
+
+abbrev pub onePairMore : Counts → Counts
+onePairMore c = record {
+  phase = phaseNumber inDiffer;
+  objects = c .objects;
+  predicates = c .predicates;
+  schemas = c .schemas;
+  params = c .params;
+  closed = c .closed;
+  atoms = c .atoms;
+  initial = c .initial;
+  goal = c .goal;
+  pairs = c .pairs;
+  apart = c .apart + 1;
+}
+
+-- the numbers of a `differ` line make one pair more, or are refused
+abbrev pub PairTurn : Draft → List ℕ → Check → Type 0
+PairTurn d ns check.Passes = (addPair d ns ≡ goOn (withPair d (pairOf ns))) × (length ns ≡ 2)
+PairTurn d ns (check.Refuses k) = addPair d ns ≡ refuse k
+
 -- ---- atoms
 -- an atom of a role may come, one of the schema that is being read
 pub record InSchema (c : Counts) (role : ℕ) : Type 0 where
@@ -197,6 +252,8 @@ oneAtomMore c r = record {
   atoms = c .atoms + 1;
   initial = c .initial;
   goal = c .goal;
+  pairs = c .pairs;
+  apart = c .apart;
 }
 
 -- ---- facts
@@ -235,6 +292,8 @@ withCounted c p inits goals = record {
   atoms = c .atoms;
   initial = inits;
   goal = goals;
+  pairs = c .pairs;
+  apart = c .apart;
 }
 
 abbrev pub oneFactMore : Counts → Kind → Counts

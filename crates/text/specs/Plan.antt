@@ -7,7 +7,7 @@ use lib.Dec.{eqb, ltb}
 use Rattle.words.specs.Lists.{concatMap}
 use Rattle.task.specs.Limits.{stepSize}
 use Rattle.task.specs.Task.{Task}
-use Rattle.task.specs.Run.{Step, isStep}
+use Rattle.task.specs.Run.{Step, isChoice}
 use Rattle.text.specs.Lines.{Entry, digits, entryBytes, line, Reader, number, entry, ended, readLine}
 use Rattle.text.specs.Reading.{Turn, goOn, finish, need, Reading, readLines}
 
@@ -54,13 +54,14 @@ unfolding concatMap writePlanLine planLines
 writePlan xs = concatMap writePlanLine (planLines xs)
 
 -- ---- reading
--- "There a line out of form is 3, a 101st step 4, a wrong schema, object or number of objects 5, each with its line"
+-- "There a line out of form is 3, a 101st step 4, a wrong schema, object or number of objects 5, each with its line";
+-- equal objects at a pair pass here, for unfolding to answer 12
 unfoldable pub takePlanLine : Task → List Step → PlanLine → Turn (List Step) (List Step)
-unfolding need isStep
+unfolding need isChoice
 takePlanLine t xs (stepLine e) =
     let x : Step = record { schema = e .head; objects = e .list } in
     need (ltb (length xs) mostPlanSteps) 4
-    (need (isStep t x) 5
+    (need (isChoice t x) 5
     (goOn (xs ++ (x ∷ []))))
 takePlanLine t xs (endLine n) = need (eqb n 1) 3 (finish xs)
 

@@ -8,7 +8,7 @@ use mathlib.Core.List.{List, [], _∷_, _++_}
 use mathlib.Core.Option.{Option}
 use lib.ListN.{length, getD}
 use Rattle.task.specs.Task.{Task}
-use Rattle.task.specs.Run.{Step, isStep, stepWords}
+use Rattle.task.specs.Run.{Step, isChoice, stepWords}
 use Rattle.text.specs.declared.cursor.Cursor.{Cursor}
 use Rattle.text.specs.declared.plan.PlanTurn.{PlanTurn}
 use Rattle.text.specs.Lines.{Taken, colon, newline, digits, commaed, bytes, equals}
@@ -39,7 +39,7 @@ module _ (t : Task) (text : List ℕ) (from : Cursor) (xs : List Step) (l : Opti
   -- a line behind which reading goes on, with a step more whose words were put behind those of the others
   pub record PlanGoesOn (at : Cursor) (w after : List ℕ) : Type 0 where
     pub last : Step
-    pub is-step : isStep t last ≡ true
+    pub is-choice : isChoice t last ≡ true
     pub room : length xs < mostPlanSteps
     pub is : (n : ℕ) (next : PlanNext) → lineAt n (takePlanLine t xs) l next ≡ next (xs ++ (last ∷ [])) (rest text at)
     pub put : Wrote w (stepSize * length xs) stepSize (λ k. getD (stepWords last) k 0) after

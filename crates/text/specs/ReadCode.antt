@@ -24,8 +24,9 @@ use Rattle.text.specs.declared.cursor.Number.{Number}
 use Rattle.text.specs.declared.cursor.Behind.{Behind}
 use Rattle.text.specs.declared.keys.Keyed.{Keyed}
 use Rattle.text.specs.Lines.{bytes, equals, newline, leadingDigits, Taken, taken, after, number, entry, ended}
-use Rattle.text.specs.Text.{Key, task, objects, arity, schema, pre, add, del, part, init, goal, end, keyName}
-use Rattle.text.specs.Text.{Phase, atTask, atObjects, atArity, between, inPre, inAdd, inDel, inInit, inGoal}
+use Rattle.text.specs.Text.{Key, task, objects, arity, schema, differ, pre, add, del, part, init, goal, end}
+use Rattle.text.specs.Text.{keyName, Phase, atTask, atObjects, atArity, between, inDiffer, inPre, inAdd, inDel}
+use Rattle.text.specs.Text.{inInit, inGoal}
 use Rattle.task.specs.Limits.{mostArity, headWords, atomSize}
 
 -- what remains of a text at a cursor
@@ -189,31 +190,33 @@ abbrev pub keyNumber : Key → ℕ
 keyNumber task = 0
 keyNumber objects = 1
 keyNumber arity = 2
-keyNumber pre = 3
-keyNumber add = 4
-keyNumber del = 5
-keyNumber part = 6
-keyNumber schema = 7
-keyNumber init = 8
-keyNumber goal = 9
-keyNumber end = 10
+keyNumber differ = 3
+keyNumber pre = 4
+keyNumber add = 5
+keyNumber del = 6
+keyNumber part = 7
+keyNumber schema = 8
+keyNumber init = 9
+keyNumber goal = 10
+keyNumber end = 11
 
 -- a place in the order has the number of the first key that it allows
 abbrev pub phaseNumber : Phase → ℕ
 phaseNumber atTask = 0
 phaseNumber atObjects = 1
 phaseNumber atArity = 2
-phaseNumber inPre = 3
-phaseNumber inAdd = 4
-phaseNumber inDel = 5
-phaseNumber between = 7
-phaseNumber inInit = 8
-phaseNumber inGoal = 9
+phaseNumber inDiffer = 3
+phaseNumber inPre = 4
+phaseNumber inAdd = 5
+phaseNumber inDel = 6
+phaseNumber between = 8
+phaseNumber inInit = 9
+phaseNumber inGoal = 10
 
 -- the last key that a place allows, by their numbers
 unfoldable pub lastKey : ℕ → ℕ
 lastKey phase =
-    cond (ltb phase (phaseNumber inPre)) phase
+    cond (ltb phase (phaseNumber inDiffer)) phase
     (cond (ltb phase (phaseNumber between)) (keyNumber part) (keyNumber end))
 
 -- whether the order allows a key at a place, by their numbers

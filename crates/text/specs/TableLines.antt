@@ -5,9 +5,10 @@ use mathlib.Core.List.{List, [], _∷_, _++_, map}
 use lib.ListN.{length, getD}
 use Rattle.words.specs.Lists.{upTo, concatMap}
 use Rattle.task.specs.Layout.{headIn, arityIn}
-use Rattle.task.specs.Limits.{headWords, atomSize, mostArity}
+use Rattle.task.specs.Limits.{headWords, pairSize, atomSize, mostArity}
 use Rattle.words.specs.Words.{wordsAt}
 use Rattle.task.specs.Table.{taskOf}
+use Rattle.text.specs.declared.writer.Rows.{Rows}
 use Rattle.text.specs.Lines.{bytes, equals, Entry, digits, commaed, entryBytes, line}
 use Rattle.text.specs.Text.{Key, pre, add, del, init, goal, keyName, writeLine, schemaLines}
 
@@ -50,12 +51,27 @@ unfoldable pub atomsText : List ℕ → ℕ → ℕ → List ℕ
 unfolding concatMap atomText upTo
 atomsText w b n = concatMap (λ k. atomText w (b + atomSize * k)) (upTo n)
 
--- "`schema` (parameter count), `pre`, `add`, `del` lines, `part` (a part for each atom)", of a schema with n atoms,
--- whose words begin at b
-unfoldable pub schemaText : List ℕ → ℕ → ℕ → ℕ → List ℕ
-unfolding line digits commaed atomsText spaced
-schemaText w params b n =
-    line "schema" (digits params) ++ (atomsText w b n ++ line "part" (commaed (spaced w (b + 3) atomSize n)))
+-- the `differ` lines of m pairs, whose words begin at p
+unfoldable pub pairsText : List ℕ → ℕ → ℕ → List ℕ
+unfolding concatMap line commaed spaced upTo
+pairsText w p m = concatMap (λ k. line "differ" (commaed (spaced w (p + pairSize * k + 1) 1 2))) (upTo m)
+
+-- "`schema` (parameter count), `pre`, `add`, `del` lines, `part` (a part for each atom)", of a schema with m pairs,
+-- whose words begin at p, and n atoms, whose words begin at b
+unfoldable pub schemaText : List ℕ → ℕ → ℕ → ℕ → ℕ → ℕ → List ℕ
+unfolding line digits commaed pairsText atomsText spaced
+schemaText w params p m b n =
+    line "schema" (digits params) ++
+    (pairsText w p m ++ (atomsText w b n ++ line "part" (commaed (spaced w (b + 3) atomSize n))))
+
+-- the same, of the rows that the code found of a schema; they lie in the table
+abbrev pub schemaTextOf : List ℕ → ℕ → Rows → List ℕ
+schemaTextOf w params rows = schemaText w params (rows .pair) (rows .pairs) (rows .atom) (rows .atoms)
+
+pub record RowsInside (w : List ℕ) (rows : Rows) : Type 0 where
+  pub pairs : rows .pair + pairSize * rows .pairs ≤ length w
+  pub atom : rows .atom ≤ length w
+  pub atoms : (k : ℕ) → k < rows .atoms → AtomInside w (rows .atom + atomSize * k)
 
 -- "`task=1`, `objects`, `arity` (list)"
 unfoldable pub headText : List ℕ → List ℕ
@@ -70,18 +86,18 @@ unfoldable pub schemasText : List ℕ → List ℕ
 unfolding concatMap writeLine schemaLines taskOf
 schemasText w = concatMap (λ s. concatMap writeLine (schemaLines s)) (taskOf w .schemas)
 
--- of `left` atoms, whose words begin at b, the first n are those of a schema
-pub record SchemaRun (w : List ℕ) (b left schema n : ℕ) : Type 0 where
+-- of `left` rows of a size, whose words begin at b, the first n are those of a schema
+pub record SchemaRun (w : List ℕ) (size b left schema n : ℕ) : Type 0 where
   pub within : n ≤ left
-  pub same : (k : ℕ) → k < n → getD w (b + atomSize * k) 0 ≡ schema
-  pub stops : n < left → getD w (b + atomSize * n) 0 ≡ schema → ⊥
+  pub same : (k : ℕ) → k < n → getD w (b + size * k) 0 ≡ schema
+  pub stops : n < left → getD w (b + size * n) 0 ≡ schema → ⊥
 
 -- how many initial and goal atoms a table has
 unfoldable pub factCount : List ℕ → ℕ
 factCount w = headIn w .initialAtoms + headIn w .goalAtoms
 
 -- no text of a task is longer: 7 and 13 bytes for `task` and `objects`, 806 for 400 arities, 15 for each of 200
--- schemas, 20 for each of 1,000 atoms and 3 for its part, 25 for each of 600 initial and goal atoms, 6 for `end`; shut,
--- since a list function would count a numeral down
+-- schemas, 13 for each of 200 pairs, 20 for each of 1,000 atoms and 3 for its part, 25 for each of 600 initial and goal
+-- atoms, 6 for `end`; shut, since a list function would count a numeral down
 unfoldable pub longestText : ℕ
-longestText = 41832
+longestText = 44432

@@ -1,12 +1,13 @@
 // What is read so far of a task: where the fixed order stands, and how much there is of each kind. The words themselves
-// stand in the table: the arities and the parameter counts at their places, the atoms behind room for 200 schemas.
+// stand in the table: the arities and the parameter counts at their places, the pairs behind room for 200 schemas, the
+// atoms behind room for 200 pairs.
 use crate::cursor::Cursor;
 use crate::keys::GOAL;
 use crate::keys::INIT;
 use crate::keys::TASK;
 use task::limits;
 ghost use mathlib.Core.Path.{_≡_};
-ghost use Rattle.text.specs.Holding.{Few, noCounts, firstRow, rowAt, soFar, oneFactMore};
+ghost use Rattle.text.specs.Holding.{Few, noCounts, pairAt, firstRow, rowAt, soFar, oneFactMore};
 
 pub struct Counts {
     pub phase: u16,
@@ -20,6 +21,9 @@ pub struct Counts {
     pub atoms: usize,
     pub initial: usize,
     pub goal: usize,
+    // the pairs of whole schemas, and those of the schema that is being read
+    pub pairs: usize,
+    pub apart: usize,
 }
 
 // The ground atoms are of two kinds, one a key: `init` and `goal`.
@@ -48,8 +52,11 @@ pub enum Check {
     Refuses(u32),
 }
 
-// Rows stand behind the six counts, the arities, and room for the parameter counts of all schemas that may come.
-pub const ROWS_AT: usize = limits::HEAD_WORDS + limits::MOST_SCHEMAS;
+// Pairs stand behind the seven counts, the arities, and room for the parameter counts of all schemas that may come; rows
+// behind room for all pairs that may.
+pub const PAIRS_AT: usize = limits::HEAD_WORDS + limits::MOST_SCHEMAS;
+
+pub const ROWS_AT: usize = PAIRS_AT + limits::PAIR_SIZE * limits::MOST_PAIRS;
 
 impl Counts {
     // Nothing is read yet.
@@ -66,7 +73,17 @@ impl Counts {
             atoms: 0,
             initial: 0,
             goal: 0,
+            pairs: 0,
+            apart: 0,
         }
+    }
+
+    // Where the next pair comes.
+    pub fn next_pair(self) -> usize
+        requires { ⌜ Few self ⌝ }
+        ensures { λ r. ⌜ r ≡ pairAt self ⌝ }
+    {
+        PAIRS_AT + self.predicates + limits::PAIR_SIZE * (self.pairs + self.apart)
     }
 
     // Where the next atom's row comes.

@@ -12,21 +12,23 @@ pub const OBJECTS: u16 = 1;
 
 pub const ARITY: u16 = 2;
 
-pub const PRE: u16 = 3;
+pub const DIFFER: u16 = 3;
 
-pub const ADD: u16 = 4;
+pub const PRE: u16 = 4;
 
-pub const DEL: u16 = 5;
+pub const ADD: u16 = 5;
 
-pub const PART: u16 = 6;
+pub const DEL: u16 = 6;
 
-pub const SCHEMA: u16 = 7;
+pub const PART: u16 = 7;
 
-pub const INIT: u16 = 8;
+pub const SCHEMA: u16 = 8;
 
-pub const GOAL: u16 = 9;
+pub const INIT: u16 = 9;
 
-pub const END: u16 = 10;
+pub const GOAL: u16 = 10;
+
+pub const END: u16 = 11;
 
 // A key's number, and the cursor at its body.
 pub enum Keyed {
@@ -53,6 +55,9 @@ pub fn key_at(text: &[u8], from: Cursor) -> Keyed
     }
     if let Behind::At(body) = from.word(text, b"schema=") {
         return Keyed::Of(SCHEMA, body);
+    }
+    if let Behind::At(body) = from.word(text, b"differ=") {
+        return Keyed::Of(DIFFER, body);
     }
     if let Behind::At(body) = from.word(text, b"init=") {
         return Keyed::Of(INIT, body);
@@ -87,7 +92,7 @@ fn head_key_at(text: &[u8], from: Cursor) -> Keyed
 fn last_key(phase: u16) -> u16
     ensures { λ r. ⌜ r ≡ lastKey phase ⌝ }
 {
-    if phase < PRE {
+    if phase < DIFFER {
         return phase;
     }
     if phase < SCHEMA {

@@ -27,7 +27,7 @@ ghost use lib.ListN.{length, getD, take};
 ghost use Rattle.words.specs.Lists.{over};
 ghost use Rattle.task.specs.Task.{Task};
 ghost use Rattle.task.specs.Table.{taskOf, isTable};
-ghost use Rattle.task.specs.Run.{Step, isStep, stepWords, stepsIn, badStep};
+ghost use Rattle.task.specs.Run.{Step, isChoice, stepWords, stepsIn, badStep};
 ghost use Rattle.text.specs.Lines.{ended, number, entry};
 ghost use Rattle.text.specs.Plan.{planWords, stepLine, endLine, nextPlanLine, writePlan};
 ghost use Rattle.text.specs.Outcomes.{planOutcome, planAnswerTold};
@@ -61,11 +61,11 @@ pub const PLAN_WORDS: usize = STEP_SIZE * MOST_STEPS;
 pub const LONGEST_PLAN: usize = 91206;
 
 // Refusal 5: "a wrong schema, object or number of objects".
-fn is_step(table: &[u16], schema: u32, objects: &[u32], count: usize) -> bool
+fn is_choice(table: &[u16], schema: u32, objects: &[u32], count: usize) -> bool
     requires { ⌜ isTable (now table) ≡ true ⌝ }
     requires { ⌜ length (now objects) ≡ mostParameters ⌝ }
     ensures { λ r. ⌜ ((ns : List ℕ) → Listed ns count (now (objects .entry)) →
-        r ≡ isStep (taskOf (now (table .entry))) (stepOf schema ns)) ⌝ }
+        r ≡ isChoice (taskOf (now (table .entry))) (stepOf schema ns)) ⌝ }
 {
     if schema_count(table) as u32 <= schema {
         return false;
@@ -108,7 +108,7 @@ fn step_line(table: &[u16], text: &[u8], from: Cursor, steps: &mut [u16], n: usi
     if MOST_STEPS <= n {
         return PlanTurn::Refuse(4);
     }
-    if !is_step(table, schema, &objects, count) {
+    if !is_choice(table, schema, &objects, count) {
         return PlanTurn::Refuse(5);
     }
     put_step(steps, STEP_SIZE * n, schema, &objects, count);

@@ -3,8 +3,10 @@ use crate::ReadAnswer;
 use crate::cursor::Cursor;
 use crate::draft::Counts;
 use crate::draft::Kind;
+use crate::draft::PAIRS_AT;
 use crate::draft::ROWS_AT;
 use crate::draft::Turn;
+use crate::keys::DIFFER;
 use crate::keys::END;
 use crate::keys::INIT;
 use crate::keys::Keyed;
@@ -17,6 +19,7 @@ use crate::keys::allowed;
 use crate::keys::key_at;
 use crate::lines::atom::atom_line;
 use crate::lines::atom::fact_line;
+use crate::lines::differ::differ_line;
 use crate::lines::head::arity_line;
 use crate::lines::head::end_line;
 use crate::lines::head::objects_line;
@@ -29,6 +32,7 @@ use crate::storing::put_words;
 use task::Place;
 use task::limits::ATOM_SIZE;
 use task::limits::HEAD_WORDS;
+use task::limits::PAIR_SIZE;
 use task::limits::TABLE_WORDS;
 ghost use mathlib.Core.Path.{_≡_};
 ghost use mathlib.Core.Bool.{true};
@@ -38,7 +42,7 @@ ghost use Rattle.task.specs.Limits.{tableWords};
 ghost use Rattle.words.specs.Lists.{over};
 ghost use Rattle.task.specs.Task.{wellFormed};
 ghost use Rattle.task.specs.Table.{wordsOf};
-ghost use Rattle.text.specs.Text.{Draft, Key, readBody, nextLine, readText, pre, init, goal, between};
+ghost use Rattle.text.specs.Text.{Draft, Key, readBody, nextLine, readText, differ, init, goal, between};
 ghost use Rattle.text.specs.Outcomes.{readDone, readAnswerTold};
 ghost use Rattle.text.specs.ReadCode.{rest, Placed, Wrote, keyNumber, mayStand, phaseNumber};
 ghost use Rattle.text.specs.Holding.{Holds, Drafted, Touched, Turned, factKey};
@@ -48,7 +52,7 @@ fn head_turn(text: &[u8], table: &mut [u16], body: Cursor, counts: Counts, key: 
     requires { ⌜ Placed (now text) body ⌝ }
     requires { ⌜ Drafted (now table) counts ⌝ }
     requires { ⌜ mayStand (counts .phase) key ≡ true ⌝ }
-    requires { ⌜ key < keyNumber pre ⌝ }
+    requires { ⌜ key < keyNumber differ ⌝ }
     ensures { λ r. ⌜ Touched (now (table .entry)) (now (table .exit)) ⌝ }
     ensures { λ r. do
       let bs = now (text .entry)
@@ -86,8 +90,11 @@ fn body_turn(text: &[u8], table: &mut [u16], body: Cursor, counts: Counts, key: 
       ⌜ ((d : Draft) (k : Key) → keyNumber k ≡ key → Holds d (now (table .entry)) counts →
           Turned bs body d (readBody k (rest bs body)) (now (table .entry)) r (now (table .exit))) ⌝ }
 {
-    if key < PRE {
+    if key < DIFFER {
         return head_turn(text, table, body, counts, key);
+    }
+    if key == DIFFER {
+        return differ_line(text, table, body, counts);
     }
     if key < PART {
         return atom_line(text, table, body, counts, key - PRE);
@@ -123,13 +130,17 @@ fn turn_at(text: &[u8], table: &mut [u16], from: Cursor, counts: Counts) -> Turn
     body_turn(text, table, body, counts, key)
 }
 
-// The table of the task that is read: the rows move down to their place, zeros follow them, and the counts come first.
+// The table of the task that is read: the pairs move down to their place, the rows behind them, zeros follow, and the
+// counts come first.
 fn lay_out(table: &mut [u16], counts: Counts)
     requires { ⌜ Drafted (now table) counts ⌝ }
     ensures { λ r. ⌜ ((d : Draft) → Holds d (now (table .entry)) counts → phaseNumber between ≤ counts .phase →
         wellFormed (d .task) ≡ true → now (table .exit) ≡ over (wordsOf (d .task)) (now (table .entry))) ⌝ }
 {
-    let to = HEAD_WORDS + counts.predicates + counts.schemas;
+    let pairs_to = HEAD_WORDS + counts.predicates + counts.schemas;
+    let pairs = PAIR_SIZE * (counts.pairs + counts.apart);
+    move_down(table, PAIRS_AT + counts.predicates, pairs_to, pairs);
+    let to = pairs_to + pairs;
     let n = ATOM_SIZE * (counts.closed + counts.atoms + counts.initial + counts.goal);
     move_down(table, ROWS_AT + counts.predicates, to, n);
     clear(table, to + n, TABLE_WORDS - (to + n));
@@ -140,11 +151,12 @@ fn lay_out(table: &mut [u16], counts: Counts)
         counts.closed as u32,
         counts.initial as u32,
         counts.goal as u32,
+        counts.pairs as u32,
     ];
     put_words(table, 0, &head, HEAD_WORDS);
 }
 
-// Refusals 3 to 8 leave the "table all 0".
+// Refusals 3 to 8, 19 and 21 leave the "table all 0".
 fn refused(table: &mut [u16], number: u32, line: u64) -> ReadAnswer
     requires { ⌜ tableWords ≤ length (now table) ⌝ }
     ensures { λ r. ⌜ r ≡ ReadAnswer.Refused number (Place.Line line) ⌝ }

@@ -13,6 +13,7 @@ use crate::put::put_number_line;
 use task::Place;
 use task::layout::arity_of;
 use task::layout::facts_base;
+use task::layout::pairs_base;
 use task::layout::params_of;
 use task::layout::predicate_at;
 use task::layout::role_at;
@@ -23,7 +24,10 @@ use task::limits::GOAL_ATOMS;
 use task::limits::HEAD_WORDS;
 use task::limits::INITIAL;
 use task::limits::INITIAL_ATOMS;
+use task::limits::LOWER;
 use task::limits::OBJECTS;
+use task::limits::PAIR_SIZE;
+use task::limits::PAIRS;
 use task::limits::PART;
 use task::limits::PREDICATES;
 use task::limits::SCHEMA_ATOMS;
@@ -39,9 +43,10 @@ ghost use Rattle.task.specs.Table.{taskOf, isTable};
 ghost use Rattle.text.specs.Text.{write};
 ghost use Rattle.text.specs.Outcomes.{writeOutcome, writeAnswerTold};
 ghost use Rattle.words.specs.Putting.{Puts};
-ghost use Rattle.text.specs.TableLines.{AtomInside, keyBytes, atomText, atomsText, schemaText, headText};
+ghost use Rattle.text.specs.TableLines.{AtomInside, keyBytes, atomText, atomsText, pairsText};
+ghost use Rattle.text.specs.TableLines.{headText, RowsInside, schemaTextOf};
 ghost use Rattle.text.specs.TableLines.{schemasText, SchemaRun, factCount};
-ghost use Rattle.task.specs.Limits.{atomSize};
+ghost use Rattle.task.specs.Limits.{pairSize, atomSize};
 
 // "role (0 precondition, 1 add, 2 delete, 3 initial, 4 goal)": the key of an atom's line, and its =.
 fn key_size(role: u16) -> usize
@@ -116,66 +121,115 @@ fn put_atoms(text: &mut [u8], at: usize, table: &[u16], base: usize, n: usize) -
     next
 }
 
-// How many of the `left` atoms, whose words begin at `base`, stand before one of another schema.
-fn atoms_of(table: &[u16], base: usize, left: usize, schema: usize) -> usize
-    requires { ⌜ ((k : ℕ) → k < left → base + atomSize * k < length (now table)) ⌝ }
-    ensures { λ r. ⌜ SchemaRun (now (table .entry)) base left schema r ⌝ }
+// How many of the `left` rows of a size, whose words begin at `base`, stand before one of another schema.
+fn rows_of(table: &[u16], size: usize, base: usize, left: usize, schema: usize) -> usize
+    requires { ⌜ ((k : ℕ) → k < left → base + size * k < length (now table)) ⌝ }
+    ensures { λ r. ⌜ SchemaRun (now (table .entry)) size base left schema r ⌝ }
 {
     for n in 0..left {
-        if wide(table[base + ATOM_SIZE * n]) != schema {
+        if wide(table[base + size * n]) != schema {
             return n;
         }
     }
     left
 }
 
+// "`differ=` lines after its `schema` line": those of m pairs, whose words begin at `base`.
+fn pairs_size(table: &[u16], base: usize, m: usize) -> usize
+    requires { ⌜ base + pairSize * m ≤ length (now table) ⌝ }
+    requires { ⌜ length (pairsText (now table) base m) < 2 ^ 64 ⌝ }
+    ensures { λ r. ⌜ r ≡ length (pairsText (now (table .entry)) base m) ⌝ }
+{
+    let mut size = 0;
+    for k in 0..m {
+        let numbers = list_size(table, base + PAIR_SIZE * k + LOWER, 1, PAIR_SIZE - LOWER);
+        size = size + (b"differ=".len() + numbers + 1);
+    }
+    size
+}
+
+fn put_pairs(text: &mut [u8], at: usize, table: &[u16], base: usize, m: usize) -> usize
+    requires { ⌜ base + pairSize * m ≤ length (now table) ⌝ }
+    requires { ⌜ at + length (pairsText (now table) base m) ≤ length (now text) ⌝ }
+    ensures { λ r. ⌜ Puts (now (text .entry)) at (pairsText (now (table .entry)) base m) (now (text .exit)) r ⌝ }
+{
+    let mut next = at;
+    for k in 0..m {
+        next = put_list_line(
+            text,
+            next,
+            b"differ=",
+            table,
+            base + PAIR_SIZE * k + LOWER,
+            1,
+            PAIR_SIZE - LOWER,
+        );
+    }
+    next
+}
+
+// The rows of a schema: where its pairs begin and how many there are, and the same of its atoms.
+struct Rows {
+    pair: usize,
+    pairs: usize,
+    atom: usize,
+    atoms: usize,
+}
+
 // "`schema` (parameter count), `pre`, `add`, `del` lines, `part` (a part for each atom)".
-fn schema_size(table: &[u16], params: u16, base: usize, n: usize) -> usize
-    requires { ⌜ ((k : ℕ) → k < n → AtomInside (now table) (base + atomSize * k)) ⌝ }
-    requires { ⌜ base ≤ length (now table) ⌝ }
-    requires { ⌜ length (schemaText (now table) params base n) < 2 ^ 64 ⌝ }
-    ensures { λ r. ⌜ r ≡ length (schemaText (now (table .entry)) params base n) ⌝ }
+fn schema_size(table: &[u16], params: u16, rows: Rows) -> usize
+    requires { ⌜ RowsInside (now table) rows ⌝ }
+    requires { ⌜ length (schemaTextOf (now table) params rows) < 2 ^ 64 ⌝ }
+    ensures { λ r. ⌜ r ≡ length (schemaTextOf (now (table .entry)) params rows) ⌝ }
 {
-    let atoms = atoms_size(table, base, n);
-    let parts = list_size(table, base + PART, ATOM_SIZE, n);
-    b"schema=".len() + number_size(params) + 1 + atoms + b"part=".len() + parts + 1
+    let pairs = pairs_size(table, rows.pair, rows.pairs);
+    let atoms = atoms_size(table, rows.atom, rows.atoms);
+    let parts = list_size(table, rows.atom + PART, ATOM_SIZE, rows.atoms);
+    b"schema=".len() + number_size(params) + 1 + pairs + atoms + b"part=".len() + parts + 1
 }
 
-fn put_schema(
-    text: &mut [u8],
-    at: usize,
-    table: &[u16],
-    params: u16,
-    base: usize,
-    n: usize,
-) -> usize
-    requires { ⌜ ((k : ℕ) → k < n → AtomInside (now table) (base + atomSize * k)) ⌝ }
-    requires { ⌜ base ≤ length (now table) ⌝ }
-    requires { ⌜ at + length (schemaText (now table) params base n) ≤ length (now text) ⌝ }
-    ensures { λ r. ⌜ Puts (now (text .entry)) at
-        (schemaText (now (table .entry)) params base n) (now (text .exit)) r ⌝ }
+fn put_schema(text: &mut [u8], at: usize, table: &[u16], params: u16, rows: Rows) -> usize
+    requires { ⌜ RowsInside (now table) rows ⌝ }
+    requires { ⌜ at + length (schemaTextOf (now table) params rows) ≤ length (now text) ⌝ }
+    ensures { λ r. ⌜ Puts (now (text .entry)) at (schemaTextOf (now (table .entry)) params rows)
+        (now (text .exit)) r ⌝ }
 {
-    let at_atoms = put_number_line(text, at, b"schema=", params);
-    let at_parts = put_atoms(text, at_atoms, table, base, n);
-    put_list_line(text, at_parts, b"part=", table, base + PART, ATOM_SIZE, n)
+    let at_pairs = put_number_line(text, at, b"schema=", params);
+    let at_atoms = put_pairs(text, at_pairs, table, rows.pair, rows.pairs);
+    let at_parts = put_atoms(text, at_atoms, table, rows.atom, rows.atoms);
+    put_list_line(
+        text,
+        at_parts,
+        b"part=",
+        table,
+        rows.atom + PART,
+        ATOM_SIZE,
+        rows.atoms,
+    )
 }
 
-// The lines of all schemas. Their atoms stand one schema behind another, so each schema begins where the one before it
-// ends.
+// The lines of all schemas. Their pairs, and their atoms, stand one schema behind another, so those of each begin where
+// those of the one before it end.
 fn schemas_size(table: &[u16]) -> usize
     requires { ⌜ isTable (now table) ≡ true ⌝ }
     requires { ⌜ length (schemasText (now table)) < 2 ^ 64 ⌝ }
     ensures { λ r. ⌜ r ≡ length (schemasText (now (table .entry))) ⌝ }
 {
     let schemas = word(table, SCHEMAS);
-    let mut base = rows_base(table);
-    let mut left = word(table, SCHEMA_ATOMS);
+    let mut pair = pairs_base(table);
+    let mut pairs_left = word(table, PAIRS);
+    let mut atom = rows_base(table);
+    let mut atoms_left = word(table, SCHEMA_ATOMS);
     let mut size = 0;
     for s in 0..schemas {
-        let n = atoms_of(table, base, left, s);
-        size = size + schema_size(table, params_of(table, s) as u16, base, n);
-        base = base + ATOM_SIZE * n;
-        left = left - n;
+        let pairs = rows_of(table, PAIR_SIZE, pair, pairs_left, s);
+        let atoms = rows_of(table, ATOM_SIZE, atom, atoms_left, s);
+        let rows = Rows { pair, pairs, atom, atoms };
+        size = size + schema_size(table, params_of(table, s) as u16, rows);
+        pair = pair + PAIR_SIZE * pairs;
+        pairs_left = pairs_left - pairs;
+        atom = atom + ATOM_SIZE * atoms;
+        atoms_left = atoms_left - atoms;
     }
     size
 }
@@ -186,14 +240,20 @@ fn put_schemas(text: &mut [u8], at: usize, table: &[u16]) -> usize
     ensures { λ r. ⌜ Puts (now (text .entry)) at (schemasText (now (table .entry))) (now (text .exit)) r ⌝ }
 {
     let schemas = word(table, SCHEMAS);
-    let mut base = rows_base(table);
-    let mut left = word(table, SCHEMA_ATOMS);
+    let mut pair = pairs_base(table);
+    let mut pairs_left = word(table, PAIRS);
+    let mut atom = rows_base(table);
+    let mut atoms_left = word(table, SCHEMA_ATOMS);
     let mut next = at;
     for s in 0..schemas {
-        let n = atoms_of(table, base, left, s);
-        next = put_schema(text, next, table, params_of(table, s) as u16, base, n);
-        base = base + ATOM_SIZE * n;
-        left = left - n;
+        let pairs = rows_of(table, PAIR_SIZE, pair, pairs_left, s);
+        let atoms = rows_of(table, ATOM_SIZE, atom, atoms_left, s);
+        let rows = Rows { pair, pairs, atom, atoms };
+        next = put_schema(text, next, table, params_of(table, s) as u16, rows);
+        pair = pair + PAIR_SIZE * pairs;
+        pairs_left = pairs_left - pairs;
+        atom = atom + ATOM_SIZE * atoms;
+        atoms_left = atoms_left - atoms;
     }
     next
 }

@@ -1,6 +1,7 @@
 -- What the inner functions of this crate promise: of the pars of a part, the parts of a schema, the sizes of the split,
 -- and acceptance. No promise of an entry point cites these.
 use Rattle.tokens.specs.declared.parts.Circular.the-variants as circle
+use Rattle.tokens.specs.declared.pairs.Parted.the-variants as parting
 use Rattle.tokens.specs.declared.acceptance.Acceptance.the-variants as acceptance
 use Prim.Native.Nat.{ℕ, _+_, _*_, _≤_, _<_}
 use mathlib.Core.Path.{_≡_}
@@ -12,8 +13,9 @@ use lib.Dec.{leb}
 use Rattle.words.specs.Lists.{all, every, concatMap, upTo}
 use Rattle.task.specs.Layout.{headIn}
 use Rattle.task.specs.Limits.{mostPredicates, mostSchemas, mostSchemaAtoms, mostAtoms, mostInitial, mostGoal, mostParts}
+use Rattle.task.specs.Limits.{mostPairs}
 use Rattle.task.specs.Answers.{Check, refuseUnless, refuses, firstRefusal}
-use Rattle.task.specs.Task.{Schema, Task, schemaAtoms}
+use Rattle.task.specs.Task.{Schema, Task, schemaAtoms, schemaPairs}
 use Rattle.task.specs.declared.Part.{Part}
 use Rattle.task.specs.declared.Place.{Place}
 use Rattle.task.specs.Run.{schemaAt}
@@ -25,6 +27,7 @@ use Rattle.tokens.specs.declared.pars.Pars.{Pars}
 use Rattle.tokens.specs.declared.measure.Sizes.{Sizes}
 use Rattle.tokens.specs.declared.measure.Measured.{Measured}
 use Rattle.tokens.specs.declared.parts.Circular.{Circular}
+use Rattle.tokens.specs.declared.pairs.Parted.{Parted}
 use Rattle.tokens.specs.declared.acceptance.Acceptance.{Acceptance}
 use Rattle.tokens.specs.Kept.{orderPlace, partWord, ownWord, PartsKept}
 
@@ -65,13 +68,16 @@ areFew ss = all (λ s. leb (length (s .atoms)) mostAtoms) ss
 abbrev pub mostPartAtoms : ℕ
 mostPartAtoms = mostAtoms + 3 + 3 * wordBits
 
--- what is counted of schema s: the atoms of its parts, and that none has too many; its shared parameters
+-- what is counted of schema s: the atoms of its parts, and that none has too many; its shared parameters; the pairs that
+-- its parts carry
 pub record SchemaSized (t : Task) (s : ℕ) (r : Measured) : Type 0 where
   pub atoms : r .atoms ≡ schemaAtoms (partSchemas t s)
   pub few : r .few ≡ areFew (partSchemas t s)
   pub shared : r .shared ≡ sharedBound (schemaAt t s)
+  pub pairs : r .pairs ≡ schemaPairs (partSchemas t s)
   pub atoms-most : r .atoms ≤ mostParts * mostPartAtoms
   pub shared-most : r .shared ≤ wordBits
+  pub pairs-most : r .pairs ≤ mostParts * mostPairs
 
 -- what is counted of the first n schemas
 pub record SizesBefore (t : Task) (n : ℕ) (r : Sizes) : Type 0 where
@@ -79,23 +85,26 @@ pub record SizesBefore (t : Task) (n : ℕ) (r : Sizes) : Type 0 where
   pub pars : r .pars ≡ maximum (map sharedBound (take n (t .schemas)))
   pub schemas : r .schemas ≡ length (concatMap (partSchemas t) (upTo n))
   pub atoms : r .atoms ≡ schemaAtoms (concatMap (partSchemas t) (upTo n))
+  pub pairs : r .pairs ≡ schemaPairs (concatMap (partSchemas t) (upTo n))
   pub within : r .within ≡ areFew (concatMap (partSchemas t) (upTo n))
   pub later-most : r .later ≤ mostParts * n
   pub pars-most : r .pars ≤ wordBits
   pub schemas-most : r .schemas ≤ mostParts * n
   pub atoms-most : r .atoms ≤ mostParts * mostPartAtoms * n
+  pub pairs-most : r .pairs ≤ mostParts * mostPairs * n
 
 -- the limits of a table that a split can pass, a test each
-unfoldable pub areWithin : ℕ → ℕ → ℕ → Bool → ℕ → ℕ → Bool
+unfoldable pub areWithin : ℕ → ℕ → ℕ → Bool → ℕ → ℕ → ℕ → Bool
 unfolding every
-areWithin predicates schemas atoms few initial goal =
+areWithin predicates schemas atoms few initial goal pairs =
     every
     (leb predicates mostPredicates ∷
     leb schemas mostSchemas ∷
     leb atoms mostSchemaAtoms ∷
     few ∷
     leb initial mostInitial ∷
-    leb goal mostGoal ∷ [])
+    leb goal mostGoal ∷
+    leb pairs mostPairs ∷ [])
 
 -- of the sizes counted of a table
 unfoldable pub sizesFit : List ℕ → Sizes → Bool
@@ -103,7 +112,7 @@ unfolding areWithin
 sizesFit w r =
     areWithin (headIn w .predicates + 1 + r .later + r .pars) (r .schemas) (r .atoms) (r .within)
     (headIn w .initialAtoms + 1)
-    (headIn w .goalAtoms + 1)
+    (headIn w .goalAtoms + 1) (r .pairs)
 
 -- the sizes of the split
 pub record SizesTold (t : Task) (r : Sizes) : Type 0 where
@@ -111,6 +120,7 @@ pub record SizesTold (t : Task) (r : Sizes) : Type 0 where
   pub pars : r .pars ≡ parCount t
   pub schemas : r .schemas ≡ length (splitTask t .schemas)
   pub atoms : r .atoms ≡ schemaAtoms (splitTask t .schemas)
+  pub pairs : r .pairs ≡ schemaPairs (splitTask t .schemas)
   pub within : r .within ≡ withinLimits (splitTask t)
 
 -- ---- circular parts
@@ -118,6 +128,12 @@ pub record SizesTold (t : Task) (r : Sizes) : Type 0 where
 unfoldable pub circularTold : Circular → Option ℕ
 circularTold (circle.At s) = some s
 circularTold circle.Nowhere = none
+
+-- ---- parted pairs
+-- the schema with a pair that no part has both parameters of, if any
+unfoldable pub partedTold : Parted → Option ℕ
+partedTold (parting.At s) = some s
+partedTold parting.Nowhere = none
 
 -- ---- acceptance
 -- the checks of a table that splitting, unfolding and folding make first, and those behind them

@@ -11,14 +11,14 @@ use Rattle.task.specs.Limits.{mostSchemas, mostSchemaAtoms}
 use Rattle.task.specs.Task.{Task}
 use Rattle.task.specs.Run.{schemaAt}
 use Rattle.task.specs.Table.{taskOf, isTable}
-use Rattle.task.specs.Turns.{firstAtom}
+use Rattle.task.specs.Turns.{firstAtom, firstPair}
 use Rattle.arcs.specs.Order.{orderOf}
 use Rattle.words.specs.Sets.{member}
 use Rattle.tokens.specs.Split.{has, orders, firstOf}
 
 -- ---- the words
--- where in a row each thing stands: the index of the schema's first atom, the split's number of its first part, and how
--- many parts it has
+-- where in a row each thing stands: the index of the schema's first atom, the split's number of its first part, how many
+-- parts it has, and the index of its first pair
 abbrev pub startPlace : ℕ
 startPlace = 0
 
@@ -28,9 +28,12 @@ firstPlace = 1
 abbrev pub countPlace : ℕ
 countPlace = 2
 
+abbrev pub pairPlace : ℕ
+pairPlace = 3
+
 -- the words of a row
 abbrev pub keptRow : ℕ
-keptRow = 3
+keptRow = 4
 
 -- where the parts begin, where their parameters begin, and how many words there are: a schema has no more parts than
 -- atoms, so the part at position j of its order stands at the place of its atom j
@@ -75,6 +78,13 @@ keptFirst kept s = field kept s firstPlace
 abbrev pub keptCount : List ℕ → ℕ → ℕ
 keptCount kept s = field kept s countPlace
 
+-- where its pairs begin, and where they end
+abbrev pub keptPair : List ℕ → ℕ → ℕ
+keptPair kept s = field kept s pairPlace
+
+abbrev pub keptPairEnd : List ℕ → ℕ → ℕ
+keptPairEnd kept s = keptPair kept (s + 1)
+
 -- the word at place i, 0 behind the array: no table has a part there, and those who ask need not know it
 unfoldable pub wordIn : List ℕ → ℕ → ℕ
 wordIn kept i = cond (ltb i keptWords) (getD kept i 0) 0
@@ -92,6 +102,7 @@ pub record PartsKept (t : Task) (n : ℕ) (kept : List ℕ) : Type 0 where
   pub long : length kept ≡ keptWords
   pub start : (s : ℕ) → s ≤ n → keptStart kept s ≡ firstAtom t s
   pub first : (s : ℕ) → s ≤ n → keptFirst kept s ≡ firstOf t s
+  pub pair : (s : ℕ) → s ≤ n → keptPair kept s ≡ firstPair t s
   pub taken : (s : ℕ) → s < n → orderOf (schemaAt t s) ≡ some (orders t s)
   pub count : (s : ℕ) → s < n → keptCount kept s ≡ length (orders t s)
   pub part : (s j : ℕ) → s < n → j < length (orders t s) → keptPart kept s j ≡ getD (orders t s) j 0

@@ -2,17 +2,17 @@
 -- an entry point cites these.
 use Prim.Native.Nat.{ℕ, _+_, _-_, _*_, _≤_, _<_}
 use mathlib.Core.Path.{_≡_}
-use mathlib.Core.Bool.{false, cond}
+use mathlib.Core.Bool.{Bool, false, cond, _&&_}
 use mathlib.Core.List.{List, [], _∷_, _++_, map}
 use lib.ListN.{length, getD, replicate}
 use lib.Dec.{eqb}
 use Rattle.words.specs.Lists.{filter, concatMap, upTo}
 use Rattle.task.specs.Layout.{Head, headBlock, headIn}
-use Rattle.task.specs.Task.{Atom, Task, precondition, addition, deletion}
+use Rattle.task.specs.Task.{Atom, Pair, Task, precondition, addition, deletion}
 use Rattle.task.specs.Limits.{mostAtoms, mostParameters, atomSize}
-use Rattle.task.specs.Table.{atomIn, atomWords, taskOf, aritiesIn}
+use Rattle.task.specs.Table.{atomIn, atomWords, pairWords, taskOf, aritiesIn}
 use Rattle.task.specs.Run.{ofRole, schemaAt}
-use Rattle.arcs.specs.Stretches.{IsStretch, stretchIn}
+use Rattle.arcs.specs.Stretches.{IsStretch, stretchIn, pairStretchIn}
 use Rattle.words.specs.Sets.{member, members, wordBits}
 use Rattle.tokens.specs.Split.{has, orders, parToken, token, required, handedOn, lone}
 use Rattle.tokens.specs.declared.part_atoms.PartPlace.{PartPlace}
@@ -42,6 +42,23 @@ parBound = 1000
 
 abbrev pub parIn : ℕ → ℕ → ℕ → ℕ → Atom
 parIn own par r x = token r (par + x) (newNumber own x ∷ [])
+
+-- ---- a part's pairs, over the set of its parameters
+-- "A part that has both parameters carries the line, renumbered"
+abbrev pub carries : ℕ → Pair → Bool
+carries own q = member own (q .lower) && member own (q .higher)
+
+abbrev pub renumberedPair : ℕ → Pair → Pair
+renumberedPair own q = record { lower = newNumber own (q .lower); higher = newNumber own (q .higher) }
+
+-- those of some pairs that a part carries
+unfoldable pub carriedIn : ℕ → List Pair → List Pair
+unfolding filter members
+carriedIn own qs = map (renumberedPair own) (filter (carries own) qs)
+
+-- their words, of a table's pairs `from` to `to - 1`, under the part's number in the split
+abbrev pub carriedWords : List ℕ → ℕ → ℕ → ℕ → ℕ → List ℕ
+carriedWords w number own from to = concatMap (pairWords number) (carriedIn own (pairStretchIn w from to))
 
 -- ---- the atoms of one role
 -- of the atoms of a part's schema, whose roles ascend: atom i is the first that is in role r or a later one
@@ -114,6 +131,7 @@ splitHead w r = record {
   schemaAtoms = r .atoms;
   initialAtoms = headIn w .initialAtoms + 1;
   goalAtoms = headIn w .goalAtoms + 1;
+  pairs = r .pairs;
 }
 
 abbrev pub countWords : List ℕ → Sizes → List ℕ

@@ -1,8 +1,10 @@
 // Whether a table's split is accepted: "a split is accepted when splitting gives it as its result". Splitting begins
-// so, and unfolding and folding "first refuse as splitting would, 9 and 10 included".
+// so, and unfolding and folding "first refuse as splitting would, 9 and 10 included", and 20 between them.
 use crate::kept::Kept;
 use crate::measure;
 use crate::measure::Sizes;
+use crate::pairs;
+use crate::pairs::Parted;
 use crate::parts;
 use crate::parts::Circular;
 use task::Place;
@@ -32,6 +34,10 @@ pub fn keep_accepted(table: &[u16], kept: &mut Kept) -> Acceptance
     let circular = parts::keep_parts(table, kept);
     if let Circular::At(s) = circular {
         return Acceptance::Refused(9, Place::Schema(s));
+    }
+    let parted = pairs::first_parted(table, kept);
+    if let Parted::At(s) = parted {
+        return Acceptance::Refused(20, Place::Schema(s));
     }
     let sizes = measure::sizes_of(table, kept);
     if !sizes.within {

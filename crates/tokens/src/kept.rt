@@ -1,6 +1,6 @@
 // What is kept of a table's parts, all in one array. First a row for each schema, and one row more, for where the last
-// one's atoms end: the index of the schema's first atom, the split's number of its first part, and how many parts it
-// has. Then the parts, in order, and then the parameters of each, a bit for each. A schema has no more parts than
+// one's atoms and pairs end: the index of the schema's first atom, the split's number of its first part, how many parts
+// it has, and the index of its first pair. Then the parts, in order, and then the parameters of each, a bit for each. A schema has no more parts than
 // atoms, so its part at position j stands at the place of its atom j.
 use task::Part;
 use task::limits::MOST_SCHEMA_ATOMS;
@@ -11,9 +11,9 @@ ghost use Prim.Native.Nat.{_+_, _≤_, _<_};
 ghost use mathlib.Core.Path.{_≡_};
 ghost use Rattle.task.specs.Limits.{mostParts, mostSchemas, mostSchemaAtoms};
 ghost use Rattle.words.specs.Words.{wordBound};
-ghost use Rattle.tokens.specs.Kept.{startPlace, firstPlace, countPlace, ownPlace, keptRow, field, withField};
-ghost use Rattle.tokens.specs.Kept.{withPart, wordIn, keptStart, keptEnd, keptFirst, keptCount, keptPart};
-ghost use Rattle.tokens.specs.Kept.{keptOwn};
+ghost use Rattle.tokens.specs.Kept.{startPlace, firstPlace, countPlace, pairPlace, ownPlace, keptRow, field};
+ghost use Rattle.tokens.specs.Kept.{withField, withPart, wordIn, keptStart, keptEnd, keptFirst, keptCount};
+ghost use Rattle.tokens.specs.Kept.{keptPair, keptPairEnd, keptPart, keptOwn};
 
 // Where in a row each thing stands.
 const START: usize = 0;
@@ -22,7 +22,9 @@ const FIRST: usize = 1;
 
 const COUNT: usize = 2;
 
-const KEPT_ROW: usize = 3;
+const PAIR: usize = 3;
+
+const KEPT_ROW: usize = 4;
 
 // Where the parts begin, and where their parameters do.
 const ORDER: usize = KEPT_ROW * (MOST_SCHEMAS + 1);
@@ -81,6 +83,22 @@ pub fn count_of(kept: &Kept, s: usize) -> usize
     wide(word(kept, s, COUNT))
 }
 
+// Where the pairs of schema s begin.
+pub fn pair_of(kept: &Kept, s: usize) -> usize
+    requires { ⌜ s ≤ mostSchemas ⌝ }
+    ensures { λ r. ⌜ r ≡ keptPair (now (kept .entry)) s ⌝ }
+{
+    wide(word(kept, s, PAIR))
+}
+
+// Where they end.
+pub fn pair_end_of(kept: &Kept, s: usize) -> usize
+    requires { ⌜ s < mostSchemas ⌝ }
+    ensures { λ r. ⌜ r ≡ keptPairEnd (now (kept .entry)) s ⌝ }
+{
+    pair_of(kept, s + 1)
+}
+
 // The word for the part at position j of schema s, of the words that begin at `base`. Behind the array it is 0: no
 // table has a part there, and those who ask need not know it.
 fn of_part(kept: &Kept, base: usize, s: usize, j: usize) -> u16
@@ -111,15 +129,17 @@ pub fn own_at(kept: &Kept, s: usize, j: usize) -> u64
     held(of_part(kept, OWN, s, j))
 }
 
-// A row begins: its schema's first atom, and the split's number of its first part.
-pub(crate) fn keep_begin(kept: &mut Kept, row: usize, start: usize, first: usize)
+// A row begins: its schema's first atom, the split's number of its first part, and its first pair.
+pub(crate) fn keep_begin(kept: &mut Kept, row: usize, start: usize, first: usize, pair: usize)
     requires { ⌜ row ≤ mostSchemas ⌝ }
-    requires { ⌜ (start < wordBound) × (first < wordBound) ⌝ }
+    requires { ⌜ (start < wordBound) × (first < wordBound) × (pair < wordBound) ⌝ }
     ensures { λ _. ⌜ now (kept .exit) ≡
-        withField (withField (now (kept .entry)) row startPlace start) row firstPlace first ⌝ }
+        withField (withField (withField (now (kept .entry)) row startPlace start) row firstPlace first) row pairPlace
+        pair ⌝ }
 {
     put(kept, row, START, start as u16);
     put(kept, row, FIRST, first as u16);
+    put(kept, row, PAIR, pair as u16);
 }
 
 // How many parts a schema has.

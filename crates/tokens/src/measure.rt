@@ -2,8 +2,12 @@
 use crate::kept::Kept;
 use crate::kept::count_of;
 use crate::kept::end_of;
+use crate::kept::own_at;
+use crate::kept::pair_end_of;
+use crate::kept::pair_of;
 use crate::kept::part_at;
 use crate::kept::start_of;
+use crate::pairs::carried;
 use crate::pars::pars_at;
 use crate::pars::shared_in;
 use arcs::atoms::part_of;
@@ -13,6 +17,7 @@ use task::limits::INITIAL_ATOMS;
 use task::limits::MOST_ATOMS;
 use task::limits::MOST_GOAL;
 use task::limits::MOST_INITIAL;
+use task::limits::MOST_PAIRS;
 use task::limits::MOST_PREDICATES;
 use task::limits::MOST_SCHEMA_ATOMS;
 use task::limits::MOST_SCHEMAS;
@@ -30,26 +35,29 @@ ghost use Rattle.words.specs.Lists.{filter};
 ghost use Rattle.task.specs.Table.{taskOf, isTable};
 ghost use Rattle.arcs.specs.Stretches.{IsStretch, stretchIn};
 ghost use Rattle.tokens.specs.Split.{orders, splitSchema};
-ghost use Rattle.tokens.specs.Acceptance.{SchemaSized, SizesTold, sizesFit, mostPartAtoms, areWithin};
-ghost use Rattle.task.specs.Limits.{mostParts, mostSchemas};
+ghost use Rattle.tokens.specs.Acceptance.{SchemaSized, SizesTold, sizesFit, mostPartAtoms, areWithin, partSchemas};
+ghost use Rattle.task.specs.Task.{schemaPairs};
+ghost use Rattle.task.specs.Limits.{mostParts, mostSchemas, mostPairs};
 ghost use Rattle.words.specs.Sets.{wordBits};
 ghost use Rattle.tokens.specs.Kept.{keptCount, PartsKept, SchemaKept};
 
-// The sizes that a table limits: later parts, pars, schemas and schema atoms; and whether all limits are kept.
+// The sizes that a table limits: later parts, pars, schemas, schema atoms and pairs; and whether all limits are kept.
 pub struct Sizes {
     pub later: usize,
     pub pars: usize,
     pub schemas: usize,
     pub atoms: usize,
+    pub pairs: usize,
     pub within: bool,
 }
 
-// Of one schema: how many atoms its parts have, whether each part has few enough, and one more than the largest
-// parameter found in two parts, or 0.
+// Of one schema: how many atoms its parts have, whether each part has few enough, one more than the largest parameter
+// found in two parts, or 0, and how many pairs its parts carry.
 pub struct Measured {
     pub atoms: usize,
     pub few: bool,
     pub shared: usize,
+    pub pairs: usize,
 }
 
 // How many of the atoms `from` to `to - 1` are in a part.
@@ -91,7 +99,28 @@ fn part_size(table: &[u16], kept: &Kept, s: usize, j: usize) -> usize
     required + (1 + size(pars.first) + (1 + size(pars.last)))
 }
 
-// Of one schema: its parts' atoms, whether each part has few enough, and its shared parameters.
+// How many pairs the parts of schema s carry; each may be carried by several.
+fn pairs_carried(table: &[u16], kept: &Kept, s: usize) -> usize
+    requires { ⌜ SchemaKept (now table) s (now kept) ⌝ }
+    ensures { λ r. ⌜ r ≡ schemaPairs (partSchemas (taskOf (now (table .entry))) s) ⌝ }
+    ensures { λ r. ⌜ r ≤ mostParts * mostPairs ⌝ }
+{
+    let from = pair_of(kept, s);
+    let to = pair_end_of(kept, s);
+    let count = count_of(kept, s);
+    let mut n = 0;
+    if from == to {
+        return n;
+    }
+    let mut j = 0;
+    while j < count {
+        n += carried(table, own_at(kept, s, j), from, to);
+        j += 1;
+    }
+    n
+}
+
+// Of one schema: its parts' atoms, whether each part has few enough, its shared parameters, and its parts' pairs.
 fn measure_schema(table: &[u16], kept: &Kept, s: usize) -> Measured
     requires { ⌜ SchemaKept (now table) s (now kept) ⌝ }
     ensures { λ r. ⌜ SchemaSized (taskOf (now (table .entry))) s r ⌝ }
@@ -109,7 +138,13 @@ fn measure_schema(table: &[u16], kept: &Kept, s: usize) -> Measured
         atoms += n;
         j += 1;
     }
-    Measured { atoms, few, shared }
+    let pairs = pairs_carried(table, kept, s);
+    Measured {
+        atoms,
+        few,
+        shared,
+        pairs,
+    }
 }
 
 // The sizes of some schemas and of one more, which has `count` parts.
@@ -118,10 +153,12 @@ fn with_schema(sizes: Sizes, one: Measured, count: usize) -> Sizes
     requires { ⌜ (sizes .later ≤ mostParts * mostSchemas) × (sizes .schemas ≤ mostParts * mostSchemas) ⌝ }
     requires { ⌜ sizes .atoms ≤ mostParts * mostPartAtoms * mostSchemas ⌝ }
     requires { ⌜ one .atoms ≤ mostParts * mostPartAtoms ⌝ }
+    requires { ⌜ (sizes .pairs ≤ mostParts * mostPairs * mostSchemas) × (one .pairs ≤ mostParts * mostPairs) ⌝ }
     ensures { λ r. ⌜ r .later ≡ sizes .later + (count - 1) ⌝ }
     ensures { λ r. ⌜ r .pars ≡ max (sizes .pars) (one .shared) ⌝ }
     ensures { λ r. ⌜ r .schemas ≡ sizes .schemas + count ⌝ }
     ensures { λ r. ⌜ r .atoms ≡ sizes .atoms + one .atoms ⌝ }
+    ensures { λ r. ⌜ r .pairs ≡ sizes .pairs + one .pairs ⌝ }
     ensures { λ r. ⌜ r .within ≡ sizes .within && one .few ⌝ }
 {
     let mut pars = sizes.pars;
@@ -133,6 +170,7 @@ fn with_schema(sizes: Sizes, one: Measured, count: usize) -> Sizes
         pars,
         schemas: sizes.schemas + count,
         atoms: sizes.atoms + one.atoms,
+        pairs: sizes.pairs + one.pairs,
         within: sizes.within && one.few,
     }
 }
@@ -145,8 +183,9 @@ fn are_within(
     few: bool,
     initial: usize,
     goal: usize,
+    pairs: usize,
 ) -> bool
-    ensures { λ r. ⌜ r ≡ areWithin predicates schemas atoms few initial goal ⌝ }
+    ensures { λ r. ⌜ r ≡ areWithin predicates schemas atoms few initial goal pairs ⌝ }
 {
     if MOST_PREDICATES < predicates {
         return false;
@@ -163,7 +202,10 @@ fn are_within(
     if MOST_INITIAL < initial {
         return false;
     }
-    goal <= MOST_GOAL
+    if MOST_GOAL < goal {
+        return false;
+    }
+    pairs <= MOST_PAIRS
 }
 
 // Whether the split has no more than a table can.
@@ -183,6 +225,7 @@ fn within_limits(table: &[u16], sizes: Sizes) -> bool
         sizes.within,
         initial + 1,
         goal + 1,
+        sizes.pairs,
     )
 }
 
@@ -198,6 +241,7 @@ pub fn sizes_of(table: &[u16], kept: &Kept) -> Sizes
         pars: 0,
         schemas: 0,
         atoms: 0,
+        pairs: 0,
         within: true,
     };
     let mut s = 0;
@@ -212,6 +256,7 @@ pub fn sizes_of(table: &[u16], kept: &Kept) -> Sizes
         pars: sizes.pars,
         schemas: sizes.schemas,
         atoms: sizes.atoms,
+        pairs: sizes.pairs,
         within,
     }
 }

@@ -1,11 +1,14 @@
-// The parts of each schema: where its atoms begin, the order taken of its parts, and the parameters of each part.
+// The parts of each schema: where its atoms and its pairs begin, the order taken of its parts, and the parameters of
+// each part.
 use crate::kept::Kept;
 use crate::kept::keep_begin;
 use crate::kept::keep_count;
 use crate::kept::keep_part;
 use arcs::Order;
 use arcs::orders::order_of;
+use task::layout::pair_number;
 use task::layout::schema_number;
+use task::limits::PAIRS;
 use task::limits::SCHEMA_ATOMS;
 use task::limits::SCHEMAS;
 use words::runs::word;
@@ -19,7 +22,7 @@ ghost use Rattle.task.specs.Table.{taskOf, isTable};
 ghost use Rattle.tokens.specs.Split.{isNone, orderAt};
 ghost use Rattle.tokens.specs.Acceptance.{partAt, OrderKept, circularTold};
 ghost use Rattle.task.specs.Limits.{mostParts, mostSchemaAtoms};
-ghost use Rattle.task.specs.Turns.{firstAtom};
+ghost use Rattle.task.specs.Turns.{firstAtom, firstPair};
 ghost use Rattle.tokens.specs.Kept.{keptWords, PartsKept};
 
 // The lowest schema for whose parts no order complies, if there is one.
@@ -39,6 +42,24 @@ pub fn schema_end(table: &[u16], s: usize, from: usize) -> usize
     let mut i = from;
     while i < atoms {
         if schema_number(table, i) != s {
+            return i;
+        }
+        i += 1;
+    }
+    i
+}
+
+// Where the pairs of schema s, which begin at `from`, end.
+fn pairs_end(table: &[u16], s: usize, from: usize) -> usize
+    requires { ⌜ isTable (now table) ≡ true ⌝ }
+    requires { ⌜ s < length (taskOf (now table) .schemas) ⌝ }
+    requires { ⌜ from ≡ firstPair (taskOf (now table)) s ⌝ }
+    ensures { λ r. ⌜ r ≡ firstPair (taskOf (now (table .entry))) (suc s) ⌝ }
+{
+    let pairs = word(table, PAIRS);
+    let mut i = from;
+    while i < pairs {
+        if pair_number(table, i) != s {
             return i;
         }
         i += 1;
@@ -77,21 +98,24 @@ pub fn keep_parts(table: &[u16], kept: &mut Kept) -> Circular
 {
     let schemas = word(table, SCHEMAS);
     let mut from = 0;
+    let mut pair = 0;
     let mut first = 0;
     let mut s = 0;
-    keep_begin(kept, 0, 0, 0);
+    keep_begin(kept, 0, 0, 0, 0);
     while s < schemas {
         let to = schema_end(table, s, from);
-        let found = order_of(table, from, to);
+        let end = pairs_end(table, s, pair);
+        let found = order_of(table, from, to, pair, end);
         if !found.found {
             return Circular::At(s as u64);
         }
         keep_count(kept, s, found.count);
         keep_order(from, found, kept);
         from = to;
+        pair = end;
         first += found.count;
         s += 1;
-        keep_begin(kept, s, from, first);
+        keep_begin(kept, s, from, first, pair);
     }
     Circular::Nowhere
 }

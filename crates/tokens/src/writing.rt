@@ -1,6 +1,7 @@
 // The split written as a table, front to back, each word once.
 use crate::kept::Kept;
 use crate::measure::Sizes;
+use crate::pairs::all_pairs;
 use crate::part_atoms::bare_token;
 use crate::schemas::all_params;
 use crate::schemas::all_parts;
@@ -36,13 +37,13 @@ ghost use Rattle.words.specs.Putting.{Puts};
 ghost use Rattle.tokens.specs.Acceptance.{AcceptedKept};
 ghost use Rattle.tokens.specs.Writing.{countWords, arityWords};
 
-// The six counts.
+// The seven counts.
 fn head(table: &[u16], sizes: Sizes, out: &mut [u16]) -> usize
     requires { ⌜ headWords ≤ length (now table) ⌝ }
     requires { ⌜ headIn (now table) .predicates + 1 + sizes .later + sizes .pars < wordBound ⌝ }
     requires { ⌜ (sizes .schemas < wordBound) × (sizes .atoms < wordBound) ⌝ }
     requires { ⌜ (headIn (now table) .initialAtoms + 1 < wordBound) ×
-        (headIn (now table) .goalAtoms + 1 < wordBound) ⌝ }
+        (headIn (now table) .goalAtoms + 1 < wordBound) × (sizes .pairs < wordBound) ⌝ }
     requires { ⌜ headWords ≤ length (now out) ⌝ }
     ensures { λ r. ⌜ Puts (now (out .entry)) 0 (countWords (now (table .entry)) sizes) (now (out .exit)) r ⌝ }
 {
@@ -57,7 +58,8 @@ fn head(table: &[u16], sizes: Sizes, out: &mut [u16]) -> usize
     );
     out[next] = word_at(table, INITIAL_ATOMS) + 1;
     out[next + 1] = word_at(table, GOAL_ATOMS) + 1;
-    next + 2
+    out[next + 2] = sizes.pairs as u16;
+    next + 3
 }
 
 // The arities: the old ones, 0 for procnone and each do, 1 for each par.
@@ -111,7 +113,8 @@ pub fn write_split(table: &[u16], kept: &Kept, sizes: Sizes, out: &mut [u16])
     let counted = head(table, sizes, out);
     let named = arities(table, sizes, out, counted);
     let sized = all_params(kept, word(table, SCHEMAS), out, named);
-    let split = all_parts(table, kept, sizes, out, sized);
+    let paired = all_pairs(table, kept, out, sized);
+    let split = all_parts(table, kept, sizes, out, paired);
     let ended = all_facts(table, out, split);
     fill(out, ended, TABLE_WORDS - ended, 0);
 }

@@ -6,8 +6,8 @@ use crate::cursor::Number;
 use crate::draft::Counts;
 use crate::draft::Turn;
 use crate::keys::ARITY;
+use crate::keys::DIFFER;
 use crate::keys::OBJECTS;
-use crate::keys::PRE;
 use crate::keys::SCHEMA;
 use crate::lists::List;
 use crate::lists::list_line;
@@ -94,7 +94,7 @@ pub fn schema_line(text: &[u8], from: Cursor, counts: Counts) -> Turn
         return Turn::Refuse(4);
     }
     let mut read = counts;
-    read.phase = PRE;
+    read.phase = DIFFER;
     read.params = n as u16;
     Turn::GoOn(read, next)
 }

@@ -80,5 +80,7 @@ pub fn part_line(text: &[u8], table: &mut [u16], from: Cursor, counts: Counts) -
     read.params = 0;
     read.closed = counts.closed + counts.atoms;
     read.atoms = 0;
+    read.pairs = counts.pairs + counts.apart;
+    read.apart = 0;
     Turn::GoOn(read, next)
 }
