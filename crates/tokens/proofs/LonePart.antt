@@ -50,6 +50,7 @@ index-upFrom s (suc n) x h k = elim (decLt s x) [
 
 module _ (t : Task) (s : ℕ) (o : List ℕ) (P : PartOf t s o 0) (alone : length o ≡ 1) where
   first-part : getD o 0 0 ≡ 0
+  unfolding parts
   first-part =
       let l = upTo-in (parts (schemaAt t s)) (getD o 0 0) (P .order .from (getD o 0 0) (in-getD o 0 0 (P .inside))) in
       omega (arith, P .order .size)

@@ -47,7 +47,7 @@ own-once t s o j = once-filter (λ x. has (schemaAt t s) x (getD o j 0)) (once-u
 pub record PartOf (t : Task) (s : ℕ) (o : List ℕ) (j : ℕ) : Type 0 where
   pub known : s < length (t .schemas)
   pub fits : schemaFits (t .arities) (schemaAt t s) ≡ true
-  pub order : OrderOf (schemaAt t s .atoms) (parts (schemaAt t s)) (upTo (parts (schemaAt t s))) o
+  pub order : OrderOf (schemaAt t s) o
   pub inside : j < length o
 
 module _ (t : Task) (s : ℕ) (o : List ℕ) (j : ℕ) (P : PartOf t s o j) where
@@ -69,6 +69,7 @@ module _ (t : Task) (s : ℕ) (o : List ℕ) (j : ℕ) (P : PartOf t s o j) wher
 
   -- ---- a parameter at two positions has a par
   two-positions : (x i k : ℕ) → x < old .params → At old o x i → At old o x k → i < k → x < parCount t
+  unfolding parts
   two-positions x i k l a b h =
       par-exists t s x (getD o k 0) (getD o i 0) (P .known) l (placed k (b .inside)) (placed i (a .inside))
       (P .order .once i k h (b .inside)) (b .found) (a .found)
@@ -108,6 +109,7 @@ module _ (t : Task) (s : ℕ) (o : List ℕ) (j : ℕ) (P : PartOf t s o j) wher
     pub par : (x : ℕ) → In x mine → test x ≡ true → x < parCount t
 
   pub pre-tokens : Tokens (required t s o j) (laterHere t s o j)
+  unfolding parts
   pre-tokens = record {
     high = rw (required-is t s o j (P .inside)) (token-high t s o j);
     low = rw (required-is t s o j (P .inside)) (token-low t s o j (P .known) (P .order .size) (omega arith));
@@ -115,6 +117,7 @@ module _ (t : Task) (s : ℕ) (o : List ℕ) (j : ℕ) (P : PartOf t s o j) wher
   }
 
   pub add-tokens : Tokens (handedOn t s o j) (firstHere t s o j)
+  unfolding parts
   add-tokens = record {
     high = rw (handedOn-is t s o j) (token-high t s o (suc j));
     low = rw (handedOn-is t s o j) (token-low t s o (suc j) (P .known) (P .order .size) (P .inside));

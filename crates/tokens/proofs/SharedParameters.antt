@@ -107,7 +107,7 @@ some-filtered p xs l =
 
 pub shared-bounded : (t : Task) (s : ℕ) (o : List ℕ) (set : ℕ) → schemaFits (t .arities) (schemaAt t s) ≡ true →
     schemaAt t s .params ≤ wordBits →
-    OrderOf (schemaAt t s .atoms) (parts (schemaAt t s)) (upTo (parts (schemaAt t s))) o →
+    OrderOf (schemaAt t s) o →
     ((x : ℕ) → member set x ≡ ltb 1 (length (positions (schemaAt t s) o x))) →
     above (members set wordBits) ≡ sharedBound (schemaAt t s)
 unfolding sharedBound shared members

@@ -12,7 +12,8 @@ use Rattle.task.specs.Limits.{tableWords}
 use Rattle.task.specs.Answers.{toldNumber, result, Outcome, refuseUnless, inOrder}
 use Rattle.task.specs.Task.{Task, wellFormed}
 use Rattle.task.specs.Table.{taskOf, wordsOf, longEnough, isTable}
-use Rattle.tokens.specs.Split.{splitTask, Splitting, circular, tooLarge, splitAs, splitCheck, split, splitOutcome}
+use Rattle.tokens.specs.Split.{splitTask, Splitting, circular, parted, tooLarge, splitAs, splitCheck, split}
+use Rattle.tokens.specs.Split.{splitOutcome}
 use Rattle.words.proofs.Lists.{and-left}
 use Rattle.words.proofs.Puts.{take-over}
 use Rattle.task.proofs.Tables.{words-length, of-table}
@@ -65,6 +66,8 @@ module _ (table out : List ℕ) where
           absurd (omega (arith, h, ap (λ o. toldNumber (o .told)) (reached true p false q r s)))
       go true p true q (circular n) s =
           absurd (omega (arith, h, ap (λ o. toldNumber (o .told)) (reached true p true q (circular n) s)))
+      go true p true q (parted n) s =
+          absurd (omega (arith, h, ap (λ o. toldNumber (o .told)) (reached true p true q (parted n) s)))
       go true p true q tooLarge s =
           absurd (omega (arith, h, ap (λ o. toldNumber (o .told)) (reached true p true q tooLarge s)))
       go true p true q (splitAs u) s =

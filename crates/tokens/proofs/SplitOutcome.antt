@@ -1,9 +1,9 @@
 -- What splitting finds, the first check of acceptance that fails by what is found, and what splitting does then:
--- refusals 1, 2, 9 and 10 leave all as found.
+-- refusals 1, 2, 9, 20 and 10 leave all as found.
 use Rattle.task.specs.declared.Place.the-variants as place
 use Rattle.tokens.specs.declared.acceptance.Acceptance.the-variants as acceptance
 use Prim.Native.Nat.{ℕ}
-use mathlib.Core.Path.{_≡_, refl, _∙_, ap, subst}
+use mathlib.Core.Path.{_≡_, refl, _∙_, ap, ap₂, subst}
 use mathlib.Core.Bool.{Bool, true, false, cond, _&&_}
 use mathlib.Core.List.{List, [], _∷_}
 use mathlib.Core.Option.{Option, none, some}
@@ -13,11 +13,12 @@ use Rattle.words.specs.Lists.{first, upTo, over}
 use Rattle.task.specs.Answers.{result, Check, Outcome, refuseUnless, inOrder, firstRefusal}
 use Rattle.task.specs.Task.{Task}
 use Rattle.task.specs.Table.{taskOf, wordsOf, longEnough, isTable}
-use Rattle.tokens.specs.Split.{orderAt, isNone, circular, tooLarge, splitAs, settle, split, splitTask}
+use Rattle.tokens.specs.Split.{orderAt, isNone, circular, parted, tooLarge, splitAs, settle, split, splitTask}
 use Rattle.tokens.specs.Split.{withinLimits, splitCheck, splitOutcome, Splitting}
 use Rattle.tokens.specs.declared.measure.Sizes.{Sizes}
 use Rattle.tokens.specs.declared.acceptance.Acceptance.{Acceptance}
 use Rattle.tokens.specs.Acceptance.{acceptedThen, RefusedAs, AcceptedKept, AcceptanceTold}
+use Rattle.tokens.proofs.Accepted.{partedAt}
 use Rattle.task.proofs.Answers.{asFound, check-refuses, first-passes, first-refuses, same-refusal, refusal-stands}
 
 -- ---- what splitting gives, by what is found of the orders and the sizes
@@ -28,17 +29,23 @@ module _ (t : Task) where
 
   pub found-circular : {s : ℕ} → lowest ≡ some s → split t ≡ circular s
   unfolding split settle
-  found-circular e = ap (λ (o : Option ℕ). settle o (splitTask t)) e
+  found-circular e = ap (λ (o : Option ℕ). settle o (partedAt t) (splitTask t)) e
 
-  settled : lowest ≡ none → split t ≡ cond (withinLimits (splitTask t)) (splitAs (splitTask t)) tooLarge
+  pub found-parted : {s : ℕ} → lowest ≡ none → partedAt t ≡ some s → split t ≡ parted s
   unfolding split settle
-  settled e = ap (λ (o : Option ℕ). settle o (splitTask t)) e
+  found-parted e f = ap₂ (λ (o p : Option ℕ). settle o p (splitTask t)) e f
 
-  pub found-large : lowest ≡ none → withinLimits (splitTask t) ≡ false → split t ≡ tooLarge
-  found-large e h = settled e ∙ ap (λ (b : Bool). cond b (splitAs (splitTask t)) tooLarge) h
+  settled : lowest ≡ none → partedAt t ≡ none →
+      split t ≡ cond (withinLimits (splitTask t)) (splitAs (splitTask t)) tooLarge
+  unfolding split settle
+  settled e f = ap₂ (λ (o p : Option ℕ). settle o p (splitTask t)) e f
 
-  pub found-split : lowest ≡ none → withinLimits (splitTask t) ≡ true → split t ≡ splitAs (splitTask t)
-  found-split e h = settled e ∙ ap (λ (b : Bool). cond b (splitAs (splitTask t)) tooLarge) h
+  pub found-large : lowest ≡ none → partedAt t ≡ none → withinLimits (splitTask t) ≡ false → split t ≡ tooLarge
+  found-large e f h = settled e f ∙ ap (λ (b : Bool). cond b (splitAs (splitTask t)) tooLarge) h
+
+  pub found-split : lowest ≡ none → partedAt t ≡ none → withinLimits (splitTask t) ≡ true →
+      split t ≡ splitAs (splitTask t)
+  found-split e f h = settled e f ∙ ap (λ (b : Bool). cond b (splitAs (splitTask t)) tooLarge) h
 
 -- ---- the checks of acceptance
 module _ (w : List ℕ) where
@@ -66,6 +73,10 @@ module _ (w : List ℕ) where
       pub refused-nine : {s : ℕ} → split (taskOf w) ≡ circular s → RefusedAs w 9 (place.Schema s)
       unfolding splitCheck firstRefusal
       refused-nine e more = decided e more
+
+      pub refused-twenty : {s : ℕ} → split (taskOf w) ≡ parted s → RefusedAs w 20 (place.Schema s)
+      unfolding splitCheck firstRefusal
+      refused-twenty e more = decided e more
 
       pub refused-ten : split (taskOf w) ≡ tooLarge → RefusedAs w 10 place.Nowhere
       unfolding splitCheck firstRefusal

@@ -98,8 +98,7 @@ parsFor s x = cond (shared s x) (suc (found s x)) 0
 abbrev pub schemaTotal : Schema → ℕ
 schemaTotal s = length (s .atoms) + cond (eqb (parts s) 1) 1 (3 * parts s + total (parsFor s) (upTo (s .params)))
 
-module _ (t : Task) (s : ℕ) (o : List ℕ)
-    (order : OrderOf (schemaAt t s .atoms) (parts (schemaAt t s)) (upTo (parts (schemaAt t s))) o) where
+module _ (t : Task) (s : ℕ) (o : List ℕ) (order : OrderOf (schemaAt t s) o) where
   abbrev old : Schema
   old = schemaAt t s
 
@@ -108,7 +107,7 @@ module _ (t : Task) (s : ℕ) (o : List ℕ)
 
   -- a sum over the order is one over the parts
   over-parts : (f : ℕ → ℕ) → total (λ j. f (getD o j 0)) (upTo (length o)) ≡ total f (upTo (parts old))
-  unfolding upTo
+  unfolding upTo parts
   over-parts f = by-place f o 0 ∙ reorder f order-once (once-upFrom 0 (parts old)) (order .from) (order .all-placed)
 
   -- each atom is of one part
@@ -186,7 +185,7 @@ module _ (t : Task) (s : ℕ) (o : List ℕ)
       (λ x i. le-ltb (firstPosition old o x) j (omega arith)))
 
   pub schema-total : total (partSize t s o) (upTo (length o)) ≡ schemaTotal old
-  unfolding lone
+  unfolding lone parts
   schema-total =
       go (eqb (length o) 1) refl ∙
       ap (λ n. length (old .atoms) + cond (eqb n 1) 1 (3 * parts old + total (parsFor old) (upTo (old .params))))

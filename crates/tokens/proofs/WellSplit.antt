@@ -11,8 +11,10 @@ use lib.ListN.{length, replicate}
 use lib.Dec.{leb}
 use borrow.Author.Tests.{le-leb}
 use Rattle.words.specs.Lists.{all, upTo}
-use Rattle.task.specs.Task.{Fact, Schema, Task, argsFit, factsFit, schemaFits, schemaAtoms, wellFormed, noSchema}
+use Rattle.task.specs.Task.{Fact, Schema, Task, argsFit, factsFit, schemaFits, schemaAtoms, schemaPairs, wellFormed}
+use Rattle.task.specs.Task.{noSchema}
 use Rattle.task.specs.Limits.{mostPredicates, mostSchemas, mostSchemaAtoms, mostAtoms, mostInitial, mostGoal, mostArity}
+use Rattle.task.specs.Limits.{mostPairs}
 use Rattle.task.specs.Run.{schemaAt}
 use Rattle.tokens.specs.Split.{parts, laterParts, parCount, procnone, orders, free, splitSchema, splitTask}
 use Rattle.tokens.specs.Split.{limitTests, withinLimits, splitAs, split}
@@ -34,19 +36,20 @@ pub record Within (t : Task) : Type 0 where
   pub few : all (λ s. leb (length (s .atoms)) mostAtoms) (t .schemas) ≡ true
   pub inits : leb (length (t .init)) mostInitial ≡ true
   pub goals : leb (length (t .goal)) mostGoal ≡ true
+  pub pairs : leb (schemaPairs (t .schemas)) mostPairs ≡ true
 
 pub within : (t : Task) → withinLimits t ≡ true → Within t
 unfolding withinLimits
 within t h =
     let at = every-at (limitTests t) h in
-    record { preds = at 0; schemas = at 1; atoms = at 2; few = at 3; inits = at 4; goals = at 5 }
+    record { preds = at 0; schemas = at 1; atoms = at 2; few = at 3; inits = at 4; goals = at 5; pairs = at 6 }
 
 pub limits : (t : Task) → Within t → withinLimits t ≡ true
 unfolding withinLimits
 limits t c =
     met-every {bs = limitTests t}
     (met-more (c .preds) (met-more (c .schemas) (met-more (c .atoms) (met-more (c .few) (met-more (c .inits)
-    (met-more (c .goals) met-none))))))
+    (met-more (c .goals) (met-more (c .pairs) met-none)))))))
 
 -- a well-formed task is within the limits
 pub well-within : (t : Task) → wellFormed t ≡ true → Within t
@@ -60,6 +63,7 @@ well-within t h =
           (λ s i. schema-tests (t .arities) s (all-in (schemaFits (t .arities)) (c .fit) i) .few);
       inits = c .inits;
       goals = c .goals;
+      pairs = c .pairs;
     }
 
 -- ---- arities, and the facts that gain procnone
@@ -156,6 +160,7 @@ module _ (t : Task) (well : wellFormed t ≡ true) (ordered : Ordered t) where
     fit = schemas-fit (c .few);
     init = facts-with-free t (t .init) (tests .init);
     goal = facts-with-free t (t .goal) (tests .goal);
+    pairs = c .pairs;
   })
 
   -- 10 is given exactly when the split passes a limit

@@ -8,7 +8,7 @@ use native.Mathlib.Omega.{arith}
 use lib.ListN.{length, length-append}
 use Rattle.words.specs.Lists.{concatMap, upFrom, upTo}
 use Rattle.task.specs.Task.{Task}
-use Rattle.task.specs.Table.{taskOf, schemasFrom}
+use Rattle.task.specs.Table.{taskOf, atomWords, rowsFrom, schemasFrom}
 use Rattle.task.proofs.TableReads.{counts-inside}
 use Rattle.task.proofs.TablesByIndex.{table-frame, schemas-word}
 use Rattle.words.specs.Putting.{Puts}
@@ -62,10 +62,10 @@ turn l k =
     let r = s .pre .1 in
     let e = ap (λ ss. length (schemasFrom 0 ss)) (split-schemas t) in
     record {
-      more = schemas-more (partSchemas t) (l .loop .s) ∙
+      more = schemas-more atomWords (λ s. s .atoms) (partSchemas t) (l .loop .s) ∙
           ap (λ (i : ℕ). schemasFrom 0 (schemasUpTo (partSchemas t) (l .loop .s)) ++
           schemasFrom i (partSchemas t (l .loop .s))) (sym (kept-number (s .pre .0) (l .loop .s) k));
-      room = omega (arith, schemas-fewer (partSchemas t) (l .loop .s + 1) n (omega arith));
+      room = omega (arith, schemas-fewer atomWords (λ s. s .atoms) (partSchemas t) (l .loop .s + 1) n (omega arith));
     }
 
 known : (i : tie.In-loop Inv-loop μ-loop) → i .before .loop .s < length (task (i .before) .schemas)
@@ -77,7 +77,7 @@ word-requires c κs =
     omega (arith, counts-inside (s .args .table .now) (s .pre .0 .table))
 
 loop-holds : tie.Need-loop-holds Inv-loop μ-loop
-unfolding concatMap upTo upFrom schemasFrom
+unfolding concatMap upTo upFrom rowsFrom
 loop-holds c =
     let a = c .before .before .before .args in
     (omega arith, refl, puts-none (a .out .now) (a .at))
