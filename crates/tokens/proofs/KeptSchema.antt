@@ -1,4 +1,5 @@
--- What is known of one schema of a table whose parts are kept: its stretch of atoms, and that its numbers are small.
+-- What is known of one schema of a table whose parts are kept: its stretches of atoms and of pairs, and that its numbers
+-- are small.
 use Prim.Native.Nat.{ℕ, _+_, _-_, _≤_, _<_, suc}
 use mathlib.Core.Path.{_≡_, sym, _∙_, ap, ap₂, subst}
 use mathlib.Core.Bool.{true}
@@ -7,7 +8,6 @@ use native.Mathlib.Omega.{arith}
 use native.Mathlib.Numerals.{add-one}
 use lib.ListN.{length}
 use borrow.Author.Tests.{leb-true}
-use Rattle.words.specs.Lists.{upTo}
 use Rattle.task.specs.Layout.{headIn}
 use Rattle.task.specs.Task.{schemaFits, Task}
 use Rattle.task.specs.Run.{schemaAt}
@@ -17,20 +17,20 @@ use Rattle.task.proofs.AtomsStand.{noAtom}
 use Rattle.task.proofs.SchemaAtoms.{role-rises}
 use Rattle.task.proofs.Tests.{SchemaTests, schema-tests}
 use Rattle.task.proofs.TablesByIndex.{table-frame, start-suc}
-use Rattle.arcs.specs.Stretches.{IsStretch, stretchIn}
+use Rattle.arcs.specs.Stretches.{IsStretch, stretchIn, IsPairStretch, pairStretchIn}
 use Rattle.task.proofs.SchemaWords.{part-small}
 use Rattle.arcs.proofs.OrderTaken.{OrderOf, orderOf-laws}
-use Rattle.arcs.proofs.Stretches.{schema-atoms, schema-stretch}
+use Rattle.arcs.proofs.Stretches.{schema-atoms, schema-stretch, schema-pairs, schema-pair-stretch}
 use Rattle.tokens.specs.Split.{parts, orders}
 use Rattle.arcs.proofs.AtomWords.{schema-fits}
 use Rattle.tokens.proofs.SchemaEnds.{schema-known}
 use Rattle.tokens.proofs.KeptSchemas.{schemas-few, order-few}
 use mathlib.Core.Option.{some}
 use Rattle.task.specs.Limits.{mostSchemas, mostParts, mostAtoms, mostParameters}
-use Rattle.task.specs.Turns.{firstAtom}
+use Rattle.task.specs.Turns.{firstAtom, firstPair}
 use Rattle.arcs.specs.Order.{orderOf}
 use Rattle.words.specs.Sets.{wordBits}
-use Rattle.tokens.specs.Kept.{keptStart, keptEnd, keptCount, ParamsKept, SchemaKept}
+use Rattle.tokens.specs.Kept.{keptStart, keptEnd, keptCount, keptPair, keptPairEnd, ParamsKept, SchemaKept}
 
 module _ {w : List ℕ} {s : ℕ} {kept : List ℕ} (K : SchemaKept w s kept) where
   abbrev t : Task
@@ -94,12 +94,31 @@ module _ {w : List ℕ} {s : ℕ} {kept : List ℕ} (K : SchemaKept w s kept) wh
         let y = ends in
         omega (arith, start-suc w (table-frame w (K .table)) s word-known)
 
+  -- its pairs, likewise
+  pair-starts : keptPair kept s ≡ firstPair t s
+  pair-starts = let k = K .known in K .all .pair s (omega arith)
+
+  pair-ends : keptPairEnd kept s ≡ firstPair t (suc s)
+  pair-ends = let k = K .known in K .all .pair (s + 1) (omega arith) ∙ ap (firstPair t) (add-one s)
+
+  module _ {from to : ℕ} (begins : from ≡ keptPair kept s) (stops : to ≡ keptPairEnd kept s) where
+    pub kept-pair-stretch : IsPairStretch w from to
+    kept-pair-stretch =
+        subst (λ (n : ℕ). IsPairStretch w n to) (sym (begins ∙ pair-starts))
+        (subst (λ (n : ℕ). IsPairStretch w (firstPair t s) n) (sym (stops ∙ pair-ends))
+        (schema-pair-stretch w (K .table) s word-known))
+
+    pub kept-pairs : schemaAt t s .pairs ≡ pairStretchIn w from to
+    kept-pairs =
+        schema-pairs w (K .table) s word-known ∙
+        ap₂ (pairStretchIn w) (sym (begins ∙ pair-starts)) (sym (stops ∙ pair-ends))
+
   -- the order taken is one of the parts
-  pub kept-order : OrderOf (schemaAt t s .atoms) (parts (schemaAt t s)) (upTo (parts (schemaAt t s))) (orders t s)
-  unfolding parts
+  pub kept-order : OrderOf (schemaAt t s) (orders t s)
   kept-order = orderOf-laws (schemaAt t s) (orders t s) taken
 
   pub count-parts : keptCount kept s ≡ parts (schemaAt t s)
+  unfolding parts
   count-parts = counted ∙ kept-order .size
 
   -- a schema has an atom, and so a part

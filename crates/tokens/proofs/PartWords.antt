@@ -22,7 +22,7 @@ use Rattle.words.proofs.Lists.{length-padded, filter-same}
 use Rattle.words.specs.Sets.{member, members, wordBits}
 use Rattle.arcs.specs.Stretches.{IsStretch, stretchIn}
 use Rattle.words.proofs.BitSets.{member-zero}
-use Rattle.arcs.proofs.Stretches.{atoms-none, atoms-more}
+use Rattle.arcs.proofs.Stretches.{rows-none, rows-more}
 use Rattle.words.specs.Putting.{Puts}
 use Rattle.tokens.specs.Writing.{newNumber, renumbered, oldIn, oldWords, parIn, RoleBegins}
 use Rattle.tokens.specs.declared.part_atoms.PartPlace.{PartPlace}
@@ -108,11 +108,11 @@ module _ (own r p : ℕ) where
 
     pub old-none : oldUpTo from ≡ []
     unfolding concatMap oldIn ofRole filter
-    old-none = ap (λ (xs : List Atom). concatMap (atomWords number) (oldIn own r p xs)) (atoms-none w from)
+    old-none = ap (λ (xs : List Atom). concatMap (atomWords number) (oldIn own r p xs)) (rows-none (atomIn w) from)
 
     old-step : (i : ℕ) → from ≤ i → oldIn own r p (stretchIn w from (i + 1)) ≡
         oldIn own r p (stretchIn w from i) ++ keepIf (isHere (atomIn w i)) (renumbered own r (atomIn w i)) []
-    old-step i l = ap (oldIn own r p) (atoms-more w from i l) ∙ old-append (stretchIn w from i) (atomIn w i)
+    old-step i l = ap (oldIn own r p) (rows-more (atomIn w) from i l) ∙ old-append (stretchIn w from i) (atomIn w i)
 
     pub old-taken : (i : ℕ) → from ≤ i → isHere (atomIn w i) ≡ true →
         oldUpTo (i + 1) ≡ oldUpTo i ++ atomWords number (renumbered own r (atomIn w i))

@@ -8,7 +8,7 @@ use lib.ListN.{length, take}
 use lib.Seq.{take-length}
 use Rattle.words.specs.Lists.{every, upTo, concatMap}
 use Rattle.task.specs.Layout.{headIn}
-use Rattle.task.specs.Task.{Schema, Task, schemaAtoms}
+use Rattle.task.specs.Task.{Schema, Task, schemaAtoms, schemaPairs}
 use Rattle.task.specs.Table.{taskOf, isTable}
 use Rattle.task.proofs.TablesByIndex.{table-frame, arities-word, init-word, goal-word}
 use Rattle.tokens.specs.Split.{laterParts, sharedBound, maximum, parCount, splitTask, limitTests, withinLimits}
@@ -40,6 +40,10 @@ module _ (w : List ℕ) (h : isTable w ≡ true) (r : Sizes) (n : ℕ) (all-coun
   unfolding splitTask
   atoms-told = counted .atoms ∙ ap (λ (k : ℕ). schemaAtoms (concatMap (partSchemas t) (upTo k))) all-counted
 
+  pairs-told : r .pairs ≡ schemaPairs (splitTask t .schemas)
+  unfolding splitTask
+  pairs-told = counted .pairs ∙ ap (λ (k : ℕ). schemaPairs (concatMap (partSchemas t) (upTo k))) all-counted
+
   few-told : r .within ≡ areFew (splitTask t .schemas)
   unfolding splitTask
   few-told = counted .within ∙ ap (λ (k : ℕ). areFew (concatMap (partSchemas t) (upTo k))) all-counted
@@ -61,14 +65,23 @@ module _ (w : List ℕ) (h : isTable w ≡ true) (r : Sizes) (n : ℕ) (all-coun
   within-told : sizesFit w r ≡ withinLimits (splitTask t)
   unfolding sizesFit areWithin withinLimits limitTests every areFew
   within-told =
-      rw (predicates-told, schemas-told, atoms-told, few-told, init-told, goal-told) refl
+      rw (predicates-told, schemas-told, atoms-told, few-told, init-told, goal-told, pairs-told) refl
 
   pub sizes-told : (within : Bool) → within ≡ sizesFit w r →
-      SizesTold t (record { later = r .later; pars = r .pars; schemas = r .schemas; atoms = r .atoms; within = within })
+      SizesTold t
+      (record {
+        later = r .later;
+        pars = r .pars;
+        schemas = r .schemas;
+        atoms = r .atoms;
+        pairs = r .pairs;
+        within = within;
+      })
   sizes-told within e = record {
     later = later-told;
     pars = pars-told;
     schemas = schemas-told;
     atoms = atoms-told;
+    pairs = pairs-told;
     within = e ∙ within-told;
   }

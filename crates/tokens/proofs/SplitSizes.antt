@@ -1,6 +1,6 @@
 -- The sizes of the split as the code counts them: the atoms of a part one by one, the parts of a schema one by one, and
 -- schema by schema. Each size is of a list that grows at its end.
-use Prim.Native.Nat.{ℕ, _+_, _-_, _≤_, _<_, max}
+use Prim.Native.Nat.{ℕ, zero, suc, _+_, _-_, _≤_, _<_, max}
 use mathlib.Core.Path.{_≡_, refl, sym, _∙_, ap, ap₂}
 use mathlib.Core.Bool.{Bool, true, false, cond, _&&_}
 use mathlib.Core.List.{List, [], _∷_, _++_, map, append-nil}
@@ -11,13 +11,13 @@ use lib.Seq.{take-suc}
 use lib.Dec.{eqb, leb}
 use Rattle.words.specs.Lists.{all, filter, sum, concatMap, upTo, upFrom}
 use Rattle.task.specs.Limits.{mostAtoms, mostParts}
-use Rattle.task.specs.Task.{Atom, Schema, Task, schemaAtoms, noSchema}
+use Rattle.task.specs.Task.{Atom, Schema, Task, noSchema}
 use Rattle.task.specs.Run.{schemaAt}
-use Rattle.task.specs.Table.{atomIn, taskOf}
+use Rattle.task.specs.Table.{taskOf}
 use Rattle.words.proofs.Lists.{append-concatMap, length-upTo, map-append, sum-append, upTo-suc}
 use Rattle.words.specs.Sets.{member, members, wordBits}
-use Rattle.arcs.specs.Stretches.{stretchIn}
-use Rattle.arcs.proofs.Stretches.{atoms-none, atoms-more}
+use Rattle.arcs.specs.Stretches.{stretch, stretchIn}
+use Rattle.arcs.proofs.Stretches.{rows-none, rows-more}
 use Rattle.tokens.specs.Split.{has, parts, laterParts, sharedBound, maximum, orders, lone, firstHere, lastHere}
 use Rattle.tokens.specs.Split.{laterHere, splitSchema}
 use Rattle.tokens.specs.Acceptance.{ParsHere, partSchemas, areFew, SchemaSized, SizesBefore}
@@ -25,27 +25,29 @@ use Rattle.tokens.specs.declared.pars.Pars.{Pars}
 use Rattle.tokens.specs.declared.measure.Measured.{Measured}
 use Rattle.tokens.specs.declared.measure.Sizes.{Sizes}
 use Rattle.tokens.proofs.Accepted.{later-step}
-use Rattle.words.proofs.Sums.{one}
+use Rattle.words.proofs.Sums.{one, total}
 use Rattle.tokens.proofs.Sizes.{atomsOf, parsOf, part-size}
 use Rattle.tokens.proofs.KeptSchema.{kept-atoms, kept-fits, kept-params, counted}
 use Rattle.tokens.proofs.ParPlaces.{picked-listed}
 use Rattle.tokens.proofs.SharedParameters.{filter-more}
 use Rattle.tokens.specs.Kept.{keptStart, keptEnd, keptCount, keptPart, SchemaKept}
 
--- ---- the old atoms of a part
+-- ---- the rows of a stretch that a test takes
 abbrev pub inPartCount : ℕ → List Atom → ℕ
 inPartCount p atoms = length (filter (λ a. eqb p (a .part)) atoms)
 
-module _ (w : List ℕ) (from p : ℕ) where
-  pub part-count-none : inPartCount p (stretchIn w from from) ≡ 0
-  unfolding filter
-  part-count-none = ap (inPartCount p) (atoms-none w from)
+module _ {Row : Type 0} (row : ℕ → Row) (test : Row → Bool) (from : ℕ) where
+  abbrev pub takenUpTo : ℕ → ℕ
+  takenUpTo i = length (filter test (stretch row from i))
 
-  pub part-count-more : (i : ℕ) → from ≤ i →
-      inPartCount p (stretchIn w from (i + 1)) ≡ inPartCount p (stretchIn w from i) + one (eqb p (atomIn w i .part))
-  part-count-more i l =
-      ap (inPartCount p) (atoms-more w from i l) ∙
-      filter-more (λ a. eqb p (a .part)) (stretchIn w from i) (atomIn w i)
+  pub taken-none : takenUpTo from ≡ 0
+  unfolding filter
+  taken-none = ap (λ (rows : List Row). length (filter test rows)) (rows-none row from)
+
+  pub taken-more : (i : ℕ) → from ≤ i → takenUpTo (i + 1) ≡ takenUpTo i + one (test (row i))
+  taken-more i l =
+      ap (λ (rows : List Row). length (filter test rows)) (rows-more row from i l) ∙
+      filter-more test (stretch row from i) (row i)
 
 -- ---- a part of the split
 module _ {w : List ℕ} {s : ℕ} {kept : List ℕ} (K : SchemaKept w s kept) where
@@ -80,10 +82,9 @@ module _ {w : List ℕ} {s : ℕ} {kept : List ℕ} (K : SchemaKept w s kept) wh
       pars set test h = ap length (picked-listed t s o j wordBits (kept-fits K) (kept-params K) set test h)
 
 -- ---- the parts of a schema, and schema by schema
-atoms-append : (xs ys : List Schema) → schemaAtoms (xs ++ ys) ≡ schemaAtoms xs + schemaAtoms ys
-atoms-append xs ys =
-    ap sum (map-append (λ s. length (s .atoms)) xs ys) ∙
-    sum-append (map (λ s. length (s .atoms)) xs) (map (λ s. length (s .atoms)) ys)
+-- what is added up over schemas, as their atoms and their pairs are
+sums-append : (size : Schema → ℕ) (xs ys : List Schema) → total size (xs ++ ys) ≡ total size xs + total size ys
+sums-append size xs ys = ap sum (map-append size xs ys) ∙ sum-append (map size xs) (map size ys)
 
 few-append : (xs ys : List Schema) → areFew (xs ++ ys) ≡ areFew xs && areFew ys
 unfolding areFew all
@@ -106,22 +107,30 @@ module _ (t : Task) (s : ℕ) where
       ap partsUpTo (add-one j) ∙ ap (map (splitSchema t s (orders t s))) (upTo-suc j) ∙
       map-append (splitSchema t s (orders t s)) (upTo j) (j ∷ [])
 
-  pub part-atoms-none : schemaAtoms (partsUpTo 0) ≡ 0
+  pub part-sum-none : (size : Schema → ℕ) → total size (partsUpTo 0) ≡ 0
   unfolding upTo upFrom sum
-  part-atoms-none = refl
+  part-sum-none size = refl
 
   pub part-few-none : areFew (partsUpTo 0) ≡ true
   unfolding upTo upFrom areFew all
   part-few-none = refl
 
-  pub part-atoms-more : (j : ℕ) →
-      schemaAtoms (partsUpTo (j + 1)) ≡ schemaAtoms (partsUpTo j) + length (splitSchema t s (orders t s) j .atoms)
+  pub part-sum-more : (size : Schema → ℕ) (j : ℕ) →
+      total size (partsUpTo (j + 1)) ≡ total size (partsUpTo j) + size (splitSchema t s (orders t s) j)
   unfolding sum
-  part-atoms-more j =
+  part-sum-more size j =
       let u = splitSchema t s (orders t s) j in
-      let z : length (u .atoms) + 0 ≡ length (u .atoms) = omega arith in
-      ap schemaAtoms (parts-more j) ∙ atoms-append (partsUpTo j) (u ∷ []) ∙
-      ap (λ n. schemaAtoms (partsUpTo j) + n) z
+      let z : size u + 0 ≡ size u = omega arith in
+      ap (total size) (parts-more j) ∙ sums-append size (partsUpTo j) (u ∷ []) ∙
+      ap (λ n. total size (partsUpTo j) + n) z
+
+  -- nothing adds up to nothing
+  pub part-sum-nothing : (size : Schema → ℕ) → ((j : ℕ) → size (splitSchema t s (orders t s) j) ≡ 0) → (j : ℕ) →
+      total size (partsUpTo j) ≡ 0
+  part-sum-nothing size h zero = part-sum-none size
+  part-sum-nothing size h (suc j) =
+      let e = ap (λ (n : ℕ). total size (partsUpTo n)) (add-one j) in
+      omega (arith, part-sum-more size j, part-sum-nothing size h j, h j)
 
   pub part-few-more : (j : ℕ) →
       areFew (partsUpTo (j + 1)) ≡
@@ -153,38 +162,39 @@ module _ (t : Task) where
   maximum-append [] y = omega arith
   maximum-append (x ∷ xs) y = let e = maximum-append xs y in omega arith
 
-  pub sizes-none : (r : Sizes) → r .later ≡ 0 → r .pars ≡ 0 → r .schemas ≡ 0 → r .atoms ≡ 0 → r .within ≡ true →
-      SizesBefore t 0 r
+  pub sizes-none : (r : Sizes) → r .later ≡ 0 → r .pars ≡ 0 → r .schemas ≡ 0 → r .atoms ≡ 0 → r .pairs ≡ 0 →
+      r .within ≡ true → SizesBefore t 0 r
   unfolding laterParts maximum concatMap upTo upFrom sum areFew all
-  sizes-none r a b c d e = record {
+  sizes-none r a b c d p e = record {
     later = a;
     pars = b;
     schemas = c;
     atoms = d;
+    pairs = p;
     within = e;
     later-most = omega arith;
     pars-most = omega arith;
     schemas-most = omega arith;
     atoms-most = omega arith;
+    pairs-most = omega arith;
   }
 
   pub sizes-more : (n : ℕ) (r next : Sizes) (one : Measured) (count : ℕ) → n < length (t .schemas) →
       count ≡ length (orders t n) → count ≡ parts (schemaAt t n) → count ≤ mostParts → SchemaSized t n one →
       SizesBefore t n r →
       next .later ≡ r .later + (count - 1) → next .pars ≡ max (r .pars) (one .shared) →
-      next .schemas ≡ r .schemas + count → next .atoms ≡ r .atoms + one .atoms → next .within ≡ r .within && one .few →
-      SizesBefore t (n + 1) next
+      next .schemas ≡ r .schemas + count → next .atoms ≡ r .atoms + one .atoms →
+      next .pairs ≡ r .pairs + one .pairs → next .within ≡ r .within && one .few → SizesBefore t (n + 1) next
   unfolding schemaAt
-  sizes-more n r next one count l c p f sized old a b d e g =
+  sizes-more n r next one count l c p f sized old a b d e q g =
       let later = ap (λ k. laterParts (take k (t .schemas))) (add-one n) ∙ later-step (t .schemas) n noSchema l in
       let la = old .later in
       let ln = ap length (schemas-more n) ∙ length-append (schemasUpTo n) (partSchemas t n) in
       let lm = length-map (upTo (length (orders t n))) (splitSchema t n (orders t n)) in
       let lu = length-upTo (length (orders t n)) in
       let ls = old .schemas in
-      let lo = ap schemaAtoms (schemas-more n) ∙ atoms-append (schemasUpTo n) (partSchemas t n) in
-      let lp = old .atoms in
-      let lq = sized .atoms in
+      let atoms = sum-more (λ s. length (s .atoms)) in
+      let pairs = sum-more (λ s. length (s .pairs)) in
       let m = sized .shared-most in
       let v = old .pars-most in
       let x = sized .atoms-most in
@@ -195,15 +205,21 @@ module _ (t : Task) where
         later = omega arith;
         pars = b ∙ ap₂ max (old .pars) (sized .shared) ∙ sym pars-more;
         schemas = omega arith;
-        atoms = omega arith;
+        atoms = omega (arith, atoms, old .atoms, sized .atoms);
+        pairs = omega (arith, pairs, old .pairs, sized .pairs);
         within = g ∙ ap₂ _&&_ (old .within) (sized .few) ∙
             sym (ap areFew (schemas-more n) ∙ few-append (schemasUpTo n) (partSchemas t n));
         later-most = omega arith;
         pars-most = omega arith;
         schemas-most = omega arith;
         atoms-most = omega arith;
+        pairs-most = omega (arith, old .pairs-most, sized .pairs-most);
       }
     where
+      sum-more : (size : Schema → ℕ) →
+          total size (schemasUpTo (n + 1)) ≡ total size (schemasUpTo n) + total size (partSchemas t n)
+      sum-more size = ap (total size) (schemas-more n) ∙ sums-append size (schemasUpTo n) (partSchemas t n)
+
       pars-more : maximum (map sharedBound (take (n + 1) (t .schemas))) ≡
           max (maximum (map sharedBound (take n (t .schemas)))) (sharedBound (getD (t .schemas) n noSchema))
       pars-more =

@@ -12,14 +12,18 @@ use Rattle.words.specs.Lists.{concatMap, upTo}
 use Rattle.task.specs.Limits.{headWords}
 use Rattle.task.specs.Layout.{headIn, factsBase, atomBase}
 use Rattle.task.specs.Limits.{tableWords, atomSize, mostPredicates, mostSchemas, mostSchemaAtoms, mostInitial, mostGoal}
-use Rattle.task.specs.Task.{Fact, Schema, Task, schemaAtoms, wellFormed}
+use Rattle.task.specs.Limits.{pairSize, mostPairs}
+use Rattle.task.specs.Task.{Fact, Schema, Task, schemaAtoms, schemaPairs, wellFormed}
 use Rattle.task.specs.Run.{schemaAt}
 use Rattle.words.specs.Words.{wordsAt}
-use Rattle.task.specs.Table.{atomWords, factWords, schemasFrom, headOf, taskOf, isTable, aritiesIn}
+use Rattle.task.specs.Table.{atomWords, factWords, pairWords, schemasFrom, pairsFrom, headOf, taskOf, isTable}
+use Rattle.task.specs.Table.{aritiesIn}
 use Rattle.words.proofs.Lists.{map-same, append-concatMap, upTo-in, map-map, map-concatMap, concatMap-same}
 use Rattle.words.proofs.Words.{at-move, wordsAt-at, At}
 use Rattle.words.proofs.Words.{length-rows}
-use Rattle.task.proofs.AtomsStand.{length-facts, factWords-is, lengths, length-schemasFrom}
+use Rattle.task.proofs.AtomsStand.{length-facts, factWords-is, lengths, atoms-even}
+use Rattle.task.proofs.PairsStand.{pairs-even}
+use Rattle.task.proofs.SchemaRows.{length-rowsFrom}
 use Rattle.task.proofs.Tables.{content, content-fits, places}
 use Rattle.task.proofs.Tests.{task-tests}
 use Rattle.task.proofs.TablesByIndex.{Frame, table-frame, objects-word, arities-word}
@@ -60,6 +64,7 @@ module _ {w : List ℕ} {sizes : Sizes} {kept : List ℕ} (S : AcceptedKept w si
       omega (arith, init-count t, init-word w frame) in
       let goalAtoms : length (splitTask t .goal) ≡ splitHead w sizes .goalAtoms =
       omega (arith, goal-count t, goal-word w frame) in
+      let pairs = sym (z .pairs) in
       λ k. record {
         objects = objects k;
         predicates = predicates k;
@@ -67,6 +72,7 @@ module _ {w : List ℕ} {sizes : Sizes} {kept : List ℕ} (S : AcceptedKept w si
         schemaAtoms = schemaAtoms k;
         initialAtoms = initialAtoms k;
         goalAtoms = goalAtoms k;
+        pairs = pairs k;
       }
 
   pub arities-written : splitTask t .arities ≡ arityWords w sizes
@@ -170,6 +176,8 @@ pub record Room (t : Task) : Type 0 where
   pub schemas : length (t .schemas) ≤ mostSchemas
   pub atoms : schemaAtoms (t .schemas) ≤ mostSchemaAtoms
   pub words : length (schemasFrom 0 (t .schemas)) ≤ atomSize * mostSchemaAtoms
+  pub pairs : schemaPairs (t .schemas) ≤ mostPairs
+  pub pair-words : length (pairsFrom 0 (t .schemas)) ≤ pairSize * mostPairs
   pub init : length (t .init) ≤ mostInitial
   pub goal : length (t .goal) ≤ mostGoal
   pub whole : length (content t) ≤ tableWords
@@ -179,12 +187,22 @@ room t h =
     let c = task-tests t h in
     let n = leb-true (length (t .schemas)) mostSchemas (c .schemas) in
     let a = leb-true (schemaAtoms (t .schemas)) mostSchemaAtoms (c .atoms) in
+    let q = leb-true (schemaPairs (t .schemas)) mostPairs (c .pairs) in
     record {
       arities = leb-true (length (t .arities)) mostPredicates (c .preds);
       params = omega (arith, length-map (t .schemas) (λ (u : Schema). u .params));
       schemas = n;
       atoms = a;
-      words = omega (arith, length-schemasFrom 0 (t .schemas) (λ s i b j. lengths t c .schema s i b j .short));
+      words = omega (
+        arith,
+        length-rowsFrom atomWords (λ s. s .atoms) atomSize 0 (t .schemas)
+            (atoms-even (t .schemas) (λ s i b j. lengths t c .schema s i b j .short)),
+      );
+      pairs = q;
+      pair-words = omega (
+        arith,
+        length-rowsFrom pairWords (λ s. s .pairs) pairSize 0 (t .schemas) (pairs-even (t .schemas)),
+      );
       init = leb-true (length (t .init)) mostInitial (c .inits);
       goal = leb-true (length (t .goal)) mostGoal (c .goals);
       whole = content-fits t c;

@@ -162,6 +162,9 @@ fn schema_pairs(table: &[u16], kept: &Kept, s: usize, out: &mut [u16], at: usize
     let first = first_of(kept, s);
     let count = count_of(kept, s);
     let mut next = at;
+    if from == to {
+        return next;
+    }
     let mut j = 0;
     while j < count {
         let own = own_at(kept, s, j);

@@ -10,7 +10,7 @@ use Rattle.task.specs.Table.{atomIn}
 use Rattle.arcs.specs.Stretches.{stretchIn}
 use Rattle.arcs.proofs.Stretches.{stretch-atom}
 use Rattle.words.proofs.Sums.{one, one-most}
-use Rattle.tokens.proofs.SplitSizes.{inPartCount, part-count-none, part-count-more}
+use Rattle.tokens.proofs.SplitSizes.{inPartCount, taken-none, taken-more}
 use Rattle.tokens.proofs.measure.atoms_in.Statement.{statement}
 use Rattle.tokens.proofs.measure.atoms_in.Tie as tie
 
@@ -27,7 +27,7 @@ loop-holds c =
       omega arith,
       s .pre .forward,
       omega arith,
-      sym (part-count-none (s .args .table .now) (s .args .from) (s .args .part .0)),
+      sym (taken-none (atomIn (s .args .table .now)) (λ a. eqb (s .args .part .0) (a .part)) (s .args .from)),
     )
 
 part-of-requires : tie.Need-part-of-requires Inv-loop μ-loop
@@ -40,7 +40,7 @@ loop-again c =
     let w = s .args .table .now in
     let a = atomIn w (h .i) in
     let q = c .before .before .before .part-of .ensures .0 in
-    let m = part-count-more w (s .args .from) (s .args .part .0) (h .i) (h .inv .0) in
+    let m = taken-more (atomIn w) (λ a. eqb (s .args .part .0) (a .part)) (s .args .from) (h .i) (h .inv .0) in
     let n : c .if1 .n ≡ h .n + one (eqb (s .args .part .0) (a .part)) = ⊎-elim
     (λ x. let e = ap one (eq-eqb (s .args .part .0) (a .part) (sym (x .0 .taken) ∙ q)) in omega arith)
     (λ x. let e = ap one (ne-eqb (s .args .part .0) (a .part) (λ z. x .0 .left (q ∙ sym z))) in omega arith)

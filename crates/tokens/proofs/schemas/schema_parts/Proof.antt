@@ -3,6 +3,7 @@
 use Rattle.tokens.proofs.schemas.schema_parts.Tie as tie
 use Prim.Native.Nat.{ℕ, _-_, _≤_}
 use mathlib.Core.Path.{_≡_, refl, _∙_, ap, subst}
+use mathlib.Core.List.{List}
 use native.Mathlib.Omega.{arith}
 use lib.ListN.{length}
 use Rattle.words.specs.Lists.{upFrom, upTo}
@@ -17,10 +18,14 @@ use Rattle.tokens.specs.Kept.{keptFirst}
 use Rattle.tokens.proofs.KeptSchema.{schema-small, counted, count-small}
 use Rattle.tokens.proofs.Splitting.{schema-kept}
 
+-- the words of the atoms of the first j parts
+abbrev atomsUpTo : ℕ → (ℕ → Schema) → ℕ → List ℕ
+atomsUpTo = partsUpTo atomWords (λ (u : Schema). u .atoms)
+
 abbrev Inv-loop : tie.InvT-loop
 Inv-loop table kept sizes s out₀ at count next₀ j₀ out next j =
     (j ≤ count) × (length out ≡ length out₀) ×
-    Puts out₀ at (partsUpTo atomWords (λ s. s .atoms) (keptFirst kept s) (splitSchema (taskOf table) s (orders (taskOf table) s)) j) out next
+    Puts out₀ at (atomsUpTo (keptFirst kept s) (splitSchema (taskOf table) s (orders (taskOf table) s)) j) out next
 
 abbrev μ-loop : tie.MeasureT-loop
 μ-loop table kept sizes s out₀ at count next₀ j₀ out next j = count - j
@@ -68,8 +73,8 @@ one-part-requires c κs =
     let p = h .inv .2 .place in
     let m = h .inv .1 in
     let r = s .pre .1 .1 in
-    let f = parts-fewer atomWords (λ s. s .atoms) (first s) (schemaOf s) (h .j) (c .before .before .before .count-of .result) (h .inv .0) in
-    let e = ap (λ (k : ℕ). length (partsUpTo atomWords (λ s. s .atoms) (first s) (schemaOf s) k)) n in
+    let f = parts-fewer atomWords (λ (u : Schema). u .atoms) (first s) (schemaOf s) (h .j) (c .before .before .before .count-of .result) (h .inv .0) in
+    let e = ap (λ (k : ℕ). length (atomsUpTo (first s) (schemaOf s) k)) n in
     (s .pre .0, (s .pre .1 .0, (omega (arith, i .loop-test .taken), omega arith)))
 
 add-j : tie.Need-add-j Inv-loop μ-loop
@@ -88,7 +93,7 @@ loop-again c =
     let s = start (turn (c .before .before) .before) in
     let h = i .before .loop in
     let p = puts-then (h .inv .2) (c .before .before .one-part .ensures) _
-    (parts-more atomWords (λ s. s .atoms) (first s) (schemaOf s) (h .j)) in
+    (parts-more atomWords (λ (u : Schema). u .atoms) (first s) (schemaOf s) (h .j)) in
     (omega (arith, i .loop-test .taken), puts-length p, p)
 
 same-length : tie.Need-same-length Inv-loop μ-loop
@@ -101,7 +106,7 @@ returns c =
     let h = c .before .loop in
     let n = parts-are (c .before) in
     let e : h .j ≡ length (orders (taskOf (a .table .now)) (a .s)) = omega (arith, c .loop-test .left) in
-    subst (λ (k : ℕ). Puts (a .out .now) (a .at) (partsUpTo atomWords (λ s. s .atoms) (first s) (schemaOf s) k) (h .out) (h .next)) e (h .inv .2)
+    subst (λ (k : ℕ). Puts (a .out .now) (a .at) (atomsUpTo (first s) (schemaOf s) k) (h .out) (h .next)) e (h .inv .2)
 
 pub schema-parts-spec : {M : Type 1} → statement M
 schema-parts-spec =
