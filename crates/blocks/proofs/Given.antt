@@ -1,32 +1,42 @@
--- What the proofs about blocks start from: a well-formed task, its accepted split, and the order taken of each schema's
--- parts. From it: each schema has a part, each atom's part has a place, and each parameter stands in a part.
+-- What the proofs about blocks start from: a well-formed task, its accepted split, the order taken of each schema's
+-- parts, and a part for each pair. From it: each schema has a part, each atom's part has a place, each parameter stands
+-- in a part, and both parameters of a pair stand in one.
 use Prim.Native.Nat.{ℕ, _<_}
-use mathlib.Core.Path.{_≡_, sym}
+use mathlib.Core.Path.{_≡_, refl, sym, subst}
 use mathlib.Core.Bool.{true}
-use mathlib.Core.List.{List, _∷_}
+use mathlib.Core.List.{List, [], _∷_, _++_}
+use mathlib.Core.Logic.{inl, inr}
 use mathlib.Core.Option.{some}
 use native.Mathlib.Omega.{arith}
 use lib.ListN.{length, getD}
+use lib.Dec.{eqb}
+use borrow.Author.Tests.{eqb-true}
 use Rattle.words.specs.Lists.{all}
-use Rattle.task.specs.Task.{Atom, Task, wellFormed}
+use Rattle.task.specs.Task.{Atom, Pair, Task, wellFormed}
 use Rattle.task.specs.Run.{Step, isStep, schemaAt}
 use Rattle.arcs.specs.Order.{OrderOfParts, Complies, orderOf}
-use Rattle.tokens.specs.Split.{parts, own, orders, splitTask, splitAs, split}
+use Rattle.tokens.specs.Split.{has, parts, own, orders, splitTask, splitAs, split}
 use Rattle.blocks.specs.Blocks.{paramsAt}
-use Rattle.words.proofs.Lists.{and-left, and-right, and-both, In}
+use Rattle.words.proofs.Lists.{and-left, and-right, and-both, In, in-append, all-in, in-all, in-eq, any-in, getD-in}
 use Rattle.task.proofs.States.{IsStep, isStep-is, is-isStep, WellFormed, wellFormed-is}
 use Rattle.arcs.proofs.OrderTaken.{EachOnce, order-taken, order-once, atom-placed}
 use Rattle.tokens.proofs.Places.{atom-has, params-in}
-use Rattle.tokens.proofs.Accepted.{split-is, split-orders, parts-some}
+use Rattle.tokens.proofs.Accepted.{PairsKept, split-is, split-orders, split-pairs, parts-some, pair-part}
 use Rattle.blocks.proofs.FoldBlock.{Covered}
 
 pub record Given (t t′ : Task) : Type 0 where
   pub well : WellFormed t
   pub is : t′ ≡ splitTask t
   pub order : (s : ℕ) → s < length (t .schemas) → orderOf (schemaAt t s) ≡ some (orders t s)
+  pub kept : PairsKept t
 
 pub given : (t t′ : Task) → wellFormed t ≡ true → split t ≡ splitAs t′ → Given t t′
-given t t′ w h = record { well = wellFormed-is t w; is = split-is t t′ h; order = split-orders t t′ h }
+given t t′ w h = record {
+  well = wellFormed-is t w;
+  is = split-is t t′ h;
+  order = split-orders t t′ h;
+  kept = split-pairs t t′ h;
+}
 
 -- ---- lists of steps
 pub head-step : (t : Task) (x : Step) (xs : List Step) → all (isStep t) (x ∷ xs) ≡ true → IsStep t x
@@ -41,6 +51,14 @@ pub more-steps : (t : Task) (x : Step) (xs : List Step) → IsStep t x → all (
     all (isStep t) (x ∷ xs) ≡ true
 unfolding all
 more-steps t x xs hx h = and-both _ _ (is-isStep t x hx) h
+
+pub last-steps : (t : Task) (xs : List Step) (x : Step) → all (isStep t) xs ≡ true → IsStep t x →
+    all (isStep t) (xs ++ (x ∷ [])) ≡ true
+unfolding all
+last-steps t xs x h hx = in-all (isStep t) (xs ++ (x ∷ [])) (λ z i. elim (in-append xs i) [
+  | inl k ↦ all-in (isStep t) h k
+  | inr k ↦ all-in (isStep t) (more-steps t x [] hx refl) k
+])
 
 -- ---- the parts of a schema
 module _ {t t′ : Task} (G : Given t t′) {s : ℕ} (l : s < length (t .schemas)) where
@@ -84,3 +102,18 @@ module _ {t t′ : Task} (G : Given t t′) {s : ℕ} (l : s < length (t .schema
       let (a, i, k) = G .well .schema s l .used p h in
       let (j, m, e) = place-of a i in
       (j, m, atom-owns j a i (sym e) p k)
+
+  -- both parameters of a pair stand in one part
+  pub pair-placed : (q : Pair) → In q (schemaAt t s .pairs) → (j : ℕ) × (j < length (orders t s)) ×
+      (has (schemaAt t s) (q .lower) (getD (orders t s) j 0) ≡ true) ×
+      (has (schemaAt t s) (q .higher) (getD (orders t s) j 0) ≡ true)
+  unfolding parts
+  pair-placed q i =
+      let (p, m, a, b) = pair-part (schemaAt t s) (G .kept s l) q i in
+      let (r, k, e) = any-in (eqb p) (orders t s) (order-of-parts .placed p m) in
+      let (j, n, d) = getD-in 0 (in-eq (eqb-true p r e) k) in (
+        j,
+        n,
+        subst (λ p. has (schemaAt t s) (q .lower) p ≡ true) (sym d) a,
+        subst (λ p. has (schemaAt t s) (q .higher) p ≡ true) (sym d) b,
+      )

@@ -1,4 +1,4 @@
--- Inside a block, folding has found the first parts of the block of one step: that of the objects found so far, and 0
+-- Inside a block, folding has found the first parts of the block of one choice: that of the objects found so far, and 0
 -- for a parameter not yet found. A part that fits binds its own parameters and leaves those found before as they were,
 -- so the steps so far are the first parts of the new candidate too.
 use Prim.Native.Nat.{ℕ, suc, _+_, _<_}
@@ -19,7 +19,7 @@ use Rattle.task.specs.Run.{Step, schemaAt}
 use Rattle.tokens.specs.Split.{has, orders, paramsOf, firstOf}
 use Rattle.words.proofs.Lists.{and-left, and-right, In, here, there, in-getD, getD-in, map-in, getD-map, map-same}
 use Rattle.words.proofs.Lists.{map-append, upTo-suc, upTo-in}
-use Rattle.task.proofs.States.{IsStep}
+use Rattle.task.proofs.States.{IsChoice}
 use Rattle.tokens.proofs.Places.{index-small, index-getD}
 use Rattle.blocks.specs.Blocks.{paramsAt, partStep, beginner, Stage, outside, inside, begun, stageFor}
 use Rattle.blocks.specs.Blocks.{fitsAt, completed}
@@ -37,12 +37,12 @@ module _ (t : Task) where
     pub found : (p i : ℕ) → i < j → In p (paramsAt t s i) → (o : ℕ) × (getD b p none ≡ some o)
     pub so-far : pre ≡ map (partStep t (completed (inside s j b))) (upTo j)
 
-  -- the step made of what is bound
-  pub completed-step : (s j : ℕ) (b : Bound) → 0 < t .objects → s < length (t .schemas) →
+  -- the choice made of what is bound
+  pub completed-choice : (s j : ℕ) (b : Bound) → 0 < t .objects → s < length (t .schemas) →
       length b ≡ schemaAt t s .params → ((p o : ℕ) → getD b p none ≡ some o → o < t .objects) →
-      IsStep t (completed (inside s j b))
+      IsChoice t (completed (inside s j b))
   unfolding completed orZero
-  completed-step s j b some-object known size small = record {
+  completed-choice s j b some-object known size small = record {
     known = known;
     count = length-map b orZero ∙ size;
     small = λ o i.
@@ -150,7 +150,7 @@ module _ {t : Task} {s j : ℕ} {b : Bound} {pre : List Step} (h : Inside t s j 
       sym (ap (map (partStep t (candidate t s j b y))) (upTo-suc j) ∙
       map-append (partStep t (candidate t s j b y)) (upTo j) (j ∷ []))
 
-  -- ---- the candidate is a step of the task, where y has objects of the task
+  -- ---- the candidate is a choice of objects of the task, where y has objects of the task
   module _ (objects : (o : ℕ) → In o (y .objects) → o < t .objects) where
     given-small : (p : ℕ) → In p ps → given-by p < t .objects
     given-small p i =
@@ -168,9 +168,9 @@ module _ {t : Task} {s j : ℕ} {b : Bound} {pre : List Step} (h : Inside t s j 
         same : {a c : ℕ} → some a ≡ some c → a ≡ c
         same q = cc
 
-    pub candidate-step : 0 < t .objects → IsStep t (candidate t s j b y)
-    candidate-step some-object =
-        completed-step t s (suc j) after some-object (h .known) (after-size ∙ h .size) after-small
+    pub candidate-choice : 0 < t .objects → IsChoice t (candidate t s j b y)
+    candidate-choice some-object =
+        completed-choice t s (suc j) after some-object (h .known) (after-size ∙ h .size) after-small
 
     pub inside-next : suc j < length (orders t s) → Inside t s (suc j) after (pre ++ (y ∷ []))
     inside-next l = record {
