@@ -1,7 +1,7 @@
--- A test of a task, one atom at a time: what it says of a list that gains a last atom, both ways. Where a test of the
--- longer list gives the test of the shorter one, it gives that of every beginning (`prefix`).
+-- A test of a task, one atom or pair at a time: what it says of a list that gains a last one, both ways. Where a test of
+-- the longer list gives the test of the shorter one, it gives that of every beginning (`prefix`).
 use Prim.Native.Nat.{ℕ, _≤_}
-use mathlib.Core.Path.{_≡_, refl, sym, ap, subst}
+use mathlib.Core.Path.{_≡_, refl, sym, _∙_, ap, subst}
 use mathlib.Core.Bool.{Bool, true, not, _&&_}
 use mathlib.Core.List.{List, [], _∷_, _++_, append-assoc, append-nil}
 use mathlib.Core.Logic.{_⊎_, inl, inr}
@@ -9,12 +9,13 @@ use native.Mathlib.Omega.{arith}
 use lib.ListN.{length, length-append}
 use lib.Dec.{eqb, ltb, leb}
 use borrow.Author.Tests.{ltb-true, leb-true, eqb-true, not-true, lt-ltb, le-leb, eq-eqb}
-use Rattle.words.specs.Lists.{all, any, eqList}
-use Rattle.task.specs.Task.{Atom, Fact, sameAtom, distinct, rolesAscend, ascending, factLess, factsFit}
+use Rattle.words.specs.Lists.{all, any, eqList, lastOr}
+use Rattle.task.specs.Task.{Atom, Fact, Pair, sameAtom, distinct, rolesAscend, ascending, factLess, factsFit, pairLess}
+use Rattle.task.specs.Task.{pairsAscend}
 use Rattle.words.proofs.Lists.{both-ft, and-left, and-right, and-both, false-if, In, here, there, in-empty, in-left}
 use Rattle.words.proofs.Lists.{in-right, in-append, any-in, in-any, eqList-refl, eqList-eq}
 use Rattle.task.proofs.Tests.{fits, fact-tests, tests-fact}
-use Rattle.text.specs.Text.{follows}
+use Rattle.text.specs.Text.{follows, pairFollows}
 
 -- ---- lists
 module _ {A : Type 0} where
@@ -136,27 +137,59 @@ snoc-distinct (x ∷ bs) a h =
         any-not (sameAtom x) (bs ++ (a ∷ [])) k a (in-right bs (here refl)) (same-sym a x (rw q at e))
     go k n y (there i) e = any-not (sameAtom a) bs n y i e
 
--- ---- facts in order
+-- ---- in order
+-- a list that ascends, each element beside the next, and whether one more comes behind its last
+module _ {A : Type 0} (less : A → A → Bool) (ascends : List A → Bool) (behind : List A → A → Bool)
+    (empty : ascends [] ≡ true) (one : (x : A) → ascends (x ∷ []) ≡ true)
+    (more : (x y : A) (xs : List A) → ascends (x ∷ y ∷ xs) ≡ less x y && ascends (y ∷ xs))
+    (free : (x : A) → behind [] x ≡ true)
+    (last : (y : A) (xs : List A) (x : A) → behind (y ∷ xs) x ≡ less (lastOr xs y) x) where
+  ascends-snoc : (xs : List A) (x : A) → ascends xs ≡ true → behind xs x ≡ true → ascends (xs ++ (x ∷ [])) ≡ true
+  unfolding lastOr
+  ascends-snoc [] x h k = one x
+  ascends-snoc (y ∷ []) x h k = more y x [] ∙ and-both _ _ (sym (last y [] x) ∙ k) (one x)
+  ascends-snoc (y ∷ z ∷ xs) x h k =
+      let g = sym (more y z xs) ∙ h in
+      more y z (xs ++ (x ∷ [])) ∙ and-both _ _ (and-left (less y z) (ascends (z ∷ xs)) g)
+      (ascends-snoc (z ∷ xs) x (and-right (less y z) (ascends (z ∷ xs)) g)
+      (last z xs x ∙ (sym (last y (z ∷ xs) x) ∙ k)))
+
+  snoc-ascends : (xs : List A) (x : A) → ascends (xs ++ (x ∷ [])) ≡ true → (ascends xs ≡ true) × (behind xs x ≡ true)
+  unfolding lastOr
+  snoc-ascends [] x h = (empty, free x)
+  snoc-ascends (y ∷ []) x h =
+      (one y, last y [] x ∙ and-left (less y x) (ascends (x ∷ [])) (sym (more y x []) ∙ h))
+  snoc-ascends (y ∷ z ∷ xs) x h =
+      let g = sym (more y z (xs ++ (x ∷ []))) ∙ h in
+      let rest = ascends (z ∷ (xs ++ (x ∷ []))) in
+      let (a, b) = snoc-ascends (z ∷ xs) x (and-right (less y z) rest g) in
+      (more y z xs ∙ and-both _ _ (and-left (less y z) rest g) a, last y (z ∷ xs) x ∙ (sym (last z xs x) ∙ b))
+
+-- facts, by predicate and then arguments
 pub ascending-snoc : (fs : List Fact) (f : Fact) → ascending fs ≡ true → follows fs f ≡ true →
     ascending (fs ++ (f ∷ [])) ≡ true
 unfolding ascending follows
-ascending-snoc [] f h k = refl
-ascending-snoc (g ∷ []) f h k = and-both _ _ k refl
-ascending-snoc (g ∷ i ∷ fs) f h k =
-    let first = factLess g i in
-    let rest = ascending (i ∷ fs) in
-    and-both _ _ (and-left first rest h) (ascending-snoc (i ∷ fs) f (and-right first rest h) k)
+ascending-snoc =
+    ascends-snoc factLess ascending follows refl (λ x. refl) (λ x y xs. refl) (λ x. refl) (λ y xs x. refl)
 
 pub snoc-ascending : (fs : List Fact) (f : Fact) → ascending (fs ++ (f ∷ [])) ≡ true →
     (ascending fs ≡ true) × (follows fs f ≡ true)
 unfolding ascending follows
-snoc-ascending [] f h = (refl, refl)
-snoc-ascending (g ∷ []) f h = (refl, and-left (factLess g f) true h)
-snoc-ascending (g ∷ i ∷ fs) f h =
-    let first = factLess g i in
-    let rest = ascending (i ∷ (fs ++ (f ∷ []))) in
-    let (a, b) = snoc-ascending (i ∷ fs) f (and-right first rest h) in
-    (and-both _ _ (and-left first rest h) a, b)
+snoc-ascending =
+    snoc-ascends factLess ascending follows refl (λ x. refl) (λ x y xs. refl) (λ x. refl) (λ y xs x. refl)
+
+-- pairs, by the lower parameter and then the higher
+pub pairs-snoc : (qs : List Pair) (q : Pair) → pairsAscend qs ≡ true → pairFollows qs q ≡ true →
+    pairsAscend (qs ++ (q ∷ [])) ≡ true
+unfolding pairsAscend pairFollows
+pairs-snoc =
+    ascends-snoc pairLess pairsAscend pairFollows refl (λ x. refl) (λ x y xs. refl) (λ x. refl) (λ y xs x. refl)
+
+pub snoc-pairs : (qs : List Pair) (q : Pair) → pairsAscend (qs ++ (q ∷ [])) ≡ true →
+    (pairsAscend qs ≡ true) × (pairFollows qs q ≡ true)
+unfolding pairsAscend pairFollows
+snoc-pairs =
+    snoc-ascends pairLess pairsAscend pairFollows refl (λ x. refl) (λ x y xs. refl) (λ x. refl) (λ y xs x. refl)
 
 pub more-facts : (n : ℕ) (ns : List ℕ) (fs : List Fact) (f : Fact) → factsFit n ns fs ≡ true → fits n ns f ≡ true →
     follows fs f ≡ true → factsFit n ns (fs ++ (f ∷ [])) ≡ true

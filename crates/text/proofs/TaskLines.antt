@@ -9,10 +9,11 @@ use native.Mathlib.Omega.{arith}
 use lib.ListN.{length}
 use Rattle.task.specs.Task.{precondition, addition, deletion}
 use Rattle.text.specs.Lines.{newline, Entry, line, Taken, taken, numbers, listing}
-use Rattle.text.specs.Text.{Key, task, objects, arity, schema, pre, add, del, part, init, goal, end, keyName}
-use Rattle.text.specs.Text.{Line, taskLine, objectsLine, schemaLine, endLine, arityLine, partLine, atomLine}
-use Rattle.text.specs.Text.{initLine, goalLine, keyOf, bodyOf, writeLine, readBody, Phase, atTask, atObjects}
-use Rattle.text.specs.Text.{atArity, between, inPre, inAdd, inDel, inInit, inGoal, keysAt, Draft, nextLine}
+use Rattle.text.specs.Text.{Key, task, objects, arity, schema, differ, pre, add, del, part, init, goal, end}
+use Rattle.text.specs.Text.{keyName, Line, taskLine, objectsLine, schemaLine, endLine, arityLine, differLine}
+use Rattle.text.specs.Text.{partLine, atomLine, initLine, goalLine, keyOf, bodyOf, writeLine, readBody, Phase}
+use Rattle.text.specs.Text.{atTask, atObjects, atArity, between, inDiffer, inPre, inAdd, inDel, inInit, inGoal}
+use Rattle.text.specs.Text.{keysAt, Draft, nextLine}
 use Rattle.text.proofs.NumberLists.{Small, SmallEntry, numbers-written, listing-written, entry-written}
 use Rattle.text.proofs.NumberLists.{numbers-read, listing-read}
 use Rattle.text.proofs.Reading.{Exact}
@@ -25,6 +26,7 @@ pub data Says : Key → Line → Type 0 where
   says-objects : {n : ℕ} → n < 100000 → Says objects (objectsLine n)
   says-arity : {ns : List ℕ} → Small ns → 1 ≤ length ns → Says arity (arityLine ns)
   says-schema : {n : ℕ} → n < 100000 → Says schema (schemaLine n)
+  says-differ : {ns : List ℕ} → Small ns → 1 ≤ length ns → Says differ (differLine ns)
   says-pre : {e : Entry} → SmallEntry e → Says pre (atomLine precondition e)
   says-add : {e : Entry} → SmallEntry e → Says add (atomLine addition e)
   says-del : {e : Entry} → SmallEntry e → Says del (atomLine deletion e)
@@ -39,6 +41,7 @@ says-key (says-task h) = refl
 says-key (says-objects h) = refl
 says-key (says-arity h s) = refl
 says-key (says-schema h) = refl
+says-key (says-differ h s) = refl
 says-key (says-pre h) = refl
 says-key (says-add h) = refl
 says-key (says-del h) = refl
@@ -55,6 +58,8 @@ body-written (says-objects {n = n} h) r = ended-written objectsLine (number-ends
 body-written (says-arity {ns = []} h s) r = absurd (omega arith)
 body-written (says-arity {ns = n ∷ ns} h s) r = ended-written arityLine (numbers-written n ns h r)
 body-written (says-schema {n = n} h) r = ended-written schemaLine (number-ends n h r)
+body-written (says-differ {ns = []} h s) r = absurd (omega arith)
+body-written (says-differ {ns = n ∷ ns} h s) r = ended-written differLine (numbers-written n ns h r)
 body-written (says-pre {e = e} h) r = ended-written (atomLine precondition) (entry-written e h r)
 body-written (says-add {e = e} h) r = ended-written (atomLine addition) (entry-written e h r)
 body-written (says-del {e = e} h) r = ended-written (atomLine deletion) (entry-written e h r)
@@ -72,6 +77,10 @@ body-read arity bs m h =
     let (ns, not-empty) = numbers-read bs (e .body) (e .took) in
     line-made bodyOf Says arity bs m arityLine e (says-arity (ns .small) not-empty) (ns .whole)
 body-read schema bs m h = number-line bodyOf Says schema bs m schemaLine (λ n h. says-schema h) (λ n. refl) h
+body-read differ bs m h =
+    let e = ended-read differLine (numbers bs) m h in
+    let (ns, not-empty) = numbers-read bs (e .body) (e .took) in
+    line-made bodyOf Says differ bs m differLine e (says-differ (ns .small) not-empty) (ns .whole)
 body-read pre bs m h = entry-line bodyOf Says pre bs m (atomLine precondition) (λ x h. says-pre h) (λ x. refl) h
 body-read add bs m h = entry-line bodyOf Says add bs m (atomLine addition) (λ x h. says-add h) (λ x. refl) h
 body-read del bs m h = entry-line bodyOf Says del bs m (atomLine deletion) (λ x h. says-del h) (λ x. refl) h
@@ -99,6 +108,7 @@ keys-apart atTask = refl
 keys-apart atObjects = refl
 keys-apart atArity = refl
 keys-apart between = refl
+keys-apart inDiffer = refl
 keys-apart inPre = refl
 keys-apart inAdd = refl
 keys-apart inDel = refl

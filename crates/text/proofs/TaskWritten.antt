@@ -10,24 +10,26 @@ use lib.ListN.{length, length-append, length-map}
 use lib.Dec.{ltb, leb}
 use borrow.Author.Tests.{ltb-true, leb-true, lt-ltb, eq-eqb}
 use Rattle.words.specs.Lists.{all, concatMap, sum}
-use Rattle.task.specs.Task.{Atom, Fact, Schema, Task, argsFit, distinct, rolesAscend, schemaFits, factsFit, ascending}
-use Rattle.task.specs.Task.{noGap, wellFormed, schemaAtoms, noSchema, withAtoms}
+use Rattle.task.specs.Limits.{mostPairs}
+use Rattle.task.specs.Task.{Atom, Fact, Pair, Schema, Task, argsFit, distinct, rolesAscend, schemaFits, factsFit}
+use Rattle.task.specs.Task.{ascending, noGap, wellFormed, schemaAtoms, schemaPairs, pairFits, pairsAscend, noSchema}
+use Rattle.task.specs.Task.{withAtoms}
 use Rattle.words.proofs.Lists.{and-both, In, here, there, in-right, all-in, sum-append, map-append}
-use Rattle.task.proofs.States.{argsFit-fitting}
+use Rattle.task.proofs.States.{argsFit-fitting, pairFits-fits}
 use Rattle.task.proofs.Tests.{SchemaTests, schema-tests, fits, fact-tests, TaskTests, task-tests}
 use Rattle.text.specs.Lines.{Entry}
 use Rattle.text.specs.Reading.{goOn, finish, read}
-use Rattle.text.specs.Text.{task, objects, arity, schema, pre, add, del, part, init, goal, end, Line, schemaLine}
-use Rattle.text.specs.Text.{endLine, partLine, atomLine, initLine, goalLine, writeLine, factEntry, atomEntry}
-use Rattle.text.specs.Text.{schemaLines, taskLines, write, Phase, between, inInit, inGoal, keysAt, rolePhase}
-use Rattle.text.specs.Text.{Draft, started, withParts, closeSchema, follows, takeLine, nextLine}
-use Rattle.text.specs.Text.{readText}
+use Rattle.text.specs.Text.{task, objects, arity, schema, differ, pre, add, del, part, init, goal, end, Line}
+use Rattle.text.specs.Text.{schemaLine, endLine, differLine, partLine, atomLine, initLine, goalLine, writeLine}
+use Rattle.text.specs.Text.{factEntry, atomEntry, pairList, schemaLines, taskLines, write, Phase, between, inDiffer}
+use Rattle.text.specs.Text.{inInit, inGoal, keysAt, rolePhase, Draft, started, withParts, closeSchema, pairFollows}
+use Rattle.text.specs.Text.{follows, takeLine, nextLine, readText}
 use Rattle.text.proofs.NumberLists.{Small, SmallEntry}
 use Rattle.text.proofs.Reading.{need-met, Leads, comes-last, goes-on, lines-read}
-use Rattle.text.proofs.TaskLines.{says-task, says-objects, says-arity, says-schema, says-pre, says-add, says-del}
-use Rattle.text.proofs.TaskLines.{says-part, says-init, says-goal, says-end, May, task-exact}
+use Rattle.text.proofs.TaskLines.{says-task, says-objects, says-arity, says-schema, says-differ, says-pre}
+use Rattle.text.proofs.TaskLines.{says-add, says-del, says-part, says-init, says-goal, says-end, May, task-exact}
 use Rattle.text.proofs.Growing.{prefix, room-for, lastRole, lastRole-snoc, snoc-roles, snoc-distinct}
-use Rattle.text.proofs.Growing.{snoc-ascending}
+use Rattle.text.proofs.Growing.{snoc-ascending, snoc-pairs}
 use Rattle.text.proofs.Parts.{bare, partOf, all-map, roles-bare, distinct-bare, named-bare, parts-back}
 use Rattle.text.proofs.Parts.{count-below}
 
@@ -133,11 +135,41 @@ role-may (suc q) zero h k e s t c = absurd (omega arith)
 role-may (suc (suc q)) (suc zero) h k e s t c = absurd (omega arith)
 role-may q (suc (suc (suc r))) h k e s t c = absurd (omega arith)
 
-pub part-listed : (q : ℕ) → In part (keysAt (rolePhase q))
-unfolding rolePhase keysAt
-part-listed zero = there (there (there (here refl)))
-part-listed (suc zero) = there (there (here refl))
-part-listed (suc (suc q)) = there (here refl)
+-- behind a schema's line, or a pair, an atom of any role may come
+pub first-may : (r : ℕ) → r ≤ 2 → (e : Entry) → SmallEntry e → (t : Task) (c : Schema) →
+    May (draft inDiffer t c) (atomLine r e)
+unfolding keysAt
+first-may zero k e s t c = record { key = pre; listed = there (here refl); says = says-pre s }
+first-may (suc zero) k e s t c = record { key = add; listed = there (there (here refl)); says = says-add s }
+first-may (suc (suc zero)) k e s t c =
+    record { key = del; listed = there (there (there (here refl))); says = says-del s }
+first-may (suc (suc (suc r))) k e s t c = absurd (omega arith)
+
+-- where the reader stands in a schema, behind these atoms
+unfoldable pub phaseBehind : List Atom → Phase
+phaseBehind [] = inDiffer
+phaseBehind (a ∷ more) = rolePhase (lastRole (a ∷ more))
+
+pub phase-snoc : (xs : List Atom) (a : Atom) → phaseBehind (xs ++ (a ∷ [])) ≡ rolePhase (a .role)
+unfolding phaseBehind
+phase-snoc [] a = ap rolePhase (lastRole-snoc [] a)
+phase-snoc (x ∷ xs) a = ap rolePhase (lastRole-snoc (x ∷ xs) a)
+
+pub atom-may : (xs : List Atom) (r : ℕ) → lastRole xs ≤ r → r ≤ 2 → (e : Entry) → SmallEntry e →
+    (t : Task) (c : Schema) → May (draft (phaseBehind xs) t c) (atomLine r e)
+unfolding phaseBehind
+atom-may [] r h k e s t c = first-may r k e s t c
+atom-may (x ∷ xs) r h k e s t c = role-may (lastRole (x ∷ xs)) r h k e s t c
+
+pub part-listed : (xs : List Atom) → In part (keysAt (phaseBehind xs))
+unfolding phaseBehind rolePhase keysAt
+part-listed [] = there (there (there (there (here refl))))
+part-listed (x ∷ xs) = role-listed (lastRole (x ∷ xs))
+  where
+    role-listed : (q : ℕ) → In part (keysAt (rolePhase q))
+    role-listed zero = there (there (there (here refl)))
+    role-listed (suc zero) = there (there (here refl))
+    role-listed (suc (suc q)) = there (here refl)
 
 pub record AtomTests (t : Task) (n : ℕ) (whole : List Atom) : Type 0 where
   pub few : leb (length whole) 64 ≡ true
@@ -146,16 +178,16 @@ pub record AtomTests (t : Task) (n : ℕ) (whole : List Atom) : Type 0 where
   pub fit : all (λ a. argsFit (t .arities) n (a .pred) (a .args)) whole ≡ true
   pub apart : distinct whole ≡ true
 
--- the draft while a schema with n parameters is read, behind these atoms
-abbrev pub inside : Task → ℕ → List Atom → Draft
-inside t n xs = draft (rolePhase (lastRole xs)) t (record { params = n; atoms = xs })
+-- the draft while a schema with n parameters is read, behind these pairs and atoms
+abbrev pub inside : Task → ℕ → List Pair → List Atom → Draft
+inside t n qs xs = draft (phaseBehind xs) t (record { params = n; pairs = qs; atoms = xs })
 
 abbrev pub atomLines : List Atom → List Line
 atomLines xs = map (λ a. atomLine (a .role) (atomEntry a)) xs
 
-module _ (u t : Task) (n : ℕ) (whole : List Atom) (c : AtomTests t n whole) (few : n ≤ 12)
-    (preds : length (t .arities) ≤ 400) (rest : List Line) (r : LeadsTo (inside t n whole) rest u) where
-  pub atoms-lead : (xs ys : List Atom) → whole ≡ xs ++ map bare ys → LeadsTo (inside t n xs) (atomLines ys ++ rest) u
+module _ (u t : Task) (n : ℕ) (qs : List Pair) (whole : List Atom) (c : AtomTests t n whole) (few : n ≤ 12)
+    (preds : length (t .arities) ≤ 400) (rest : List Line) (r : LeadsTo (inside t n qs whole) rest u) where
+  pub atoms-lead : (xs ys : List Atom) → whole ≡ xs ++ map bare ys → LeadsTo (inside t n qs xs) (atomLines ys ++ rest) u
   unfolding takeLine atomEntry
   atoms-lead xs [] e = let z : xs ≡ whole = sym (append-nil xs) ∙ sym e in rw z r
   atoms-lead xs (a ∷ ys) e =
@@ -171,24 +203,66 @@ module _ (u t : Task) (n : ℕ) (whole : List Atom) (c : AtomTests t n whole) (f
       let room : schemaAtoms (t .schemas) + length xs < 1000 =
       let z = c .total in let y = ap length e in omega (arith, length-append xs (bare a ∷ left)) in
       let s : SmallEntry (atomEntry a) = small-entry n (t .arities) (atomEntry a) (omega arith) preds fit in
-      let now : Schema = record { params = n; atoms = xs } in
-      goes-on (role-may (lastRole xs) (a .role) (roles .last) (roles .small) (atomEntry a) s t now)
+      let now : Schema = record { params = n; pairs = qs; atoms = xs } in
+      let grown : Schema = record { params = n; pairs = qs; atoms = xs ++ (bare a ∷ []) } in
+      goes-on (atom-may xs (a .role) (roles .last) (roles .small) (atomEntry a) s t now)
       (need-met 4 (room-for whole xs (bare a) left 64 (c .few) e) (need-met 4 (lt-ltb _ 1000 room)
       (need-met 5 fit (need-met 6 apart
-      (ap (λ (q : ℕ). goOn (draft (rolePhase q) t (record { params = n; atoms = xs ++ (bare a ∷ []) })))
-      (sym (lastRole-snoc xs (bare a))))))))
+      (ap (λ (p : Phase). goOn (draft p t grown)) (sym (phase-snoc xs (bare a))))))))
       (atoms-lead (xs ++ (bare a ∷ [])) ys g)
 
+-- ---- pairs of a schema
+pub record PairTests (t : Task) (n : ℕ) (whole : List Pair) : Type 0 where
+  pub total : schemaPairs (t .schemas) + length whole ≤ mostPairs
+  pub fit : all (pairFits n) whole ≡ true
+  pub order : pairsAscend whole ≡ true
+
+abbrev pub pairLines : List Pair → List Line
+pairLines qs = map (λ q. differLine (pairList q)) qs
+
+-- the numbers of a pair that fits have at most 2 digits
+pub small-pair : (n : ℕ) (q : Pair) → n ≤ 12 → pairFits n q ≡ true → Small (pairList q)
+small-pair n q few h = small
+  where
+    small : Small (pairList q)
+    small x (here e) = let c = pairFits-fits n q h in let l = c .ascends in let k = c .known in omega arith
+    small x (there (here e)) = let k = pairFits-fits n q h .known in omega arith
+
+module _ (u t : Task) (n : ℕ) (whole : List Pair) (c : PairTests t n whole) (few : n ≤ 12) (rest : List Line)
+    (r : LeadsTo (inside t n whole []) rest u) where
+  pub pairs-lead : (xs ys : List Pair) → whole ≡ xs ++ ys → LeadsTo (inside t n xs []) (pairLines ys ++ rest) u
+  unfolding takeLine phaseBehind keysAt
+  pairs-lead xs [] e = let z : xs ≡ whole = sym (append-nil xs) ∙ sym e in rw z r
+  pairs-lead xs (q ∷ ys) e =
+      let g : whole ≡ (xs ++ (q ∷ [])) ++ ys = append-eq xs q ys e in
+      let after : pairFollows xs q ≡ true = snoc-pairs xs q
+      (prefix (λ xs. pairsAscend xs ≡ true) (λ xs x h. snoc-pairs xs x h .0) (xs ++ (q ∷ [])) ys
+      (rw g at (c .order))) .1 in
+      let fit : pairFits n q ≡ true = all-in (pairFits n) (rw e at (c .fit)) (in-right xs (here refl)) in
+      let room : schemaPairs (t .schemas) + length xs < mostPairs =
+      let z = c .total in let y = ap length e in omega (arith, length-append xs (q ∷ ys)) in
+      goes-on (record { key = differ; listed = here refl; says = says-differ (small-pair n q few fit) (omega arith) })
+      (need-met 3 refl (need-met 21 (lt-ltb _ mostPairs room) (need-met 19 fit (need-met 19 after refl))))
+      (pairs-lead (xs ++ (q ∷ [])) ys g)
+
 -- ---- schemas
-pub schemaAtoms-part : (xs : List Schema) (s : Schema) (ys : List Schema) →
-    schemaAtoms (xs ++ (s ∷ ys)) ≡ schemaAtoms xs + (length (s .atoms) + schemaAtoms ys)
+-- what each schema has of a kind, with one in the middle
+counts-part : (count : Schema → ℕ) (xs : List Schema) (s : Schema) (ys : List Schema) →
+    sum (map count (xs ++ (s ∷ ys))) ≡ sum (map count xs) + (count s + sum (map count ys))
 unfolding sum
-schemaAtoms-part xs s ys =
-    let count : Schema → ℕ = λ s. length (s .atoms) in
+counts-part count xs s ys =
     ap sum (map-append count xs (s ∷ ys)) ∙ sum-append (map count xs) (map count (s ∷ ys))
 
+pub schemaAtoms-part : (xs : List Schema) (s : Schema) (ys : List Schema) →
+    schemaAtoms (xs ++ (s ∷ ys)) ≡ schemaAtoms xs + (length (s .atoms) + schemaAtoms ys)
+schemaAtoms-part = counts-part (λ s. length (s .atoms))
+
+pub schemaPairs-part : (xs : List Schema) (s : Schema) (ys : List Schema) →
+    schemaPairs (xs ++ (s ∷ ys)) ≡ schemaPairs xs + (length (s .pairs) + schemaPairs ys)
+schemaPairs-part = counts-part (λ s. length (s .pairs))
+
 pub schema-closes : (u : Task) (ss : List Schema) (s : Schema) → SchemaTests (u .arities) s →
-    closeSchema (inside (toSchemas u ss) (s .params) (map bare (s .atoms))) (map partOf (s .atoms)) ≡
+    closeSchema (inside (toSchemas u ss) (s .params) (s .pairs) (map bare (s .atoms))) (map partOf (s .atoms)) ≡
     goOn (draft between (toSchemas u (ss ++ (s ∷ []))) noSchema)
 unfolding closeSchema
 schema-closes u ss s c =
@@ -230,10 +304,18 @@ module _ (u : Task) (c : TaskTests u) where
         apart = distinct-bare (s .atoms) ∙ q .apart;
       }
 
+  pub pairs-tested : (ss : List Schema) (s : Schema) (left : List Schema) → u .schemas ≡ ss ++ (s ∷ left) →
+      PairTests (toSchemas u ss) (s .params) (s .pairs)
+  pairs-tested ss s left e =
+      let q = schema-tested ss s left e in
+      let all-pairs = leb-true (schemaPairs (u .schemas)) mostPairs (c .pairs) in
+      let are = ap (λ (x : List Schema). schemaPairs x) e in
+      record { total = omega (arith, schemaPairs-part ss s left); fit = q .pairs; order = q .pairs-order }
+
   pub schema-leads : (ss : List Schema) (s : Schema) (left : List Schema) → u .schemas ≡ ss ++ (s ∷ left) →
       (rest : List Line) → LeadsTo (draft between (toSchemas u (ss ++ (s ∷ []))) noSchema) rest u →
       (z : Schema) → LeadsTo (draft between (toSchemas u ss) z) (schemaLines s ++ rest) u
-  unfolding takeLine schemaLines keysAt rolePhase lastRole
+  unfolding takeLine schemaLines keysAt phaseBehind
   schema-leads ss s left e rest r z =
       let q = schema-tested ss s left e in
       let t : Task = toSchemas u ss in
@@ -244,15 +326,20 @@ module _ (u : Task) (c : TaskTests u) where
       let few = leb-true (s .params) 12 (q .params) in
       let preds = leb-true (length (u .arities)) 400 (c .preds) in
       let room = and-both _ _ (room-for (u .schemas) ss s left 200 (c .schemas) e) (q .params) in
-      let closing : LeadsTo (inside t (s .params) xs) (partLine ps ∷ rest) u =
-      goes-on (record { key = part; listed = part-listed (lastRole xs); says = says-part small })
+      let closing : LeadsTo (inside t (s .params) (s .pairs) xs) (partLine ps ∷ rest) u =
+      goes-on (record { key = part; listed = part-listed xs; says = says-part small })
       (schema-closes u ss s q) r in
+      let atoms = atoms-lead u t (s .params) (s .pairs) xs (bare-tested ss s left e) few preds (partLine ps ∷ rest)
+      closing [] (s .atoms) refl in
+      let pairs = pairs-lead u t (s .params) (s .pairs) (pairs-tested ss s left e) few
+      (atomLines (s .atoms) ++ (partLine ps ∷ rest)) atoms [] (s .pairs) refl in
       subst (λ (ls : List Line). LeadsTo (draft between t z) (schemaLine (s .params) ∷ ls) u)
-      (sym (append-assoc (atomLines (s .atoms)) (partLine ps ∷ []) rest))
+      (joined (pairLines (s .pairs)) (atomLines (s .atoms)) (partLine ps ∷ []) rest)
       (goes-on (record { key = schema; listed = here refl; says = says-schema {n = s .params} (omega arith) })
-      (need-met 4 room refl)
-      (atoms-lead u t (s .params) xs (bare-tested ss s left e) few preds (partLine ps ∷ rest) closing
-      [] (s .atoms) refl))
+      (need-met 4 room refl) pairs)
+    where
+      joined : (a b c d : List Line) → a ++ (b ++ (c ++ d)) ≡ (a ++ (b ++ c)) ++ d
+      joined a b c d = simp append-assoc
 
   pub schemas-lead : (ss left : List Schema) → u .schemas ≡ ss ++ left → (z : Schema) →
       LeadsTo (draft between (toSchemas u ss) z) (fromSchemas u left) u
