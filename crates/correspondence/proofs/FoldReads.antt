@@ -1,6 +1,6 @@
 -- What folding has read comes apart: at each turn into whole blocks and the steps of an open block, which are the first
--- parts of a block of some step. So a list that folds is the unfolding of its answer, and one that doesn't comes apart
--- as far as it is read.
+-- parts of a block of some choice of objects. A block that is whole is of a step, since its parts carry every pair. So
+-- a list that folds is the unfolding of its answer, and one that doesn't comes apart as far as it is read.
 use Prim.Native.Nat.{ℕ, zero, suc, _+_, _≤_, _<_}
 use mathlib.Core.Path.{_≡_, refl, sym, _∙_, ap, ap₂, subst}
 use mathlib.Core.Bool.{true}
@@ -16,14 +16,15 @@ use Rattle.tokens.specs.Split.{orders, splitTask}
 use Rattle.blocks.specs.Blocks.{partStep, block, unfoldSteps, Folding, folded, misfit, prepend, Stage, outside, inside}
 use Rattle.blocks.specs.Blocks.{stageFor, fitsAt, lastAt, advanced, completed, foldEnd, foldFrom}
 use Rattle.words.proofs.Lists.{bool-cases, In}
-use Rattle.task.proofs.States.{IsStep, is-isStep}
+use Rattle.task.proofs.States.{is-isChoice, IsStep}
 use Rattle.blocks.proofs.Numbers.{length-block, take-block}
 use Rattle.blocks.proofs.FoldBlock.{fold-off, fold-move, fold-finish}
-use Rattle.blocks.proofs.Inside.{Inside, completed-step, candidate, parts-so-far, candidate-step, inside-next, Reached}
-use Rattle.blocks.proofs.Inside.{stage-reached}
+use Rattle.blocks.proofs.Inside.{Inside, completed-choice, candidate, parts-so-far, candidate-choice, inside-next}
+use Rattle.blocks.proofs.Inside.{Reached, stage-reached}
 use Rattle.correspondence.specs.SharedRuns.{StepsOf, ProperBeginning, TakenApart}
 use Rattle.correspondence.proofs.OneWay.{one-more-block}
-use Rattle.blocks.proofs.Given.{Given, head-step, tail-steps, more-steps, filled}
+use Rattle.blocks.proofs.Given.{Given, head-step, tail-steps, more-steps, last-steps, filled}
+use Rattle.blocks.proofs.SplitSteps.{block-step}
 use Rattle.task.specs.Bindings.{Bound}
 
 -- ---- two answers of folding are told apart
@@ -57,17 +58,21 @@ module _ {t t′ : Task} (G : Given t t′) where
   unfolding splitTask
   objects-small y hy o i = subst (λ z. o < z) (ap (λ u. u .objects) (G .is)) (hy .small o i)
 
-  pub turn : (g : Stage) (pre : List Step) → Reached t g pre → (y : Step) → IsStep t′ y → Turn t g pre y
+  pub turn : (g : Stage) (pre : List Step) → Reached t g pre → StepsOf t′ pre → (y : Step) → IsStep t′ y →
+      Turn t g pre y
   unfolding fitsAt lastAt advanced block completed
-  turn g pre r y hy = go (stageFor t g y) refl (stage-reached t (λ s l. filled G l) g y pre r)
+  turn g pre r before y hy = go (stageFor t g y) refl (stage-reached t (λ s l. filled G l) g y pre r)
     where
       fits : (s j : ℕ) (b : Bound) → stageFor t g y ≡ inside s j b → (h : Inside t s j b pre) →
           (f : fitsAt t (inside s j b) y ≡ true) → Turn t g pre y
       fits s j b q h f = elim (bool-cases (lastAt t (inside s j b))) [
         | inl l ↦
             let e = eqb-true (suc j) (length (orders t s)) l in
-            finish (candidate t s j b y) (candidate-step h y f (objects-small y hy) (G .well .some-object))
-            (parts-so-far h y f ∙ ap (λ n. map (partStep t (candidate t s j b y)) (upTo n)) e)
+            let parts = parts-so-far h y f ∙ ap (λ n. map (partStep t (candidate t s j b y)) (upTo n)) e in
+            finish (candidate t s j b y)
+            (block-step G (candidate t s j b y) (candidate-choice h y f (objects-small y hy) (G .well .some-object))
+            (subst (λ zs. StepsOf t′ zs) parts (last-steps t′ pre y before hy)))
+            parts
             (λ i ys. fold-finish t g i y ys (inside s j b) q f l)
         | inr l ↦
             let n = eqb-false (suc j) (length (orders t s)) l in
@@ -84,18 +89,19 @@ module _ {t t′ : Task} (G : Given t t′) where
       ]
 
   -- ---- what is read so far comes apart
-  open-apart : (g : Stage) (pre : List Step) → Reached t g pre → TakenApart t (pre ++ []) [] pre
+  open-apart : (g : Stage) (pre : List Step) → Reached t g pre → StepsOf t′ pre → TakenApart t (pre ++ []) [] pre
   unfolding unfoldSteps concatMap all completed
-  open-apart g pre r = record { steps = refl; blocks = append-nil pre; remainder = left-over g r }
+  open-apart g pre r before = record { steps = refl; blocks = append-nil pre; remainder = left-over g r }
     where
       left-over : (g : Stage) → Reached t g pre → (pre ≡ []) ⊎ ProperBeginning t pre
       left-over outside r = inl r
       left-over (inside s zero b) h = inl (h .so-far)
       left-over (inside s (suc j) b) h = inr (record {
-        step = completed (inside s (suc j) b);
+        choice = completed (inside s (suc j) b);
         count = suc j;
-        is-step = is-isStep t (completed (inside s (suc j) b))
-            (completed-step t s (suc j) b (G .well .some-object) (h .known) (h .size) (h .small));
+        own-pairs = subst (λ u. StepsOf u pre) (G .is) before;
+        is-choice = is-isChoice t (completed (inside s (suc j) b))
+            (completed-choice t s (suc j) b (G .well .some-object) (h .known) (h .size) (h .small));
         at-least-one = omega arith;
         not-all = not-all (h .open-at);
         first-parts = h .so-far ∙ sym (take-block t (completed (inside s (suc j) b)) (suc j) (less (h .open-at)));
@@ -132,22 +138,24 @@ module _ {t t′ : Task} (G : Given t t′) where
       (regrouped-apart pre y (take k ys) (x ∷ xs) rest
       (subst (λ zs. TakenApart t (zs ++ take k ys) (x ∷ xs) rest) (sym b) (one-more-block t x hx a)))
 
-  pub shown : (ys : List Step) (g : Stage) (pre : List Step) → Reached t g pre → StepsOf t′ ys → (i : ℕ) →
-      Shown t pre ys i (foldFrom t g i ys)
+  pub shown : (ys : List Step) (g : Stage) (pre : List Step) → Reached t g pre → StepsOf t′ pre → StepsOf t′ ys →
+      (i : ℕ) → Shown t pre ys i (foldFrom t g i ys)
   unfolding foldFrom foldEnd unfoldSteps concatMap all
-  shown [] outside pre r h i = whole [] refl refl (append-nil pre ∙ r)
-  shown [] (inside s j b) pre r h i =
-      broken 0 (ap misfit (omega arith)) (omega arith) [] pre (open-apart (inside s j b) pre r)
-  shown (y ∷ ys) g pre r h i = go (turn g pre r y (head-step t′ y ys h))
-      (λ g pre r. shown ys g pre r (tail-steps t′ y ys h) (suc i))
+  shown [] outside pre r before h i = whole [] refl refl (append-nil pre ∙ r)
+  shown [] (inside s j b) pre r before h i =
+      broken 0 (ap misfit (omega arith)) (omega arith) [] pre (open-apart (inside s j b) pre r before)
+  shown (y ∷ ys) g pre r before h i = go (turn g pre r before y (head-step t′ y ys h))
+      (λ g pre r k. shown ys g pre r k (tail-steps t′ y ys h) (suc i))
     where
       go : Turn t g pre y →
-          ((g : Stage) (pre : List Step) → Reached t g pre → Shown t pre ys (suc i) (foldFrom t g (suc i) ys)) →
+          ((g : Stage) (pre : List Step) → Reached t g pre → StepsOf t′ pre →
+          Shown t pre ys (suc i) (foldFrom t g (suc i) ys)) →
           Shown t pre (y ∷ ys) i (foldFrom t g i (y ∷ ys))
-      go (off e) ih = broken 0 (e i ys ∙ ap misfit (omega arith)) (omega arith) [] pre (open-apart g pre r)
+      go (off e) ih = broken 0 (e i ys ∙ ap misfit (omega arith)) (omega arith) [] pre (open-apart g pre r before)
       go (on k s e) ih =
           subst (λ f. Shown t pre (y ∷ ys) i f) (sym (e i ys))
-          (shown-on pre y ys i (foldFrom t k (suc i) ys) (ih k (pre ++ (y ∷ [])) s))
+          (shown-on pre y ys i (foldFrom t k (suc i) ys)
+          (ih k (pre ++ (y ∷ [])) s (last-steps t′ pre y before (head-step t′ y ys h))))
       go (finish x hx b e) ih =
           subst (λ f. Shown t pre (y ∷ ys) i f) (sym (e i ys))
-          (shown-finish pre y ys i x hx b (foldFrom t outside (suc i) ys) (ih outside [] refl))
+          (shown-finish pre y ys i x hx b (foldFrom t outside (suc i) ys) (ih outside [] refl refl))

@@ -10,7 +10,7 @@ use Rattle.task.specs.Task.{Task}
 use Rattle.task.specs.Run.{Step}
 use Rattle.tokens.specs.Split.{orders}
 use Rattle.blocks.specs.Blocks.{partStep, block, unfoldSteps, folded, misfit, prepend, outside, foldEnd, foldFrom}
-use Rattle.task.proofs.States.{IsStep, isStep-is}
+use Rattle.task.proofs.States.{IsChoice, isChoice-is, step-choice}
 use Rattle.blocks.proofs.Numbers.{length-block}
 use Rattle.blocks.proofs.FoldBlock.{fold-rest, fold-part, stage-first, bound-none}
 use Rattle.correspondence.specs.SharedRuns.{StepsOf, ProperBeginning}
@@ -18,7 +18,7 @@ use Rattle.correspondence.proofs.OneWay.{proper-parts, unfold-first}
 use Rattle.blocks.proofs.Given.{Given, head-step, tail-steps, filled, covered}
 
 module _ {t t′ : Task} (G : Given t t′) where
-  fold-block : (x : Step) → IsStep t x → (i : ℕ) (ys : List Step) →
+  fold-block : (x : Step) → IsChoice t x → (i : ℕ) (ys : List Step) →
       foldFrom t outside i (block t x ++ ys) ≡ prepend x (foldFrom t outside (i + length (orders t (x .schema))) ys)
   unfolding block upTo
   fold-block x hx i ys = go (length (orders t (x .schema))) refl
@@ -35,10 +35,10 @@ module _ {t t′ : Task} (G : Given t t′) where
   unfolding unfoldSteps concatMap prepend foldFrom foldEnd
   folds-back [] i h = refl
   folds-back (x ∷ xs) i h =
-      fold-block x (head-step t x xs h) i (unfoldSteps t xs) ∙
+      fold-block x (step-choice (head-step t x xs h)) i (unfoldSteps t xs) ∙
       ap (prepend x) (folds-back xs (i + length (orders t (x .schema))) (tail-steps t x xs h))
 
-  fold-begun : (x : Step) → IsStep t x → (n i : ℕ) → 0 < n → n < length (block t x) →
+  fold-begun : (x : Step) → IsChoice t x → (n i : ℕ) → 0 < n → n < length (block t x) →
       foldFrom t outside i (map (partStep t x) (upTo n)) ≡ misfit (i + n)
   unfolding upTo
   fold-begun x hx zero i h l = absurd (omega arith)
@@ -52,11 +52,11 @@ module _ {t t′ : Task} (G : Given t t′) where
   fold-unfinished [] r i h b =
       let (a, n) = proper-parts t r b in
       ap (foldFrom t outside i) a ∙
-      fold-begun (b .step) (isStep-is t (b .step) (b .is-step)) (b .count) i (b .at-least-one) (b .not-all) ∙
+      fold-begun (b .choice) (isChoice-is t (b .choice) (b .is-choice)) (b .count) i (b .at-least-one) (b .not-all) ∙
       ap (λ k. misfit (i + k)) (sym n)
   fold-unfinished (x ∷ xs) r i h b =
       ap (foldFrom t outside i) (unfold-first t x xs r) ∙
-      fold-block x (head-step t x xs h) i (unfoldSteps t xs ++ r) ∙
+      fold-block x (step-choice (head-step t x xs h)) i (unfoldSteps t xs ++ r) ∙
       ap (prepend x) (fold-unfinished xs r (i + length (orders t (x .schema))) (tail-steps t x xs h) b) ∙
       ap misfit (omega (
         arith,

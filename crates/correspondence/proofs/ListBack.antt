@@ -1,6 +1,8 @@
 -- The way back, a list: what runs in the split from an original state with procnone is whole blocks, then a remainder.
 -- While procnone stands, only a first part runs; while a do stands, only its own part. So between two steps of the
--- split a run is between two blocks, or inside the block of a candidate step, and each step moves it on.
+-- split a run is between two blocks, or inside the block of a candidate choice of objects, and each step moves it on.
+-- Inside a block only the tokens are known. Once it is whole, its parts have kept every pair apart, so the candidate
+-- is a step; its block ran from the state before it, and so leaves what the step leaves (`block-runs`).
 use Prim.Native.Nat.{ℕ, suc, _+_, _<_}
 use mathlib.Core.Path.{_≡_, refl, sym, _∙_, ap, ap₂, subst}
 use mathlib.Core.Bool.{Bool, true, false}
@@ -14,8 +16,8 @@ use Rattle.task.specs.Task.{Fact, Task}
 use Rattle.task.specs.Run.{Step, schemaAt, applies, next, ran, runFrom}
 use Rattle.tokens.specs.Split.{parts, procnone, doToken, orders, free, firstOf}
 use Rattle.blocks.specs.Blocks.{partStep, block, unfoldSteps}
-use Rattle.words.proofs.Lists.{In, here, in-right, in-append, map-in, length-upTo}
-use Rattle.task.proofs.States.{applies-in, run-on, run-stop, State, IsStep, is-isStep, next-state}
+use Rattle.words.proofs.Lists.{bool-cases, In, here, in-right, in-append, map-in, length-upTo}
+use Rattle.task.proofs.States.{applies-in, run-on, run-stop, State, IsChoice, is-isChoice, IsStep, next-state}
 use Rattle.tokens.proofs.Ground.{bare, the-bare}
 use Rattle.tokens.proofs.Accepted.{do-schema, do-position, do-not-free, tokenAt, required-is, token-zero, token-inside}
 use Rattle.tokens.proofs.Accepted.{token-high}
@@ -23,22 +25,29 @@ use Rattle.blocks.proofs.Numbers.{find-schema, length-block, take-block}
 use Rattle.correspondence.specs.SharedRuns.{StepsOf, withFree, TakenApart}
 use Rattle.correspondence.proofs.Standing.{Token, state-low, stands-start}
 use Rattle.correspondence.proofs.PartAtoms.{asks-token}
-use Rattle.correspondence.proofs.OneBlock.{objectOf, StandsIn, stands-end}
+use Rattle.correspondence.proofs.OneBlock.{objectOf, TokensIn, block-runs, block-stops}
 use Rattle.correspondence.proofs.OneList.{ran-inj, ran-not-stopped}
 use Rattle.correspondence.proofs.OneWay.{one-more-block}
-use Rattle.correspondence.proofs.NextPart.{merged, own-part, merged-step, merged-stands, merged-parts}
-use Rattle.blocks.proofs.Given.{Given, head-step, tail-steps, part-count, filled}
+use Rattle.correspondence.proofs.NextPart.{merged, own-part, merged-choice, merged-tokens, merged-parts}
+use Rattle.blocks.proofs.Given.{Given, head-step, tail-steps, last-steps, part-count, filled}
+use Rattle.blocks.proofs.SplitSteps.{block-step}
+
+-- the steps `pre` of the split lead from the state s₀ with procnone to S, whatever follows
+record Leads (t t′ : Task) (s₀ : List Fact) (pre : List Step) (S : List Fact) : Type 0 where
+  pub steps : StepsOf t′ pre
+  pub runs : (ys : List Step) → (i : ℕ) × (runFrom t′ 0 (pre ++ ys) (withFree t s₀) ≡ runFrom t′ i ys S)
 
 -- ---- between two steps of the split: the steps `pre` of an open block are done
-data Amid (t : Task) (S : List Fact) (pre : List Step) : Type 0 where
-  between : (s₀ : List Fact) → State t s₀ → S ≡ withFree t s₀ → pre ≡ [] → Amid t S pre
-  within : (s₀ : List Fact) → State t s₀ → (x : Step) → IsStep t x → (j : ℕ) → 0 < j →
-      j < length (orders t (x .schema)) → StandsIn t s₀ x j S → pre ≡ map (partStep t x) (upTo j) → Amid t S pre
+data Amid (t t′ : Task) (S : List Fact) (pre : List Step) : Type 0 where
+  between : (s₀ : List Fact) → State t s₀ → S ≡ withFree t s₀ → pre ≡ [] → Amid t t′ S pre
+  within : (s₀ : List Fact) → State t s₀ → (x : Step) → IsChoice t x → (j : ℕ) → 0 < j →
+      j < length (orders t (x .schema)) → TokensIn t s₀ x j S → pre ≡ map (partStep t x) (upTo j) →
+      Leads t t′ s₀ pre S → Amid t t′ S pre
 
 -- after one more step: still amid a block, or the block is whole
-data Moved (t : Task) (S : List Fact) (pre : List Step) : Type 0 where
-  on : Amid t S pre → Moved t S pre
-  whole : (x : Step) → IsStep t x → pre ≡ block t x → Amid t S [] → Moved t S pre
+data Moved (t t′ : Task) (S : List Fact) (pre : List Step) : Type 0 where
+  on : Amid t t′ S pre → Moved t t′ S pre
+  whole : (x : Step) → IsStep t x → pre ≡ block t x → Amid t t′ S [] → Moved t t′ S pre
 
 -- a list taken apart, and whether procnone stands in what it leaves
 pub record CameApart (t : Task) (ys : List Step) (E : List Fact) : Type 0 where
@@ -72,11 +81,11 @@ module _ {t t′ : Task} (G : Given t t′) where
         | no q ↦ omega arith
       ]
 
-  goes-on : (s₀ : List Fact) (x : Step) (hx : IsStep t x) (j : ℕ) → 0 < j → j < length (orders t (x .schema)) →
-      (S : List Fact) → StandsIn t s₀ x j S → (s i : ℕ) → s < length (t .schemas) → i < length (orders t s) →
+  goes-on : (s₀ : List Fact) (x : Step) (hx : IsChoice t x) (j : ℕ) → 0 < j → j < length (orders t (x .schema)) →
+      (S : List Fact) → TokensIn t s₀ x j S → (s i : ℕ) → s < length (t .schemas) → i < length (orders t s) →
       (y : Step) → y .schema ≡ firstOf t s + i → applies t′ S y ≡ true → y .schema ≡ firstOf t (x .schema) + j
-  goes-on s₀ x hx j pj hj S sd s i l h y at ok =
-      go (sd .is-token (bare (tokenAt t s (orders t s) i)) (token-high t s (orders t s) i)
+  goes-on s₀ x hx j pj hj S tk s i l h y at ok =
+      go (tk .is-token (bare (tokenAt t s (orders t s) i)) (token-high t s (orders t s) i)
       (bare-token-stands s i l h y at S ok))
     where
       same-do : 0 < i → doToken t s i ≡ doToken t (x .schema) j → y .schema ≡ firstOf t (x .schema) + j
@@ -101,13 +110,13 @@ module _ {t t′ : Task} (G : Given t t′) where
       go (inl e) = same (ap (λ f. f .pred) e ∙ token-inside t (x .schema) (orders t (x .schema)) j pj hj)
       go (inr (p, a, b, e)) = absurd (let z : _≡_ {A = ℕ} 0 1 = ap (λ f. length (f .args)) e in omega arith)
 
-  -- any step of a schema, to begin a block with
+  -- any choice of a schema, to begin a block with
   blank : ℕ → Step
   blank s = record { schema = s; objects = map (λ p. 0) (upTo (schemaAt t s .params)) }
 
-  blank-step : (s : ℕ) → s < length (t .schemas) → IsStep t (blank s)
+  blank-choice : (s : ℕ) → s < length (t .schemas) → IsChoice t (blank s)
   unfolding blank
-  blank-step s l = record {
+  blank-choice s l = record {
     known = l;
     count = length-map (upTo (schemaAt t s .params)) (λ p. 0) ∙ length-upTo (schemaAt t s .params);
     small = λ o i.
@@ -115,51 +124,92 @@ module _ {t t′ : Task} (G : Given t t′) where
         subst (λ o. o < t .objects) (sym e) (G .well .some-object);
   }
 
-  move-part : (s₀ : List Fact) (st : State t s₀) (x : Step) (hx : IsStep t x) (j : ℕ)
-      (hj : j < length (orders t (x .schema))) (S : List Fact) → StandsIn t s₀ x j S →
+  -- one step more, which runs
+  leads-on : (s₀ : List Fact) (pre : List Step) (S : List Fact) → Leads t t′ s₀ pre S → (y : Step) → IsStep t′ y →
+      applies t′ S y ≡ true → Leads t t′ s₀ (pre ++ (y ∷ [])) (next t′ S y)
+  leads-on s₀ pre S h y hy ok = record {
+    steps = last-steps t′ pre y (h .steps) hy;
+    runs = λ ys.
+        let (i, e) = h .runs (y ∷ ys) in (
+          suc i,
+          ap (λ zs. runFrom t′ 0 zs (withFree t s₀)) (append-assoc pre (y ∷ []) ys) ∙ e ∙ run-on t′ S y i ys ok,
+        );
+  }
+
+  -- a whole block ran, so its choice is a step, it runs, and the block leaves what the step leaves
+  whole-block : (s₀ : List Fact) → State t s₀ → (x : Step) → IsChoice t x → (pre : List Step) (S : List Fact) →
+      Leads t t′ s₀ pre S → pre ≡ block t x → Moved t t′ S pre
+  unfolding runFrom
+  whole-block s₀ st x h pre S leads e = elim (bool-cases (applies t s₀ x)) [
+    | inl a ↦
+        whole x step e
+        (between (next t s₀ x) (next-state t s₀ x (G .well) st step)
+        (ran-inj (sym came ∙ block-runs G st step a 0 [])) refl)
+    | inr a ↦ let (m, E, l, q) = block-stops G st step a 0 [] in absurd (ran-not-stopped came q)
+  ]
+    where
+      step : IsStep t x
+      step = block-step G x h (subst (λ zs. StepsOf t′ zs) e (leads .steps))
+
+      came : runFrom t′ 0 (block t x ++ []) (withFree t s₀) ≡ ran S
+      came = ap (λ zs. runFrom t′ 0 (zs ++ []) (withFree t s₀)) (sym e) ∙ leads .runs [] .1
+
+  move-part : (s₀ : List Fact) (st : State t s₀) (x : Step) (hx : IsChoice t x) (j : ℕ)
+      (hj : j < length (orders t (x .schema))) (S : List Fact) → TokensIn t s₀ x j S →
       (y : Step) → IsStep t′ y → y .schema ≡ firstOf t (x .schema) + j → applies t′ S y ≡ true →
-      (pre : List Step) → pre ≡ map (partStep t x) (upTo j) → Moved t (next t′ S y) (pre ++ (y ∷ []))
+      (pre : List Step) → pre ≡ map (partStep t x) (upTo j) → Leads t t′ s₀ pre S →
+      Moved t t′ (next t′ S y) (pre ++ (y ∷ []))
   unfolding block
-  move-part s₀ st x hx j hj S sd y hy at ok pre e = elim (decLt (suc j) (length (orders t (x .schema)))) [
-    | yes q ↦ on (within s₀ st x′ step (suc j) (omega arith) q stand list)
+  move-part s₀ st x hx j hj S tk y hy at ok pre e leads = elim (decLt (suc j) (length (orders t (x .schema)))) [
+    | yes q ↦ on (within s₀ st x′ choice (suc j) (omega arith) q tokens list after)
     | no q ↦ finished (omega arith)
   ]
     where
       x′ : Step
       x′ = merged t x j y
 
-      step : IsStep t x′
-      step = merged-step G s₀ hx j hj S sd hy at ok
+      choice : IsChoice t x′
+      choice = merged-choice G s₀ hx j hj S tk hy at ok
 
-      stand : StandsIn t s₀ x′ (suc j) (next t′ S y)
-      stand = merged-stands G s₀ hx j hj S sd hy at ok
+      tokens : TokensIn t s₀ x′ (suc j) (next t′ S y)
+      tokens = merged-tokens G s₀ hx j hj S tk hy at ok
 
       list : pre ++ (y ∷ []) ≡ map (partStep t x′) (upTo (suc j))
-      list = merged-parts G s₀ hx j hj S sd hy at ok pre e
+      list = merged-parts G s₀ hx j hj S tk hy at ok pre e
 
-      finished : suc j ≡ length (orders t (x .schema)) → Moved t (next t′ S y) (pre ++ (y ∷ []))
+      after : Leads t t′ s₀ (pre ++ (y ∷ [])) (next t′ S y)
+      after = leads-on s₀ pre S leads y hy ok
+
+      finished : suc j ≡ length (orders t (x .schema)) → Moved t t′ (next t′ S y) (pre ++ (y ∷ []))
       finished z =
-          whole x′ step (list ∙ ap (λ n. map (partStep t x′) (upTo n)) z)
-          (between (next t s₀ x′) (next-state t s₀ x′ (G .well) st step)
-          (stands-end G st step (next t′ S y) (subst (λ n. StandsIn t s₀ x′ n (next t′ S y)) z stand)) refl)
+          whole-block s₀ st x′ choice (pre ++ (y ∷ [])) (next t′ S y) after
+          (list ∙ ap (λ n. map (partStep t x′) (upTo n)) z)
 
-  move : (S : List Fact) (pre : List Step) → Amid t S pre → (y : Step) → IsStep t′ y → applies t′ S y ≡ true →
-      Moved t (next t′ S y) (pre ++ (y ∷ []))
+  -- nothing is done yet
+  leads-none : (s₀ : List Fact) (pre : List Step) (S : List Fact) → S ≡ withFree t s₀ → pre ≡ [] → Leads t t′ s₀ pre S
+  unfolding all
+  leads-none s₀ pre S e q = record {
+    steps = subst (λ zs. StepsOf t′ zs) (sym q) refl;
+    runs = λ ys. (0, ap (λ zs. runFrom t′ 0 (zs ++ ys) (withFree t s₀)) q ∙ ap (runFrom t′ 0 ys) (sym e));
+  }
+
+  move : (S : List Fact) (pre : List Step) → Amid t t′ S pre → (y : Step) → IsStep t′ y → applies t′ S y ≡ true →
+      Moved t t′ (next t′ S y) (pre ++ (y ∷ []))
   unfolding blank upTo
   move S pre m y hy ok =
       let known = subst (λ u. y .schema < length (u .schemas)) (G .is) (hy .known) in
       let (s, i, l, h, at) = find-schema t (y .schema) known in
       go m s i l h at
     where
-      go : Amid t S pre → (s i : ℕ) → s < length (t .schemas) → i < length (orders t s) → y .schema ≡ firstOf t s + i →
-          Moved t (next t′ S y) (pre ++ (y ∷ []))
+      go : Amid t t′ S pre → (s i : ℕ) → s < length (t .schemas) → i < length (orders t s) →
+          y .schema ≡ firstOf t s + i → Moved t t′ (next t′ S y) (pre ++ (y ∷ []))
       go (between s₀ st e q) s i l h at =
           let z = starts s i l h y at s₀ st (subst (λ S. applies t′ S y ≡ true) e ok) in
-          move-part s₀ st (blank s) (blank-step s l) 0 (filled G l) S
-          (subst (λ S. StandsIn t s₀ (blank s) 0 S) (sym e) (stands-start t s₀ st s (objectOf (blank s))))
-          y hy (at ∙ ap (λ i. firstOf t s + i) z) ok pre q
-      go (within s₀ st x hx j pj hj sd q) s i l h at =
-          move-part s₀ st x hx j hj S sd y hy (goes-on s₀ x hx j pj hj S sd s i l h y at ok) ok pre q
+          move-part s₀ st (blank s) (blank-choice s l) 0 (filled G l) S
+          (subst (λ S. TokensIn t s₀ (blank s) 0 S) (sym e) (stands-start t s₀ st s (objectOf (blank s)) .tokens))
+          y hy (at ∙ ap (λ i. firstOf t s + i) z) ok pre q (leads-none s₀ pre S e q)
+      go (within s₀ st x hx j pj hj tk q leads) s i l h at =
+          move-part s₀ st x hx j hj S tk y hy (goes-on s₀ x hx j pj hj S tk s i l h y at ok) ok pre q leads
 
   -- ---- a list taken apart
   -- inside a block procnone doesn't stand
@@ -171,7 +221,7 @@ module _ {t t′ : Task} (G : Given t t′) where
   no-free-within s₀ x j pj hj (inr (p, a, b, e)) =
       let z : _≡_ {A = ℕ} 0 1 = ap (λ f. length (f .args)) e in omega arith
 
-  apart-at-end : (S : List Fact) (pre : List Step) → Amid t S pre → CameApart t (pre ++ []) S
+  apart-at-end : (S : List Fact) (pre : List Step) → Amid t t′ S pre → CameApart t (pre ++ []) S
   unfolding all unfoldSteps concatMap withFree free
   apart-at-end S pre (between s₀ st e q) = record {
     list = [];
@@ -180,22 +230,23 @@ module _ {t t′ : Task} (G : Given t t′) where
     free-alone = λ i. refl;
     alone-free = λ z. subst (λ S. In (bare (procnone t)) S) (sym e) (in-right s₀ (here refl));
   }
-  apart-at-end S pre (within s₀ st x hx j pj hj sd q) = record {
+  apart-at-end S pre (within s₀ st x hx j pj hj tk q leads) = record {
     list = [];
     rest = pre;
     apart = record {
       steps = refl;
       blocks = append-nil pre;
       remainder = inr (record {
-        step = x;
+        choice = x;
         count = j;
-        is-step = is-isStep t x hx;
+        is-choice = is-isChoice t x hx;
+        own-pairs = subst (λ u. StepsOf u pre) (G .is) (leads .steps);
         at-least-one = pj;
         not-all = omega (arith, length-block t x);
         first-parts = q ∙ sym (take-block t x j (omega arith));
       });
     };
-    free-alone = λ i. absurd (no-free-within s₀ x j pj hj (sd .is-token (bare (procnone t)) (omega arith) i));
+    free-alone = λ i. absurd (no-free-within s₀ x j pj hj (tk .is-token (bare (procnone t)) (omega arith) i));
     alone-free = λ z.
         let u = sym (length-map (upTo j) (partStep t x) ∙ length-upTo j) ∙ ap length (sym q ∙ z) in
         absurd (omega arith);
@@ -211,21 +262,21 @@ module _ {t t′ : Task} (G : Given t t′) where
     alone-free = a .alone-free;
   }
 
-  comes-apart : (ys : List Step) (S : List Fact) (pre : List Step) → Amid t S pre → StepsOf t′ ys → (i : ℕ)
+  comes-apart : (ys : List Step) (S : List Fact) (pre : List Step) → Amid t t′ S pre → StepsOf t′ ys → (i : ℕ)
       (E : List Fact) → runFrom t′ i ys S ≡ ran E → CameApart t (pre ++ ys) E
   unfolding runFrom
   comes-apart [] S pre m h i E r = subst (λ E. CameApart t (pre ++ []) E) (ran-inj r) (apart-at-end S pre m)
   comes-apart (y ∷ ys) S pre m h i E r = go (applies t′ S y) refl
       (λ p q k. comes-apart ys (next t′ S y) p q (tail-steps t′ y ys h) (suc i) E k)
     where
-      after : ((p : List Step) → Amid t (next t′ S y) p → CameApart t (p ++ ys) E) →
-          Moved t (next t′ S y) (pre ++ (y ∷ [])) → CameApart t (pre ++ (y ∷ ys)) E
+      after : ((p : List Step) → Amid t t′ (next t′ S y) p → CameApart t (p ++ ys) E) →
+          Moved t t′ (next t′ S y) (pre ++ (y ∷ [])) → CameApart t (pre ++ (y ∷ ys)) E
       after ih (on m) = subst (λ z. CameApart t z E) (append-assoc pre (y ∷ []) ys) (ih (pre ++ (y ∷ [])) m)
       after ih (whole x hx e m) =
           subst (λ z. CameApart t z E) (ap (λ z. z ++ ys) (sym e) ∙ append-assoc pre (y ∷ []) ys)
           (apart-more x hx ys E (ih [] m))
 
-      go : (b : Bool) → applies t′ S y ≡ b → ((p : List Step) → Amid t (next t′ S y) p →
+      go : (b : Bool) → applies t′ S y ≡ b → ((p : List Step) → Amid t t′ (next t′ S y) p →
           runFrom t′ (suc i) ys (next t′ S y) ≡ ran E → CameApart t (p ++ ys) E) → CameApart t (pre ++ (y ∷ ys)) E
       go true a ih =
           after (λ p q. ih p q (sym (run-on t′ S y i ys a) ∙ r)) (move S pre m y (head-step t′ y ys h) a)

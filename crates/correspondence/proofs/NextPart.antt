@@ -1,6 +1,7 @@
 -- The way back, one part: a step that runs where position j of a block of x is due fixes the objects of its own
 -- parameters. Merged into x they give the candidate for the whole block: its parts before j are those of x, because the
--- pars force the objects of parameters found before, and its part at j is the step that ran.
+-- pars force the objects of parameters found before, and its part at j is the step that ran. The candidate is a choice
+-- of objects, whether pairs differ in it or not: only tokens are read.
 use Prim.Native.Nat.{ℕ, suc, _+_, _<_}
 use mathlib.Core.Path.{_≡_, refl, sym, _∙_, ap, ap₂, subst}
 use mathlib.Core.Bool.{Bool, true, false, cond}
@@ -18,15 +19,15 @@ use Rattle.tokens.specs.Split.{firstOf}
 use Rattle.blocks.specs.Blocks.{paramsAt, partStep}
 use Rattle.words.proofs.Lists.{bool-cases, In, in-getD, map-in, map-same, upTo-in, length-upTo, getD-map, getD-upTo}
 use Rattle.words.proofs.Lists.{map-append, upTo-suc}
-use Rattle.task.proofs.States.{applies-in, IsStep}
+use Rattle.task.proofs.States.{applies-in, IsChoice, IsStep}
 use Rattle.tokens.proofs.Places.{in-params, params-in, At, at-first, index-small, index-getD}
 use Rattle.tokens.proofs.Ground.{single, a-par}
 use Rattle.tokens.proofs.Predicates.{par-high, par-fixes}
 use Rattle.blocks.proofs.Numbers.{split-schema}
-use Rattle.correspondence.proofs.Standing.{Token, AlikeBefore, stands-alike}
+use Rattle.correspondence.proofs.Standing.{Token, AlikeBefore, tokens-alike}
 use Rattle.correspondence.proofs.PartAtoms.{IsPart, asks-token}
-use Rattle.correspondence.proofs.OnePart.{stands-next}
-use Rattle.correspondence.proofs.OneBlock.{objectOf, StandsIn}
+use Rattle.correspondence.proofs.OnePart.{tokens-next}
+use Rattle.correspondence.proofs.OneBlock.{objectOf, TokensIn}
 use Rattle.blocks.proofs.Given.{Given}
 
 -- ---- x with the objects that y gives the parameters of the part at position j
@@ -56,8 +57,8 @@ own-part {t} {t′} G s j l h y at = record {
   objects = λ x i. refl;
 }
 
-module _ {t t′ : Task} (G : Given t t′) (s₀ : List Fact) {x : Step} (hx : IsStep t x) (j : ℕ)
-    (hj : j < length (orders t (x .schema))) (S : List Fact) (sd : StandsIn t s₀ x j S)
+module _ {t t′ : Task} (G : Given t t′) (s₀ : List Fact) {x : Step} (hx : IsChoice t x) (j : ℕ)
+    (hj : j < length (orders t (x .schema))) (S : List Fact) (tk : TokensIn t s₀ x j S)
     {y : Step} (hy : IsStep t′ y) (at : y .schema ≡ firstOf t (x .schema) + j) (ok : applies t′ S y ≡ true) where
   abbrev sx : Schema
   sx = schemaAt t (x .schema)
@@ -89,7 +90,7 @@ module _ {t t′ : Task} (G : Given t t′) (s₀ : List Fact) {x : Step} (hx : 
   -- the par of a parameter found before forces its object
   par-forces : (p : ℕ) → In p (mine t x j) → firstPosition sx ox p < j → givenBy t x j y p ≡ objectOf x p
   unfolding laterHere
-  par-forces p i h = go (sd .is-token f (par-high t p) (applies-in t′ S y ok f
+  par-forces p i h = go (tk .is-token f (par-high t p) (applies-in t′ S y ok f
       (asks-token this f
       (a-par p i (lt-ltb (firstPosition sx ox p) j h) refl))))
     where
@@ -114,7 +115,7 @@ module _ {t t′ : Task} (G : Given t t′) (s₀ : List Fact) {x : Step} (hx : 
         | inr q ↦ sym (merged-object p a ∙ ap (λ b. cond b (givenBy t x j y p) (objectOf x p)) q)
       ]
 
-  -- ---- the merged step is a step of the task
+  -- ---- the merged step is a choice of objects of the task
   y-count : length (y .objects) ≡ length (mine t x j)
   unfolding splitSchema
   y-count = hy .count ∙ ap (λ z. z .params) (this .schema)
@@ -132,8 +133,8 @@ module _ {t t′ : Task} (G : Given t t′) (s₀ : List Fact) {x : Step} (hx : 
           (omega (arith, y-count, index-small (has-mine p h e))))
       go false e = hx .small (objectOf x p) (in-getD (x .objects) p 0 (omega (arith, hx .count)))
 
-  pub merged-step : IsStep t (merged t x j y)
-  merged-step = record {
+  pub merged-choice : IsChoice t (merged t x j y)
+  merged-choice = record {
     known = hx .known;
     count = length-map (upTo (sx .params)) (choose t x j y) ∙ length-upTo (sx .params);
     small = λ o i.
@@ -141,7 +142,7 @@ module _ {t t′ : Task} (G : Given t t′) (s₀ : List Fact) {x : Step} (hx : 
         subst (λ o. o < t .objects) (sym e) (choose-small p (upTo-in (sx .params) p k));
   }
 
-  -- ---- what stands after y stands for the merged step
+  -- ---- the tokens that stand after y stand for the merged step
   merged-part : IsPart t t′ (x .schema) (objectOf (merged t x j y)) j y
   merged-part = record {
     given = G;
@@ -151,10 +152,10 @@ module _ {t t′ : Task} (G : Given t t′) (s₀ : List Fact) {x : Step} (hx : 
     objects = λ p i. sym (merged-mine p i);
   }
 
-  pub merged-stands : StandsIn t s₀ (merged t x j y) (suc j) (next t′ S y)
-  merged-stands =
-      stands-next merged-part
-      (stands-alike G s₀ (hx .known) j (objectOf x) (objectOf (merged t x j y)) alike-before S sd)
+  pub merged-tokens : TokensIn t s₀ (merged t x j y) (suc j) (next t′ S y)
+  merged-tokens =
+      tokens-next merged-part
+      (tokens-alike G s₀ (hx .known) j (objectOf x) (objectOf (merged t x j y)) alike-before S tk)
 
   -- ---- its first parts are those of x, then y
   merged-before : (i : ℕ) → i < j → partStep t (merged t x j y) i ≡ partStep t x i

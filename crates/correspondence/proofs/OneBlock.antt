@@ -22,7 +22,8 @@ use Rattle.tokens.proofs.Ground.{factOf, bare, old-of}
 use Rattle.tokens.proofs.Accepted.{token-end}
 use Rattle.blocks.proofs.Numbers.{split-schema, part-objects}
 use Rattle.correspondence.specs.SharedRuns.{withFree}
-use Rattle.correspondence.proofs.Standing.{Done, OldFact, Token, Stands, state-low, asc-free, stands-start}
+use Rattle.correspondence.proofs.Standing.{Done, OldFact, Token, TokensStand, Stands, state-low, asc-free}
+use Rattle.correspondence.proofs.Standing.{stands-start}
 use Rattle.correspondence.proofs.PartAtoms.{IsPart}
 use Rattle.correspondence.proofs.OnePart.{Needs, runs-needs, needs-run, stands-next}
 use Rattle.blocks.proofs.Given.{Given, place-of}
@@ -34,6 +35,10 @@ objectOf x p = getD (x .objects) p 0
 -- what stands before position j of the block of x, from the state s₀
 abbrev pub StandsIn : Task → List Fact → Step → ℕ → List Fact → Type 0
 StandsIn t s₀ x j S = Stands t s₀ (x .schema) (objectOf x) j S
+
+-- the tokens that stand there
+abbrev pub TokensIn : Task → List Fact → Step → ℕ → List Fact → Type 0
+TokensIn t s₀ x j S = TokensStand t s₀ (x .schema) (objectOf x) j S
 
 -- the step's preconditions in the part at position j stand in s₀
 abbrev pub StepNeeds : Task → List Fact → Step → ℕ → Type 0
@@ -92,13 +97,13 @@ module _ {t t′ : Task} (G : Given t t′) {s₀ : List Fact} (st : State t s�
       forth : (f : Fact) → In f S → In f (next t s₀ x ++ (bare (procnone t) ∷ []))
       forth f i = elim (decLt (f .pred) (procnone t)) [
         | yes q ↦ in-left (bare (procnone t) ∷ []) (old-at-end f (h .is-old f q i))
-        | no q ↦ in-right (next t s₀ x) (here (token-at-end f (h .is-token f (omega arith) i)))
+        | no q ↦ in-right (next t s₀ x) (here (token-at-end f (h .tokens .is-token f (omega arith) i)))
       ]
 
       back : (f : Fact) → In f (next t s₀ x) ⊎ In f (bare (procnone t) ∷ []) → In f S
       back f (inl i) = h .old-is f (state-low t (next t s₀ x) after f i) (end-is-old f (in-next t s₀ x f i))
       back f (inr (here e)) =
-          h .token-is f (let z = ap (λ f. f .pred) e in omega arith)
+          h .tokens .token-is f (let z = ap (λ f. f .pred) e in omega arith)
           (inl (e ∙ ap bare (sym (token-end t (x .schema) (orders t (x .schema)) size refl))))
 
   -- ---- part by part
@@ -129,11 +134,11 @@ module _ {t t′ : Task} (G : Given t t′) {s₀ : List Fact} (st : State t s�
       passed S (subst (λ n. StandsIn t s₀ x n S) z sd) (λ i ys. ap (λ n. runFrom t′ n ys S) (omega arith))
       (λ q a b. absurd (omega arith))
   through (suc k) j S e sd = elim (bool-cases (applies t′ S y)) [
-    | inl h ↦ go h (through k (suc j) (next t′ S y) (omega arith) (stands-next P sd))
+    | inl h ↦ go h (through k (suc j) (next t′ S y) (omega arith) (stands-next P (hx .apart) sd))
     | inr h ↦ halted 0 S (omega arith)
         (λ i ys. run-stop t′ S y i (map (partStep t x) (upFrom (suc j) k) ++ ys) h ∙
         ap (λ n. stopped n S) (omega arith))
-        (false-if (applies t s₀ x) (λ q. both-ft (needs-run P sd (applies-needs q j)) h))
+        (false-if (applies t s₀ x) (λ q. both-ft (needs-run P (hx .apart) sd (applies-needs q j)) h))
   ]
     where
       y : Step
@@ -148,7 +153,7 @@ module _ {t t′ : Task} (G : Given t t′) {s₀ : List Fact} (st : State t s�
         | yes c ↦ n q c b
         | no c ↦
             let z : j ≡ q = omega arith in
-            subst (λ q. StepNeeds t s₀ x q) z (runs-needs P sd h)
+            subst (λ q. StepNeeds t s₀ x q) z (runs-needs P (hx .apart) sd h)
       ]
 
       go : applies t′ S y ≡ true → Through k (suc j) (next t′ S y) → Through (suc k) j S

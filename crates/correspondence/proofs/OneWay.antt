@@ -14,7 +14,7 @@ use Rattle.task.specs.Run.{Step, schemaAt}
 use Rattle.tokens.specs.Split.{own, orders, firstOf}
 use Rattle.blocks.specs.Blocks.{paramsAt, partStep, block, unfoldSteps}
 use Rattle.words.proofs.Lists.{In, length-upTo, append-same-length, getD-map, getD-upTo}
-use Rattle.task.proofs.States.{IsStep, isStep-is}
+use Rattle.task.proofs.States.{IsChoice, isChoice-is, IsStep, step-choice}
 use Rattle.blocks.proofs.Numbers.{first-inj, part-objects, length-block, take-block}
 use Rattle.correspondence.specs.SharedRuns.{StepsOf, ProperBeginning, TakenApart}
 use Rattle.blocks.proofs.Given.{Given, head-step, tail-steps, more-steps, filled, covered}
@@ -26,11 +26,11 @@ firstSchema (y ∷ ys) = y .schema
 
 -- a proper beginning by its parts
 pub proper-parts : (t : Task) (r : List Step) (b : ProperBeginning t r) →
-    (r ≡ map (partStep t (b .step)) (upTo (b .count))) × (length r ≡ b .count)
+    (r ≡ map (partStep t (b .choice)) (upTo (b .count))) × (length r ≡ b .count)
 proper-parts t r b =
     let short = b .not-all in
-    let e = b .first-parts ∙ take-block t (b .step) (b .count) (omega (arith, length-block t (b .step))) in
-    (e, ap length e ∙ length-map (upTo (b .count)) (partStep t (b .step)) ∙ length-upTo (b .count))
+    let e = b .first-parts ∙ take-block t (b .choice) (b .count) (omega (arith, length-block t (b .choice))) in
+    (e, ap length e ∙ length-map (upTo (b .count)) (partStep t (b .choice)) ∙ length-upTo (b .count))
 
 -- a block more
 pub unfold-first : (t : Task) (x : Step) (xs r : List Step) →
@@ -55,14 +55,14 @@ module _ {t t′ : Task} (G : Given t t′) where
   first-of-block x (suc n) more h = refl
 
   -- lists that begin with parts of two blocks, from the first part on
-  same-schema : (x z : Step) → IsStep t x → IsStep t z → (n m : ℕ) (u w : List Step) → 0 < n → 0 < m →
+  same-schema : (x z : Step) → IsChoice t x → IsChoice t z → (n m : ℕ) (u w : List Step) → 0 < n → 0 < m →
       map (partStep t x) (upTo n) ++ u ≡ map (partStep t z) (upTo m) ++ w → x .schema ≡ z .schema
   same-schema x z hx hz n m u w hn hm e =
       first-inj t (x .schema) 0 (z .schema) 0
       (filled G (hx .known)) (filled G (hz .known))
       (sym (first-of-block x n u hn) ∙ ap firstSchema e ∙ first-of-block z m w hm) .0
 
-  block-fixes-step : (x z : Step) → IsStep t x → IsStep t z → x .schema ≡ z .schema → block t x ≡ block t z → x ≡ z
+  block-fixes-step : (x z : Step) → IsChoice t x → IsChoice t z → x .schema ≡ z .schema → block t x ≡ block t z → x ≡ z
   unfolding block own paramsAt
   block-fixes-step x z hx hz e h = λ i. record { schema = e i; objects = same i }
     where
@@ -89,7 +89,7 @@ module _ {t t′ : Task} (G : Given t t′) where
       same = ext-getD 0 (x .objects) (z .objects) (hx .count ∙ ap (λ s. schemaAt t s .params) e ∙ sym (hz .count))
           (λ p l. let (i, m, k) = covered G (hx .known) p (rw (← hx .count) l) in object-same p i m k)
 
-  same-block : (x z : Step) → IsStep t x → IsStep t z → (v w : List Step) → block t x ++ v ≡ block t z ++ w →
+  same-block : (x z : Step) → IsChoice t x → IsChoice t z → (v w : List Step) → block t x ++ v ≡ block t z ++ w →
       (x ≡ z) × (v ≡ w)
   unfolding block
   same-block x z hx hz v w e =
@@ -100,7 +100,7 @@ module _ {t t′ : Task} (G : Given t t′) where
       (block-fixes-step x z hx hz same a, b)
 
   -- ---- a remainder begins with no whole block
-  no-whole-block : (x : Step) (more r : List Step) → IsStep t x → (r ≡ []) ⊎ ProperBeginning t r →
+  no-whole-block : (x : Step) (more r : List Step) → IsChoice t x → (r ≡ []) ⊎ ProperBeginning t r →
       r ≡ block t x ++ more → ⊥
   unfolding block
   no-whole-block x more r hx (inl e) q =
@@ -108,12 +108,12 @@ module _ {t t′ : Task} (G : Given t t′) where
       omega (arith, filled G (hx .known), length-block t x)
   no-whole-block x more r hx (inr b) q =
       let (a, n) = proper-parts t r b in
-      let same = same-schema (b .step) x (isStep-is t (b .step) (b .is-step)) hx
+      let same = same-schema (b .choice) x (isChoice-is t (b .choice) (b .is-choice)) hx
       (b .count) (length (orders t (x .schema))) [] more (b .at-least-one) (filled G (hx .known))
-      (append-nil (map (partStep t (b .step)) (upTo (b .count))) ∙ sym a ∙ q) in
+      (append-nil (map (partStep t (b .choice)) (upTo (b .count))) ∙ sym a ∙ q) in
       let c = ap length q ∙ length-append (block t x) more in
       let d = ap (λ s. length (orders t s)) same in
-      omega (arith, b .not-all, length-block t x, length-block t (b .step))
+      omega (arith, b .not-all, length-block t x, length-block t (b .choice))
 
   -- ---- one way only
   pub one-way : (ys xs zs r u : List Step) → TakenApart t ys xs r → TakenApart t ys zs u → (xs ≡ zs) × (r ≡ u)
@@ -127,11 +127,13 @@ module _ {t t′ : Task} (G : Given t t′) where
           (xs ≡ zs) × (r ≡ u)
       go [] [] hx hz e = (refl, e)
       go [] (z ∷ zs) hx hz e =
-          absurd (no-whole-block z (unfoldSteps t zs ++ u) r (head-step t z zs hz) (a .remainder) (e ∙ head z zs u))
+          absurd (no-whole-block z (unfoldSteps t zs ++ u) r (step-choice (head-step t z zs hz)) (a .remainder)
+          (e ∙ head z zs u))
       go (x ∷ xs) [] hx hz e =
-          absurd (no-whole-block x (unfoldSteps t xs ++ r) u (head-step t x xs hx) (b .remainder) (sym e ∙ head x xs r))
+          absurd (no-whole-block x (unfoldSteps t xs ++ r) u (step-choice (head-step t x xs hx)) (b .remainder)
+          (sym e ∙ head x xs r))
       go (x ∷ xs) (z ∷ zs) hx hz e =
-          let (same, more) = same-block x z (head-step t x xs hx) (head-step t z zs hz) (unfoldSteps t xs ++ r)
-          (unfoldSteps t zs ++ u) (sym (head x xs r) ∙ e ∙ head z zs u) in
+          let (same, more) = same-block x z (step-choice (head-step t x xs hx)) (step-choice (head-step t z zs hz))
+          (unfoldSteps t xs ++ r) (unfoldSteps t zs ++ u) (sym (head x xs r) ∙ e ∙ head z zs u) in
           let (c, d) = go xs zs (tail-steps t x xs hx) (tail-steps t z zs hz) more in
           (ap₂ (λ (a : Step) (bs : List Step). a ∷ bs) same c, d)

@@ -1,6 +1,7 @@
 -- One step of the split for the part at position j: what it asks, adds and deletes, old facts and tokens apart.
 -- The step's ground atoms are the part's old atoms under one assignment of objects, and the tokens of position j.
--- No old atom of it clashes with one of an earlier part, because no arc goes backwards.
+-- No old atom of it clashes with one of an earlier part where the objects keep the pairs apart, because no arc goes
+-- backwards.
 use Prim.Native.Nat.{ℕ, suc, _≤_, _<_}
 use mathlib.Core.Path.{_≡_, refl, sym, _∙_, ap, subst}
 use mathlib.Core.Bool.{false}
@@ -15,6 +16,7 @@ use Rattle.task.specs.Run.{Step, schemaAt, groundRole}
 use Rattle.tokens.specs.Split.{procnone, parToken, own, required, handedOn, lone, firstHere, lastHere, laterHere}
 use Rattle.tokens.specs.Split.{splitSchema, orders}
 use Rattle.words.proofs.Lists.{In}
+use Rattle.task.proofs.States.{KeepsApart}
 use Rattle.arcs.proofs.Arcs.{Ordered}
 use Rattle.arcs.proofs.OrderTaken.{no-clash}
 use Rattle.tokens.proofs.Ground.{OldOf, old-of, TokenOf, pre-made, add-made, del-made, made-pre, made-add, made-del}
@@ -136,10 +138,11 @@ module _ {t t′ : Task} {s : ℕ} {v : ℕ → ℕ} {j : ℕ} {y : Step} (P : I
       elim (deleted f i) [ inl k ↦ absurd (let z = old-here-low deletion f k in omega arith) | inr k ↦ k ]
 
   -- ---- no clash with an earlier part
-  pub clash : (i r q : ℕ) (f : Fact) → i < j → OldHere t s v j r f → OldHere t s v i q f → Ordered r q → ⊥
-  clash i r q f h (old-of a ia ra pa ea) (old-of b ib rb pb eb) o =
+  pub clash : KeepsApart (schemaAt t s .pairs) v → (i r q : ℕ) (f : Fact) → i < j →
+      OldHere t s v j r f → OldHere t s v i q f → Ordered r q → ⊥
+  clash apart i r q f h (old-of a ia ra pa ea) (old-of b ib rb pb eb) o =
       no-clash (schemaAt t s) (orders t s) (complies (P .given) (P .known)) (each-once (P .given) (P .known))
-      i j h (P .here) v a b ia ib pa pb (record {
+      i j h (P .here) v apart a b ia ib pa pb (record {
         pred = sym (ap (λ f. f .pred) ea) ∙ ap (λ f. f .pred) eb;
         args = sym (ap (λ f. f .args) ea) ∙ ap (λ f. f .args) eb;
       })

@@ -12,14 +12,14 @@ use lib.ListN.{length, getD}
 use Rattle.task.specs.Task.{Fact, Task, addition, deletion}
 use Rattle.task.specs.Run.{schemaAt}
 use Rattle.tokens.specs.Split.{firstPosition, lastPosition, procnone, parToken, own, orders, free}
-use Rattle.words.proofs.Lists.{In, here, in-left, in-right, in-append, map-same}
-use Rattle.task.proofs.States.{fact-path, Asc, asc-snoc, State, less-pred}
+use Rattle.words.proofs.Lists.{In, here, in-left, in-right, in-append}
+use Rattle.task.proofs.States.{Asc, asc-snoc, State, less-pred}
 use Rattle.tokens.proofs.Places.{has-small, params-in, first-at, some-at}
 use Rattle.tokens.proofs.Ground.{bare, single, OldOf, old-of, TokenOf, the-bare, a-par}
 use Rattle.tokens.proofs.Predicates.{par-high}
 use Rattle.tokens.proofs.Accepted.{tokenAt, token-zero}
 use Rattle.correspondence.specs.SharedRuns.{withFree}
-use Rattle.blocks.proofs.Given.{Given, atom-owns}
+use Rattle.blocks.proofs.Given.{Given}
 
 -- a block of schema s from the state s₀, with the objects that v gives its parameters
 module _ (t : Task) (s₀ : List Fact) (s : ℕ) (v : ℕ → ℕ) where
@@ -38,12 +38,17 @@ module _ (t : Task) (s₀ : List Fact) (s : ℕ) (v : ℕ → ℕ) where
   abbrev pub Token : ℕ → Fact → Type 0
   Token j f = (f ≡ bare (tokenAt t s (orders t s) j)) ⊎ OpenPar j f
 
+  -- the tokens, which stand so whether the objects keep the pairs apart or not
+  pub record TokensStand (j : ℕ) (S : List Fact) : Type 0 where
+    pub is-token : (f : Fact) → procnone t ≤ f .pred → In f S → Token j f
+    pub token-is : (f : Fact) → procnone t ≤ f .pred → Token j f → In f S
+
+  -- the tokens, and the old facts
   pub record Stands (j : ℕ) (S : List Fact) : Type 0 where
     pub asc : Asc S
     pub is-old : (f : Fact) → f .pred < procnone t → In f S → OldFact j f
     pub old-is : (f : Fact) → f .pred < procnone t → OldFact j f → In f S
-    pub is-token : (f : Fact) → procnone t ≤ f .pred → In f S → Token j f
-    pub token-is : (f : Fact) → procnone t ≤ f .pred → Token j f → In f S
+    pub tokens : TokensStand j S
 
 -- ---- facts are low, tokens are high
 pub state-low : (t : Task) (s₀ : List Fact) → State t s₀ → (f : Fact) → In f s₀ → f .pred < procnone t
@@ -76,11 +81,13 @@ stands-start t s₀ st s v = record {
   asc = asc-free t s₀ st;
   is-old = λ f h i. old f h (in-append s₀ i);
   old-is = λ f h. elim [ inl d ↦ absurd (none-before (d .1)) | inr d ↦ in-left (bare (procnone t) ∷ []) (d .0) ];
-  is-token = λ f h i. token f h (in-append s₀ i);
-  token-is = λ f h. elim [
-    | inl e ↦ in-right s₀ (here (e ∙ ap bare (token-zero t s (orders t s))))
-    | inr d ↦ absurd (none-before (d .1))
-  ];
+  tokens = record {
+    is-token = λ f h i. token f h (in-append s₀ i);
+    token-is = λ f h. elim [
+      | inl e ↦ in-right s₀ (here (e ∙ ap bare (token-zero t s (orders t s))))
+      | inr d ↦ absurd (none-before (d .1))
+    ];
+  };
 }
   where
     none-before : {i : ℕ} → i < 0 → ⊥
@@ -94,21 +101,13 @@ stands-start t s₀ st s v = record {
     token f h (inl i) = absurd (let z = state-low t s₀ st f i in omega arith)
     token f h (inr (here e)) = inl (e ∙ ap bare (sym (token-zero t s (orders t s))))
 
--- ---- what stands depends only on the objects of parameters found before j
+-- ---- which tokens stand depends only on the objects of parameters found before j
 -- v and w give the parameters of the parts before j the same objects
 abbrev pub AlikeBefore : Task → ℕ → ℕ → (ℕ → ℕ) → (ℕ → ℕ) → Type 0
 AlikeBefore t s j v w = (i : ℕ) → i < j → (p : ℕ) → In p (own t s (orders t s) i) → v p ≡ w p
 
 module _ {t t′ : Task} (G : Given t t′) (s₀ : List Fact) {s : ℕ} (l : s < length (t .schemas)) (j : ℕ) where
   module _ (v w : ℕ → ℕ) (alike : AlikeBefore t s j v w) where
-    done-alike : (r : ℕ) (f : Fact) → Done t s₀ s v r j f → Done t s₀ s w r j f
-    done-alike r f (i, h, old-of a k q p e) = (
-      i,
-      h,
-      old-of a k q p (e ∙ fact-path refl
-          (map-same v w (a .args) (λ x m. alike i h x (atom-owns G l i a k p x m)))),
-    )
-
     token-alike : (f : Fact) → Token t s₀ s v j f → Token t s₀ s w j f
     unfolding own
     token-alike f (inl e) = inl e
@@ -125,22 +124,9 @@ module _ {t t′ : Task} (G : Given t t′) (s₀ : List Fact) {s : ℕ} (l : s 
               (alike first a x (params-in (schemaAt t s) x (getD (orders t s) first 0) small has-it)),
         )
 
-  pub stands-alike : (v w : ℕ → ℕ) → AlikeBefore t s j v w → (S : List Fact) → Stands t s₀ s v j S → Stands t s₀ s w j S
-  stands-alike v w alike S h = record {
-    asc = h .asc;
-    is-old = λ f k i. forth f (h .is-old f k i);
-    old-is = λ f k d. h .old-is f k (back f d);
+  pub tokens-alike : (v w : ℕ → ℕ) → AlikeBefore t s j v w → (S : List Fact) → TokensStand t s₀ s v j S →
+      TokensStand t s₀ s w j S
+  tokens-alike v w alike S h = record {
     is-token = λ f k i. token-alike v w alike f (h .is-token f k i);
-    token-is = λ f k d. h .token-is f k (token-alike w v flipped f d);
+    token-is = λ f k d. h .token-is f k (token-alike w v (λ i q p k. sym (alike i q p k)) f d);
   }
-    where
-      flipped : AlikeBefore t s j w v
-      flipped i q p k = sym (alike i q p k)
-
-      forth : (f : Fact) → OldFact t s₀ s v j f → OldFact t s₀ s w j f
-      forth f (inl d) = inl (done-alike v w alike addition f d)
-      forth f (inr (i, n)) = inr (i, λ d. n (done-alike w v flipped deletion f d))
-
-      back : (f : Fact) → OldFact t s₀ s w j f → OldFact t s₀ s v j f
-      back f (inl d) = inl (done-alike w v flipped addition f d)
-      back f (inr (i, n)) = inr (i, λ d. n (done-alike v w alike deletion f d))
