@@ -1,8 +1,8 @@
 -- How long the text of a task can be. A number below 10 ^ d has at most d digits, so the limits of a task bound its
 -- lines: predicates have three digits, parameters, parts and parameter counts two, objects as arguments three and their
--- count four, arities one. With four arguments at most, the line of a schema's atom takes 20 bytes, and that of an
--- initial or goal atom 25; the limits on how many there are bound the whole.
-use Prim.Native.Nat.{ℕ, zero, suc, _+_, _*_, _^_, _≤_}
+-- count four, arities one. So the line of a pair takes 13 bytes; with four arguments at most, that of a schema's atom
+-- takes 20, and that of an initial or goal atom 25; the limits on how many there are bound the whole.
+use Prim.Native.Nat.{ℕ, zero, suc, _+_, _*_, _^_, _≤_, _<_}
 use mathlib.Core.Path.{_≡_, refl, ap}
 use mathlib.Core.Bool.{true}
 use mathlib.Core.List.{List, [], _∷_, _++_, map}
@@ -12,21 +12,22 @@ use lib.Dec.{ltb, leb}
 use borrow.Author.Tests.{ltb-true, leb-true}
 use Rattle.words.specs.Lists.{all, sum, concatMap}
 use Rattle.task.specs.Limits.{mostObjects, mostPredicates, mostSchemas, mostSchemaAtoms, mostInitial, mostGoal}
-use Rattle.task.specs.Limits.{mostArity, mostParameters, mostParts}
-use Rattle.task.specs.Task.{Atom, Fact, Schema, Task, argsFit, factsFit, schemaFits, schemaAtoms, wellFormed}
-use Rattle.words.proofs.Lists.{In, here, there, all-in, append-concatMap}
+use Rattle.task.specs.Limits.{mostArity, mostParameters, mostParts, mostPairs}
+use Rattle.task.specs.Task.{Atom, Fact, Pair, Schema, Task, argsFit, factsFit, pairFits, schemaFits, schemaAtoms}
+use Rattle.task.specs.Task.{schemaPairs, wellFormed}
+use Rattle.words.proofs.Lists.{and-left, and-right, In, here, there, all-in, append-concatMap}
 use Rattle.task.proofs.Tests.{SchemaTests, schema-tests, fits, fact-tests, TaskTests, task-tests}
 use Rattle.task.proofs.States.{argsFit-fitting}
 use Rattle.task.proofs.AtomsStand.{sized}
 use Rattle.text.specs.Lines.{Entry, newline, colon, digits, commaed, entryBytes, bytes}
-use Rattle.text.specs.Text.{roleKey, Line, taskLine, objectsLine, schemaLine, endLine, arityLine, partLine}
-use Rattle.text.specs.Text.{atomLine, writeLine, factEntry, atomEntry, schemaLines, write}
+use Rattle.text.specs.Text.{roleKey, Line, taskLine, objectsLine, schemaLine, endLine, arityLine, differLine}
+use Rattle.text.specs.Text.{partLine, atomLine, writeLine, factEntry, atomEntry, pairList, schemaLines, write}
 use Rattle.text.specs.TableLines.{longestText}
 use Rattle.text.proofs.DigitSteps.{digits-most}
 use Rattle.text.proofs.AtomLines.{Within, commaed-within}
 use Rattle.text.proofs.Parts.{count-below}
 use Rattle.text.proofs.Pieces.{pieces-map, pieces-most}
-use Rattle.text.proofs.TableText.{schemaPiece, initPiece, goalPiece, write-is}
+use Rattle.text.proofs.TableText.{schemaPiece, pairPiece, initPiece, goalPiece, write-is}
 
 -- ---- lines
 length-line : (key : List ℕ) (body : List ℕ) →
@@ -64,6 +65,20 @@ schemaLine-most n h =
     let l = length-line (bytes "schema") (digits n) in
     let d = digits-most 2 (omega arith) n (omega arith) in
     omega arith
+
+differLine-most : (params : ℕ) → params ≤ mostParameters → (q : Pair) → pairFits params q ≡ true →
+    length (pairPiece q) ≤ 13
+unfolding writeLine pairFits
+differLine-most params few q h =
+    let lower = ltb-true (q .lower) (q .higher) (and-left (ltb (q .lower) (q .higher)) _ h) in
+    let higher = ltb-true (q .higher) params (and-right (ltb (q .lower) (q .higher)) _ h) in
+    let l = length-line (bytes "differ") (commaed (pairList q)) in
+    let d = commaed-within 2 2 (pairList q) (omega arith) (each (omega arith) (omega arith)) in
+    omega arith
+  where
+    each : q .lower < 100 → q .higher < 100 → Within 2 (pairList q)
+    each a b n (here e) = digits-most 2 (omega arith) n (omega arith)
+    each a b n (there (here e)) = digits-most 2 (omega arith) n (omega arith)
 
 partLine-most : (ns : List ℕ) → 1 ≤ length ns → all (λ p. ltb p mostParts) ns ≡ true →
     length (writeLine (partLine ns)) ≤ 5 + 3 * length ns
@@ -128,17 +143,26 @@ module _ (t : Task) (c : TaskTests t) where
       (all-in (fits (t .objects) (t .arities)) (fact-tests (t .objects) (t .arities) fs h .fit) i)
 
   -- ---- schemas
-  schema-most : (s : Schema) → schemaFits (t .arities) s ≡ true → length (schemaPiece s) ≤ 15 + 23 * length (s .atoms)
+  schema-most : (s : Schema) → schemaFits (t .arities) s ≡ true →
+      length (schemaPiece s) ≤ 15 + 13 * length (s .pairs) + 23 * length (s .atoms)
   unfolding schemaLines concatMap
   schema-most s h =
       let q = schema-tests (t .arities) s h in
+      let few = leb-true (s .params) mostParameters (q .params) in
+      let told : Pair → Line = λ q. differLine (pairList q) in
       let said : Atom → Line = λ a. atomLine (a .role) (atomEntry a) in
       let parts : List ℕ = map (λ a. a .part) (s .atoms) in
       let last : List Line = partLine parts ∷ [] in
-      let head = schemaLine-most (s .params) (leb-true (s .params) mostParameters (q .params)) in
+      let behind : List Line = map said (s .atoms) ++ last in
+      let head = schemaLine-most (s .params) few in
       let whole = length-append (writeLine (schemaLine (s .params)))
-      (concatMap writeLine (map said (s .atoms) ++ last)) in
-      let behind = ap length (append-concatMap writeLine (map said (s .atoms)) last) in
+      (concatMap writeLine (map told (s .pairs) ++ behind)) in
+      let rest = ap length (append-concatMap writeLine (map told (s .pairs)) behind) in
+      let two = length-append (concatMap writeLine (map told (s .pairs))) (concatMap writeLine behind) in
+      let differs = ap length (pieces-map writeLine told (s .pairs)) in
+      let pairs = pieces-most pairPiece 13 (s .pairs) (λ r i.
+      differLine-most (s .params) few r (all-in (pairFits (s .params)) (q .pairs) i)) in
+      let third = ap length (append-concatMap writeLine (map said (s .atoms)) last) in
       let both = length-append (concatMap writeLine (map said (s .atoms))) (concatMap writeLine last) in
       let end = length-append (writeLine (partLine parts)) [] in
       let same = ap length (pieces-map writeLine said (s .atoms)) in
@@ -149,7 +173,7 @@ module _ (t : Task) (c : TaskTests t) where
       omega arith
 
   schemas-most : (ss : List Schema) → ((s : Schema) → In s ss → schemaFits (t .arities) s ≡ true) →
-      length (concatMap schemaPiece ss) ≤ 15 * length ss + 23 * schemaAtoms ss
+      length (concatMap schemaPiece ss) ≤ 15 * length ss + 13 * schemaPairs ss + 23 * schemaAtoms ss
   unfolding concatMap sum
   schemas-most [] h = omega arith
   schemas-most (s ∷ ss) h =
@@ -185,6 +209,7 @@ text-most t well =
     let m₇ = endLine-long in
     let many = leb-true (length (t .schemas)) mostSchemas (c .schemas) in
     let atoms = leb-true (schemaAtoms (t .schemas)) mostSchemaAtoms (c .atoms) in
+    let pairs = leb-true (schemaPairs (t .schemas)) mostPairs (c .pairs) in
     let first = leb-true (length (t .init)) mostInitial (c .inits) in
     let last = leb-true (length (t .goal)) mostGoal (c .goals) in
     omega arith

@@ -169,15 +169,16 @@ eight-words {s} {r} {p} {z} {a} {b} {c} {d} hs hr hp hz ha hb hc hd = record { e
     at (suc (suc (suc (suc (suc (suc (suc zero))))))) l = hd
     at (suc (suc (suc (suc (suc (suc (suc (suc k)))))))) l = absurd (omega arith)
 
-pub six-words : {a b c d e f : ℕ} → a < 65536 → b < 65536 → c < 65536 → d < 65536 → e < 65536 → f < 65536 →
-    Words 6 (a ∷ b ∷ c ∷ d ∷ e ∷ f ∷ [])
-six-words {a} {b} {c} {d} {e} {f} ha hb hc hd he hf = record { enough = omega arith; small = at }
+pub seven-words : {a b c d e f g : ℕ} → a < 65536 → b < 65536 → c < 65536 → d < 65536 → e < 65536 → f < 65536 →
+    g < 65536 → Words 7 (a ∷ b ∷ c ∷ d ∷ e ∷ f ∷ g ∷ [])
+seven-words {a} {b} {c} {d} {e} {f} {g} ha hb hc hd he hf hg = record { enough = omega arith; small = at }
   where
-    at : (k : ℕ) → k < 6 → getD (a ∷ b ∷ c ∷ d ∷ e ∷ f ∷ []) k 0 < 65536
+    at : (k : ℕ) → k < 7 → getD (a ∷ b ∷ c ∷ d ∷ e ∷ f ∷ g ∷ []) k 0 < 65536
     at zero l = ha
     at (suc zero) l = hb
     at (suc (suc zero)) l = hc
     at (suc (suc (suc zero))) l = hd
     at (suc (suc (suc (suc zero)))) l = he
     at (suc (suc (suc (suc (suc zero))))) l = hf
-    at (suc (suc (suc (suc (suc (suc k)))))) l = absurd (omega arith)
+    at (suc (suc (suc (suc (suc (suc zero)))))) l = hg
+    at (suc (suc (suc (suc (suc (suc (suc k))))))) l = absurd (omega arith)

@@ -1,50 +1,49 @@
 -- The schemas of a table, one turn of a loop each: where a turn stands, that all it reads lies in the table, that
 -- what it writes is the lines of its schema, and where the next one stands.
-use Prim.Native.Nat.{ℕ, suc, _+_, _-_, _*_, _≤_, _<_}
-use mathlib.Core.Path.{_≡_, sym, _∙_, ap, ap₂, subst}
+use Prim.Native.Nat.{ℕ, _+_, _-_, _*_, _≤_, _<_}
+use mathlib.Core.Path.{_≡_, sym, _∙_, ap₂, subst}
 use mathlib.Core.Bool.{true}
 use mathlib.Core.List.{List}
 use native.Mathlib.Omega.{arith}
 use lib.ListN.{length}
-use Rattle.words.specs.Lists.{sum}
-use Rattle.task.specs.Limits.{atomSize}
-use Rattle.task.specs.Layout.{headIn, paramsBase, rowsBase, paramsIn, atomBase}
+use Rattle.task.specs.Limits.{pairSize, atomSize}
+use Rattle.task.specs.Layout.{headIn, paramsBase, pairsBase, rowsBase, paramsIn, pairBase, atomBase}
 use Rattle.task.specs.Run.{schemaAt}
 use Rattle.task.specs.Table.{taskOf, isTable}
-use Rattle.task.proofs.Tables.{startOf}
+use Rattle.task.proofs.Tables.{startOf, pairStart}
 use Rattle.task.proofs.TableReads.{table-roomy}
-use Rattle.task.proofs.TablesByIndex.{start-suc}
-use Rattle.text.specs.TableLines.{AtomInside, SchemaRun, schemaText}
-use Rattle.text.proofs.TableAtoms.{frame, each-inside, start-most, run-long}
+use Rattle.text.specs.declared.writer.Rows.{Rows}
+use Rattle.text.specs.TableLines.{AtomInside, RowsInside, SchemaRun, schemaTextOf}
+use Rattle.text.proofs.TableAtoms.{each-inside}
 use Rattle.text.proofs.TableText.{schemaLinesIn, schema-lines}
+use Rattle.text.proofs.RowRuns.{RowsLeft, pair-block, atom-block, rows-first, row-begin, left-inside}
+use Rattle.text.proofs.RowRuns.{run-long, run-inside, rows-next}
 
--- a turn at schema s: its atoms begin at `at`, and `left` atoms of schemas are from there on
-pub record Turn (w : List ℕ) (schemas at left s : ℕ) : Type 0 where
+-- a turn at schema s: its pairs begin at `pair` and its atoms at `atom`, and so many pairs and atoms of schemas are from
+-- there on
+pub record Turn (w : List ℕ) (schemas pair pairs-left atom atoms-left s : ℕ) : Type 0 where
   pub schemas-are : schemas ≡ headIn w .schemas
-  pub atoms-begin : at ≡ atomBase w (startOf (taskOf w) s)
-  pub atoms-left : startOf (taskOf w) s + left ≡ headIn w .schemaAtoms
+  pub pairs : RowsLeft pairSize (pairsBase w) (headIn w .pairs) (pairStart (taskOf w)) s pair pairs-left
+  pub atoms : RowsLeft atomSize (rowsBase w) (headIn w .schemaAtoms) (startOf (taskOf w)) s atom atoms-left
 
 module _ {w : List ℕ} (table : isTable w ≡ true) where
-  pub turn-first : (schemas at left : ℕ) → schemas ≡ headIn w .schemas → at ≡ rowsBase w →
-      left ≡ headIn w .schemaAtoms → Turn w schemas at left 0
-  unfolding sum atomBase
-  turn-first schemas at left e f g = record {
+  pub turn-first : {schemas pair pairs-left atom atoms-left : ℕ} → schemas ≡ headIn w .schemas →
+      pair ≡ pairsBase w → pairs-left ≡ headIn w .pairs → atom ≡ rowsBase w → atoms-left ≡ headIn w .schemaAtoms →
+      Turn w schemas pair pairs-left atom atoms-left 0
+  turn-first e pair pairs atom atoms = record {
     schemas-are = e;
-    atoms-begin = omega arith;
-    atoms-left = omega arith;
+    pairs = rows-first (pair-block w table) pair pairs;
+    atoms = rows-first (atom-block w table) atom atoms;
   }
 
-  module _ {schemas at left s : ℕ} (turn : Turn w schemas at left s) where
-    pub begin-inside : at + atomSize * left ≤ length w
-    unfolding atomBase
-    begin-inside =
-        let c = table-roomy w table .inside in
-        let b = turn .atoms-begin in
-        let l = turn .atoms-left in
-        omega arith
+  module _ {schemas pair pairs-left atom atoms-left s : ℕ} (turn : Turn w schemas pair pairs-left atom atoms-left s)
+      where
+    -- the first words of the rows left, and the parameter count
+    pub pairs-read : (k : ℕ) → k < pairs-left → pair + pairSize * k < length w
+    pairs-read k h = let l = left-inside (pair-block w table) (turn .pairs) in omega arith
 
-    pub read-inside : (k : ℕ) → k < left → at + atomSize * k < length w
-    read-inside k h = let b = begin-inside in omega arith
+    pub atoms-read : (k : ℕ) → k < atoms-left → atom + atomSize * k < length w
+    atoms-read k h = let l = left-inside (atom-block w table) (turn .atoms) in omega arith
 
     pub count-inside : s < schemas → paramsBase w + s < length w
     count-inside h =
@@ -52,43 +51,47 @@ module _ {w : List ℕ} (table : isTable w ≡ true) where
         let e = turn .schemas-are in
         omega arith
 
-    module _ {n : ℕ} (h : s < schemas) (run : SchemaRun w at left s n) where
-      run-is : n ≡ length (schemaAt (taskOf w) s .atoms)
-      run-is =
-          let e = turn .schemas-are in
-          run-long w table s at left n (omega arith) (turn .atoms-begin) (turn .atoms-left) run
+    module _ {m n : ℕ} (h : s < schemas) (pairs-run : SchemaRun w pairSize pair pairs-left s m)
+        (atoms-run : SchemaRun w atomSize atom atoms-left s n) where
+      abbrev pub rowsOf : Rows
+      rowsOf = record { pair = pair; pairs = m; atom = atom; atoms = n }
 
-      pub run-inside : at + atomSize * n ≤ length w
-      run-inside = let l = begin-inside in let r = run .within in omega arith
+      known : s < headIn w .schemas
+      known = let e = turn .schemas-are in omega arith
 
-      pub atoms-inside : (k : ℕ) → k < n → AtomInside w (at + atomSize * k)
+      pub pairs-inside : pair + pairSize * m ≤ length w
+      pairs-inside = run-inside (pair-block w table) (turn .pairs) known pairs-run
+
+      pub atoms-end : atom + atomSize * n ≤ length w
+      atoms-end = run-inside (atom-block w table) (turn .atoms) known atoms-run
+
+      atoms-inside : (k : ℕ) → k < n → AtomInside w (atom + atomSize * k)
       unfolding atomBase
       atoms-inside k l =
-          let b = turn .atoms-begin in
-          let e : atomBase w (startOf (taskOf w) s + k) ≡ at + atomSize * k = omega arith in
-          let r = run .within in
-          let m = turn .atoms-left in
-          subst (AtomInside w) e (each-inside w table (startOf (taskOf w) s + k) (omega arith))
+          let r = atoms-run .within in
+          let m = turn .atoms .left-are in
+          subst (AtomInside w) (row-begin (atom-block w table) (turn .atoms) k)
+          (each-inside w table (startOf (taskOf w) s + k) (omega arith))
 
-      pub turn-lines : schemaLinesIn w s ≡ schemaText w (paramsIn w s) at n
+      pub rows-inside : RowsInside w rowsOf
+      rows-inside = let e = atoms-end in record { pairs = pairs-inside; atom = omega arith; atoms = atoms-inside }
+
+      pub turn-lines : schemaLinesIn w s ≡ schemaTextOf w (paramsIn w s) rowsOf
+      unfolding pairBase atomBase
       turn-lines =
-          let e = turn .schemas-are in
-          schema-lines w table s (omega arith) ∙
-          ap₂ (schemaText w (paramsIn w s)) (sym (turn .atoms-begin)) (sym run-is)
+          let pairs = run-long (pair-block w table) (turn .pairs) known pairs-run in
+          let atoms = run-long (atom-block w table) (turn .atoms) known atoms-run in
+          let there : ℕ = atomBase w (startOf (taskOf w) s) in
+          let many : ℕ = length (schemaAt (taskOf w) s .atoms) in
+          schema-lines w table s known ∙
+          (ap₂ (λ (p k : ℕ). schemaTextOf w (paramsIn w s) (record { pair = p; pairs = k; atom = there; atoms = many }))
+          (sym (turn .pairs .begin)) (sym pairs) ∙
+          ap₂ (λ (b k : ℕ). schemaTextOf w (paramsIn w s) (record { pair = pair; pairs = m; atom = b; atoms = k }))
+          (sym (turn .atoms .begin)) (sym atoms))
 
-      pub turn-next : Turn w schemas (at + atomSize * n) (left - n) (s + 1)
-      unfolding atomBase
-      turn-next =
-          let e = turn .schemas-are in
-          let r = run-is in
-          let q = start-suc w (frame w table) s (omega arith) in
-          let z : startOf (taskOf w) (suc s) ≡ startOf (taskOf w) (s + 1) =
-          let y : suc s ≡ s + 1 = omega arith in ap (startOf (taskOf w)) y in
-          let m = start-most w table (suc s) in
-          let b = turn .atoms-begin in
-          let l = turn .atoms-left in
-          record {
-            schemas-are = e;
-            atoms-begin = omega arith;
-            atoms-left = omega arith;
-          }
+      pub turn-next : Turn w schemas (pair + pairSize * m) (pairs-left - m) (atom + atomSize * n) (atoms-left - n) (s + 1)
+      turn-next = record {
+        schemas-are = turn .schemas-are;
+        pairs = rows-next (pair-block w table) (turn .pairs) known pairs-run;
+        atoms = rows-next (atom-block w table) (turn .atoms) known atoms-run;
+      }

@@ -1,29 +1,25 @@
--- The atoms of a table, for code that writes them: each lies in the table with its arity, its role says which line it
--- has, and the atoms of a schema are a run of those that name it.
-use Prim.Native.Nat.{ℕ, zero, suc, _+_, _-_, _*_, _≤_, _<_}
-use mathlib.Core.Path.{_≡_, sym, _∙_, ap, subst}
+-- The atoms of a table, for code that writes them: each lies in the table with its arity, and its role says which line
+-- it has.
+use Prim.Native.Nat.{ℕ, _+_, _*_, _≤_, _<_}
+use mathlib.Core.Path.{_≡_, sym, ap, subst}
 use mathlib.Core.Bool.{true}
 use mathlib.Core.List.{List, [], _∷_}
 use native.Mathlib.Omega.{arith}
-use native.Mathlib.Decide.{decLt}
-use lib.ListN.{length, getD, take}
+use lib.ListN.{length, getD}
 use lib.Dec.{leb}
 use borrow.Author.Tests.{leb-true}
-use Rattle.words.specs.Lists.{sum}
-use Rattle.task.specs.Limits.{atomSize}
 use Rattle.task.specs.Layout.{headIn, goalsFrom, atomTotal, atomBase}
 use Rattle.task.specs.Task.{Atom, Task, rolesAscend, schemaFits, noSchema}
 use Rattle.task.specs.Run.{schemaAt}
-use Rattle.task.specs.Table.{atomIn, schemaNumberIn, taskOf, isTable}
+use Rattle.task.specs.Table.{atomIn, taskOf, isTable}
 use Rattle.words.proofs.Lists.{and-left, and-right, In, here, there, all-in, in-getD}
 use Rattle.task.proofs.Tests.{schema-tests, task-tests}
-use Rattle.task.proofs.AtomsStand.{noAtom, counts}
+use Rattle.task.proofs.AtomsStand.{noAtom}
 use Rattle.task.proofs.Tables.{startOf, of-table, init-stands, goal-stands}
 use Rattle.task.proofs.TableReads.{table-roomy}
 use Rattle.task.proofs.TablesPass.{table-words}
-use Rattle.task.proofs.TablesByIndex.{Frame, table-frame, schemas-word, atoms-word, init-word}
-use Rattle.task.proofs.TablesByIndex.{goal-word, start-suc, atom-at, schema-of-atom, atom-lies}
-use Rattle.text.specs.TableLines.{AtomInside, SchemaRun}
+use Rattle.task.proofs.TablesByIndex.{Frame, table-frame, schemas-word, init-word, goal-word, atom-at}
+use Rattle.text.specs.TableLines.{AtomInside}
 
 -- "preconditions first, then adds, then deletes": no role of a schema's atom is above 2
 first-role : (a : Atom) (rest : List Atom) → rolesAscend (a ∷ rest) ≡ true → a .role ≤ 2
@@ -83,40 +79,3 @@ module _ (w : List ℕ) (table : isTable w ≡ true) where
   goal-role i h =
       let n = goal-word w frame in
       ap (λ (a : Atom). a .role) (goal-stands w t (frame .sizes) (frame .tabled) i (omega arith) .atom)
-
-  -- ---- where a schema's atoms end
-  take-most : (cs : List ℕ) (m : ℕ) → sum (take m cs) ≤ sum cs
-  unfolding sum
-  take-most [] zero = omega arith
-  take-most [] (suc m) = omega arith
-  take-most (c ∷ cs) zero = omega arith
-  take-most (c ∷ cs) (suc m) = let r = take-most cs m in omega arith
-
-  pub start-most : (s : ℕ) → startOf t s ≤ headIn w .schemaAtoms
-  start-most s = let r = take-most (counts (t .schemas)) s in let e = atoms-word w frame in omega arith
-
-  -- ---- a run of atoms that name a schema is the schema's
-  pub run-long : (s b left n : ℕ) → s < headIn w .schemas → b ≡ atomBase w (startOf t s) →
-      startOf t s + left ≡ headIn w .schemaAtoms →
-      SchemaRun w b left s n → n ≡ length (schemaAt t s .atoms)
-  unfolding schemaNumberIn atomBase
-  run-long s b left n l e f r = elim (decLt n (length (schemaAt t s .atoms))) [
-    | yes m ↦ absurd
-        (let q : atomBase w (startOf t s + n) ≡ b + atomSize * n = omega arith in
-        let a = start-suc w frame s l in
-        let inside = start-most (suc s) in
-        r .stops (omega arith) (ap (λ (j : ℕ). getD w j 0) (sym q) ∙ schema-of-atom w frame s n l m))
-    | no m ↦ elim (decLt (length (schemaAt t s .atoms)) n) [
-      | yes k ↦ absurd
-          (let j : ℕ = length (schemaAt t s .atoms) in
-          let q : atomBase w (startOf t s + j) ≡ b + atomSize * j = omega arith in
-          let named : schemaNumberIn w (startOf t s + j) ≡ s = ap (λ (x : ℕ). getD w x 0) q ∙ r .same j k in
-          let a = start-suc w frame s l in
-          let within = r .within in
-          let next = atom-lies w frame (startOf t s + j) (omega arith) .before-next in
-          let stop : startOf t s + j < startOf t (suc s) =
-          subst (λ (x : ℕ). startOf t s + j < startOf t (suc x)) named next in
-          omega arith)
-      | no k ↦ omega arith
-    ]
-  ]

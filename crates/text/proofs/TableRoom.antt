@@ -7,12 +7,12 @@ use mathlib.Core.List.{List, [], _∷_}
 use native.Mathlib.Omega.{arith}
 use lib.ListN.{length, getD}
 use Rattle.words.specs.Words.{wordBound}
-use Rattle.task.specs.Limits.{headWords, atomSize, tableLength, tableWords, mostPredicates, mostArity}
+use Rattle.task.specs.Limits.{headWords, pairSize, atomSize, tableLength, tableWords, mostPredicates, mostArity}
 use Rattle.task.proofs.Tables.{tableWords-is}
 use Rattle.text.specs.Text.{Draft}
 use Rattle.text.specs.ReadCode.{Words, Fitting}
-use Rattle.text.specs.Holding.{Holds, rowsAt}
-use Rattle.text.proofs.RowTests.{six-words}
+use Rattle.text.specs.Holding.{Holds, pairsAt, rowsAt}
+use Rattle.text.proofs.RowTests.{seven-words}
 use Rattle.text.specs.declared.draft.Counts.{Counts}
 
 -- what lies in a table lies in words that are long enough for one
@@ -27,11 +27,21 @@ module _ {d : Draft} {w : List ℕ} {c : Counts} (h : Holds d w c) where
       let schemas = h .few .schemas in
       in-table (omega arith) (h .long)
 
+  -- the pairs come behind the parameter counts, and the rows behind the pairs
+  abbrev pairsTo : ℕ
+  pairsTo = headWords + c .predicates + c .schemas
+
+  abbrev manyPairs : ℕ
+  manyPairs = pairSize * (c .pairs + c .apart)
+
   abbrev to : ℕ
-  to = headWords + c .predicates + c .schemas
+  to = pairsTo + manyPairs
 
   abbrev many : ℕ
   many = atomSize * (((c .closed + c .atoms) + c .initial) + c .goal)
+
+  pairs-room : pairsAt (c .predicates) + manyPairs ≤ rowsAt (c .predicates)
+  pairs-room = let pairs = h .few .pairs in omega arith
 
   rows-room : rowsAt (c .predicates) + many ≤ tableLength
   rows-room =
@@ -41,12 +51,24 @@ module _ {d : Draft} {w : List ℕ} {c : Counts} (h : Holds d w c) where
       let goal = h .few .goal in
       omega arith
 
-  rows-down : to ≤ rowsAt (c .predicates)
-  rows-down = let schemas = h .few .schemas in omega arith
+  pairs-down : pairsTo ≤ pairsAt (c .predicates)
+  pairs-down = let schemas = h .few .schemas in omega arith
 
-  -- the rows move down, and inside the words
-  pub move-room : (to ≤ rowsAt (c .predicates)) × (rowsAt (c .predicates) + many ≤ length w)
-  move-room = (rows-down, in-table rows-room (h .long))
+  rows-down : to ≤ rowsAt (c .predicates)
+  rows-down = let down = pairs-down in let room = pairs-room in omega arith
+
+  -- the pairs move down, and so do the rows, inside the words
+  pub pairs-move-room : (pairsTo ≤ pairsAt (c .predicates)) × (pairsAt (c .predicates) + manyPairs ≤ length w)
+  pairs-move-room =
+      let pairs = pairs-room in
+      let rows = rows-room in
+      (pairs-down, in-table (omega arith) (h .long))
+
+  pub move-room : {long : ℕ} → long ≡ length w →
+      (to ≤ rowsAt (c .predicates)) × (rowsAt (c .predicates) + many ≤ long)
+  move-room size =
+      let room : rowsAt (c .predicates) + many ≤ length w = in-table rows-room (h .long) in
+      (rows-down, omega arith)
 
   pub laid-room : to + many ≤ tableLength
   laid-room = let down = rows-down in let room = rows-room in omega arith
@@ -63,7 +85,7 @@ module _ {d : Draft} {w : List ℕ} {c : Counts} (h : Holds d w c) where
   head-room size = let z = tableWords-is in let long = h .long in omega arith
 
   pub head-words : Words headWords
-      (c .objects ∷ c .predicates ∷ c .schemas ∷ c .closed ∷ c .initial ∷ c .goal ∷ [])
+      (c .objects ∷ c .predicates ∷ c .schemas ∷ c .closed ∷ c .initial ∷ c .goal ∷ c .pairs ∷ [])
   head-words =
       let few = h .few in
       let objects = few .objects in
@@ -72,7 +94,8 @@ module _ {d : Draft} {w : List ℕ} {c : Counts} (h : Holds d w c) where
       let total = few .total in
       let initial = few .initial in
       let goal = few .goal in
-      six-words (omega arith) (omega arith) (omega arith) (omega arith) (omega arith) (omega arith)
+      let pairs = few .pairs in
+      seven-words (omega arith) (omega arith) (omega arith) (omega arith) (omega arith) (omega arith) (omega arith)
 
 -- ---- an atom that fits has a row
 module _ {w : List ℕ} {predicates bound p : ℕ} {kept : List ℕ} {count : ℕ} {told : Bool}

@@ -1,36 +1,39 @@
--- The text of a table's task by the words of the table: the head, the lines of each schema where its atoms begin, and
--- the lines of the initial and the goal atoms, which follow one another.
+-- The text of a table's task by the words of the table: the head, the lines of each schema where its pairs and its atoms
+-- begin, and the lines of the initial and the goal atoms, which follow one another.
 use Prim.Native.Nat.{ℕ, zero, suc, _+_, _-_, _*_, _≤_, _<_}
 use mathlib.Core.Path.{_≡_, refl, sym, _∙_, ap, ap₂, subst}
 use mathlib.Core.Bool.{true}
 use mathlib.Core.List.{List, [], _∷_, _++_, map, append-assoc, append-nil}
 use native.Mathlib.Omega.{arith}
 use lib.ListN.{length, getD}
-use lib.Dec.{eqb}
-use Rattle.words.specs.Lists.{filter, upTo, upFrom, concatMap}
+use Rattle.words.specs.Lists.{upTo, upFrom, concatMap}
 use Rattle.task.specs.Limits.{headWords, atomSize}
-use Rattle.task.specs.Layout.{headIn, paramsIn, atomBase}
-use Rattle.task.specs.Task.{Atom, Fact, Schema, Task}
+use Rattle.task.specs.Layout.{headIn, paramsIn, pairBase, atomBase}
+use Rattle.task.specs.Task.{Atom, Fact, Pair, Schema, Task}
 use Rattle.task.specs.Run.{schemaAt}
-use Rattle.task.specs.Table.{atomIn, factIn, schemaNumberIn, taskOf, isTable, aritiesIn}
+use Rattle.task.specs.Table.{pairIn, atomIn, factIn, schemaIn, taskOf, isTable, aritiesIn}
 use Rattle.words.proofs.Lists.{append-concatMap, upFrom-in, upFrom-append}
-use Rattle.task.proofs.Tables.{startOf, indices}
+use Rattle.task.proofs.Tables.{startOf, indices, pairStart, pair-indices}
+use Rattle.task.proofs.PairsStand.{pair-step}
 use Rattle.task.proofs.TablesByIndex.{schemas-word}
 use Rattle.text.specs.Lines.{digits, commaed, entryBytes, line}
-use Rattle.text.specs.Text.{Key, Line, taskLine, objectsLine, schemaLine, endLine, arityLine, partLine, atomLine}
-use Rattle.text.specs.Text.{initLine, goalLine, keyName, keyOf, roleKey, writeLine, factEntry, atomEntry}
-use Rattle.text.specs.Text.{schemaLines, taskLines, write}
-use Rattle.text.specs.TableLines.{spaced, entryAt, atomKey, atomText, atomsText, schemaText, schemasText}
-use Rattle.text.specs.TableLines.{headText}
+use Rattle.text.specs.Text.{Key, Line, taskLine, objectsLine, schemaLine, endLine, arityLine, differLine}
+use Rattle.text.specs.Text.{partLine, atomLine, initLine, goalLine, keyName, keyOf, roleKey, writeLine, factEntry}
+use Rattle.text.specs.Text.{atomEntry, pairList, schemaLines, taskLines, write}
+use Rattle.text.specs.TableLines.{spaced, entryAt, atomKey, atomText, atomsText, pairsText}
+use Rattle.text.specs.TableLines.{schemaText, schemasText, headText}
 use Rattle.text.proofs.Onwards.{onwards, onwards-all}
 use Rattle.text.proofs.AtomLines.{spaced-words}
-use Rattle.text.proofs.SchemaLines.{partsAt, schemaText-is}
+use Rattle.text.proofs.SchemaLines.{pairLine, partsAt, schemaText-is}
 use Rattle.text.proofs.Pieces.{pieces-map, pieces-pieces, pieces-same, pieces-from, map-from}
 use Rattle.text.proofs.TableAtoms.{frame, schema-role, init-role, goal-role}
 
 -- ---- the text of a task, part by part
 abbrev pub schemaPiece : Schema → List ℕ
 schemaPiece s = concatMap writeLine (schemaLines s)
+
+abbrev pub pairPiece : Pair → List ℕ
+pairPiece q = writeLine (differLine (pairList q))
 
 abbrev pub initPiece : Fact → List ℕ
 initPiece f = writeLine (initLine (factEntry f))
@@ -78,6 +81,15 @@ module _ (w : List ℕ) where
   abbrev pub lineIn : ℕ → List ℕ
   lineIn i = atomText w (atomBase w i)
 
+  -- pair i says its line as the table does
+  differ-line : (i : ℕ) → pairPiece (pairIn w i) ≡ line "differ" (commaed (spaced w (pairBase w i + 1) 1 2))
+  unfolding writeLine pairIn spaced upTo
+  differ-line i =
+      let b = pairBase w i in
+      let e : b + 1 ≡ b + 1 + 1 * 0 = omega arith in
+      let f : b + 2 ≡ b + 1 + 1 * 1 = omega arith in
+      ap₂ (λ (x y : ℕ). line "differ" (commaed (getD w x 0 ∷ getD w y 0 ∷ []))) e f
+
   pub atomsText-from : (i n : ℕ) → concatMap lineIn (upFrom i n) ≡ atomsText w (atomBase w i) n
   unfolding atomsText atomBase upTo
   atomsText-from i n =
@@ -85,6 +97,15 @@ module _ (w : List ℕ) where
       ap (λ (j : ℕ). concatMap lineIn (upFrom j n)) z ∙
       pieces-from lineIn (λ k. atomText w (atomBase w i + atomSize * k)) i 0 n
       (λ j. let e : atomBase w (i + j) ≡ atomBase w i + atomSize * j = omega arith in ap (atomText w) e)
+
+  pub pairsText-from : (i n : ℕ) → concatMap (λ j. pairPiece (pairIn w j)) (upFrom i n) ≡ pairsText w (pairBase w i) n
+  unfolding pairsText upTo
+  pairsText-from i n =
+      let z : i ≡ i + 0 = omega arith in
+      ap (λ (j : ℕ). concatMap (λ j. pairPiece (pairIn w j)) (upFrom j n)) z ∙
+      pieces-from (λ j. pairPiece (pairIn w j)) (pairLine w (pairBase w i)) i 0 n
+      (λ j. differ-line (i + j) ∙
+      ap (λ (b : ℕ). line "differ" (commaed (spaced w (b + 1) 1 2))) (pair-step w i j))
 
   pub parts-from : (i n : ℕ) → map (λ a. a .part) (map (atomIn w) (upFrom i n)) ≡ spaced w (atomBase w i + 3) atomSize n
   unfolding spaced atomBase atomIn upTo
@@ -116,13 +137,6 @@ module _ (w : List ℕ) where
   goal-line i e = ap (λ (r : ℕ). line (keyName (atomKey r)) (entryBytes (entryAt w (atomBase w i)))) (sym e)
 
 -- ---- a table's schemas
--- schema s of a table's task, as it is read
-abbrev pub schemaIn : List ℕ → ℕ → Schema
-schemaIn w s = record {
-  params = paramsIn w s;
-  atoms = map (atomIn w) (filter (λ i. eqb s (schemaNumberIn w i)) (upTo (headIn w .schemaAtoms)));
-}
-
 -- the lines of schema s of a table
 abbrev pub schemaLinesIn : List ℕ → ℕ → List ℕ
 schemaLinesIn w s = schemaPiece (schemaIn w s)
@@ -141,43 +155,62 @@ part-said : (ns : List ℕ) → writeLine (partLine ns) ≡ line "part" (commaed
 unfolding writeLine
 part-said ns = refl
 
--- the lines of a schema whose atoms are n from atom i on
-lines-of : (w : List ℕ) (params i n : ℕ) → ((j : ℕ) → i ≤ j → j < i + n → atomIn w j .role ≤ 2) →
-    schemaPiece (record { params = params; atoms = map (atomIn w) (upFrom i n) }) ≡ schemaText w params (atomBase w i) n
+-- the lines of a schema whose pairs are m from pair j on, and whose atoms are n from atom i on
+lines-of : (w : List ℕ) (params j m i n : ℕ) → ((k : ℕ) → i ≤ k → k < i + n → atomIn w k .role ≤ 2) →
+    schemaPiece (record {
+      params = params;
+      pairs = map (pairIn w) (upFrom j m);
+      atoms = map (atomIn w) (upFrom i n);
+    }) ≡
+    schemaText w params (pairBase w j) m (atomBase w i) n
 unfolding schemaLines concatMap
-lines-of w params i n roles =
+lines-of w params j m i n roles =
+    let told : Pair → Line = λ q. differLine (pairList q) in
     let said : Atom → Line = λ a. atomLine (a .role) (atomEntry a) in
+    let pairs : List Pair = map (pairIn w) (upFrom j m) in
     let atoms : List Atom = map (atomIn w) (upFrom i n) in
     let last : List Line = partLine (map (λ a. a .part) atoms) ∷ [] in
+    let differs : concatMap writeLine (map told pairs) ≡ pairsText w (pairBase w j) m =
+    pieces-map writeLine told pairs ∙
+    (pieces-map pairPiece (pairIn w) (upFrom j m) ∙ pairsText-from w j m) in
     let each : concatMap writeLine (map said atoms) ≡ atomsText w (atomBase w i) n =
     pieces-map writeLine said atoms ∙
     (pieces-map (λ a. writeLine (said a)) (atomIn w) (upFrom i n) ∙
-    (pieces-same (λ j. writeLine (said (atomIn w j))) (lineIn w) (upFrom i n)
-    (λ j k. let (a, b) = upFrom-in i n j k in schema-line w j (roles j a b)) ∙
+    (pieces-same (λ k. writeLine (said (atomIn w k))) (lineIn w) (upFrom i n)
+    (λ k x. let (a, b) = upFrom-in i n k x in schema-line w k (roles k a b)) ∙
     atomsText-from w i n)) in
-    let parts : concatMap writeLine last ≡ line "part" (commaed (spaced w (atomBase w i + 3) atomSize n)) =
+    let parts : concatMap writeLine last ≡ line "part" (partsAt w (atomBase w i) n) =
     append-nil (writeLine (partLine (map (λ a. a .part) atoms))) ∙
     (part-said (map (λ a. a .part) atoms) ∙ ap (λ (ns : List ℕ). line "part" (commaed ns)) (parts-from w i n)) in
-    ap (λ (bs : List ℕ). writeLine (schemaLine params) ++ bs)
-    (append-concatMap writeLine (map said atoms) last ∙ ap₂ (λ (x y : List ℕ). x ++ y) each parts) ∙
-    (ap (λ (bs : List ℕ). bs ++ (atomsText w (atomBase w i) n ++ line "part" (partsAt w params (atomBase w i) n)))
-    (schema-said params) ∙
-    sym (schemaText-is w params (atomBase w i) n))
+    let behind : concatMap writeLine (map said atoms ++ last) ≡
+    atomsText w (atomBase w i) n ++ line "part" (partsAt w (atomBase w i) n) =
+    append-concatMap writeLine (map said atoms) last ∙ ap₂ (λ (x y : List ℕ). x ++ y) each parts in
+    let rest : concatMap writeLine (map told pairs ++ (map said atoms ++ last)) ≡
+    pairsText w (pairBase w j) m ++ (atomsText w (atomBase w i) n ++ line "part" (partsAt w (atomBase w i) n)) =
+    append-concatMap writeLine (map told pairs) (map said atoms ++ last) ∙
+    ap₂ (λ (x y : List ℕ). x ++ y) differs behind in
+    ap₂ (λ (x y : List ℕ). x ++ y) (schema-said params) rest ∙
+    sym (schemaText-is w params (pairBase w j) m (atomBase w i) n)
 
--- the lines of schema s: its atoms begin where those of the schemas before it end
+-- the lines of schema s: its pairs and its atoms begin where those of the schemas before it end
 pub schema-lines : (w : List ℕ) → isTable w ≡ true → (s : ℕ) → s < headIn w .schemas →
     schemaLinesIn w s ≡
-    schemaText w (paramsIn w s) (atomBase w (startOf (taskOf w) s))
-    (length (schemaAt (taskOf w) s .atoms))
+    schemaText w (paramsIn w s) (pairBase w (pairStart (taskOf w) s)) (length (schemaAt (taskOf w) s .pairs))
+    (atomBase w (startOf (taskOf w) s)) (length (schemaAt (taskOf w) s .atoms))
 unfolding schemaAt
 schema-lines w table s l =
     let t = taskOf w in
     let f = frame w table in
     let n = schemas-word w f in
     let params : ℕ = paramsIn w s in
-    ap (λ (js : List ℕ). schemaPiece (record { params = params; atoms = map (atomIn w) js }))
-    (indices w t (f .sizes) (f .tabled) s (omega arith)) ∙
-    lines-of w params (startOf t s) (length (schemaAt t s .atoms)) (λ j a b.
+    ap₂ (λ (ks js : List ℕ). schemaPiece (record {
+      params = params;
+      pairs = map (pairIn w) ks;
+      atoms = map (atomIn w) js;
+    }))
+    (pair-indices w t (f .sizes) (f .tabled) s (omega arith)) (indices w t (f .sizes) (f .tabled) s (omega arith)) ∙
+    lines-of w params (pairStart t s) (length (schemaAt t s .pairs)) (startOf t s) (length (schemaAt t s .atoms))
+    (λ j a b.
     let k : ℕ = j - startOf t s in
     let e : startOf t s + k ≡ j = omega arith in
     subst (λ (x : ℕ). atomIn w x .role ≤ 2) e (schema-role w table s k l (omega arith)))

@@ -1,39 +1,38 @@
--- `text::writer::atoms_of` meets its contract. The invariant of its loop: the first n atoms are the schema's. The
--- measure is the number of atoms left, less n.
-use Rattle.task.specs.Limits.{atomSize}
+-- `text::writer::rows_of` meets its contract. The invariant of its loop: the first n rows are the schema's. The measure
+-- is the number of rows left, less n.
 use native.Mathlib.Omega.{arith}
 use Prim.Native.Nat.{ℕ, _+_, _-_, _*_, _≤_, _<_}
 use mathlib.Core.Path.{_≡_, sym, _∙_}
 use lib.ListN.{length, getD}
 use borrow.Author.Count.{below-more}
-use Rattle.text.proofs.writer.atoms_of.Statement.{statement}
-use Rattle.text.proofs.writer.atoms_of.Tie as tie
+use Rattle.text.proofs.writer.rows_of.Statement.{statement}
+use Rattle.text.proofs.writer.rows_of.Tie as tie
 
 abbrev Inv-loop : tie.InvT-loop
-Inv-loop table base left schema n₀ n = (n ≤ left) × ((k : ℕ) → k < n → getD table (base + atomSize * k) 0 ≡ schema)
+Inv-loop table size base left schema n₀ n = (n ≤ left) × ((k : ℕ) → k < n → getD table (base + size * k) 0 ≡ schema)
 
 abbrev μ-loop : tie.MeasureT-loop
-μ-loop table base left schema n₀ n = left - n
+μ-loop table size base left schema n₀ n = left - n
 
 loop-holds : tie.Need-loop-holds Inv-loop μ-loop
 loop-holds c = (omega arith, λ k l. absurd (omega arith))
 
-atom-inside : (c : tie.In-loop Inv-loop μ-loop) →
+row-inside : (c : tie.In-loop Inv-loop μ-loop) →
     let args = c .before .before .before .args in
-    args .base + atomSize * c .before .loop .n < length (args .table .now)
-atom-inside c = c .before .before .before .pre (c .before .loop .n) (c .loop-test .taken)
+    args .base + args .size * c .before .loop .n < length (args .table .now)
+row-inside c = c .before .before .before .pre (c .before .loop .n) (c .loop-test .taken)
 
 mul-wide : tie.Need-mul-wide Inv-loop μ-loop
-mul-wide c = let l = atom-inside c in omega arith
+mul-wide c = let l = row-inside c in omega arith
 
 add-wide : tie.Need-add-wide Inv-loop μ-loop
-add-wide c = let l = atom-inside c in omega arith
+add-wide c = let l = row-inside c in omega arith
 
 mul-wide-2 : tie.Need-mul-wide-2 Inv-loop μ-loop
-mul-wide-2 c = let l = atom-inside c in omega arith
+mul-wide-2 c = let l = row-inside c in omega arith
 
 shared-slice-read-wide : tie.Need-shared-slice-read-wide Inv-loop μ-loop
-shared-slice-read-wide c = atom-inside (c .before)
+shared-slice-read-wide c = row-inside (c .before)
 
 wide-requires : tie.Need-wide-requires Inv-loop μ-loop
 wide-requires c κs = tt
@@ -61,8 +60,8 @@ returns-2 c =
       stops = λ l e. absurd (omega arith);
     }
 
-pub atoms-of-spec : {M : Type 1} → statement M
-atoms-of-spec =
+pub rows-of-spec : {M : Type 1} → statement M
+rows-of-spec =
     tie.close
     (tie.spec Inv-loop μ-loop loop-holds mul-wide add-wide mul-wide-2 shared-slice-read-wide wide-requires returns
     (λ c. omega arith) (λ c. omega arith) loop-again returns-2)
