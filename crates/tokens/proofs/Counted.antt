@@ -8,7 +8,7 @@ use mathlib.Core.List.{List, [], _∷_, map}
 use lib.ListN.{length}
 use lib.Dec.{leb}
 use Rattle.words.specs.Lists.{all, every, upTo}
-use Rattle.task.specs.Limits.{mostPredicates, mostSchemas, mostSchemaAtoms, mostAtoms, mostInitial, mostGoal}
+use Rattle.task.specs.Limits.{mostPredicates, mostSchemas, mostSchemaAtoms, mostAtoms, mostInitial, mostGoal, mostPairs}
 use Rattle.task.specs.Task.{Task, wellFormed}
 use Rattle.tokens.specs.Split.{parts, laterParts, parCount, orders, splitSchema, splitTask, withinLimits}
 use Rattle.words.proofs.Lists.{bool-ext, In, all-in, in-all, in-map, in-upTo, upTo-in, in-concatMap}
@@ -17,7 +17,7 @@ use Rattle.tokens.proofs.Predicates.{predicate-count}
 use Rattle.tokens.proofs.WellSplit.{part-of, schema-of-part}
 use Rattle.words.proofs.Sums.{total}
 use Rattle.tokens.proofs.Sizes.{init-count, goal-count, partSize, part-size, schema-count}
-use Rattle.tokens.proofs.Totals.{schemaTotal, atom-total}
+use Rattle.tokens.proofs.Totals.{schemaTotal, atom-total, pairsTotal, pair-total}
 
 -- no part of any schema has too many atoms
 abbrev pub partsFew : Task → Bool
@@ -33,7 +33,8 @@ countTests t =
     leb (total schemaTotal (t .schemas)) mostSchemaAtoms ∷
     partsFew t ∷
     leb (length (t .init) + 1) mostInitial ∷
-    leb (length (t .goal) + 1) mostGoal ∷ []
+    leb (length (t .goal) + 1) mostGoal ∷
+    leb (total pairsTotal (t .schemas)) mostPairs ∷ []
 
 module _ (t : Task) (well : wellFormed t ≡ true) (ordered : Ordered t) where
   few-counted : all (λ s. leb (length (s .atoms)) mostAtoms) (splitTask t .schemas) ≡ partsFew t
@@ -74,4 +75,4 @@ module _ (t : Task) (well : wellFormed t ≡ true) (ordered : Ordered t) where
   unfolding withinLimits
   limits-counted =
       rw (predicate-count t, schema-count t ordered, atom-total t well ordered, few-counted)
-      (rw (init-count t, goal-count t) refl)
+      (rw (init-count t, goal-count t, pair-total t ordered) refl)

@@ -1,18 +1,17 @@
 -- The pairs of a part's schema: those of which the part has both parameters, renumbered by their index among the part's
 -- own parameters. Those ascend, so the renumbering keeps the order of parameters, and pairs fit and ascend as before.
 use Prim.Native.Nat.{ℕ, _<_}
-use mathlib.Core.Path.{_≡_, refl, sym, _∙_, ap}
-use mathlib.Core.Bool.{Bool, true, _&&_}
-use mathlib.Core.List.{List, map}
+use mathlib.Core.Path.{_≡_, _∙_, ap}
+use mathlib.Core.Bool.{Bool, true}
+use mathlib.Core.List.{List}
 use native.Mathlib.Omega.{arith}
 use lib.ListN.{length, getD}
-use lib.Dec.{ltb}
 use borrow.Author.Tests.{lt-ltb}
 use Rattle.words.specs.Lists.{all, filter, upTo, indexOf}
-use Rattle.task.specs.Task.{Pair, Schema, Task, pairFits, pairsAscend}
+use Rattle.task.specs.Task.{Pair, Task, pairFits, pairsAscend}
 use Rattle.task.specs.Run.{schemaAt}
 use Rattle.tokens.specs.Split.{has, hasBoth, paramsOf, own, ownPairs, splitSchema}
-use Rattle.words.proofs.Lists.{and-left, and-right, and-both, In, in-all, in-eq, in-filter, filter-in, in-map, map-in}
+use Rattle.words.proofs.Lists.{and-left, and-right, and-both, In, in-all, in-filter, filter-in, in-map, map-in}
 use Rattle.task.proofs.States.{SchemaFits}
 use Rattle.task.proofs.PairOrder.{renumbered, ascend-asc, asc-ascend, pairs-filter, pairs-map}
 use Rattle.tokens.proofs.Places.{index-small, index-less, params-in}

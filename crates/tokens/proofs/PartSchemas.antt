@@ -20,14 +20,15 @@ use Rattle.tokens.specs.Split.{laterHere, splitSchema, splitTask}
 use Rattle.words.proofs.Lists.{In, in-empty, in-append, in-all, in-any, in-eq, in-getD, in-map, upTo-in, length-upTo}
 use Rattle.words.proofs.Lists.{some-length}
 use Rattle.task.proofs.Tests.{tests-schema, hasPart}
-use Rattle.task.proofs.States.{Fitting, fitting-argsFit, in-names, schemaFits-fits}
+use Rattle.task.proofs.States.{Fitting, fitting-argsFit, in-names}
 use Rattle.words.proofs.Ascending.{filter-le}
 use Rattle.tokens.proofs.Places.{index-getD, has-atom, in-params}
 use Rattle.tokens.proofs.AtomLists.{Apart, apart-distinct, apart-append, roles-append, role-small, one-part}
 use Rattle.tokens.proofs.RoleAtoms.{renumber, an-old, the-token, to-role, part-is, preAtoms, addAtoms, delAtoms}
 use Rattle.tokens.proofs.RoleAtoms.{of-pre, of-add, of-del, of-schema, in-schema, pre-role, add-role, del-role}
 use Rattle.tokens.proofs.PartPairs.{part-pairs-fit, part-pairs-ascend}
-use Rattle.tokens.proofs.PartRoles.{PartOf, tests, pre-tokens, add-tokens, del-tokens, role-fits, role-apart}
+use Rattle.tokens.proofs.PartRoles.{PartOf, tests, facts, pre-tokens, add-tokens, del-tokens, role-fits}
+use Rattle.tokens.proofs.PartRoles.{role-apart}
 
 -- a schema has just the parameters that its atoms name
 pub record JustNamed (u : Schema) : Type 0 where
@@ -152,7 +153,6 @@ module _ (t : Task) (s : ℕ) (o : List ℕ) (j : ℕ) (P : PartOf t s o j) wher
     filled = in-all (hasPart (new .atoms)) (upTo (partCount (new .atoms))) (λ x i.
         let l = upTo-in (partCount (new .atoms)) x i in
         in-any (λ a. eqb x (a .part)) requires-token (eq-eqb x 0 (omega (arith, schema-parts))));
-    pairs = part-pairs-fit t s o j (t .arities) (schemaFits-fits (t .arities) (schemaAt t s) (P .fits));
-    pairs-order = part-pairs-ascend t s o j (t .arities) (schemaFits-fits (t .arities) (schemaAt t s) (P .fits))
-        (tests t s o j P .pairs-order);
+    pairs = part-pairs-fit t s o j (t .arities) (facts t s o j P);
+    pairs-order = part-pairs-ascend t s o j (t .arities) (facts t s o j P) (tests t s o j P .pairs-order);
   })

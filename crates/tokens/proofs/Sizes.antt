@@ -1,6 +1,6 @@
 -- The sizes of the split, as sums over the task: what can be counted before a word of the split is written.
 -- A part has the old atoms of its number, whatever their role, one bare token in each role that has tokens, and its
--- pars; schemas and their atoms are added up part by part. (`predicate-count` is among the predicates.)
+-- pars; schemas, their atoms and their pairs are added up part by part. (`predicate-count` is among the predicates.)
 use Prim.Native.Nat.{ℕ, zero, suc, _+_, _≤_, _<_}
 use mathlib.Core.Path.{_≡_, refl, _∙_, ap, ap₂}
 use mathlib.Core.Bool.{Bool, true, false, cond, _&&_}
@@ -9,17 +9,18 @@ use native.Mathlib.Omega.{arith}
 use lib.ListN.{length, getD, length-append, length-map}
 use lib.Dec.{eqb}
 use Rattle.words.specs.Lists.{filter, keepIf, sum, upTo}
-use Rattle.task.specs.Task.{noSchema}
-use Rattle.task.specs.Task.{Atom, Schema, Task, precondition, addition, deletion, schemaAtoms, schemaFits, wellFormed}
+use Rattle.task.specs.Task.{Atom, Schema, Task, precondition, addition, deletion, schemaAtoms, schemaPairs, schemaFits}
+use Rattle.task.specs.Task.{wellFormed, noSchema}
 use Rattle.task.specs.Run.{schemaAt, ofRole}
-use Rattle.tokens.specs.Split.{parts, token, own, oldAtoms, required, handedOn, lone, firstHere, lastHere}
-use Rattle.tokens.specs.Split.{laterHere, pars, orders, free, splitSchema, splitTask}
+use Rattle.tokens.specs.Split.{hasBoth, parts, token, own, ownPairs, oldAtoms, required, handedOn, lone}
+use Rattle.tokens.specs.Split.{firstHere, lastHere, laterHere, pars, orders, free, splitSchema, splitTask}
 use Rattle.words.proofs.Lists.{In, here, there, map-same, length-concatMap, length-upTo, upTo-in, map-map}
 use Rattle.task.proofs.Tests.{schema-tests}
 use Rattle.arcs.proofs.OrderTaken.{orderOf-laws}
 use Rattle.tokens.proofs.Accepted.{Ordered}
 use Rattle.tokens.proofs.AtomLists.{role-small}
 use Rattle.tokens.proofs.RoleAtoms.{renumber, atomsHere, parAtom, roleAtoms, preAtoms, addAtoms, delAtoms}
+use Rattle.tokens.proofs.PartPairs.{renumberPair, pairHere}
 use Rattle.tokens.proofs.WellSplit.{part-of}
 use Rattle.words.proofs.Sums.{one, total, length-keep, total-same, total-concatMap, by-place}
 
@@ -105,9 +106,38 @@ module _ (t : Task) (s : ℕ) (o : List ℕ) (j : ℕ) where
       go true m n = refl
       go false m n = refl
 
+  -- the pairs that it carries
+  abbrev pub pairsOf : ℕ
+  pairsOf = length (filter (λ q. hasBoth (schemaAt t s) q (getD o j 0)) (schemaAt t s .pairs))
+
+  pub part-pairs : length (splitSchema t s o j .pairs) ≡ pairsOf
+  unfolding splitSchema ownPairs
+  part-pairs = length-map (filter (pairHere t s o j) (schemaAt t s .pairs)) (renumberPair t s o j)
+
 -- ---- all schemas of the split
 abbrev partSchemas : Task → ℕ → List Schema
 partSchemas t s = map (splitSchema t s (orders t s)) (upTo (length (orders t s)))
+
+-- what is counted of them, part by part
+by-part : (t : Task) (count : Schema → ℕ) (size : ℕ → ℕ → ℕ) →
+    ((s j : ℕ) → s < length (t .schemas) → j < length (orders t s) →
+    count (splitSchema t s (orders t s) j) ≡ size s j) →
+    total count (splitTask t .schemas) ≡
+    total (λ s. total (size s) (upTo (length (orders t s)))) (upTo (length (t .schemas)))
+unfolding splitTask
+by-part t count size h =
+    total-concatMap count (partSchemas t) (upTo (length (t .schemas))) ∙
+    total-same (λ s. total count (partSchemas t s)) (λ s. total (size s) (upTo (length (orders t s))))
+    (upTo (length (t .schemas)))
+    (λ s i. ap sum (map-map count (splitSchema t s (orders t s)) (upTo (length (orders t s))) ∙
+    map-same (λ j. count (splitSchema t s (orders t s) j)) (size s) (upTo (length (orders t s)))
+    (λ j k. h s j (upTo-in (length (t .schemas)) s i) (upTo-in (length (orders t s)) j k))))
+
+-- the pairs
+pub pair-count : (t : Task) → schemaPairs (splitTask t .schemas) ≡
+    total (λ s. total (pairsOf t s (orders t s)) (upTo (length (orders t s)))) (upTo (length (t .schemas)))
+pair-count t =
+    by-part t (λ u. length (u .pairs)) (λ s. pairsOf t s (orders t s)) (λ s j l m. part-pairs t s (orders t s) j)
 
 module _ (t : Task) (ordered : Ordered t) where
   order-size : (s : ℕ) → s < length (t .schemas) → length (orders t s) ≡ parts (schemaAt t s)
@@ -127,21 +157,10 @@ module _ (t : Task) (ordered : Ordered t) where
           length-map (upTo (length (orders t s))) (splitSchema t s (orders t s)) ∙ length-upTo (length (orders t s)) ∙
           order-size s l
 
-  -- the schema atoms, part by part
+  -- the schema atoms
   pub atom-count : wellFormed t ≡ true →
       schemaAtoms (splitTask t .schemas) ≡
       total (λ s. total (partSize t s (orders t s)) (upTo (length (orders t s)))) (upTo (length (t .schemas)))
-  unfolding splitTask
   atom-count well =
-      total-concatMap (λ u. length (u .atoms)) (partSchemas t) (upTo (length (t .schemas))) ∙
-      total-same (λ s. schemaAtoms (partSchemas t s))
-      (λ s. total (partSize t s (orders t s)) (upTo (length (orders t s)))) (upTo (length (t .schemas)))
-      (λ s i. ap sum (sizes s (upTo-in (length (t .schemas)) s i)))
-    where
-      sizes : (s : ℕ) → s < length (t .schemas) →
-          map (λ u. length (u .atoms)) (partSchemas t s) ≡ map (partSize t s (orders t s)) (upTo (length (orders t s)))
-      sizes s l =
-          map-map (λ u. length (u .atoms)) (splitSchema t s (orders t s)) (upTo (length (orders t s))) ∙
-          map-same (λ j. length (splitSchema t s (orders t s) j .atoms)) (partSize t s (orders t s))
-          (upTo (length (orders t s)))
-          (λ j i. part-size t s (orders t s) j (part-of t well ordered s j l (upTo-in (length (orders t s)) j i) .fits))
+      by-part t (λ u. length (u .atoms)) (λ s. partSize t s (orders t s))
+      (λ s j l m. part-size t s (orders t s) j (part-of t well ordered s j l m .fits))

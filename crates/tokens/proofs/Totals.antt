@@ -1,6 +1,7 @@
--- The schema atoms of the split as a sum over the task alone, whatever the orders taken: each old atom stands in one
--- part, each of several parts has three bare tokens, and a parameter of n > 1 parts gives n + 1 pars (one added, n - 1
--- required, one deleted). Sums over positions and parameters are exchanged, and an order is a list of the parts.
+-- The schema atoms and the pairs of the split as sums over the task alone, whatever the orders taken: each old atom
+-- stands in one part, each of several parts has three bare tokens, and a parameter of n > 1 parts gives n + 1 pars (one
+-- added, n - 1 required, one deleted); a pair is carried by each part that has both its parameters. Sums over positions
+-- and parameters are exchanged, and an order is a list of the parts.
 use Prim.Native.Nat.{ℕ, suc, _+_, _*_, _≤_, _<_}
 use mathlib.Core.Path.{_≡_, refl, sym, _∙_, ap}
 use mathlib.Core.Bool.{Bool, true, false, cond, _&&_}
@@ -11,10 +12,10 @@ use lib.ListN.{length, getD}
 use lib.Dec.{eqb, ltb}
 use borrow.Author.Tests.{lt-ltb, le-ltb, eqb-true, eq-eqb}
 use Rattle.words.specs.Lists.{filter, keepIf, sum, upTo, firstOr, lastOr}
-use Rattle.task.specs.Task.{Atom, Schema, Task, schemaAtoms, wellFormed, noSchema}
+use Rattle.task.specs.Task.{Atom, Schema, Task, schemaAtoms, schemaPairs, wellFormed, noSchema}
 use Rattle.task.specs.Run.{schemaAt}
 use Rattle.tokens.specs.Split.{has, paramsOf, positions, firstPosition, lastPosition, parts, shared, own, lone}
-use Rattle.tokens.specs.Split.{firstHere, lastHere, laterHere, orders, splitTask}
+use Rattle.tokens.specs.Split.{hasBoth, firstHere, lastHere, laterHere, orders, splitTask}
 use Rattle.words.proofs.Lists.{In, here, there, in-eq, in-upTo, upTo-in, length-upTo, filter-all, filter-none}
 use Rattle.words.proofs.Ascending.{Once, once-cons, once-upFrom, once-filter}
 use Rattle.task.proofs.SchemaWords.{part-small}
@@ -23,7 +24,7 @@ use Rattle.tokens.proofs.Places.{last-in, first-least, last-most}
 use Rattle.words.proofs.Sums.{one, total, total-same, total-add, total-one, length-filter, filter-filter, exchange}
 use Rattle.words.proofs.Sums.{by-place, once-apart, eqb-turn, pick-one, reorder}
 use Rattle.tokens.proofs.Accepted.{Ordered}
-use Rattle.tokens.proofs.Sizes.{atomsOf, parsOf, partSize, atom-count}
+use Rattle.tokens.proofs.Sizes.{atomsOf, parsOf, partSize, pairsOf, atom-count, pair-count}
 
 total-three : {A : Type 0} (xs : List A) → total (λ x. 3) xs ≡ 3 * length xs
 unfolding sum
@@ -98,6 +99,10 @@ parsFor s x = cond (shared s x) (suc (found s x)) 0
 abbrev pub schemaTotal : Schema → ℕ
 schemaTotal s = length (s .atoms) + cond (eqb (parts s) 1) 1 (3 * parts s + total (parsFor s) (upTo (s .params)))
 
+-- the pairs that they carry
+abbrev pub pairsTotal : Schema → ℕ
+pairsTotal s = total (λ q. length (filter (hasBoth s q) (upTo (parts s)))) (s .pairs)
+
 module _ (t : Task) (s : ℕ) (o : List ℕ) (order : OrderOf (schemaAt t s) o) where
   abbrev old : Schema
   old = schemaAt t s
@@ -128,6 +133,18 @@ module _ (t : Task) (s : ℕ) (o : List ℕ) (order : OrderOf (schemaAt t s) o) 
           total-same (λ p. one (eqb p (a .part))) (λ p. one (eqb (a .part) p)) (upTo (parts old))
           (λ p k. ap one (eqb-turn p (a .part))) ∙
           pick-one (λ p. 1) (a .part) (once-upFrom 0 (parts old)) i
+
+  -- each pair is carried by the parts that have both
+  pub pairs-total : total (pairsOf t s o) (upTo (length o)) ≡ pairsTotal old
+  pairs-total =
+      over-parts (λ p. length (filter (λ q. hasBoth old q p) (old .pairs))) ∙
+      total-same (λ p. length (filter (λ q. hasBoth old q p) (old .pairs)))
+      (λ p. total (λ q. one (hasBoth old q p)) (old .pairs)) (upTo (parts old))
+      (λ p i. length-filter (λ q. hasBoth old q p) (old .pairs)) ∙
+      exchange (λ p q. one (hasBoth old q p)) (upTo (parts old)) (old .pairs) ∙
+      total-same (λ q. total (λ p. one (hasBoth old q p)) (upTo (parts old)))
+      (λ q. length (filter (hasBoth old q) (upTo (parts old)))) (old .pairs)
+      (λ q i. sym (length-filter (hasBoth old q) (upTo (parts old))))
 
   pars-total : (test : ℕ → ℕ → Bool) → total (λ j. parsOf t s o j (test j)) (upTo (length o)) ≡
       total (λ x. length (filter (λ j. test j x) (positions old o x))) (upTo (old .params))
@@ -236,3 +253,14 @@ atom-total t well ordered =
     (λ s i. schema-total t s (orders t s)
     (orderOf-laws (schemaAt t s) (orders t s) (ordered s (upTo-in (length (t .schemas)) s i)))) ∙
     by-place schemaTotal (t .schemas) noSchema
+
+-- and its pairs
+pub pair-total : (t : Task) → Ordered t → schemaPairs (splitTask t .schemas) ≡ total pairsTotal (t .schemas)
+unfolding schemaAt
+pair-total t ordered =
+    pair-count t ∙
+    total-same (λ s. total (pairsOf t s (orders t s)) (upTo (length (orders t s)))) (λ s. pairsTotal (schemaAt t s))
+    (upTo (length (t .schemas)))
+    (λ s i. pairs-total t s (orders t s)
+    (orderOf-laws (schemaAt t s) (orders t s) (ordered s (upTo-in (length (t .schemas)) s i)))) ∙
+    by-place pairsTotal (t .schemas) noSchema
