@@ -104,7 +104,7 @@ write-read table text other n h long =
     (read-result bs other t long (read-written t fits) ∙
     ap (λ (ws : List ℕ). record { told = result []; buffer = over ws other }) words)
 
--- .. so the first 13,406 words of both tables are the same
+-- .. so the first 14,007 words of both tables are the same
 pub write-read-words : (table text other : List ℕ) (n : ℕ) → writeOutcome table text .told ≡ result (n ∷ []) →
     longEnough other ≡ true →
     take tableWords (readOutcome (take n (writeOutcome table text .buffer)) other .buffer) ≡ take tableWords table

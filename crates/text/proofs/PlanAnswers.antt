@@ -1,5 +1,5 @@
 -- What `planOutcome` is of a plan that is read and of one that is refused; and what a caller of `read_plan` knows by
--- its answer: the plan with its number of steps, whose words are good steps of the task; or the line that was refused.
+-- its answer: the plan with its number of steps, whose words are choices of objects; or the line that was refused.
 use Rattle.task.specs.declared.Place.the-variants as place
 use Prim.Native.Nat.{ℕ, _*_}
 use mathlib.Core.Path.{_≡_, refl, sym, _∙_, ap, subst}
@@ -18,7 +18,7 @@ use Rattle.task.proofs.Tables.{of-table}
 use Rattle.text.specs.Reading.{Reading, read, refusedAt}
 use Rattle.text.specs.Plan.{planWords, readPlan}
 use Rattle.text.specs.Outcomes.{planDone, planOutcome}
-use Rattle.text.proofs.PlanSteps.{GoodPlan, plan-words}
+use Rattle.text.proofs.PlanSteps.{PlanWords, plan-words}
 use Rattle.task.proofs.Answers.{told-by, left-by}
 
 -- ---- of a plan
@@ -40,7 +40,7 @@ pub record PlanRead (t : Task) (text : List ℕ) (n : ℕ) (after : List ℕ) : 
   pub steps : List Step
   pub is : readPlan t text ≡ read steps
   pub count : length steps ≡ n
-  pub words : GoodPlan t steps (take (stepSize * n) after)
+  pub words : PlanWords t steps (take (stepSize * n) after)
 
 pub record PlanRefused (t : Task) (text : List ℕ) (k : ℕ) (p : Place) : Type 0 where
   pub line : ℕ
@@ -71,7 +71,7 @@ module _ (table text lent : List ℕ) where
             steps = xs;
             is = e;
             count = count;
-            words = subst (GoodPlan t xs) lies (plan-words t (of-table table is-table .0) text lent xs e);
+            words = subst (PlanWords t xs) lies (plan-words t (of-table table is-table .0) text lent xs e);
           }
 
   pub answer-refused : (k : ℕ) (p : Place) → refused k p [] ≡ planOutcome table text lent .told →

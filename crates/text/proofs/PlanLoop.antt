@@ -14,7 +14,7 @@ use borrow.Author.Tests.{lt-ltb, le-ltb, eq-eqb, ne-eqb}
 use Rattle.words.specs.Lists.{all, concatMap, over}
 use Rattle.task.specs.Limits.{stepSize}
 use Rattle.task.specs.Task.{Task, wellFormed}
-use Rattle.task.specs.Run.{Step, isStep, stepWords}
+use Rattle.task.specs.Run.{Step, isChoice, stepWords}
 use Rattle.words.proofs.Lists.{here, there}
 use Rattle.text.specs.declared.cursor.Cursor.{Cursor}
 use Rattle.text.specs.declared.plan.PlanTurn.{PlanTurn}
@@ -74,7 +74,7 @@ module _ (xs : List Step) (bs : List ℕ) where
 
 -- ---- what a line does
 module _ (t : Task) (xs : List Step) where
-  pub step-taken : (s : ℕ) (os : List ℕ) → length xs < mostPlanSteps → isStep t (stepOf s os) ≡ true →
+  pub step-taken : (s : ℕ) (os : List ℕ) → length xs < mostPlanSteps → isChoice t (stepOf s os) ≡ true →
       takePlanLine t xs (stepLine (record { head = s; list = os })) ≡ goOn (xs ++ (stepOf s os ∷ []))
   unfolding takePlanLine
   step-taken s os l h = need-met 4 (lt-ltb (length xs) mostPlanSteps l) (need-met 5 h refl)
@@ -86,7 +86,7 @@ module _ (t : Task) (xs : List Step) where
   one-too-many s os l = need-fails 4 _ (le-ltb (length xs) mostPlanSteps l)
 
   -- "a wrong schema, object or number of objects 5"
-  pub step-wrong : (s : ℕ) (os : List ℕ) → length xs < mostPlanSteps → isStep t (stepOf s os) ≡ false →
+  pub step-wrong : (s : ℕ) (os : List ℕ) → length xs < mostPlanSteps → isChoice t (stepOf s os) ≡ false →
       takePlanLine t xs (stepLine (record { head = s; list = os })) ≡ refuse 5
   unfolding takePlanLine
   step-wrong s os l h = need-met 4 (lt-ltb (length xs) mostPlanSteps l) (need-fails 5 _ h)
@@ -110,7 +110,7 @@ pub plan-turned-at : (t : Task) (text : List ℕ) (from body : Cursor) (xs : Lis
     PlanTurned t text body xs m w r after → PlanTurned t text from xs l w r after
 plan-turned-at t text from body xs l m w (turn.GoOn at) after moved e h = record {
   last = h .last;
-  is-step = h .is-step;
+  is-choice = h .is-choice;
   room = h .room;
   is = λ n next. rw e (h .is n next);
   put = h .put;
@@ -127,7 +127,7 @@ module _ (t : Task) (text lent : List ℕ) where
     pub steps : List Step
     pub count : length steps ≡ n
     pub few : n ≤ mostPlanSteps
-    pub good : all (isStep t) steps ≡ true
+    pub good : all (isChoice t) steps ≡ true
     pub words : Wrote lent 0 (stepSize * n) (λ k. getD (concatMap stepWords steps) k 0) w
     pub so-far : readPlan t text ≡ readLines nextPlanLine (takePlanLine t) (at .line) steps (rest text at)
 
@@ -168,8 +168,8 @@ module _ (t : Task) (text lent : List ℕ) where
           steps = s .steps ++ (g .last ∷ []);
           count = omega (arith, length-append (s .steps) (g .last ∷ []));
           few = omega arith;
-          good = all-snoc (isStep t) (s .steps) (g .last) (s .good) (g .is-step);
-          words = one-more t well (s .steps) (s .good) (g .last) (g .is-step) c (s .words) (g .put);
+          good = all-snoc (isChoice t) (s .steps) (g .last) (s .good) (g .is-choice);
+          words = one-more t well (s .steps) (s .good) (g .last) (g .is-choice) c (s .words) (g .put);
           so-far = so-turned ∙ (g .is (at .line) onward ∙
               ap (λ (i : ℕ). readLines nextPlanLine (takePlanLine t) i (s .steps ++ (g .last ∷ [])) (rest text next))
               (sym z));

@@ -1,34 +1,32 @@
 -- A step of a plan as the code takes it: what the tests of its schema and objects come to, the thirteen words that are
--- put for it, and the words of a plan that was read: good steps of the task, which are read back as the plan's.
-use Prim.Native.Nat.{ℕ, zero, suc, _+_, _-_, _*_, _≤_, _<_}
+-- put for it, and the words of a plan that was read: choices of objects, which are read back as the plan's.
+use Prim.Native.Nat.{ℕ, zero, suc, _+_, _-_, _*_, _/_, _≤_, _<_}
 use mathlib.Core.Path.{_≡_, refl, sym, _∙_, ap, subst}
 use mathlib.Core.Bool.{Bool, true, false, _&&_}
-use mathlib.Core.List.{List, [], _∷_, _++_, append-nil}
-use mathlib.Core.Option.{none}
+use mathlib.Core.List.{List, [], _∷_, _++_, map, append-nil}
 use native.Mathlib.Omega.{arith}
 use native.Mathlib.Decide.{decLt}
 use lib.ListN.{length, getD, take, set, replicate, length-set, getD-replicate, List·getD-append}
 use lib.Seq.{getD-append-add, getD-take, length-take-le, getD-set-same, getD-set-other}
 use lib.Dec.{eqb, ltb}
 use borrow.Author.Tests.{leb-true, le-ltb, lt-ltb, eq-eqb, ne-eqb}
-use Rattle.words.specs.Lists.{all, concatMap, over, padded}
+use Rattle.words.specs.Lists.{all, concatMap, upTo, upFrom, over, padded}
 use Rattle.task.specs.Limits.{stepSize}
 use Rattle.task.specs.Task.{Task, wellFormed}
 use Rattle.task.specs.Table.{taskOf, isTable}
-use Rattle.task.specs.Run.{Step, schemaAt, isStep, stepWords, paramCount, stepsIn, badStep}
-use Rattle.words.proofs.Lists.{in-getD, all-in, append-concatMap}
+use Rattle.task.specs.Run.{Step, schemaAt, isChoice, stepWords, paramCount, stepAt, stepsIn}
+use Rattle.words.proofs.Lists.{in-getD, all-in, append-concatMap, tabulate}
 use Rattle.task.proofs.Tests.{task-tests}
 use Rattle.task.proofs.Tables.{of-table}
 use Rattle.words.proofs.Puts.{take-over}
-use Rattle.task.proofs.States.{isStep-is}
+use Rattle.task.proofs.States.{isChoice-is}
 use Rattle.words.proofs.Words.{and-false}
-use Rattle.task.proofs.StepWords.{StepSized, length-steps, params-few, step-sized}
-use Rattle.task.proofs.BadSteps.{written-steps, steps-written}
+use Rattle.task.proofs.StepWords.{noStep, StepSized, length-stepWords, step-in, at-step, length-steps, params-few}
 use Rattle.text.specs.Reading.{read}
 use Rattle.text.specs.Plan.{mostPlanSteps, planWords, readPlan}
 use Rattle.text.specs.ReadCode.{Listed, Wrote}
 use Rattle.text.specs.PlanCode.{stepOf}
-use Rattle.text.proofs.PlanText.{plan-read-steps}
+use Rattle.text.proofs.PlanText.{plan-read-choices}
 use Rattle.text.proofs.RowTests.{listed-take}
 use Rattle.text.proofs.LaidOut.{over-is}
 
@@ -37,20 +35,20 @@ module _ (t : Task) (s : ℕ) (os : List ℕ) where
   abbrev objectsFit : Bool
   objectsFit = all (λ o. ltb o (t .objects)) os
 
-  pub wrong-schema : length (t .schemas) ≤ s → false ≡ isStep t (stepOf s os)
-  unfolding isStep
+  pub wrong-schema : length (t .schemas) ≤ s → false ≡ isChoice t (stepOf s os)
+  unfolding isChoice
   wrong-schema l =
       sym (ap (λ (b : Bool). b && (eqb (length os) (schemaAt t s .params) && objectsFit))
       (le-ltb s (length (t .schemas)) l))
 
-  pub wrong-number : (paramCount t s ≡ length os → ⊥) → false ≡ isStep t (stepOf s os)
-  unfolding isStep paramCount
+  pub wrong-number : (paramCount t s ≡ length os → ⊥) → false ≡ isChoice t (stepOf s os)
+  unfolding isChoice paramCount
   wrong-number n =
       sym (ap (λ (b : Bool). ltb s (length (t .schemas)) && (b && objectsFit))
       (ne-eqb (length os) (schemaAt t s .params) (λ e. n (sym e))) ∙ and-false (ltb s (length (t .schemas))))
 
-  pub right-number : s < length (t .schemas) → paramCount t s ≡ length os → objectsFit ≡ isStep t (stepOf s os)
-  unfolding isStep paramCount
+  pub right-number : s < length (t .schemas) → paramCount t s ≡ length os → objectsFit ≡ isChoice t (stepOf s os)
+  unfolding isChoice paramCount
   right-number l e =
       sym (rw (lt-ltb s (length (t .schemas)) l, eq-eqb (length os) (schemaAt t s .params) (sym e)) refl)
 
@@ -58,7 +56,7 @@ module _ (t : Task) (s : ℕ) (os : List ℕ) where
 pub step-judged : (w : List ℕ) → isTable w ≡ true → (s count : ℕ) (kept : List ℕ) (r : Bool) → length kept ≡ 12 →
     s < length (taskOf w .schemas) → paramCount (taskOf w) s ≡ count → (objects : ℕ) → objects ≡ taskOf w .objects →
     r ≡ all (λ o. ltb o objects) (take count kept) → (ns : List ℕ) → Listed ns count kept →
-    r ≡ isStep (taskOf w) (stepOf s ns)
+    r ≡ isChoice (taskOf w) (stepOf s ns)
 step-judged w table s count kept r size known e objects many h ns listed =
     let few = params-few (taskOf w) (of-table w table .0) s in
     let c = listed .counted in
@@ -73,12 +71,12 @@ pub record StepKept (s count : ℕ) (kept : List ℕ) : Type 0 where
   pub small : (k : ℕ) → k < count → getD kept k 0 < 65536
 
 pub step-kept : (w : List ℕ) → isTable w ≡ true → (s count : ℕ) (kept ns : List ℕ) → length kept ≡ 12 →
-    Listed ns count kept → isStep (taskOf w) (stepOf s ns) ≡ true → StepKept s count kept
+    Listed ns count kept → isChoice (taskOf w) (stepOf s ns) ≡ true → StepKept s count kept
 unfolding paramCount
 step-kept w table s count kept ns size listed h =
     let t = taskOf w in
     let well = of-table w table .0 in
-    let is = isStep-is t (stepOf s ns) h in
+    let is = isChoice-is t (stepOf s ns) h in
     let c = listed .counted in
     let n = is .count in
     let few = params-few t well s in
@@ -166,12 +164,39 @@ wrote-on {lent} {w} {after} {n} {m} xs ys e a b = record {
           (sym (getD-append-add xs ys (k - n) 0) ∙ ap (λ (i : ℕ). getD (xs ++ ys) i 0) y))
     ]
 
-module _ (t : Task) (well : wellFormed t ≡ true) (xs : List Step) (steps : all (isStep t) xs ≡ true) where
+-- ---- the words of choices
+-- each has thirteen words, and is read back
+pub choice-sized : (t : Task) → wellFormed t ≡ true → (x : Step) → isChoice t x ≡ true → length (stepWords x) ≡ stepSize
+unfolding paramCount
+choice-sized t well x h =
+    let few = params-few t well (x .schema) in
+    let count = isChoice-is t x h .count in
+    length-stepWords x (omega arith)
+
+module _ (t : Task) (well : wellFormed t ≡ true) (xs : List Step) (choices : all (isChoice t) xs ≡ true) where
   pub all-sized : StepSized xs
-  all-sized x i = step-sized t well x (all-in (isStep t) steps i)
+  all-sized x i = choice-sized t well x (all-in (isChoice t) choices i)
+
+  choice-back : (k : ℕ) → k < length xs → stepAt t (concatMap stepWords xs) k ≡ getD xs k noStep
+  unfolding stepAt paramCount
+  choice-back k l =
+      let w = concatMap stepWords xs in
+      let x = getD xs k noStep in
+      step-in w (paramCount t) k x (isChoice-is t x (all-in (isChoice t) choices (in-getD xs k noStep l)) .count)
+      (at-step w xs all-sized (λ j m. let z : 0 + j ≡ j = omega arith in ap (λ (i : ℕ). getD w i 0) z) k l)
+
+  pub choices-written : stepsIn t (concatMap stepWords xs) ≡ xs
+  unfolding stepsIn upTo
+  choices-written =
+      let w = concatMap stepWords xs in
+      let n = length-steps xs all-sized in
+      let q : length w / stepSize ≡ length xs = omega arith in
+      ap (λ (m : ℕ). map (stepAt t w) (upFrom 0 m)) q ∙
+      tabulate (stepAt t w) 0 xs noStep
+      (λ k l. let z : 0 + k ≡ k = omega arith in ap (stepAt t w) z ∙ choice-back k l)
 
   -- one step more behind those that were put
-  pub one-more : (x : Step) → isStep t x ≡ true → {lent w after : List ℕ} {n : ℕ} → length xs ≡ n →
+  pub one-more : (x : Step) → isChoice t x ≡ true → {lent w after : List ℕ} {n : ℕ} → length xs ≡ n →
       Wrote lent 0 (stepSize * n) (λ k. getD (concatMap stepWords xs) k 0) w →
       Wrote w (stepSize * length xs) stepSize (λ k. getD (stepWords x) k 0) after →
       Wrote lent 0 (stepSize * (n + 1)) (λ k. getD (concatMap stepWords (xs ++ (x ∷ []))) k 0) after
@@ -201,22 +226,24 @@ module _ (t : Task) (well : wellFormed t ≡ true) (xs : List Step) (steps : all
       (λ k q. h .behind k (omega arith))
 
 -- ---- a plan that was read
--- its words are good steps of the task, the plan's steps
-pub record GoodPlan (t : Task) (xs : List Step) (w : List ℕ) : Type 0 where
+-- its words are the plan's steps, choices of objects for schemas of the task
+pub record PlanWords (t : Task) (xs : List Step) (w : List ℕ) : Type 0 where
   pub few : length xs ≤ mostPlanSteps
+  pub choices : all (isChoice t) xs ≡ true
   pub are : w ≡ concatMap stepWords xs
-  pub good : badStep t w ≡ none
+  pub size : length w ≡ stepSize * length xs
   pub steps : stepsIn t w ≡ xs
 
 pub plan-words : (t : Task) → wellFormed t ≡ true → (text lent : List ℕ) (xs : List Step) → readPlan t text ≡ read xs →
-    GoodPlan t xs (take (stepSize * length xs) (over (concatMap stepWords xs) lent))
+    PlanWords t xs (take (stepSize * length xs) (over (concatMap stepWords xs) lent))
 plan-words t well text lent xs h =
-    let (steps, few) = plan-read-steps t text xs h in
-    let n = length-steps xs (all-sized t well xs steps) in
+    let (choices, few) = plan-read-choices t text xs h in
+    let n = length-steps xs (all-sized t well xs choices) in
     let e = take-over (concatMap stepWords xs) lent (stepSize * length xs) n in
     record {
       few = few;
+      choices = choices;
       are = e;
-      good = ap (badStep t) e ∙ written-steps t well xs steps;
-      steps = ap (stepsIn t) e ∙ steps-written t well xs steps;
+      size = ap length e ∙ n;
+      steps = ap (stepsIn t) e ∙ choices-written t well xs choices;
     }

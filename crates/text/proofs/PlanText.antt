@@ -1,5 +1,5 @@
--- The plan's text: a plan of at most 100 steps of a task is read back, what is read is such a plan, and its text is
--- what was read.
+-- The plan's text: a plan of at most 100 choices of objects for a task's schemas is read back, what is read is such a
+-- plan, and its text is what was read. Equal objects at a pair pass here: unfolding judges them.
 use Prim.Native.Nat.{ℕ, _≤_, _<_}
 use mathlib.Core.Path.{_≡_, refl, sym, _∙_, ap, subst}
 use mathlib.Core.Bool.{true}
@@ -12,10 +12,10 @@ use borrow.Author.Tests.{ltb-true, leb-true, eqb-true, lt-ltb}
 use Rattle.words.specs.Lists.{all, concatMap}
 use Rattle.task.specs.Limits.{mostObjects, mostSchemas}
 use Rattle.task.specs.Task.{Task, wellFormed}
-use Rattle.task.specs.Run.{Step, isStep}
+use Rattle.task.specs.Run.{Step, isChoice}
 use Rattle.words.proofs.Lists.{and-left, and-right, here, there, map-append}
 use Rattle.task.proofs.Tests.{TaskTests, task-tests}
-use Rattle.task.proofs.States.{isStep-is}
+use Rattle.task.proofs.States.{isChoice-is}
 use Rattle.text.specs.Lines.{newline, digits, Entry, entryBytes, Taken, taken}
 use Rattle.text.specs.Reading.{goOn, finish, read}
 use Rattle.text.specs.Plan.{mostPlanSteps, PlanKey, step, end, planKeyName, PlanLine, stepLine, endLine}
@@ -72,32 +72,32 @@ abbrev pub PlanLeads : Task → List Step → List PlanLine → List Step → Ty
 PlanLeads t xs ls ys = Leads (takePlanLine t) PlanMay xs ls ys
 
 -- ---- what is written is read
-pub small-step : (t : Task) → TaskTests t → (x : Step) → isStep t x ≡ true → SmallEntry (stepEntry x)
+pub small-choice : (t : Task) → TaskTests t → (x : Step) → isChoice t x ≡ true → SmallEntry (stepEntry x)
 unfolding stepEntry
-small-step t c x h =
-    let s = isStep-is t x h in
+small-choice t c x h =
+    let s = isChoice-is t x h in
     let schemas = leb-true (length (t .schemas)) mostSchemas (c .schemas) in
     let objects = leb-true (t .objects) mostObjects (c .objects) in
     (let k = s .known in omega arith, λ o i. let k = s .small o i in omega arith)
 
 pub plan-leads : (t : Task) → TaskTests t → (xs ys : List Step) → length (xs ++ ys) ≤ mostPlanSteps →
-    all (isStep t) ys ≡ true → PlanLeads t xs (planLines ys) (xs ++ ys)
+    all (isChoice t) ys ≡ true → PlanLeads t xs (planLines ys) (xs ++ ys)
 unfolding takePlanLine planLines all stepEntry
 plan-leads t c xs [] few h =
     comes-last (record { key = end; listed = there (here refl); says = says-end {n = 1} (omega arith) })
     (ap finish (sym (append-nil xs)))
 plan-leads t c xs (y ∷ ys) few h =
-    let is-step = and-left (isStep t y) (all (isStep t) ys) h in
+    let is-choice = and-left (isChoice t y) (all (isChoice t) ys) h in
     let room : length xs < mostPlanSteps = omega (arith, length-append xs (y ∷ ys)) in
     let e : (xs ++ (y ∷ [])) ++ ys ≡ xs ++ (y ∷ ys) = append-assoc xs (y ∷ []) ys in
     let few′ : length ((xs ++ (y ∷ [])) ++ ys) ≤ mostPlanSteps = rw e few in
-    goes-on (record { key = step; listed = here refl; says = says-step (small-step t c y is-step) })
-    (need-met 4 (lt-ltb (length xs) mostPlanSteps room) (need-met 5 is-step refl))
+    goes-on (record { key = step; listed = here refl; says = says-step (small-choice t c y is-choice) })
+    (need-met 4 (lt-ltb (length xs) mostPlanSteps room) (need-met 5 is-choice refl))
     (subst (λ (zs : List Step). PlanLeads t (xs ++ (y ∷ [])) (planLines ys) zs) e
-    (plan-leads t c (xs ++ (y ∷ [])) ys few′ (and-right (isStep t y) (all (isStep t) ys) h)))
+    (plan-leads t c (xs ++ (y ∷ [])) ys few′ (and-right (isChoice t y) (all (isChoice t) ys) h)))
 
 -- reading a written plan gives its steps
-pub plan-read-written : (t : Task) → wellFormed t ≡ true → (xs : List Step) → all (isStep t) xs ≡ true →
+pub plan-read-written : (t : Task) → wellFormed t ≡ true → (xs : List Step) → all (isChoice t) xs ≡ true →
     length xs ≤ mostPlanSteps → readPlan t (writePlan xs) ≡ read xs
 unfolding readPlan writePlan
 plan-read-written t w xs h few =
@@ -109,7 +109,7 @@ abbrev pub stepLines : List Step → List PlanLine
 stepLines xs = map (λ x. stepLine (stepEntry x)) xs
 
 pub record PlanFound (t : Task) (xs : List Step) (lines : List PlanLine) : Type 0 where
-  pub steps : all (isStep t) xs ≡ true
+  pub choices : all (isChoice t) xs ≡ true
   pub few : length xs ≤ mostPlanSteps
   pub are : planLines xs ≡ lines
 
@@ -120,7 +120,7 @@ module _ (t : Task) where
   last-line xs (stepLine a) ys h =
       let x : Step = record { schema = a .head; objects = a .list } in
       let (k₁, h₁) = need-finished (ltb (length xs) mostPlanSteps) 4 _ ys h in
-      let (k₂, h₂) = need-finished (isStep t x) 5 (goOn (xs ++ (x ∷ []))) ys h₁ in
+      let (k₂, h₂) = need-finished (isChoice t x) 5 (goOn (xs ++ (x ∷ []))) ys h₁ in
       absurd (let z : _≡_ {A = ℕ} 0 1 = cc in omega arith)
   last-line xs (endLine n) ys h =
       let (k, h₁) = need-finished (eqb n 1) 3 (finish xs) ys h in
@@ -130,7 +130,7 @@ module _ (t : Task) where
     pub taken-step : Step
     pub line-is : l ≡ stepLine (stepEntry taken-step)
     pub room : length xs < mostPlanSteps
-    pub is-step : isStep t taken-step ≡ true
+    pub is-choice : isChoice t taken-step ≡ true
     pub grown : xs ++ (taken-step ∷ []) ≡ ys
 
   pub step-line : (xs : List Step) (l : PlanLine) (ys : List Step) → takePlanLine t xs l ≡ goOn ys → StepTaken xs l ys
@@ -138,48 +138,48 @@ module _ (t : Task) where
   step-line xs (stepLine a) ys h =
       let x : Step = record { schema = a .head; objects = a .list } in
       let (k₁, h₁) = need-went (ltb (length xs) mostPlanSteps) 4 _ ys h in
-      let (k₂, h₂) = need-went (isStep t x) 5 (goOn (xs ++ (x ∷ []))) ys h₁ in
-      record { taken-step = x; line-is = refl; room = ltb-true (length xs) mostPlanSteps k₁; is-step = k₂; grown = cc }
+      let (k₂, h₂) = need-went (isChoice t x) 5 (goOn (xs ++ (x ∷ []))) ys h₁ in
+      record { taken-step = x; line-is = refl; room = ltb-true (length xs) mostPlanSteps k₁; is-choice = k₂; grown = cc }
   step-line xs (endLine n) ys h =
       let (k, h₁) = need-went (eqb n 1) 3 (finish xs) ys h in
       absurd (let z : _≡_ {A = ℕ} 0 1 = cc in omega arith)
 
   pub plan-found : {xs : List Step} {ls : List PlanLine} {ys : List Step} → PlanLeads t xs ls ys →
-      all (isStep t) xs ≡ true → length xs ≤ mostPlanSteps → PlanFound t ys (stepLines xs ++ ls)
+      all (isChoice t) xs ≡ true → length xs ≤ mostPlanSteps → PlanFound t ys (stepLines xs ++ ls)
   unfolding planLines
-  plan-found {ys = ys} (comes-last {d = xs} {l = l} m h) all-steps few =
+  plan-found {ys = ys} (comes-last {d = xs} {l = l} m h) all-choices few =
       let (e, q) = last-line xs l ys h in
       subst (λ (zs : List Step). PlanFound t zs (stepLines xs ++ (l ∷ []))) q
-      (record { steps = all-steps; few = few; are = ap (λ (x : PlanLine). stepLines xs ++ (x ∷ [])) (sym e) })
-  plan-found (goes-on {d = xs} {e = zs} {l = l} {ls = ls} m h w) all-steps few =
+      (record { choices = all-choices; few = few; are = ap (λ (x : PlanLine). stepLines xs ++ (x ∷ [])) (sym e) })
+  plan-found (goes-on {d = xs} {e = zs} {l = l} {ls = ls} m h w) all-choices few =
       let s = step-line xs l zs h in
       let x = s .taken-step in
-      let steps : all (isStep t) zs ≡ true = rw (← (s .grown)) (all-snoc (isStep t) xs x all-steps (s .is-step)) in
+      let choices : all (isChoice t) zs ≡ true = rw (← (s .grown)) (all-snoc (isChoice t) xs x all-choices (s .is-choice)) in
       let count : length zs ≤ mostPlanSteps =
       let room = s .room in let g = ap length (s .grown) in omega (arith, length-append xs (x ∷ [])) in
-      let f = plan-found w steps count in
+      let f = plan-found w choices count in
       let lines : stepLines zs ≡ stepLines xs ++ (l ∷ []) =
       ap stepLines (sym (s .grown)) ∙ (map-append (λ x. stepLine (stepEntry x)) xs (x ∷ []) ∙
       ap (λ (y : PlanLine). stepLines xs ++ (y ∷ [])) (sym (s .line-is))) in
       record {
-        steps = f .steps;
+        choices = f .choices;
         few = f .few;
         are = f .are ∙ (ap (λ (y : List PlanLine). y ++ ls) lines ∙ append-assoc (stepLines xs) (l ∷ []) ls);
       }
 
   pub plan-text-found : (bs : List ℕ) (xs : List Step) → readPlan t bs ≡ read xs →
-      (all (isStep t) xs ≡ true) × (length xs ≤ mostPlanSteps) × (writePlan xs ≡ bs)
+      (all (isChoice t) xs ≡ true) × (length xs ≤ mostPlanSteps) × (writePlan xs ≡ bs)
   unfolding readPlan writePlan all
   plan-text-found bs xs h =
       let r = read-lines nextPlanLine (takePlanLine t) PlanMay writePlanLine plan-exact 1 [] bs xs h in
       let f = plan-found (r .lead) refl (omega arith) in
-      (f .steps, f .few, ap (concatMap writePlanLine) (f .are) ∙ sym (r .whole))
+      (f .choices, f .few, ap (concatMap writePlanLine) (f .are) ∙ sym (r .whole))
 
   -- writing a plan that was read gives the file byte for byte
   pub plan-written-read : (bs : List ℕ) (xs : List Step) → readPlan t bs ≡ read xs → writePlan xs ≡ bs
   plan-written-read bs xs h = plan-text-found bs xs h .2
 
-  -- what is read are steps of the task, at most 100
-  pub plan-read-steps : (bs : List ℕ) (xs : List Step) → readPlan t bs ≡ read xs →
-      (all (isStep t) xs ≡ true) × (length xs ≤ mostPlanSteps)
-  plan-read-steps bs xs h = let f = plan-text-found bs xs h in (f .0, f .1)
+  -- what is read are choices of the task, at most 100
+  pub plan-read-choices : (bs : List ℕ) (xs : List Step) → readPlan t bs ≡ read xs →
+      (all (isChoice t) xs ≡ true) × (length xs ≤ mostPlanSteps)
+  plan-read-choices bs xs h = let f = plan-text-found bs xs h in (f .0, f .1)

@@ -1,24 +1,26 @@
 -- A draft while a task is read: the lines that it stands for, what is known of it in each phase, and how both grow
--- by a schema, an initial atom or a goal atom.
+-- by a pair or an atom of a schema, a schema, an initial atom or a goal atom.
 use Prim.Native.Nat.{ℕ, zero, suc, _+_, _≤_, _<_}
-use mathlib.Core.Path.{_≡_, refl, _∙_, ap, subst}
+use mathlib.Core.Path.{_≡_, refl, sym, _∙_, ap, subst}
 use mathlib.Core.Bool.{true}
 use mathlib.Core.List.{List, [], _∷_, _++_, append-assoc, append-nil}
 use native.Mathlib.Omega.{arith}
 use lib.ListN.{length}
 use lib.Dec.{leb}
 use Rattle.words.specs.Lists.{all, concatMap}
-use Rattle.task.specs.Task.{Atom, Fact, Schema, Task, argsFit, distinct, rolesAscend, schemaAtoms, withAtoms}
+use Rattle.task.specs.Limits.{mostPairs}
+use Rattle.task.specs.Task.{Atom, Fact, Pair, Schema, Task, argsFit, distinct, rolesAscend, schemaAtoms, schemaPairs}
+use Rattle.task.specs.Task.{pairFits, pairsAscend, withPairs, withAtoms}
 use Rattle.words.proofs.Lists.{In, here, there, append-concatMap, map-append}
 use Rattle.task.proofs.Tests.{TaskTests}
 use Rattle.text.specs.Reading.{goOn}
-use Rattle.text.specs.Text.{atomLine, atomEntry, Key, task, objects, arity, schema, pre, add, del, part, init}
-use Rattle.text.specs.Text.{goal, end, Line, taskLine, objectsLine, schemaLine, endLine, arityLine, initLine}
-use Rattle.text.specs.Text.{goalLine, factEntry, schemaLines, taskLines, Phase, atTask, atObjects, atArity}
-use Rattle.text.specs.Text.{between, inPre, inAdd, inDel, inInit, inGoal, keysAt, rolePhase, Draft, TaskTurn}
-use Rattle.text.specs.Text.{withSchemas, withInit, withGoal}
+use Rattle.text.specs.Text.{differLine, atomLine, atomEntry, pairList, Key, task, objects, arity, schema, differ}
+use Rattle.text.specs.Text.{pre, add, del, part, init, goal, end, Line, taskLine, objectsLine, schemaLine, endLine}
+use Rattle.text.specs.Text.{arityLine, initLine, goalLine, factEntry, schemaLines, taskLines, Phase, atTask}
+use Rattle.text.specs.Text.{atObjects, atArity, between, inDiffer, inPre, inAdd, inDel, inInit, inGoal, keysAt}
+use Rattle.text.specs.Text.{rolePhase, Draft, TaskTurn, withSchemas, withInit, withGoal}
 use Rattle.text.proofs.Growing.{lastRole}
-use Rattle.text.proofs.TaskWritten.{initLines, goalLines, atomLines}
+use Rattle.text.proofs.TaskWritten.{initLines, goalLines, atomLines, pairLines}
 
 -- ---- the lines of a draft
 unfoldable pub header : Task → List Line
@@ -31,7 +33,7 @@ wholeOf t = header t ++ (concatMap schemaLines (t .schemas) ++ (initLines (t .in
 
 -- a schema's lines but its last
 unfoldable pub opened : Schema → List Line
-opened c = schemaLine (c .params) ∷ atomLines (c .atoms)
+opened c = schemaLine (c .params) ∷ (pairLines (c .pairs) ++ atomLines (c .atoms))
 
 unfoldable pub soFar : Phase → Task → Schema → List Line
 unfolding wholeOf opened
@@ -39,6 +41,7 @@ soFar atTask t c = []
 soFar atObjects t c = taskLine 1 ∷ []
 soFar atArity t c = taskLine 1 ∷ objectsLine (t .objects) ∷ []
 soFar between t c = wholeOf t
+soFar inDiffer t c = wholeOf t ++ opened c
 soFar inPre t c = wholeOf t ++ opened c
 soFar inAdd t c = wholeOf t ++ opened c
 soFar inDel t c = wholeOf t ++ opened c
@@ -90,13 +93,29 @@ whole-schema t s h k =
     go : (a b c d w : List Line) → c ≡ [] → d ≡ [] → a ++ ((b ++ (w ++ [])) ++ (c ++ d)) ≡ (a ++ (b ++ (c ++ d))) ++ w
     go a b c d w e f = rw (e, f) (simp (append-assoc, append-nil))
 
+-- a schema's pairs come before its atoms
+pub opened-pair : (c : Schema) (q : Pair) → c .atoms ≡ [] →
+    opened (withPairs c (c .pairs ++ (q ∷ []))) ≡ opened c ++ (differLine (pairList q) ∷ [])
+unfolding opened
+opened-pair c q h =
+    ap {B = List Line} (λ (ls : List Line). schemaLine (c .params) ∷ (ls ++ atomLines (c .atoms)))
+    (map-append (λ q. differLine (pairList q)) (c .pairs) (q ∷ [])) ∙
+    ap {B = List Line} (λ (ls : List Line). schemaLine (c .params) ∷ ls)
+    (go (pairLines (c .pairs)) (differLine (pairList q) ∷ []) (atomLines (c .atoms)) (ap atomLines h))
+  where
+    go : (a b d : List Line) → d ≡ [] → (a ++ b) ++ d ≡ (a ++ d) ++ b
+    go a b d e = rw e (simp (append-assoc, append-nil))
+
 pub opened-atom : (c : Schema) (a : Atom) →
     opened (withAtoms c (c .atoms ++ (a ∷ []))) ≡
     opened c ++ (atomLine (a .role) (atomEntry a) ∷ [])
 unfolding opened
 opened-atom c a =
+    let said = atomLine (a .role) (atomEntry a) ∷ [] in
     ap {B = List Line} (λ (ls : List Line). schemaLine (c .params) ∷ ls)
-    (map-append (λ a. atomLine (a .role) (atomEntry a)) (c .atoms) (a ∷ []))
+    (ap (λ (ls : List Line). pairLines (c .pairs) ++ ls)
+    (map-append (λ a. atomLine (a .role) (atomEntry a)) (c .atoms) (a ∷ [])) ∙
+    sym (append-assoc (pairLines (c .pairs)) (atomLines (c .atoms)) said))
 
 -- ---- what is known of a draft
 pub record Empty (t : Task) : Type 0 where
@@ -120,12 +139,16 @@ pub record Open (r : ℕ) (t : Task) (c : Schema) : Type 0 where
   pub roles : rolesAscend (c .atoms) ≡ true
   pub fit : all (λ a. argsFit (t .arities) (c .params) (a .pred) (a .args)) (c .atoms) ≡ true
   pub apart : distinct (c .atoms) ≡ true
+  pub pairs-total : schemaPairs (t .schemas) + length (c .pairs) ≤ mostPairs
+  pub pairs-fit : all (pairFits (c .params)) (c .pairs) ≡ true
+  pub pairs-order : pairsAscend (c .pairs) ≡ true
 
 abbrev pub Known : Phase → Task → Schema → Type 0
 Known atTask t c = Empty t
 Known atObjects t c = Empty t
 Known atArity t c = Empty t × (leb 1 (t .objects) ≡ true) × (leb (t .objects) 1000 ≡ true)
 Known between t c = NoFacts t
+Known inDiffer t c = Open 0 t c × (c .atoms ≡ [])
 Known inPre t c = Open 0 t c
 Known inAdd t c = Open 1 t c
 Known inDel t c = Open 2 t c
@@ -162,6 +185,11 @@ pub data Allowed : Phase → Key → Type 0 where
   between-init : Allowed between init
   between-goal : Allowed between goal
   between-end : Allowed between end
+  inDiffer-differ : Allowed inDiffer differ
+  inDiffer-pre : Allowed inDiffer pre
+  inDiffer-add : Allowed inDiffer add
+  inDiffer-del : Allowed inDiffer del
+  inDiffer-part : Allowed inDiffer part
   inPre-pre : Allowed inPre pre
   inPre-add : Allowed inPre add
   inPre-del : Allowed inPre del
@@ -186,6 +214,11 @@ allowed between k (here e) = rw e between-schema
 allowed between k (there (here e)) = rw e between-init
 allowed between k (there (there (here e))) = rw e between-goal
 allowed between k (there (there (there (here e)))) = rw e between-end
+allowed inDiffer k (here e) = rw e inDiffer-differ
+allowed inDiffer k (there (here e)) = rw e inDiffer-pre
+allowed inDiffer k (there (there (here e))) = rw e inDiffer-add
+allowed inDiffer k (there (there (there (here e)))) = rw e inDiffer-del
+allowed inDiffer k (there (there (there (there (here e))))) = rw e inDiffer-part
 allowed inPre k (here e) = rw e inPre-pre
 allowed inPre k (there (here e)) = rw e inPre-add
 allowed inPre k (there (there (here e))) = rw e inPre-del

@@ -1,7 +1,8 @@
--- What a line adds to a draft that is known: an initial or a goal atom, an atom of a schema, the parts that close it.
+-- What a line adds to a draft that is known: an initial or a goal atom, a pair or an atom of a schema, the parts that
+-- close it.
 -- Each refusal that did not come is a test that holds of the longer list, so the grown draft is known again.
 use Prim.Native.Nat.{ℕ, _+_, _≤_}
-use mathlib.Core.Path.{_≡_, sym, _∙_, ap, ap₂}
+use mathlib.Core.Path.{_≡_, refl, sym, _∙_, ap, ap₂}
 use mathlib.Core.Bool.{Bool, true, not}
 use mathlib.Core.List.{List, [], _∷_, _++_, append-assoc, map-map}
 use native.Mathlib.Omega.{arith}
@@ -9,22 +10,25 @@ use lib.ListN.{length, length-append, length-map}
 use lib.Dec.{eqb, ltb, leb}
 use borrow.Author.Tests.{ltb-true, eqb-true, lt-ltb, le-leb}
 use Rattle.words.specs.Lists.{all, any, sum}
-use Rattle.task.specs.Task.{factsFit, Atom, Fact, Schema, Task, argsFit, sameAtom, distinct, rolesAscend, schemaFits}
-use Rattle.task.specs.Task.{allNamed, noGap, schemaAtoms, noSchema, withAtoms}
+use Rattle.task.specs.Limits.{mostPairs}
+use Rattle.task.specs.Task.{factsFit, Atom, Fact, Pair, Schema, Task, argsFit, sameAtom, distinct, rolesAscend}
+use Rattle.task.specs.Task.{schemaFits, allNamed, noGap, schemaAtoms, schemaPairs, pairFits, noSchema, withPairs, withAtoms}
 use Rattle.task.proofs.Tests.{SchemaTests, tests-schema, TaskTests}
 use Rattle.text.specs.Lines.{Entry}
 use Rattle.text.specs.Reading.{goOn}
-use Rattle.text.specs.Text.{TaskTurn, Line, schemaLine, partLine, atomLine, initLine, goalLine, factEntry}
-use Rattle.text.specs.Text.{atomEntry, schemaLines, Phase, between, inInit, inGoal, rolePhase, Draft}
-use Rattle.text.specs.Text.{atPhase, withSchemas, withInit, withGoal, addAtom, withParts, closeSchema, follows}
-use Rattle.text.specs.Text.{addFact}
+use Rattle.text.specs.Text.{TaskTurn, Line, schemaLine, differLine, partLine, atomLine, initLine, goalLine}
+use Rattle.text.specs.Text.{factEntry, atomEntry, pairList, schemaLines, Phase, between, inDiffer, inInit, inGoal}
+use Rattle.text.specs.Text.{rolePhase, Draft, atPhase, withSchemas, withInit, withGoal, addPair, addAtom, withParts}
+use Rattle.text.specs.Text.{closeSchema, pairFollows, follows, addFact}
+use Rattle.text.specs.Holding.{pairOf}
 use Rattle.text.proofs.Reading.{need-went}
 use Rattle.text.proofs.Growing.{all-snoc, more-room, more-facts, lastRole-snoc, roles-snoc, distinct-snoc}
+use Rattle.text.proofs.Growing.{pairs-snoc}
 use Rattle.text.proofs.Parts.{bare, all-map, roles-bare, distinct-bare, allNamedIn, named-bare, parts-are}
 use Rattle.text.proofs.Parts.{parts-same, below-count}
-use Rattle.text.proofs.TaskWritten.{draft, atomLines, schemaAtoms-part}
-use Rattle.text.proofs.TaskDraft.{wholeOf, opened, soFar, whole-goal, whole-init, whole-schema, opened-atom}
-use Rattle.text.proofs.TaskDraft.{Open, Next, next, known-role, soFar-role}
+use Rattle.text.proofs.TaskWritten.{draft, atomLines, pairLines, schemaAtoms-part, schemaPairs-part}
+use Rattle.text.proofs.TaskDraft.{wholeOf, opened, soFar, whole-goal, whole-init, whole-schema, opened-pair}
+use Rattle.text.proofs.TaskDraft.{opened-atom, Open, Next, next, known-role, soFar-role}
 
 -- ---- initial and goal atoms
 abbrev pub factOf : Entry → Fact
@@ -69,6 +73,7 @@ module _ (t : Task) (c : TaskTests t) where
     fit = c .fit;
     init = fit-is;
     goal = fit-gs;
+    pairs = c .pairs;
   }
 
   pub init-next : t .goal ≡ [] → (a : Entry) (e : Draft) →
@@ -90,6 +95,49 @@ module _ (t : Task) (c : TaskTests t) where
       let gs = t .goal ++ (factOf a ∷ []) in
       let tests = with-facts (t .init) gs (c .inits) (f .room) (c .init) (f .fits (c .goal)) in
       next (f .is) (record { known = tests; stands = whole-goal t (factOf a) })
+
+-- ---- pairs of a schema
+-- two numbers are those of their pair
+pub two-numbers : (ns : List ℕ) → length ns ≡ 2 → pairList (pairOf ns) ≡ ns
+two-numbers [] h = absurd (omega arith)
+two-numbers (a ∷ []) h = absurd (omega arith)
+two-numbers (a ∷ b ∷ []) h = refl
+two-numbers (a ∷ b ∷ d ∷ ns) h = absurd (omega arith)
+
+pub pair-next : (t : Task) (c : Schema) (ns : List ℕ) (e : Draft) → Open 0 t c → c .atoms ≡ [] →
+    addPair (draft inDiffer t c) ns ≡ goOn e → Next e ((wholeOf t ++ opened c) ++ (differLine ns ∷ []))
+unfolding addPair soFar
+pair-next t c ns e o none h =
+    let q = pairOf ns in
+    let s : Schema = withPairs c (c .pairs ++ (q ∷ [])) in
+    let (k₁, h₁) = need-went (eqb (length ns) 2) 3 _ e h in
+    let (k₂, h₂) = need-went (ltb (schemaPairs (t .schemas) + length (c .pairs)) mostPairs) 21 _ e h₁ in
+    let (k₃, h₃) = need-went (pairFits (c .params) q) 19 _ e h₂ in
+    let (k₄, h₄) = need-went (pairFollows (c .pairs) q) 19 (goOn (draft inDiffer t s)) e h₃ in
+    let total = ltb-true (schemaPairs (t .schemas) + length (c .pairs)) mostPairs k₂ in
+    let z = length-append (c .pairs) (q ∷ []) in
+    let open′ : Open 0 t s = record {
+      before = o .before;
+      room = o .room;
+      params = o .params;
+      few = o .few;
+      total = o .total;
+      last = o .last;
+      roles = o .roles;
+      fit = o .fit;
+      apart = o .apart;
+      pairs-total = omega arith;
+      pairs-fit = all-snoc (pairFits (c .params)) (c .pairs) q (o .pairs-fit) k₃;
+      pairs-order = pairs-snoc (c .pairs) q (o .pairs-order) k₄;
+    } in
+    let lines : opened s ≡ opened c ++ (differLine ns ∷ []) =
+    opened-pair c q none ∙
+    ap (λ (x : List ℕ). opened c ++ (differLine x ∷ [])) (two-numbers ns (eqb-true (length ns) 2 k₁)) in
+    next h₄ (record {
+      known = (open′, none);
+      stands = ap (λ (ls : List Line). wholeOf t ++ ls) lines ∙
+          sym (append-assoc (wholeOf t) (opened c) (differLine ns ∷ []));
+    })
 
 -- ---- atoms of a schema
 pub atom-next : (p : Phase) (t : Task) (c : Schema) (q r : ℕ) → q ≤ r → r ≤ 2 → (x : Entry) (e : Draft) → Open q t c →
@@ -116,6 +164,9 @@ atom-next p t c q r l m x e o h =
       roles = roles-snoc (c .atoms) a (record { front = o .roles; last = omega arith; small = m });
       fit = all-snoc (λ a. argsFit (t .arities) (c .params) (a .pred) (a .args)) (c .atoms) a (o .fit) k₃;
       apart = distinct-snoc (c .atoms) a (o .apart) k₄;
+      pairs-total = o .pairs-total;
+      pairs-fit = o .pairs-fit;
+      pairs-order = o .pairs-order;
     } in
     next h₄ (record {
       known = known-role r m t s open′;
@@ -131,9 +182,11 @@ pub closed-lines : (c : Schema) (ps : List ℕ) → length ps ≡ length (c .ato
     schemaLines (closed c ps) ≡ opened c ++ (partLine ps ∷ [])
 unfolding schemaLines opened atomEntry
 closed-lines c ps l =
-    ap₂ (λ (x : List Line) (y : List ℕ). schemaLine (c .params) ∷ (x ++ (partLine y ∷ [])))
+    ap₂ (λ (x : List Line) (y : List ℕ). schemaLine (c .params) ∷ (pairLines (c .pairs) ++ (x ++ (partLine y ∷ []))))
     (parts-same atomLines (λ xs. map-map (λ a. atomLine (a .role) (atomEntry a)) bare xs) (c .atoms) ps l)
-    (parts-are (c .atoms) ps l)
+    (parts-are (c .atoms) ps l) ∙
+    ap {B = List Line} (λ (ls : List Line). schemaLine (c .params) ∷ ls)
+    (sym (append-assoc (pairLines (c .pairs)) (atomLines (c .atoms)) (partLine ps ∷ [])))
 
 module _ (t : Task) (c : Schema) (ps : List ℕ) (l : length ps ≡ length (c .atoms)) where
   pub length-closed : length (withParts (c .atoms) ps) ≡ length (c .atoms)
@@ -154,6 +207,8 @@ module _ (t : Task) (c : Schema) (ps : List ℕ) (l : length ps ≡ length (c .a
         used = parts-same (allNamedIn (c .params)) (named-bare (c .params)) (c .atoms) ps l ∙ named;
         parts = below-count 16 (withParts (c .atoms) ps) (rw (parts-are (c .atoms) ps l) low);
         filled = full;
+        pairs = o .pairs-fit;
+        pairs-order = o .pairs-order;
       }
 
 pub part-next : (p : Phase) (t : Task) (c : Schema) (r : ℕ) (ps : List ℕ) (e : Draft) → Open r t c →
@@ -175,6 +230,8 @@ part-next p t c r ps e o h =
     let y = o .total in
     let z = length-closed t c ps l in
     omega (arith, schemaAtoms-part (t .schemas) s []) in
+    let pairs-total : schemaPairs (t .schemas ++ (s ∷ [])) ≤ mostPairs =
+    let y = o .pairs-total in omega (arith, schemaPairs-part (t .schemas) s []) in
     let tests : TaskTests u = record {
       some-object = v .some-object;
       objects = v .objects;
@@ -188,6 +245,7 @@ part-next p t c r ps e o h =
       fit = all-snoc (schemaFits (t .arities)) (t .schemas) s (v .fit) (tests-schema (t .arities) s fits);
       init = v .init;
       goal = v .goal;
+      pairs = le-leb (schemaPairs (t .schemas ++ (s ∷ []))) mostPairs pairs-total;
     } in
     next h₅ (record {
       known = record { tests = tests; no-init = o .before .no-init; no-goal = o .before .no-goal };

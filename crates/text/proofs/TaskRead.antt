@@ -9,28 +9,34 @@ use lib.ListN.{length}
 use lib.Dec.{eqb, ltb, leb}
 use borrow.Author.Tests.{ltb-true, leb-true, eqb-true, le-leb}
 use Rattle.words.specs.Lists.{all, any, concatMap, sum}
+use Rattle.task.specs.Limits.{mostPairs}
 use Rattle.task.specs.Task.{Atom, Fact, Schema, Task, argsFit, sameAtom, rolesAscend, distinct, factsFit, ascending}
-use Rattle.task.specs.Task.{allNamed, noGap, wellFormed, schemaAtoms, noSchema, bareSchema}
+use Rattle.task.specs.Task.{allNamed, noGap, wellFormed, schemaAtoms, schemaPairs, pairFits, pairsAscend, noSchema}
+use Rattle.task.specs.Task.{bareSchema}
 use Rattle.words.proofs.Lists.{and-left, and-right, In}
 use Rattle.task.proofs.Tests.{TaskTests, tests-task}
 use Rattle.text.specs.Lines.{Entry}
 use Rattle.text.specs.Reading.{goOn, finish, need, read}
 use Rattle.text.specs.Text.{Key, end, keyOf, keysAt, Line, taskLine, objectsLine, schemaLine, endLine, arityLine}
-use Rattle.text.specs.Text.{partLine, atomLine, initLine, goalLine, writeLine, taskLines, write, Phase, atObjects}
-use Rattle.text.specs.Text.{atArity, between, inPre, inAdd, inDel, inInit, inGoal, Draft, TaskTurn}
-use Rattle.text.specs.Text.{started, atPhase, withObjects, withArities, withInit, withGoal, addAtom, withParts}
-use Rattle.text.specs.Text.{closeSchema, follows, addFact, takeLine, nextLine, readText}
+use Rattle.text.specs.Text.{differLine, partLine, atomLine, initLine, goalLine, writeLine, taskLines, write, Phase}
+use Rattle.text.specs.Text.{atObjects, atArity, between, inDiffer, inPre, inAdd, inDel, inInit, inGoal, Draft}
+use Rattle.text.specs.Text.{TaskTurn, started, atPhase, withObjects, withArities, withInit, withGoal, addPair}
+use Rattle.text.specs.Text.{addAtom, withParts, closeSchema, pairFollows, follows, addFact, takeLine, nextLine}
+use Rattle.text.specs.Text.{readText}
+use Rattle.text.specs.Holding.{pairOf}
 use Rattle.text.proofs.Reading.{need-went, need-finished, comes-last, goes-on, read-lines}
-use Rattle.text.proofs.TaskLines.{Says, says-task, says-objects, says-arity, says-schema, says-pre, says-add}
-use Rattle.text.proofs.TaskLines.{says-del, says-part, says-init, says-goal, says-end, says-key, May, task-exact}
+use Rattle.text.proofs.TaskLines.{Says, says-task, says-objects, says-arity, says-schema, says-differ, says-pre}
+use Rattle.text.proofs.TaskLines.{says-add, says-del, says-part, says-init, says-goal, says-end, says-key, May}
+use Rattle.text.proofs.TaskLines.{task-exact}
 use Rattle.text.proofs.Growing.{lastRole}
 use Rattle.text.proofs.TaskWritten.{draft, LeadsTo, read-written}
 use Rattle.text.proofs.TaskDraft.{header, soFar, taskLines-whole, Empty, Known, Next, next, Allowed, atTask-task}
 use Rattle.text.proofs.TaskDraft.{atObjects-objects, atArity-arity, between-schema, between-init, between-goal}
-use Rattle.text.proofs.TaskDraft.{between-end, inPre-pre, inPre-add, inPre-del, inPre-part, inAdd-add, inAdd-del}
+use Rattle.text.proofs.TaskDraft.{between-end, inDiffer-differ, inDiffer-pre, inDiffer-add, inDiffer-del}
+use Rattle.text.proofs.TaskDraft.{inDiffer-part, inPre-pre, inPre-add, inPre-del, inPre-part, inAdd-add, inAdd-del}
 use Rattle.text.proofs.TaskDraft.{inAdd-part, inDel-del, inDel-part, inInit-init, inInit-goal, inInit-end}
 use Rattle.text.proofs.TaskDraft.{inGoal-goal, inGoal-end, allowed}
-use Rattle.text.proofs.TaskGrows.{init-next, goal-next, atom-next, part-next}
+use Rattle.text.proofs.TaskGrows.{init-next, goal-next, pair-next, atom-next, part-next}
 
 -- ---- lines that reading goes on behind
 pub end-stops : (n : ℕ) (t : Task) (e : Draft) → _≡_ {A = TaskTurn} (need (eqb n 1) 3 (finish t)) (goOn e) → ⊥
@@ -59,6 +65,7 @@ arity-next t ns g some few some-pred preds low = record {
       fit = rw (g .no-schema) refl;
       init = rw (g .no-init) refl;
       goal = rw (g .no-goal) refl;
+      pairs = rw (g .no-schema) refl;
     };
     no-init = g .no-init;
     no-goal = g .no-goal;
@@ -68,7 +75,7 @@ arity-next t ns g some few some-pred preds low = record {
 
 pub line-next : {p : Phase} {k : Key} {l : Line} (t : Task) (c : Schema) → Allowed p k → Says k l → Known p t c →
     (e : Draft) → takeLine (draft p t c) l ≡ goOn e → Next e (soFar p t c ++ (l ∷ []))
-unfolding takeLine soFar header concatMap sum all factsFit ascending rolesAscend distinct lastRole
+unfolding takeLine soFar header concatMap sum all factsFit ascending rolesAscend distinct pairsAscend lastRole
 line-next t c atTask-task (says-task {n = n} s) g e h =
     let (k, h₁) = need-went (eqb n 1) 3 (goOn (draft atObjects t noSchema)) e h in
     next h₁ (record { known = g; stands = ap {B = List Line} (λ (m : ℕ). taskLine m ∷ []) (sym (eqb-true n 1 k)) })
@@ -90,24 +97,38 @@ line-next t c atArity-arity (says-arity {ns = ns} s l) (g, some, few) e h =
 line-next t c between-schema (says-schema {n = n} s) g e h =
     let t₁ = ltb (length (t .schemas)) 200 in
     let t₂ = leb n 12 in
-    let (k, h₁) = need-went (t₁ && t₂) 4 (goOn (draft inPre t (bareSchema n))) e h in
+    let (k, h₁) = need-went (t₁ && t₂) 4 (goOn (draft inDiffer t (bareSchema n))) e h in
     next h₁ (record {
-      known = record {
-        before = g;
-        room = ltb-true (length (t .schemas)) 200 (and-left t₁ t₂ k);
-        params = and-right t₁ t₂ k;
-        few = omega arith;
-        total = let z = leb-true (schemaAtoms (t .schemas)) 1000 (g .tests .atoms) in omega arith;
-        last = omega arith;
-        roles = refl;
-        fit = refl;
-        apart = refl;
-      };
+      known = (
+        record {
+          before = g;
+          room = ltb-true (length (t .schemas)) 200 (and-left t₁ t₂ k);
+          params = and-right t₁ t₂ k;
+          few = omega arith;
+          total = let z = leb-true (schemaAtoms (t .schemas)) 1000 (g .tests .atoms) in omega arith;
+          last = omega arith;
+          roles = refl;
+          fit = refl;
+          apart = refl;
+          pairs-total = let z = leb-true (schemaPairs (t .schemas)) mostPairs (g .tests .pairs) in omega arith;
+          pairs-fit = refl;
+          pairs-order = refl;
+        },
+        refl,
+      );
       stands = refl;
     })
 line-next t c between-init (says-init {e = a} s) g e h = init-next t (g .tests) (g .no-goal) a e h
 line-next t c between-goal (says-goal {e = a} s) g e h = goal-next t (g .tests) a e h
 line-next t c between-end (says-end {n = n} s) g e h = absurd (end-stops n t e h)
+line-next t c inDiffer-differ (says-differ {ns = ns} s l) g e h = pair-next t c ns e (g .0) (g .1) h
+line-next t c inDiffer-pre (says-pre {e = a} s) g e h =
+    atom-next inDiffer t c 0 0 (omega arith) (omega arith) a e (g .0) h
+line-next t c inDiffer-add (says-add {e = a} s) g e h =
+    atom-next inDiffer t c 0 1 (omega arith) (omega arith) a e (g .0) h
+line-next t c inDiffer-del (says-del {e = a} s) g e h =
+    atom-next inDiffer t c 0 2 (omega arith) (omega arith) a e (g .0) h
+line-next t c inDiffer-part (says-part {ns = ps} s) g e h = part-next inDiffer t c 0 ps e (g .0) h
 line-next t c inPre-pre (says-pre {e = a} s) g e h = atom-next inPre t c 0 0 (omega arith) (omega arith) a e g h
 line-next t c inPre-add (says-add {e = a} s) g e h = atom-next inPre t c 0 1 (omega arith) (omega arith) a e g h
 line-next t c inPre-del (says-del {e = a} s) g e h = atom-next inPre t c 0 2 (omega arith) (omega arith) a e g h
@@ -130,6 +151,16 @@ passes b k x u h = need-finished b k x u h .1
 
 pub goes-no-end : {d : Draft} {u : Task} → _≡_ {A = TaskTurn} (goOn d) (finish u) → ⊥
 goes-no-end h = let z : _≡_ {A = ℕ} 0 1 = cc in omega arith
+
+pub pair-no-end : (d : Draft) (ns : List ℕ) (u : Task) → addPair d ns ≡ finish u → ⊥
+unfolding addPair
+pair-no-end d ns u h =
+    let t = d .task in
+    let c = d .current in
+    goes-no-end (passes (pairFollows (c .pairs) (pairOf ns)) 19 _ u
+    (passes (pairFits (c .params) (pairOf ns)) 19 _ u
+    (passes (ltb (schemaPairs (t .schemas) + length (c .pairs)) mostPairs) 21 _ u
+    (passes (eqb (length ns) 2) 3 _ u h))))
 
 pub atom-no-end : (d : Draft) (r : ℕ) (x : Entry) (u : Task) → addAtom d r x ≡ finish u → ⊥
 unfolding addAtom
@@ -169,6 +200,7 @@ finish-end d (objectsLine n) u h = absurd (goes-no-end (passes (leb 1 n && leb n
 finish-end d (arityLine ns) u h = absurd (goes-no-end (passes (leb (length ns) 400 && all (λ n. leb n 4) ns) 4 _ u h))
 finish-end d (schemaLine n) u h =
     absurd (goes-no-end (passes (ltb (length (d .task .schemas)) 200 && leb n 12) 4 _ u h))
+finish-end d (differLine ns) u h = absurd (pair-no-end d ns u h)
 finish-end d (atomLine r x) u h = absurd (atom-no-end d r x u h)
 finish-end d (partLine ps) u h = absurd (part-no-end d ps u h)
 finish-end d (initLine x) u h =

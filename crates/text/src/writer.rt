@@ -224,7 +224,12 @@ fn schemas_size(table: &[u16]) -> usize
     for s in 0..schemas {
         let pairs = rows_of(table, PAIR_SIZE, pair, pairs_left, s);
         let atoms = rows_of(table, ATOM_SIZE, atom, atoms_left, s);
-        let rows = Rows { pair, pairs, atom, atoms };
+        let rows = Rows {
+            pair,
+            pairs,
+            atom,
+            atoms,
+        };
         size = size + schema_size(table, params_of(table, s) as u16, rows);
         pair = pair + PAIR_SIZE * pairs;
         pairs_left = pairs_left - pairs;
@@ -248,7 +253,12 @@ fn put_schemas(text: &mut [u8], at: usize, table: &[u16]) -> usize
     for s in 0..schemas {
         let pairs = rows_of(table, PAIR_SIZE, pair, pairs_left, s);
         let atoms = rows_of(table, ATOM_SIZE, atom, atoms_left, s);
-        let rows = Rows { pair, pairs, atom, atoms };
+        let rows = Rows {
+            pair,
+            pairs,
+            atom,
+            atoms,
+        };
         next = put_schema(text, next, table, params_of(table, s) as u16, rows);
         pair = pair + PAIR_SIZE * pairs;
         pairs_left = pairs_left - pairs;

@@ -1,5 +1,5 @@
--- `text::plan::is_step` meets its contract: schema, number of objects and objects are tested one after another, and
--- each test that fails makes it no step.
+-- `text::plan::is_choice` meets its contract: schema, number of objects and objects are tested one after another, and
+-- each test that fails makes it no choice.
 use mathlib.Core.Path.{sym, _∙_}
 use native.Mathlib.Omega.{arith}
 use Rattle.task.specs.Table.{taskOf}
@@ -9,8 +9,8 @@ use Rattle.task.proofs.TableReads.{table-roomy}
 use Rattle.task.proofs.StepWords.{params-few}
 use Rattle.text.proofs.PlanSteps.{wrong-schema, wrong-number, step-judged}
 use borrow.Author.Needs.{needs}
-use Rattle.text.proofs.plan.is_step.Statement.{statement}
-use Rattle.text.proofs.plan.is_step.Tie as tie
+use Rattle.text.proofs.plan.is_choice.Statement.{statement}
+use Rattle.text.proofs.plan.is_choice.Tie as tie
 
 -- the function's start, seen from behind each count
 abbrev start₁ : tie.After-schema-count → tie.Start
@@ -76,8 +76,8 @@ returns-3 c =
     (sym (counted .param-count .ensures) ∙ c .before .before .if2 .left) _ (c .before .object-count .ensures)
     (c .all-below .ensures)
 
-pub is-step-spec : {M : Type 1} → statement M
-is-step-spec =
+pub is-choice-spec : {M : Type 1} → statement M
+is-choice-spec =
     tie.close
     (tie.spec schema-count-requires (λ c. search needs) returns cast-param-count param-count-requires returns-2
     object-count-requires (λ c. search needs) all-below-requires returns-3)

@@ -7,7 +7,7 @@ use mathlib.Core.List.{List}
 use native.Mathlib.Omega.{arith}
 use borrow.Author.Tests.{not-true, not-false}
 use Rattle.task.specs.Table.{taskOf}
-use Rattle.task.specs.Run.{isStep}
+use Rattle.task.specs.Run.{isChoice}
 use Rattle.text.specs.Plan.{stepLine, takePlanLine}
 use Rattle.text.specs.ReadCode.{EntryLineAt, EntryLine}
 use Rattle.text.specs.PlanCode.{stepOf}
@@ -48,10 +48,10 @@ abbrev line : tie.Else2 → tie.After-schema
 line s = s .before .before .before .before .before
 
 is-one : (s : tie.Else2) →
-    isStep (taskOf (table (line s))) (stepOf (schema (line s)) (found (line s) .ns)) ≡ true
+    isChoice (taskOf (table (line s))) (stepOf (schema (line s)) (found (line s) .ns)) ≡ true
 is-one s =
     let f = found (line s) in
-    sym (s .before .is-step .ensures (f .ns) (f .listed)) ∙ not-false _ (s .if2 .left)
+    sym (s .before .is-choice .ensures (f .ns) (f .listed)) ∙ not-false _ (s .if2 .left)
 
 kept : (s : tie.Else2) → StepKept (schema (line s)) (count (line s)) (objects (line s))
 kept s =
@@ -88,7 +88,7 @@ returns-3 c =
     let f = found l in
     let t = taskOf (table l) in
     let few = c .before .before .before .if1 .left in
-    let wrong = sym (c .before .is-step .ensures (f .ns) (f .listed)) ∙ not-true _ (c .if2 .taken) in
+    let wrong = sym (c .before .is-choice .ensures (f .ns) (f .listed)) ∙ not-true _ (c .if2 .taken) in
     λ xs e. (
       λ n next.
           turn-refused stepLine _ (takePlanLine t xs) _ _ (f .is) n next 5
@@ -112,7 +112,7 @@ returns-4 c =
     let few = s .before .before .before .if1 .left in
     λ xs e. record {
       last = stepOf _ (f .ns);
-      is-step = is-one s;
+      is-choice = is-one s;
       room = omega arith;
       is = λ n next. turn-goes-on stepLine _ (takePlanLine t xs) _ _ (f .is) n next _
           (step-taken t xs _ (f .ns) (omega arith) (is-one s));
