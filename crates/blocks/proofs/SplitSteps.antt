@@ -11,7 +11,7 @@ use native.Mathlib.Omega.{arith}
 use lib.ListN.{length, getD, length-map}
 use Rattle.words.specs.Lists.{all, concatMap, sum, upTo}
 use Rattle.task.specs.Limits.{mostParts}
-use Rattle.task.specs.Task.{Pair, Task}
+use Rattle.task.specs.Task.{Task}
 use Rattle.task.specs.Table.{taskOf}
 use Rattle.task.specs.Run.{Step, isStep, schemaAt}
 use Rattle.words.proofs.Lists.{In, in-append, all-in, in-all, map-in, in-map, upTo-in, in-upTo}
