@@ -9,8 +9,8 @@ use lib.ListN.{length, getD, set, length-set}
 use lib.Seq.{getD-set-same, getD-set-other}
 use borrow.Author.Tests.{lt-ltb, le-ltb}
 use Rattle.task.specs.Limits.{mostSchemas, mostSchemaAtoms}
-use Rattle.tokens.specs.Kept.{keptRow, keptWords, orderPlace, ownPlace, field, withField, partWord, ownWord}
-use Rattle.tokens.specs.Kept.{withPart, wordIn}
+use Rattle.tokens.specs.Kept.{startPlace, firstPlace, pairPlace, keptRow, keptWords, orderPlace, ownPlace, field}
+use Rattle.tokens.specs.Kept.{withField, partWord, ownWord, withPart, wordIn, keptStart, keptFirst, keptPair}
 
 -- a word inside the array, and behind it
 pub word-inside : (kept : List ℕ) (i : ℕ) → i < keptWords → wordIn kept i ≡ getD kept i 0
@@ -46,6 +46,54 @@ module _ (kept : List ℕ) (s k v : ℕ) where
   pub behind-stays : (i : ℕ) → s ≤ mostSchemas → k < keptRow → orderPlace ≤ i →
       getD (withField kept s k v) i 0 ≡ getD kept i 0
   behind-stays i a b c = getD-set-other kept (keptRow * s + k) i v 0 (λ e. omega arith)
+
+-- ---- a row begins: its schema's first atom, the split's number of its first part, and its first pair
+module _ (kept : List ℕ) (s start first pair : ℕ) where
+  abbrev one : List ℕ
+  one = withField kept s startPlace start
+
+  abbrev two : List ℕ
+  two = withField one s firstPlace first
+
+  abbrev pub rowBegun : List ℕ
+  rowBegun = withField two s pairPlace pair
+
+  -- all that stands before the row still stands, and all that stands behind the rows
+  pub begun-before : (i : ℕ) → i < keptRow * s → getD rowBegun i 0 ≡ getD kept i 0
+  begun-before i l =
+      before-stays two s pairPlace pair i (omega arith) ∙
+      (before-stays one s firstPlace first i (omega arith) ∙ before-stays kept s startPlace start i (omega arith))
+
+  pub begun-behind : s ≤ mostSchemas → (i : ℕ) → orderPlace ≤ i → getD rowBegun i 0 ≡ getD kept i 0
+  begun-behind a i l =
+      behind-stays two s pairPlace pair i a (omega arith) l ∙
+      (behind-stays one s firstPlace first i a (omega arith) l ∙
+      behind-stays kept s startPlace start i a (omega arith) l)
+
+  module _ (long : length kept ≡ keptWords) where
+    one-long : length one ≡ keptWords
+    one-long = field-long kept s startPlace start long
+
+    two-long : length two ≡ keptWords
+    two-long = field-long one s firstPlace first one-long
+
+    pub begun-long : length rowBegun ≡ keptWords
+    begun-long = field-long two s pairPlace pair two-long
+
+    module _ (inside : s ≤ mostSchemas) where
+      pub begun-start : keptStart rowBegun s ≡ start
+      begun-start =
+          field-stays two s pairPlace pair s startPlace (omega arith) (omega arith) (λ z. omega arith) ∙
+          (field-stays one s firstPlace first s startPlace (omega arith) (omega arith) (λ z. omega arith) ∙
+          field-put kept s startPlace start long inside (omega arith))
+
+      pub begun-first : keptFirst rowBegun s ≡ first
+      begun-first =
+          field-stays two s pairPlace pair s firstPlace (omega arith) (omega arith) (λ z. omega arith) ∙
+          field-put one s firstPlace first one-long inside (omega arith)
+
+      pub begun-pair : keptPair rowBegun s ≡ pair
+      begun-pair = field-put two s pairPlace pair two-long inside (omega arith)
 
 -- ---- a part and its parameters, at the place of atom i
 module _ (kept : List ℕ) (i p r : ℕ) where

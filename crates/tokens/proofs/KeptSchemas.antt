@@ -11,15 +11,15 @@ use native.Mathlib.Decide.{decLt}
 use native.Mathlib.Numerals.{add-one}
 use lib.ListN.{length, getD, take, length-map}
 use lib.Dec.{eqb}
-use lib.Seq.{getD-take, length-take-le}
+use lib.Seq.{getD-take, length-take-le, getD-set-other}
 use borrow.Author.Tests.{eqb-true, leb-true}
-use Rattle.words.specs.Lists.{sum, filter, keepIf, head, first, upTo, upFrom}
+use Rattle.words.specs.Lists.{sum, head, first, upTo, upFrom}
 use Rattle.task.specs.Layout.{headIn}
 use Rattle.task.specs.Task.{Atom, Task, schemaAtoms, partCount}
 use Rattle.task.specs.Run.{schemaAt}
 use Rattle.task.specs.Table.{taskOf, isTable}
 use Rattle.task.specs.declared.Part.{Part}
-use Rattle.words.proofs.Lists.{getD-map, in-getD, upFrom-in, upTo-in, filter-append, filter-none, upFrom-append}
+use Rattle.words.proofs.Lists.{getD-map, in-getD, upTo-in, filter-none}
 use Rattle.words.proofs.Lists.{map-append, sum-append, upTo-suc, in-eq, in-map, any-in, all-in, length-upTo}
 use Rattle.words.proofs.Ascending.{ascend-upTo, covered-few}
 use Rattle.task.proofs.Tests.{hasPart, schema-tests, task-tests}
@@ -35,15 +35,17 @@ use Rattle.arcs.proofs.Stretches.{schema-stretch}
 use Rattle.tokens.specs.Split.{has, isNone, orderAt, orEmpty, orders, parts, firstOf}
 use Rattle.tokens.specs.Acceptance.{partAt, OrderKept}
 use Rattle.tokens.proofs.Accepted.{circularAt}
+use Rattle.tokens.proofs.Refusals.{is-first}
 use Rattle.arcs.proofs.AtomWords.{schema-fits}
 use Rattle.tokens.proofs.SchemaEnds.{schema-known}
 use Rattle.tokens.proofs.KeptParts.{part-is}
 use Rattle.task.specs.Limits.{mostParts, mostSchemas, mostSchemaAtoms}
-use Rattle.task.specs.Turns.{firstAtom}
-use Rattle.tokens.specs.Kept.{startPlace, firstPlace, countPlace, orderPlace, ownPlace, keptRow, keptWords, field}
-use Rattle.tokens.specs.Kept.{withField, ownWord, wordIn, keptStart, keptFirst, keptCount, keptPart}
-use Rattle.tokens.specs.Kept.{keptOwn, PartsKept}
-use Rattle.tokens.proofs.KeptRows.{word-inside, field-long, field-put, field-stays, before-stays, behind-stays}
+use Rattle.task.specs.Turns.{firstAtom, firstPair}
+use Rattle.tokens.specs.Kept.{startPlace, firstPlace, countPlace, pairPlace, orderPlace, ownPlace, keptRow}
+use Rattle.tokens.specs.Kept.{keptWords, withField, ownWord, wordIn, keptStart, keptFirst, keptCount, keptPair}
+use Rattle.tokens.specs.Kept.{keptPart, keptOwn, PartsKept}
+use Rattle.tokens.proofs.KeptRows.{word-inside, field-long, field-put, behind-stays, rowBegun, begun-before}
+use Rattle.tokens.proofs.KeptRows.{begun-behind, begun-long, begun-start, begun-first, begun-pair}
 
 -- ---- the parts of the schemas before one
 pub before-step : (t : Task) (s : ℕ) → firstOf t (suc s) ≡ firstOf t s + length (orders t s)
@@ -168,32 +170,27 @@ module _ (w : List ℕ) (h : isTable w ≡ true) where
       omega (arith, atoms-few)
 
   -- ---- schema by schema
-  pub parts-none : (kept : List ℕ) → length kept ≡ keptWords →
-      PartsKept (taskOf w) 0 (withField (withField kept 0 startPlace 0) 0 firstPlace 0)
+  pub parts-none : (kept : List ℕ) → length kept ≡ keptWords → PartsKept (taskOf w) 0 (rowBegun kept 0 0 0 0)
   unfolding sum firstOf upTo upFrom
   parts-none kept l = record {
-    long = field-long one 0 firstPlace 0 (field-long kept 0 startPlace 0 l);
+    long = begun-long kept 0 0 0 0 l;
     start = λ s k. let e : s ≡ 0 = omega arith in
-        subst (λ (n : ℕ). keptStart both n ≡ firstAtom (taskOf w) n) (sym e)
-        (field-stays one 0 firstPlace 0 0 startPlace (omega arith) (omega arith) (λ z. omega arith) ∙
-        field-put kept 0 startPlace 0 l (omega arith) (omega arith));
+        subst (λ (n : ℕ). keptStart begun n ≡ firstAtom (taskOf w) n) (sym e) (begun-start kept 0 0 0 0 l (omega arith));
     first = λ s k. let e : s ≡ 0 = omega arith in
-        subst (λ (n : ℕ). keptFirst both n ≡ firstOf (taskOf w) n) (sym e)
-        (field-put one 0 firstPlace 0 (field-long kept 0 startPlace 0 l) (omega arith) (omega arith));
+        subst (λ (n : ℕ). keptFirst begun n ≡ firstOf (taskOf w) n) (sym e) (begun-first kept 0 0 0 0 l (omega arith));
+    pair = λ s k. let e : s ≡ 0 = omega arith in
+        subst (λ (n : ℕ). keptPair begun n ≡ firstPair (taskOf w) n) (sym e) (begun-pair kept 0 0 0 0 l (omega arith));
     taken = λ s k. absurd (omega arith);
     count = λ s k. absurd (omega arith);
     part = λ s j k. absurd (omega arith);
     params = λ s j x k. absurd (omega arith);
   }
     where
-      one : List ℕ
-      one = withField kept 0 startPlace 0
+      begun : List ℕ
+      begun = rowBegun kept 0 0 0 0
 
-      both : List ℕ
-      both = withField one 0 firstPlace 0
-
-  module _ (s from to next : ℕ) (l : s < length (taskOf w .schemas)) (begins : from ≡ firstAtom (taskOf w) s)
-      (ends : to ≡ firstAtom (taskOf w) (suc s))
+  module _ (s from to next pair : ℕ) (l : s < length (taskOf w .schemas)) (begins : from ≡ firstAtom (taskOf w) s)
+      (ends : to ≡ firstAtom (taskOf w) (suc s)) (pairs-end : pair ≡ firstPair (taskOf w) (suc s))
       (atoms : schemaAt (taskOf w) s .atoms ≡ stretchIn w from to) (f : Order) (fits : f .count ≤ length (f .parts))
       (found : f .found ≡ true) (told : orderTold f ≡ orderOf (schemaAt (taskOf w) s))
       (goes-on : next ≡ firstOf (taskOf w) (s + 1)) (named : AreParameters (stretchIn w from to) (f .named))
@@ -207,11 +204,8 @@ module _ (w : List ℕ) (h : isTable w ≡ true) where
     abbrev counted : List ℕ
     counted = withField kept s countPlace (f .count)
 
-    abbrev begun : List ℕ
-    begun = withField ordered (s + 1) startPlace to
-
     abbrev after : List ℕ
-    after = withField begun (s + 1) firstPlace next
+    after = rowBegun ordered (s + 1) to next pair
 
     -- what holds of each schema before s and of s
     up-to : (P : ℕ → Type 0) → ((r : ℕ) → r < s → P r) → P s → (r : ℕ) → r < s + 1 → P r
@@ -223,25 +217,16 @@ module _ (w : List ℕ) (h : isTable w ≡ true) where
     few : s < mostSchemas
     few = let n = schemas-few in omega arith
 
-    -- what stood before the row's count still stands, and the row itself as the order was kept
-    stays : (i : ℕ) → i < keptRow * s + countPlace → getD after i 0 ≡ getD kept i 0
-    stays i k =
-        before-stays begun (s + 1) firstPlace next i (omega arith) ∙
-        before-stays ordered (s + 1) startPlace to i (omega arith) ∙
-        new .rows i (omega (arith, few)) ∙ before-stays kept s countPlace (f .count) i k
+    -- what stands in the rows up to this one still stands, and all but the count stood there before
+    row-stays : (i : ℕ) → i < keptRow * (s + 1) → getD after i 0 ≡ getD counted i 0
+    row-stays i k = begun-before ordered (s + 1) to next pair i k ∙ new .rows i (omega (arith, few))
 
-    row-stays : (i : ℕ) → i < keptRow → field after s i ≡ field counted s i
-    row-stays i k =
-        before-stays begun (s + 1) firstPlace next (keptRow * s + i) (omega arith) ∙
-        before-stays ordered (s + 1) startPlace to (keptRow * s + i) (omega arith) ∙
-        new .rows (keptRow * s + i) (omega (arith, few))
+    stays : (i : ℕ) → i < keptRow * (s + 1) → (keptRow * s + countPlace ≡ i → ⊥) → getD after i 0 ≡ getD kept i 0
+    stays i k n = row-stays i k ∙ getD-set-other kept (keptRow * s + countPlace) i (f .count) 0 (λ e. n (sym e))
 
     -- what stands behind the rows still stands
-    begun-behind : (i : ℕ) → orderPlace ≤ i → getD after i 0 ≡ getD ordered i 0
-    begun-behind i k =
-        let n = few in
-        behind-stays begun (s + 1) firstPlace next i (omega arith) (omega arith) k ∙
-        behind-stays ordered (s + 1) startPlace to i (omega arith) (omega arith) k
+    after-behind : (i : ℕ) → orderPlace ≤ i → getD after i 0 ≡ getD ordered i 0
+    after-behind = begun-behind ordered (s + 1) to next pair (omega (arith, few))
 
     counted-behind : (i : ℕ) → orderPlace ≤ i → getD counted i 0 ≡ getD kept i 0
     counted-behind i k = behind-stays kept s countPlace (f .count) i (omega (arith, few)) (omega arith) k
@@ -251,9 +236,6 @@ module _ (w : List ℕ) (h : isTable w ≡ true) where
 
     ordered-long : length ordered ≡ keptWords
     ordered-long = new .long ∙ counted-long
-
-    begun-long : length begun ≡ keptWords
-    begun-long = field-long ordered (s + 1) startPlace to ordered-long
 
     here-count : length (orders t s) ≡ f .count
     here-count = told-count t s f told found fits
@@ -272,28 +254,37 @@ module _ (w : List ℕ) (h : isTable w ≡ true) where
 
     starts-more : (r : ℕ) → r ≤ s + 1 → keptStart after r ≡ firstAtom t r
     starts-more r k = elim (decLt r (s + 1)) [
-      | yes m ↦ stays (keptRow * r + startPlace) (omega arith) ∙ old .start r (omega arith)
+      | yes m ↦ stays (keptRow * r + startPlace) (omega arith) (λ e. omega arith) ∙ old .start r (omega arith)
       | no m ↦
           let e : s + 1 ≡ r = omega arith in
           subst (λ (n : ℕ). keptStart after n ≡ firstAtom t n) e
-          (field-stays begun (s + 1) firstPlace next (s + 1) startPlace (omega arith) (omega arith) (λ z. omega arith) ∙
-          field-put ordered (s + 1) startPlace to ordered-long (omega (arith, few)) (omega arith) ∙
+          (begun-start ordered (s + 1) to next pair ordered-long (omega (arith, few)) ∙
           ends ∙ ap (firstAtom t) (sym (add-one s)))
     ]
 
     firsts-more : (r : ℕ) → r ≤ s + 1 → keptFirst after r ≡ firstOf t r
     firsts-more r k = elim (decLt r (s + 1)) [
-      | yes m ↦ stays (keptRow * r + firstPlace) (omega arith) ∙ old .first r (omega arith)
+      | yes m ↦ stays (keptRow * r + firstPlace) (omega arith) (λ e. omega arith) ∙ old .first r (omega arith)
       | no m ↦
           let e : s + 1 ≡ r = omega arith in
           subst (λ (n : ℕ). keptFirst after n ≡ firstOf t n) e
-          (field-put begun (s + 1) firstPlace next begun-long (omega (arith, few)) (omega arith) ∙ goes-on)
+          (begun-first ordered (s + 1) to next pair ordered-long (omega (arith, few)) ∙ goes-on)
+    ]
+
+    pairs-more : (r : ℕ) → r ≤ s + 1 → keptPair after r ≡ firstPair t r
+    pairs-more r k = elim (decLt r (s + 1)) [
+      | yes m ↦ stays (keptRow * r + pairPlace) (omega arith) (λ e. omega arith) ∙ old .pair r (omega arith)
+      | no m ↦
+          let e : s + 1 ≡ r = omega arith in
+          subst (λ (n : ℕ). keptPair after n ≡ firstPair t n) e
+          (begun-pair ordered (s + 1) to next pair ordered-long (omega (arith, few)) ∙
+          pairs-end ∙ ap (firstPair t) (sym (add-one s)))
     ]
 
     counts-more : (r : ℕ) → r < s + 1 → keptCount after r ≡ length (orders t r)
     counts-more = up-to (λ r. keptCount after r ≡ length (orders t r))
-        (λ r k. stays (keptRow * r + countPlace) (omega arith) ∙ old .count r k)
-        (row-stays countPlace (omega arith) ∙
+        (λ r k. stays (keptRow * r + countPlace) (omega arith) (λ e. omega arith) ∙ old .count r k)
+        (row-stays (keptRow * s + countPlace) (omega arith) ∙
         field-put kept s countPlace (f .count) (old .long) (omega (arith, few)) (omega arith) ∙ sym here-count)
 
     -- the place of a part of an earlier schema
@@ -314,7 +305,7 @@ module _ (w : List ℕ) (h : isTable w ≡ true) where
           let k = before r j m n in
           let q = inside in
           ap (λ (b : ℕ). wordIn after (base + (b + j))) (starts-more r (omega arith)) ∙
-          word-inside after at (omega arith) ∙ begun-behind at (omega arith) ∙ e ∙
+          word-inside after at (omega arith) ∙ after-behind at (omega arith) ∙ e ∙
           counted-behind at (omega arith) ∙ sym (word-inside kept at (omega arith)) ∙
           ap (λ (b : ℕ). wordIn kept (base + (b + j))) (sym (old .start r (omega arith)))
 
@@ -323,7 +314,7 @@ module _ (w : List ℕ) (h : isTable w ≡ true) where
       word-here j k =
           let q = found-inside s l f told found fits in
           ap (λ (b : ℕ). wordIn after (base + (b + j))) (starts-more s (omega arith) ∙ sym begins) ∙
-          word-inside after (base + (from + j)) (omega arith) ∙ begun-behind (base + (from + j)) (omega arith)
+          word-inside after (base + (from + j)) (omega arith) ∙ after-behind (base + (from + j)) (omega arith)
 
     orders-more : (r : ℕ) → r < s + 1 → (j : ℕ) → j < length (orders t r) → keptPart after r j ≡ getD (orders t r) j 0
     orders-more = up-to (λ r. (j : ℕ) → j < length (orders t r) → keptPart after r j ≡ getD (orders t r) j 0)
@@ -350,38 +341,39 @@ module _ (w : List ℕ) (h : isTable w ≡ true) where
 
     pub parts-more : PartsKept t (s + 1) after
     parts-more = record {
-      long = field-long begun (s + 1) firstPlace next begun-long;
+      long = begun-long ordered (s + 1) to next pair ordered-long;
       start = starts-more;
       first = firsts-more;
+      pair = pairs-more;
       taken = up-to (λ r. orderOf (schemaAt t r) ≡ some (orders t r)) (old .taken) (told-taken t s f told found);
       count = counts-more;
       part = λ r j k. orders-more r k j;
       params = λ r j x k. owns-more r k j x;
     }
 
--- ---- the circular schema
+-- ---- the lowest schema that a test takes, as a loop finds it
+module _ (test : ℕ → Bool) (s n : ℕ) (before : (r : ℕ) → r < s → test r ≡ false) where
+  pub lowest-here : s < n → test s ≡ true → first test (upTo n) ≡ some s
+  unfolding upTo
+  lowest-here l e =
+      is-first test 0 n s
+      (record { from = omega arith; below = omega arith; passes = e; lowest = λ r a b. before r b })
+
+  pub lowest-nowhere : s ≡ n → first test (upTo n) ≡ none
+  unfolding first head
+  lowest-nowhere e =
+      ap head (filter-none test (upTo n) (λ r i. before r (let l = upTo-in n r i in omega arith)))
+
+-- the circular one
 module _ (t : Task) (s : ℕ) (kept : (r : ℕ) → r < s → orderOf (schemaAt t r) ≡ some (orders t r)) where
-  none-before : filter (λ r. isNone (orderAt t r)) (upFrom 0 s) ≡ []
+  ordered-before : (r : ℕ) → r < s → isNone (orderAt t r) ≡ false
   unfolding isNone orderAt
-  none-before =
-      filter-none (λ r. isNone (orderAt t r)) (upFrom 0 s)
-      (λ r i. ap isNone (kept r (let z = upFrom-in 0 s r i .1 in omega arith)))
+  ordered-before r l = ap isNone (kept r l)
 
   pub circular-here : s < length (t .schemas) → orderOf (schemaAt t s) ≡ none → circularAt t ≡ some s
-  unfolding first upTo upFrom head filter keepIf isNone orderAt
+  unfolding isNone orderAt
   circular-here l e =
-      let test : ℕ → Bool = λ r. isNone (orderAt t r) in
-      let m = length (t .schemas) - s - 1 in
-      let n : length (t .schemas) ≡ s + suc m = omega arith in
-      ap (λ (k : ℕ). head (filter test (upFrom 0 k))) n ∙
-      ap (λ (xs : List ℕ). head (filter test xs)) (upFrom-append 0 s (suc m)) ∙
-      ap head (filter-append test (upFrom 0 s) (upFrom (0 + s) (suc m))) ∙
-      ap (λ (k : ℕ). head (filter test (upFrom 0 s) ++ filter test (upFrom k (suc m))))
-      (let z : 0 + s ≡ s = omega arith in z) ∙
-      ap (λ (xs : List ℕ). head (xs ++ filter test (upFrom s (suc m)))) none-before ∙
-      ap (λ (o : Option (List ℕ)). head (keepIf (isNone o) s (filter test (upFrom (suc s) m)))) e
+      lowest-here (λ r. isNone (orderAt t r)) s (length (t .schemas)) ordered-before l (ap isNone e)
 
   pub circular-nowhere : s ≡ length (t .schemas) → circularAt t ≡ none
-  unfolding first upTo head
-  circular-nowhere e =
-      ap (λ (n : ℕ). head (filter (λ r. isNone (orderAt t r)) (upFrom 0 n))) (sym e) ∙ ap head none-before
+  circular-nowhere = lowest-nowhere (λ r. isNone (orderAt t r)) s (length (t .schemas)) ordered-before
