@@ -13,10 +13,10 @@ use borrow.Author.Tests.{leb-true, ltb-true, ltb-false}
 use Rattle.words.proofs.Lists.{and-left, and-right}
 use Rattle.text.specs.declared.cursor.Cursor.{Cursor}
 use Rattle.text.specs.Lines.{Taken, number, numbers, listing, entry, ended}
-use Rattle.text.specs.Text.{Key, task, objects, arity, schema, pre, add, del, part, init, goal, end, Line}
-use Rattle.text.specs.Text.{taskLine, objectsLine, arityLine, schemaLine, atomLine, partLine, initLine, goalLine}
-use Rattle.text.specs.Text.{endLine, Phase, atTask, atObjects, atArity, between, inPre, inAdd, inDel, inInit}
-use Rattle.text.specs.Text.{inGoal, Draft, readBody, roleKey}
+use Rattle.text.specs.Text.{Key, task, objects, arity, schema, differ, pre, add, del, part, init, goal, end}
+use Rattle.text.specs.Text.{Line, taskLine, objectsLine, arityLine, schemaLine, differLine, atomLine, partLine}
+use Rattle.text.specs.Text.{initLine, goalLine, endLine, Phase, atTask, atObjects, atArity, between, inDiffer}
+use Rattle.text.specs.Text.{inPre, inAdd, inDel, inInit, inGoal, Draft, readBody, roleKey}
 use Rattle.text.specs.ReadCode.{rest, Moved, NextLine, keyNumber, phaseNumber, lastKey, mayStand}
 use Rattle.text.specs.Holding.{Turned, factKey, factLine}
 use Rattle.text.proofs.KeyLines.{key-of-number}
@@ -40,19 +40,23 @@ module _ (k : Key) (bs : List ℕ) where
   unfolding readBody
   arity-body e = body-of arity e
 
-  pub part-body : keyNumber k ≡ 6 → readBody k bs ≡ ended partLine (listing bs)
+  pub differ-body : keyNumber k ≡ 3 → readBody k bs ≡ ended differLine (numbers bs)
+  unfolding readBody
+  differ-body e = body-of differ e
+
+  pub part-body : keyNumber k ≡ 7 → readBody k bs ≡ ended partLine (listing bs)
   unfolding readBody
   part-body e = body-of part e
 
-  pub schema-body : keyNumber k ≡ 7 → readBody k bs ≡ ended schemaLine (number bs)
+  pub schema-body : keyNumber k ≡ 8 → readBody k bs ≡ ended schemaLine (number bs)
   unfolding readBody
   schema-body e = body-of schema e
 
-  init-body : keyNumber k ≡ 8 → readBody k bs ≡ ended initLine (entry bs)
+  init-body : keyNumber k ≡ 9 → readBody k bs ≡ ended initLine (entry bs)
   unfolding readBody
   init-body e = body-of init e
 
-  goal-body : keyNumber k ≡ 9 → readBody k bs ≡ ended goalLine (entry bs)
+  goal-body : keyNumber k ≡ 10 → readBody k bs ≡ ended goalLine (entry bs)
   unfolding readBody
   goal-body e = body-of goal e
 
@@ -60,17 +64,18 @@ module _ (k : Key) (bs : List ℕ) where
   fact-body kind.Initial e = init-body e
   fact-body kind.Goal e = goal-body e
 
-  pub end-body : keyNumber k ≡ 10 → readBody k bs ≡ ended endLine (number bs)
+  pub end-body : keyNumber k ≡ 11 → readBody k bs ≡ ended endLine (number bs)
   unfolding readBody
   end-body e = body-of end e
 
-pub atom-body : (k : Key) (bs : List ℕ) → 3 ≤ keyNumber k → keyNumber k < 6 →
-    readBody k bs ≡ ended (atomLine (keyNumber k - 3)) (entry bs)
+pub atom-body : (k : Key) (bs : List ℕ) → 4 ≤ keyNumber k → keyNumber k < 7 →
+    readBody k bs ≡ ended (atomLine (keyNumber k - 4)) (entry bs)
 unfolding readBody
 atom-body task bs l m = absurd (omega arith)
 atom-body objects bs l m = absurd (omega arith)
 atom-body arity bs l m = absurd (omega arith)
 atom-body schema bs l m = absurd (omega arith)
+atom-body differ bs l m = absurd (omega arith)
 atom-body pre bs l m = refl
 atom-body add bs l m = refl
 atom-body del bs l m = refl
@@ -79,11 +84,12 @@ atom-body init bs l m = absurd (omega arith)
 atom-body goal bs l m = absurd (omega arith)
 atom-body end bs l m = absurd (omega arith)
 
-pub last-number : (k : Key) → 9 < keyNumber k → keyNumber k ≡ 10
+pub last-number : (k : Key) → 10 < keyNumber k → keyNumber k ≡ 11
 last-number task l = absurd (omega arith)
 last-number objects l = absurd (omega arith)
 last-number arity l = absurd (omega arith)
 last-number schema l = absurd (omega arith)
+last-number differ l = absurd (omega arith)
 last-number pre l = absurd (omega arith)
 last-number add l = absurd (omega arith)
 last-number del l = absurd (omega arith)
@@ -97,8 +103,8 @@ last-number end l = refl
 pub record Stands (p k : ℕ) : Type 0 where
   pub before : p ≤ k
   pub head : k ≤ 2 → p ≡ k
-  pub in-schema : 3 ≤ k → k ≤ 6 → 3 ≤ p
-  pub between : 7 ≤ k → 7 ≤ p
+  pub in-schema : 3 ≤ k → k ≤ 7 → 3 ≤ p
+  pub between : 8 ≤ k → 8 ≤ p
 
 pub may-stand : (p k : ℕ) → mayStand p k ≡ true → Stands p k
 unfolding lastKey
@@ -106,7 +112,7 @@ may-stand p k h =
     let low = leb-true p k (and-left (leb p k) (leb k (lastKey p)) h) in
     go low (ltb p 3) refl (leb-true k (lastKey p) (and-right (leb p k) (leb k (lastKey p)) h))
   where
-    later : p ≤ k → 3 ≤ p → (b : Bool) → ltb p 7 ≡ b → k ≤ cond b 6 10 → Stands p k
+    later : p ≤ k → 3 ≤ p → (b : Bool) → ltb p 8 ≡ b → k ≤ cond b 7 11 → Stands p k
     later low l true e m = record {
       before = low;
       head = λ q. absurd (omega arith);
@@ -117,10 +123,10 @@ may-stand p k h =
       before = low;
       head = λ q. absurd (omega arith);
       in-schema = λ q r. l;
-      between = λ q. ltb-false p 7 e;
+      between = λ q. ltb-false p 8 e;
     }
 
-    go : p ≤ k → (b : Bool) → ltb p 3 ≡ b → k ≤ cond b p (cond (ltb p 7) 6 10) → Stands p k
+    go : p ≤ k → (b : Bool) → ltb p 3 ≡ b → k ≤ cond b p (cond (ltb p 8) 7 11) → Stands p k
     go low true e m =
         let l = ltb-true p 3 e in
         record {
@@ -129,24 +135,25 @@ may-stand p k h =
           in-schema = λ q r. absurd (omega arith);
           between = λ q. absurd (omega arith);
         }
-    go low false e m = later low (ltb-false p 3 e) (ltb p 7) refl m
+    go low false e m = later low (ltb-false p 3 e) (ltb p 8) refl m
 
-no-sixth : (p : Phase) → phaseNumber p ≡ 6 → ⊥
-no-sixth atTask e = omega arith
-no-sixth atObjects e = omega arith
-no-sixth atArity e = omega arith
-no-sixth between e = omega arith
-no-sixth inPre e = omega arith
-no-sixth inAdd e = omega arith
-no-sixth inDel e = omega arith
-no-sixth inInit e = omega arith
-no-sixth inGoal e = omega arith
+no-seventh : (p : Phase) → phaseNumber p ≡ 7 → ⊥
+no-seventh atTask e = omega arith
+no-seventh atObjects e = omega arith
+no-seventh atArity e = omega arith
+no-seventh between e = omega arith
+no-seventh inDiffer e = omega arith
+no-seventh inPre e = omega arith
+no-seventh inAdd e = omega arith
+no-seventh inDel e = omega arith
+no-seventh inInit e = omega arith
+no-seventh inGoal e = omega arith
 
 -- a key by its number may stand where the number does
 pub stands-as : (p : ℕ) {key n : ℕ} → key ≡ n → mayStand p key ≡ true → mayStand p n ≡ true
 stands-as p e h = subst (λ (k : ℕ). mayStand p k ≡ true) e h
 
-pub role-number : (r : ℕ) → r ≤ 2 → keyNumber (roleKey r) ≡ 3 + r
+pub role-number : (r : ℕ) → r ≤ 2 → keyNumber (roleKey r) ≡ 4 + r
 unfolding roleKey
 role-number zero l = refl
 role-number (suc zero) l = refl
@@ -158,25 +165,33 @@ pub head-place : (p : ℕ) (k : Key) → keyNumber k ≤ 2 → mayStand p (keyNu
 head-place p k l h = may-stand p (keyNumber k) h .head l
 
 -- a `schema` line between two schemas alone
-pub schema-place : (p : ℕ) → mayStand p 7 ≡ true → p ≡ 7
+pub schema-place : (p : ℕ) → mayStand p 8 ≡ true → p ≡ 8
 schema-place p h =
-    let s = may-stand p 7 h in
+    let s = may-stand p 8 h in
     let a = s .before in
     let b = s .between (omega arith) in
     omega arith
 
--- a `part` line inside a schema
-pub part-place : (p : Phase) → mayStand (phaseNumber p) 6 ≡ true → (3 ≤ phaseNumber p) × (phaseNumber p ≤ 5)
-part-place p h =
-    let s = may-stand (phaseNumber p) 6 h in
+-- a `differ` line right behind its schema's, or another
+pub differ-place : (p : ℕ) → mayStand p 3 ≡ true → p ≡ 3
+differ-place p h =
+    let s = may-stand p 3 h in
     let a = s .before in
-    let n : phaseNumber p ≡ 6 → ⊥ = no-sixth p in
+    let b = s .in-schema (omega arith) (omega arith) in
+    omega arith
+
+-- a `part` line inside a schema
+pub part-place : (p : Phase) → mayStand (phaseNumber p) 7 ≡ true → (3 ≤ phaseNumber p) × (phaseNumber p ≤ 6)
+part-place p h =
+    let s = may-stand (phaseNumber p) 7 h in
+    let a = s .before in
+    let n : phaseNumber p ≡ 7 → ⊥ = no-seventh p in
     (s .in-schema (omega arith) (omega arith), omega arith)
 
 -- and so an atom's line, before the lines of later roles
-pub atom-place : (p r : ℕ) → r ≤ 2 → mayStand p (keyNumber (roleKey r)) ≡ true → (3 ≤ p) × (p ≤ 3 + r)
+pub atom-place : (p r : ℕ) → r ≤ 2 → mayStand p (keyNumber (roleKey r)) ≡ true → (3 ≤ p) × (p ≤ 4 + r)
 atom-place p r l h =
-    let s = may-stand p (3 + r) (stands-as p (role-number r l) h) in
+    let s = may-stand p (4 + r) (stands-as p (role-number r l) h) in
     let a = s .before in
     (s .in-schema (omega arith) (omega arith), omega arith)
 

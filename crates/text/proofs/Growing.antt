@@ -1,12 +1,12 @@
 -- A test of a task, one atom or pair at a time: what it says of a list that gains a last one, both ways. Where a test of
 -- the longer list gives the test of the shorter one, it gives that of every beginning (`prefix`).
-use Prim.Native.Nat.{ℕ, _≤_}
+use Prim.Native.Nat.{ℕ, suc, _≤_}
 use mathlib.Core.Path.{_≡_, refl, sym, _∙_, ap, subst}
 use mathlib.Core.Bool.{Bool, true, not, _&&_}
 use mathlib.Core.List.{List, [], _∷_, _++_, append-assoc, append-nil}
 use mathlib.Core.Logic.{_⊎_, inl, inr}
 use native.Mathlib.Omega.{arith}
-use lib.ListN.{length, length-append}
+use lib.ListN.{length, getD, length-append}
 use lib.Dec.{eqb, ltb, leb}
 use borrow.Author.Tests.{ltb-true, leb-true, eqb-true, not-true, lt-ltb, le-leb, eq-eqb}
 use Rattle.words.specs.Lists.{all, any, eqList, lastOr}
@@ -165,6 +165,25 @@ module _ {A : Type 0} (less : A → A → Bool) (ascends : List A → Bool) (beh
       let (a, b) = snoc-ascends (z ∷ xs) x (and-right (less y z) rest g) in
       (more y z xs ∙ and-both _ _ (and-left (less y z) rest g) a, last y (z ∷ xs) x ∙ (sym (last z xs x) ∙ b))
 
+-- the last of a list that isn't empty, by index
+last-at : {A : Type 0} (x : A) (xs : List A) (d : A) → lastOr xs x ≡ getD (x ∷ xs) (length xs) d
+unfolding lastOr
+last-at x [] d = refl
+last-at x (y ∷ xs) d = last-at y xs d
+
+-- whether one comes behind the last, by index
+module _ {A : Type 0} (less : A → A → Bool) (behind : List A → A → Bool) (free : (x : A) → behind [] x ≡ true)
+    (last : (y : A) (xs : List A) (x : A) → behind (y ∷ xs) x ≡ less (lastOr xs y) x) where
+  first-behind : (xs : List A) (x : A) → length xs ≡ 0 → behind xs x ≡ true
+  first-behind [] x e = free x
+  first-behind (y ∷ xs) x e = absurd (omega arith)
+
+  later-behind : (xs : List A) (x : A) (k : ℕ) (d : A) → length xs ≡ suc k → behind xs x ≡ less (getD xs k d) x
+  later-behind [] x k d e = absurd (omega arith)
+  later-behind (y ∷ xs) x k d e =
+      let z : length xs ≡ k = omega arith in
+      last y xs x ∙ ap (λ (y : A). less y x) (last-at y xs d ∙ ap (λ (i : ℕ). getD (y ∷ xs) i d) z)
+
 -- facts, by predicate and then arguments
 pub ascending-snoc : (fs : List Fact) (f : Fact) → ascending fs ≡ true → follows fs f ≡ true →
     ascending (fs ++ (f ∷ [])) ≡ true
@@ -178,6 +197,15 @@ unfolding ascending follows
 snoc-ascending =
     snoc-ascends factLess ascending follows refl (λ x. refl) (λ x y xs. refl) (λ x. refl) (λ y xs x. refl)
 
+pub first-follows : (fs : List Fact) (f : Fact) → length fs ≡ 0 → follows fs f ≡ true
+unfolding follows
+first-follows = first-behind factLess follows (λ x. refl) (λ y xs x. refl)
+
+pub later-follows : (fs : List Fact) (f : Fact) (k : ℕ) (d : Fact) → length fs ≡ suc k →
+    follows fs f ≡ factLess (getD fs k d) f
+unfolding follows
+later-follows = later-behind factLess follows (λ x. refl) (λ y xs x. refl)
+
 -- pairs, by the lower parameter and then the higher
 pub pairs-snoc : (qs : List Pair) (q : Pair) → pairsAscend qs ≡ true → pairFollows qs q ≡ true →
     pairsAscend (qs ++ (q ∷ [])) ≡ true
@@ -190,6 +218,15 @@ pub snoc-pairs : (qs : List Pair) (q : Pair) → pairsAscend (qs ++ (q ∷ [])) 
 unfolding pairsAscend pairFollows
 snoc-pairs =
     snoc-ascends pairLess pairsAscend pairFollows refl (λ x. refl) (λ x y xs. refl) (λ x. refl) (λ y xs x. refl)
+
+pub first-pair : (qs : List Pair) (q : Pair) → length qs ≡ 0 → pairFollows qs q ≡ true
+unfolding pairFollows
+first-pair = first-behind pairLess pairFollows (λ x. refl) (λ y xs x. refl)
+
+pub later-pair : (qs : List Pair) (q : Pair) (k : ℕ) (d : Pair) → length qs ≡ suc k →
+    pairFollows qs q ≡ pairLess (getD qs k d) q
+unfolding pairFollows
+later-pair = later-behind pairLess pairFollows (λ x. refl) (λ y xs x. refl)
 
 pub more-facts : (n : ℕ) (ns : List ℕ) (fs : List Fact) (f : Fact) → factsFit n ns fs ≡ true → fits n ns f ≡ true →
     follows fs f ≡ true → factsFit n ns (fs ++ (f ∷ [])) ≡ true

@@ -1,4 +1,4 @@
--- The code holds the draft again behind an `arity` line: the arities stand at word 6, and nothing stands behind them
+-- The code holds the draft again behind an `arity` line: the arities stand at word 7, and nothing stands behind them
 -- yet.
 use Prim.Native.Nat.{ℕ, _≤_, _<_}
 use mathlib.Core.Path.{_≡_, refl, sym, _∙_, ap}
@@ -10,14 +10,14 @@ use lib.Dec.{ltb, leb, leb·suc-suc}
 use borrow.Author.Tests.{le-leb, lt-leb}
 use Rattle.words.specs.Lists.{all, concatMap, joined}
 use Rattle.task.specs.Limits.{headWords}
-use Rattle.task.specs.Table.{schemasFrom}
+use Rattle.task.specs.Table.{rowsFrom}
 use Rattle.task.specs.Task.{Schema, argsFit, noSchema}
 use Rattle.words.proofs.Lists.{and-both}
 use Rattle.words.proofs.Words.{and-false}
 use Rattle.text.specs.Reading.{goOn, refuse}
 use Rattle.text.specs.Text.{between, Draft, atPhase, withArities, arityLine, takeLine, arity}
 use Rattle.text.specs.ReadCode.{Wrote, Listed}
-use Rattle.text.specs.Holding.{Holds, rowBlocks, rowsOf, Allows}
+use Rattle.text.specs.Holding.{Holds, rowBlocks, rowsOf, pairsOf, Allows}
 use Rattle.text.proofs.Reading.{need-met}
 use Rattle.text.proofs.LineTurns.{need-fails}
 use Rattle.text.proofs.WroteWords.{stands}
@@ -50,14 +50,14 @@ module _ (d : Draft) (ns : List ℕ) where
 
 -- no atom is read before the arities
 no-rows : {d : Draft} {w : List ℕ} {c : Counts} → Holds d w c → c .phase ≤ 2 → rowsOf d ≡ []
-unfolding rowBlocks joined concatMap schemasFrom
+unfolding rowBlocks joined concatMap rowsFrom
 no-rows {d = d} h l =
     let o = h .order in
     rw (o .no-schema l, o .not-open l, o .no-init (omega arith), o .no-goal (omega arith)) refl
 
 abbrev counted : Counts → ℕ → Counts
 counted c n = record {
-  phase = 7;
+  phase = 8;
   objects = c .objects;
   predicates = n;
   schemas = c .schemas;
@@ -66,13 +66,15 @@ counted c n = record {
   atoms = c .atoms;
   initial = c .initial;
   goal = c .goal;
+  pairs = c .pairs;
+  apart = c .apart;
 }
 
 module _ {d : Draft} {w after : List ℕ} {c : Counts} (h : Holds d w c) (ns kept : List ℕ) (n : ℕ) where
   pub arities-held : Allows c arity → n ≤ 400 → all (λ n. leb n 4) ns ≡ true → n ≤ length kept →
       Listed ns n kept → Wrote w headWords n (λ k. getD kept k 0) after →
       Holds (atPhase between (withArities (d .task) ns)) after (counted c n)
-  unfolding atPhase withArities all rowBlocks joined concatMap schemasFrom
+  unfolding atPhase withArities all rowBlocks pairsOf joined concatMap rowsFrom
   arities-held allowed l low room listed wrote =
       let z = head-place (c .phase) arity (omega arith) allowed in
       let o = h .order in
@@ -83,6 +85,7 @@ module _ {d : Draft} {w after : List ℕ} {c : Counts} (h : Holds d w c) (ns kep
       let g = o .no-goal (omega arith) in
       let none = no-rows h (omega arith) in
       let rows : rowsOf (atPhase between (withArities (d .task) ns)) ≡ [] = no-rows-again s i g in
+      let pairs : pairsOf (atPhase between (withArities (d .task) ns)) ≡ [] = no-pairs-again s in
       let size = wrote .size in
       let long = h .long in
       let nothing = ap length none in
@@ -98,6 +101,8 @@ module _ {d : Draft} {w after : List ℕ} {c : Counts} (h : Holds d w c) (ns kep
         atoms = h .atoms ∙ ap (λ (s : Schema). length (s .atoms)) e;
         initial = h .initial;
         goal = h .goal;
+        pairs = h .pairs;
+        apart = h .apart ∙ ap (λ (s : Schema). length (s .pairs)) e;
         few = record {
           predicates = l;
           schemas = few .schemas;
@@ -107,6 +112,7 @@ module _ {d : Draft} {w after : List ℕ} {c : Counts} (h : Holds d w c) (ns kep
           total = few .total;
           initial = few .initial;
           goal = few .goal;
+          pairs = few .pairs;
         };
         order = record {
           no-arity = λ q. absurd (omega arith);
@@ -124,6 +130,7 @@ module _ {d : Draft} {w after : List ℕ} {c : Counts} (h : Holds d w c) (ns kep
         long = omega arith;
         arities-stand = stands wrote ns many (λ k q. listed .held k (omega arith) (omega arith));
         params-stand = rw s (λ k q. absurd (omega arith));
+        pairs-stand = rw pairs (λ k q. absurd (omega arith));
         rows-stand = rw rows (λ k q. absurd (omega arith));
         rows-length = ap length rows ∙ (sym nothing ∙ m);
       }
@@ -134,3 +141,6 @@ module _ {d : Draft} {w after : List ℕ} {c : Counts} (h : Holds d w c) (ns kep
       no-rows-again : d .task .schemas ≡ [] → d .task .init ≡ [] → d .task .goal ≡ [] →
           rowsOf (atPhase between (withArities (d .task) ns)) ≡ []
       no-rows-again s i g = rw (s, i, g) refl
+
+      no-pairs-again : d .task .schemas ≡ [] → pairsOf (atPhase between (withArities (d .task) ns)) ≡ []
+      no-pairs-again s = rw s refl

@@ -20,7 +20,7 @@ use Rattle.text.specs.Reading.{goOn, refuse}
 use Rattle.text.specs.Text.{Draft, rolePhase, addAtom, Line, atomLine, takeLine}
 use Rattle.text.specs.ReadCode.{Standing, Wrote, Listed, Fitting, bareAtom, rowSame, phaseNumber}
 use Rattle.text.specs.Holding.{Few, rowAt, rowBlocks, rowsOf, Holds, Touched, InSchema, withAtom, oneAtomMore}
-use Rattle.text.specs.Holding.{entryOf, Grows, firstRow, rowsAt}
+use Rattle.text.specs.Holding.{entryOf, Grows, firstRow, pairsAt, rowsAt, pairsOf}
 use Rattle.text.proofs.Reading.{need-met}
 use Rattle.text.proofs.Growing.{all-snoc}
 use Rattle.text.proofs.LineTurns.{need-fails}
@@ -29,6 +29,7 @@ use Rattle.text.proofs.RowCompare.{any-index, same-rows}
 use Rattle.text.proofs.RowTests.{listed-take}
 use Rattle.text.specs.declared.draft.Counts.{Counts}
 use Rattle.text.proofs.Dispatch.{atom-place}
+use Rattle.text.proofs.HeldPairs.{pairs-stay, pairs-before}
 
 pub few-words : {c : Counts} → Few c → c .closed + c .atoms < 1000 → rowAt c + atomSize ≤ tableLength
 few-words f l =
@@ -61,6 +62,12 @@ module _ {d : Draft} {w after : List ℕ} {c : Counts} (row : List ℕ) (h : Hol
       let m = length-map (d .task .schemas) (λ s. s .params) in
       stays-before wrote (headWords + length (d .task .arities)) (map (λ s. s .params) (d .task .schemas)) (omega arith)
       (h .params-stand)
+
+  pub pairs-again : Standing after (pairsAt (length (d .task .arities))) (pairsOf d)
+  pairs-again =
+      let p = h .predicates in
+      let l = pairs-before h in
+      stays-before wrote (pairsAt (length (d .task .arities))) (pairsOf d) (omega arith) (h .pairs-stand)
 
   pub row-behind : Standing after (rowsAt (length (d .task .arities))) (rowsOf d ++ row)
   row-behind =
@@ -232,6 +239,8 @@ module _ {d : Draft} {w : List ℕ} {c : Counts} (h : Holds d w c) (r p : ℕ) (
         atoms = omega arith;
         initial = h .initial;
         goal = h .goal;
+        pairs = h .pairs;
+        apart = h .apart;
         few = record {
           predicates = few .predicates;
           schemas = few .schemas;
@@ -241,6 +250,7 @@ module _ {d : Draft} {w : List ℕ} {c : Counts} (h : Holds d w c) (r p : ℕ) (
           total = omega arith;
           initial = few .initial;
           goal = few .goal;
+          pairs = few .pairs;
         };
         order = record {
           no-arity = λ q. absurd (omega arith);
@@ -260,12 +270,13 @@ module _ {d : Draft} {w : List ℕ} {c : Counts} (h : Holds d w c) (r p : ℕ) (
         long = long-again (atomWords S new) h e wrote;
         arities-stand = arities-again (atomWords S new) h e wrote;
         params-stand = params-again (atomWords S new) h e wrote;
+        pairs-stand = pairs-stay d _ after _ refl refl (pairs-again (atomWords S new) h e wrote);
         rows-stand = subst (Standing after (rowsAt (length (d .task .arities)))) (sym rows)
             (row-behind (atomWords S new) h e wrote);
         rows-length = ap length rows ∙ omega arith;
       }
     where
-      role-number : (r : ℕ) → r ≤ 2 → phaseNumber (rolePhase r) ≡ 3 + r
+      role-number : (r : ℕ) → r ≤ 2 → phaseNumber (rolePhase r) ≡ 4 + r
       role-number zero q = refl
       role-number (suc zero) q = refl
       role-number (suc (suc zero)) q = refl

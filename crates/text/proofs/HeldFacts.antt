@@ -8,9 +8,9 @@ use mathlib.Core.List.{List, [], _∷_, _++_, append-assoc, append-nil}
 use native.Mathlib.Omega.{arith}
 use lib.ListN.{length, getD, length-append, take}
 use borrow.Author.Tests.{le-ltb, lt-ltb}
-use Rattle.words.specs.Lists.{all, concatMap, joined, sum, lastOr, lessList}
+use Rattle.words.specs.Lists.{all, concatMap, joined, sum, lessList}
 use Rattle.task.specs.Limits.{atomSize, tableLength}
-use Rattle.task.specs.Task.{Fact, Schema, argsFit, factLess, noSchema}
+use Rattle.task.specs.Task.{Fact, Schema, argsFit, noSchema}
 use Rattle.task.specs.Table.{atomWords, factWords, schemasFrom}
 use Rattle.words.specs.Words.{wordsAt}
 use Rattle.words.proofs.Lists.{In, all-in, in-getD, append-concatMap}
@@ -24,12 +24,13 @@ use Rattle.text.specs.ReadCode.{Standing, Wrote, Listed, Fitting, bareAt
 use Rattle.text.specs.Holding.{Few, rowAt, rowBlocks, rowsOf, Holds, Allows, factKey, factLine, factsOf}
 use Rattle.text.specs.Holding.{withFacts, soFar, withCounted, oneFactMore, Grows, entryOf, rowsAt}
 use Rattle.text.proofs.Reading.{need-met}
-use Rattle.text.proofs.Growing.{all-snoc}
+use Rattle.text.proofs.Growing.{all-snoc, first-follows, later-follows}
 use Rattle.text.proofs.LineTurns.{need-fails}
 use Rattle.text.proofs.WroteWords.{stands, stays-before}
 use Rattle.text.proofs.RowCompare.{less-rows}
-use Rattle.text.proofs.HeldAtoms.{arities-again, params-again, row-behind, long-again, schemas-length}
-use Rattle.text.proofs.HeldAtoms.{atoms-length, inits-length}
+use Rattle.text.proofs.HeldAtoms.{arities-again, params-again, pairs-again, row-behind, long-again}
+use Rattle.text.proofs.HeldAtoms.{schemas-length, atoms-length, inits-length}
+use Rattle.text.proofs.HeldPairs.{pairs-stay}
 use Rattle.text.proofs.Dispatch.{may-stand}
 use Rattle.text.proofs.RowTests.{listed-take}
 use Rattle.text.specs.declared.draft.Counts.{Counts}
@@ -121,23 +122,6 @@ module _ (k : Kind) (c : Counts) (d : Draft) (p : ℕ) (ns : List ℕ) where
       line-is ∙ need-met 4 (lt-ltb (length facts) most l) (need-met 5 f (need-met 6 o refl))
 
 -- ---- the order of facts
-first-follows : (fs : List Fact) (f : Fact) → length fs ≡ 0 → follows fs f ≡ true
-unfolding follows
-first-follows [] f e = refl
-first-follows (g ∷ fs) f e = absurd (omega arith)
-
-last-at : {A : Type 0} (x : A) (xs : List A) (d : A) → lastOr xs x ≡ getD (x ∷ xs) (length xs) d
-unfolding lastOr
-last-at x [] d = refl
-last-at x (y ∷ xs) d = last-at y xs d
-
-later-follows : (fs : List Fact) (f : Fact) (k : ℕ) → length fs ≡ suc k → follows fs f ≡ factLess (getD fs k f) f
-unfolding follows
-later-follows [] f k e = absurd (omega arith)
-later-follows (g ∷ fs) f k e =
-    let z : length fs ≡ k = omega arith in
-    ap (λ (x : Fact). factLess x f) (last-at g fs f ∙ ap (λ (i : ℕ). getD (g ∷ fs) i f) z)
-
 module _ {d : Draft} {w after : List ℕ} {c : Counts} (h : Holds d w c) (facts : Facts) (fs : List Fact)
     (known : FactsRead d w c facts fs) (p : ℕ) (ns : List ℕ) where
   follows-is : 0 < facts .read → facts .read ≤ c .initial + c .goal → Sized (d .task .arities) p ns →
@@ -165,7 +149,7 @@ module _ {d : Draft} {w after : List ℕ} {c : Counts} (h : Holds d w c) (facts 
       (fits .short)
       (size .count) (fits .count)
       (stays-before wrote (rowAt c - atomSize) (factWords (facts .role) g) (omega arith) old)
-      (stands wrote (factWords (facts .role) f) new-size (λ k m. refl)) ∙ sym (later-follows fs f k e))
+      (stands wrote (factWords (facts .role) f) new-size (λ k m. refl)) ∙ sym (later-follows fs f k f e))
     where
       fs-sized : (f : Fact) → In f fs → Sized (d .task .arities) (f .pred) (f .args)
       fs-sized f i = sized (d .task .objects) (d .task .arities) (f .pred) (f .args) (h .low)
@@ -203,9 +187,9 @@ module _ {d : Draft} {w : List ℕ} {c : Counts} (h : Holds d w c) where
   }
 
   -- before an `init` line there is no goal atom yet
-  init-allowed : Allows c init → (7 ≤ c .phase) × (d .task .goal ≡ [])
+  init-allowed : Allows c init → (8 ≤ c .phase) × (d .task .goal ≡ [])
   init-allowed allowed =
-      let stands = may-stand (c .phase) 8 allowed in
+      let stands = may-stand (c .phase) 9 allowed in
       let before = stands .before in
       (stands .between (omega arith), h .order .no-goal (omega arith))
 
@@ -278,8 +262,8 @@ module _ {d : Draft} {w : List ℕ} {c : Counts} (h : Holds d w c) (p : ℕ) (ns
       goal = goals;
     })
 
-    facts-held : {after : List ℕ} (row : List ℕ) → d .current ≡ noSchema → 8 ≤ phaseNumber place →
-        (phaseNumber place ≤ 8 → goals ≡ []) → i ≡ length inits → g ≡ length goals → i ≤ 500 → g ≤ 100 →
+    facts-held : {after : List ℕ} (row : List ℕ) → d .current ≡ noSchema → 9 ≤ phaseNumber place →
+        (phaseNumber place ≤ 9 → goals ≡ []) → i ≡ length inits → g ≡ length goals → i ≤ 500 → g ≤ 100 →
         i + g ≡ c .initial + c .goal + 1 → all factFits inits ≡ true → all factFits goals ≡ true →
         rowsOf grown ≡ rowsOf d ++ row → length row ≡ atomSize → Wrote w (rowAt c) atomSize (λ k. getD row k 0) after →
         Holds grown after (withCounted c place i g)
@@ -298,6 +282,8 @@ module _ {d : Draft} {w : List ℕ} {c : Counts} (h : Holds d w c) (p : ℕ) (ns
           atoms = h .atoms ∙ ap (λ (s : Schema). length (s .atoms)) s;
           initial = ni;
           goal = ng;
+          pairs = h .pairs;
+          apart = h .apart ∙ ap (λ (s : Schema). length (s .pairs)) s;
           few = record {
             predicates = few .predicates;
             schemas = few .schemas;
@@ -307,6 +293,7 @@ module _ {d : Draft} {w : List ℕ} {c : Counts} (h : Holds d w c) (p : ℕ) (ns
             total = few .total;
             initial = fi;
             goal = fg;
+            pairs = few .pairs;
           };
           order = record {
             no-arity = λ q. absurd (omega arith);
@@ -324,6 +311,7 @@ module _ {d : Draft} {w : List ℕ} {c : Counts} (h : Holds d w c) (p : ℕ) (ns
           long = long-again row h e wrote;
           arities-stand = arities-again row h e wrote;
           params-stand = params-again row h e wrote;
+          pairs-stand = pairs-stay d _ after _ refl (ap (λ (s : Schema). s .pairs) s) (pairs-again row h e wrote);
           rows-stand = subst (Standing after (rowsAt (length (d .task .arities)))) (sym rows)
               (row-behind row h e wrote);
           rows-length = ap length rows ∙ omega arith;
@@ -346,7 +334,7 @@ module _ {d : Draft} {w : List ℕ} {c : Counts} (h : Holds d w c) (p : ℕ) (ns
       (fact-length 3 fits) wrote
   fact-held kind.Goal allowed l fits wrote =
       let few = h .few .initial in
-      let between = may-stand (c .phase) 9 allowed .between (omega arith) in
+      let between = may-stand (c .phase) 10 allowed .between (omega arith) in
       let s = h .order .closed (omega arith) in
       let n = h .goal in
       let z = length-append (d .task .goal) (new ∷ []) in

@@ -13,7 +13,7 @@ use Rattle.task.specs.Task.{Schema, argsFit, noSchema, bareSchema}
 use Rattle.words.proofs.Lists.{and-both}
 use Rattle.words.proofs.Words.{and-false}
 use Rattle.text.specs.Reading.{goOn, finish, refuse}
-use Rattle.text.specs.Text.{Phase, atObjects, atArity, inPre, Draft, atPhase, withObjects, taskLine}
+use Rattle.text.specs.Text.{Phase, atObjects, atArity, inDiffer, Draft, atPhase, withObjects, taskLine}
 use Rattle.text.specs.Text.{objectsLine, schemaLine, endLine, takeLine, task, objects, schema}
 use Rattle.text.specs.ReadCode.{phaseNumber, Standing}
 use Rattle.text.specs.Holding.{Order, Holds, rowBlocks, rowsOf, Allows, rowsAt}
@@ -21,6 +21,7 @@ use Rattle.text.proofs.Reading.{need-met}
 use Rattle.text.proofs.LineTurns.{need-fails}
 use Rattle.text.specs.declared.draft.Counts.{Counts}
 use Rattle.text.proofs.Dispatch.{head-place, schema-place}
+use Rattle.text.proofs.HeldPairs.{pairs-stay}
 
 -- the counts at another place in the order
 abbrev pub atPlace : Counts → ℕ → Counts
@@ -34,6 +35,8 @@ atPlace c n = record {
   atoms = c .atoms;
   initial = c .initial;
   goal = c .goal;
+  pairs = c .pairs;
+  apart = c .apart;
 }
 
 -- the words of atoms do not depend on the place in the order
@@ -60,6 +63,8 @@ module _ {d : Draft} {w : List ℕ} {c : Counts} (h : Holds d w c) where
         atoms = h .atoms ∙ ap (λ (s : Schema). length (s .atoms)) e;
         initial = h .initial;
         goal = h .goal;
+        pairs = h .pairs;
+        apart = h .apart ∙ ap (λ (s : Schema). length (s .pairs)) e;
         few = record {
           predicates = few .predicates;
           schemas = few .schemas;
@@ -69,6 +74,7 @@ module _ {d : Draft} {w : List ℕ} {c : Counts} (h : Holds d w c) where
           total = few .total;
           initial = few .initial;
           goal = few .goal;
+          pairs = few .pairs;
         };
         order = o;
         low = h .low;
@@ -81,6 +87,7 @@ module _ {d : Draft} {w : List ℕ} {c : Counts} (h : Holds d w c) where
         long = h .long;
         arities-stand = h .arities-stand;
         params-stand = h .params-stand;
+        pairs-stand = pairs-stay d _ w _ refl (ap (λ (s : Schema). s .pairs) e) (h .pairs-stand);
         rows-stand = subst (Standing w (rowsAt (length (d .task .arities)))) rows (h .rows-stand);
         rows-length = ap length (sym rows) ∙ h .rows-length;
       }
@@ -111,6 +118,8 @@ module _ {d : Draft} {w : List ℕ} {c : Counts} (h : Holds d w c) where
     atoms = c .atoms;
     initial = c .initial;
     goal = c .goal;
+    pairs = c .pairs;
+    apart = c .apart;
   }
 
   pub objects-held : (n : ℕ) → Allows c objects → n ≤ 1000 →
@@ -134,6 +143,8 @@ module _ {d : Draft} {w : List ℕ} {c : Counts} (h : Holds d w c) where
         atoms = h .atoms ∙ ap (λ (s : Schema). length (s .atoms)) e;
         initial = h .initial;
         goal = h .goal;
+        pairs = h .pairs;
+        apart = h .apart ∙ ap (λ (s : Schema). length (s .pairs)) e;
         few = record {
           predicates = few .predicates;
           schemas = few .schemas;
@@ -143,6 +154,7 @@ module _ {d : Draft} {w : List ℕ} {c : Counts} (h : Holds d w c) where
           total = few .total;
           initial = few .initial;
           goal = few .goal;
+          pairs = few .pairs;
         };
         order = record {
           no-arity = λ l. o .no-arity (omega arith);
@@ -163,6 +175,7 @@ module _ {d : Draft} {w : List ℕ} {c : Counts} (h : Holds d w c) where
         long = h .long;
         arities-stand = h .arities-stand;
         params-stand = h .params-stand;
+        pairs-stand = pairs-stay d _ w _ refl (ap (λ (s : Schema). s .pairs) e) (h .pairs-stand);
         rows-stand = subst (Standing w (rowsAt (length (d .task .arities)))) rows (h .rows-stand);
         rows-length = ap length (sym rows) ∙ h .rows-length;
       }
@@ -178,17 +191,19 @@ module _ {d : Draft} {w : List ℕ} {c : Counts} (h : Holds d w c) where
     atoms = c .atoms;
     initial = c .initial;
     goal = c .goal;
+    pairs = c .pairs;
+    apart = c .apart;
   }
 
   pub schema-held : (n : ℕ) → Allows c schema → n ≤ 12 → length (d .task .schemas) < 200 →
-      Holds (record { phase = inPre; task = d .task; current = bareSchema n }) w (opening n)
+      Holds (record { phase = inDiffer; task = d .task; current = bareSchema n }) w (opening n)
   unfolding rowBlocks all
   schema-held n allowed l r =
       let z = schema-place (c .phase) allowed in
       let o = h .order in
       let few = h .few in
       let e = o .closed (omega arith) in
-      let rows = rows-at d inPre noSchema e in
+      let rows = rows-at d inDiffer noSchema e in
       record {
         phase = refl;
         objects = h .objects;
@@ -199,6 +214,8 @@ module _ {d : Draft} {w : List ℕ} {c : Counts} (h : Holds d w c) where
         atoms = h .atoms ∙ ap (λ (s : Schema). length (s .atoms)) e;
         initial = h .initial;
         goal = h .goal;
+        pairs = h .pairs;
+        apart = h .apart ∙ ap (λ (s : Schema). length (s .pairs)) e;
         few = record {
           predicates = few .predicates;
           schemas = few .schemas;
@@ -208,6 +225,7 @@ module _ {d : Draft} {w : List ℕ} {c : Counts} (h : Holds d w c) where
           total = few .total;
           initial = few .initial;
           goal = few .goal;
+          pairs = few .pairs;
         };
         order = record {
           no-arity = λ l. absurd (omega arith);
@@ -225,6 +243,7 @@ module _ {d : Draft} {w : List ℕ} {c : Counts} (h : Holds d w c) where
         long = h .long;
         arities-stand = h .arities-stand;
         params-stand = h .params-stand;
+        pairs-stand = pairs-stay d _ w _ refl (ap (λ (s : Schema). s .pairs) e) (h .pairs-stand);
         rows-stand = subst (Standing w (rowsAt (length (d .task .arities)))) rows (h .rows-stand);
         rows-length = ap length (sym rows) ∙ h .rows-length;
       }
@@ -262,7 +281,7 @@ module _ (d : Draft) (n : ℕ) where
       need-fails 4 _ (ap (λ (b : Bool). room && b) (lt-leb n 12 h) ∙ and-false room)
 
   pub schema-taken : length (d .task .schemas) < 200 → n ≤ 12 → takeLine d (schemaLine n) ≡
-      goOn (record { phase = inPre; task = d .task; current = bareSchema n })
+      goOn (record { phase = inDiffer; task = d .task; current = bareSchema n })
   unfolding takeLine
   schema-taken h k = need-met 4 (and-both _ _ (lt-ltb (length (d .task .schemas)) 200 h) (le-leb n 12 k)) refl
 

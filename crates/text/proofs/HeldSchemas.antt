@@ -8,35 +8,47 @@ use lib.ListN.{length, getD, set, length-append, length-map, length-set}
 use lib.Seq.{getD-set-same, getD-set-other}
 use Rattle.words.specs.Lists.{all, concatMap, joined, sum}
 use Rattle.task.specs.Limits.{headWords, atomSize, tableLength}
-use Rattle.task.specs.Task.{Atom, Schema, schemaAtoms, withAtoms}
-use Rattle.task.specs.Table.{atomWords, schemasFrom}
-use Rattle.words.proofs.Lists.{In, in-getD, getD-in, map-append, length-padded}
+use Rattle.task.specs.Task.{Atom, Schema, schemaAtoms, schemaPairs, withAtoms}
+use Rattle.task.specs.Table.{pairWords, atomWords, rowsFrom, schemasFrom}
+use Rattle.words.proofs.Lists.{In, in-getD, getD-in, map-append, sum-append, length-padded}
 use Rattle.words.proofs.Words.{At, at-move, at-join, length-rows, join-rows}
 use Rattle.words.proofs.JoinedWords.{concat-stands}
 use Rattle.task.proofs.AtomsStand.{Sized, length-atomWords}
 use Rattle.task.proofs.Tables.{tableWords-is}
 use Rattle.text.specs.Text.{Draft, atPhase, withSchemas, withParts, part}
 use Rattle.text.specs.ReadCode.{Standing, PartsPut, mayStand}
-use Rattle.text.specs.Holding.{rowBlocks, rowsOf, Holds, Touched, withClosed, Allows, rowsAt}
+use Rattle.text.specs.Holding.{rowBlocks, rowsOf, pairsOf, Holds, Touched, withClosed, Allows, pairsAt, rowsAt}
 use Rattle.text.proofs.TaskWritten.{schemaAtoms-part}
 use Rattle.text.proofs.TaskGrows.{length-closed}
 use Rattle.text.proofs.HeldAtoms.{atom-sized, atom-stands, schemas-length}
+use Rattle.text.proofs.HeldPairs.{pairs-before}
 use mathlib.Core.Bool.{true}
 use Rattle.text.specs.declared.draft.Counts.{Counts}
 use Rattle.text.proofs.Dispatch.{part-place}
 
-schemasFrom-last : (n : ℕ) (ss : List Schema) (s : Schema) →
-    schemasFrom n (ss ++ (s ∷ [])) ≡ schemasFrom n ss ++ concatMap (atomWords (n + length ss)) (s .atoms)
-unfolding schemasFrom
-schemasFrom-last n [] s =
+-- the rows of one more schema come behind those of the others
+rowsFrom-last : {Row : Type 0} (words : ℕ → Row → List ℕ) (rows : Schema → List Row) (n : ℕ) (ss : List Schema)
+    (s : Schema) → rowsFrom words rows n (ss ++ (s ∷ [])) ≡
+    rowsFrom words rows n ss ++ concatMap (words (n + length ss)) (rows s)
+unfolding rowsFrom
+rowsFrom-last words rows n [] s =
     let z : n + 0 ≡ n = omega arith in
-    append-nil (concatMap (atomWords n) (s .atoms)) ∙ ap (λ (k : ℕ). concatMap (atomWords k) (s .atoms)) (sym z)
-schemasFrom-last n (t ∷ ss) s =
+    append-nil (concatMap (words n) (rows s)) ∙ ap (λ (k : ℕ). concatMap (words k) (rows s)) (sym z)
+rowsFrom-last words rows n (t ∷ ss) s =
     let z : suc n + length ss ≡ n + suc (length ss) = omega arith in
-    ap (λ (xs : List ℕ). concatMap (atomWords n) (t .atoms) ++ xs) (schemasFrom-last (suc n) ss s) ∙
-    (sym (append-assoc (concatMap (atomWords n) (t .atoms)) (schemasFrom (suc n) ss) _) ∙
-    ap (λ (k : ℕ). (concatMap (atomWords n) (t .atoms) ++ schemasFrom (suc n) ss) ++ concatMap (atomWords k)
-    (s .atoms)) z)
+    let first = concatMap (words n) (rows t) in
+    let rest = rowsFrom words rows (suc n) ss in
+    ap (λ (xs : List ℕ). first ++ xs) (rowsFrom-last words rows (suc n) ss s) ∙
+    (sym (append-assoc first rest _) ∙ ap (λ (k : ℕ). (first ++ rest) ++ concatMap (words k) (rows s)) z)
+
+-- and its pairs are counted with theirs
+pairs-closed : (ss : List Schema) (s : Schema) → schemaPairs (ss ++ (s ∷ [])) ≡ schemaPairs ss + length (s .pairs)
+unfolding sum
+pairs-closed ss s =
+    let count : Schema → ℕ = λ s. length (s .pairs) in
+    let z : length (s .pairs) + 0 ≡ length (s .pairs) = omega arith in
+    ap sum (map-append count ss (s ∷ [])) ∙
+    (sum-append (map count ss) (map count (s ∷ [])) ∙ ap (λ (n : ℕ). sum (map count ss) + n) z)
 
 -- atom i with its part
 parts-at : (xs : List Atom) (ps : List ℕ) (i : ℕ) (d : Atom) → length ps ≡ length xs → i < length xs →
@@ -73,10 +85,10 @@ row-parted w after row s a p few h e same k l = go k l
         kept (suc (suc (suc (suc k)))) (omega arith) (λ q. omega arith)
 
 -- a `part` line stands inside a schema, so there is room for that schema
-in-schema : {d : Draft} {w : List ℕ} {c : Counts} → Holds d w c → Allows c part → (3 ≤ c .phase) × (c .phase ≤ 5)
+in-schema : {d : Draft} {w : List ℕ} {c : Counts} → Holds d w c → Allows c part → (3 ≤ c .phase) × (c .phase ≤ 6)
 in-schema {d = d} h allowed =
-    subst (λ (p : ℕ). (3 ≤ p) × (p ≤ 5)) (sym (h .phase))
-    (part-place (d .phase) (subst (λ (p : ℕ). mayStand p 6 ≡ true) (h .phase) allowed))
+    subst (λ (p : ℕ). (3 ≤ p) × (p ≤ 6)) (sym (h .phase))
+    (part-place (d .phase) (subst (λ (p : ℕ). mayStand p 7 ≡ true) (h .phase) allowed))
 
 pub schema-room : {d : Draft} {w : List ℕ} {c : Counts} → Holds d w c → Allows c part → c .schemas < 200
 schema-room h allowed =
@@ -161,7 +173,7 @@ module _ {d : Draft} {w mid : List ℕ} {c : Counts} (h : Holds d w c) (ps kept 
   unfolding rowBlocks joined withClosed atPhase withSchemas concatMap schemaRows
   rows-closed i g =
       let z : 0 + S ≡ S = omega arith in
-      rw (i, g, schemasFrom-last 0 (d .task .schemas) (withAtoms (d .current) closedAtoms), z)
+      rw (i, g, rowsFrom-last atomWords (λ s. s .atoms) 0 (d .task .schemas) (withAtoms (d .current) closedAtoms), z)
       (append-nil _)
 
   early-rows : At last (rowsAt (length (d .task .arities))) schemaRows
@@ -203,9 +215,23 @@ module _ {d : Draft} {w mid : List ℕ} {c : Counts} (h : Holds d w c) (ps kept 
       (getD-set-same mid place (c .params) 0 (omega arith) ∙
       (h .params ∙ ap (λ (i : ℕ). getD (d .current .params ∷ []) i 0) (sym y))))
 
+  -- the pairs of the schema are the last of the closed ones' now, and stand where they did
+  pairs-same : pairsOf (withClosed d ps) ≡ pairsOf d
+  unfolding pairsOf withClosed atPhase withSchemas concatMap
+  pairs-same =
+      let z : 0 + S ≡ S = omega arith in
+      rw (rowsFrom-last pairWords (λ s. s .pairs) 0 (d .task .schemas) (withAtoms (d .current) closedAtoms), z)
+      (append-nil _)
+
+  pairs-again : At last (pairsAt (length (d .task .arities))) (pairsOf d)
+  pairs-again k l =
+      let p = h .predicates in
+      let n = pairs-before h in
+      early (pairsAt (length (d .task .arities)) + k) (omega arith) (λ q. omega arith) ∙ h .pairs-stand k l
+
   abbrev closing : Counts
   closing = record {
-    phase = 7;
+    phase = 8;
     objects = c .objects;
     predicates = c .predicates;
     schemas = c .schemas + 1;
@@ -214,6 +240,8 @@ module _ {d : Draft} {w mid : List ℕ} {c : Counts} (h : Holds d w c) (ps kept 
     atoms = 0;
     initial = c .initial;
     goal = c .goal;
+    pairs = c .pairs + c .apart;
+    apart = 0;
   }
 
   pub schema-closed : tableLength ≤ length w → Allows c part → Holds (withClosed d ps) last closing
@@ -246,6 +274,8 @@ module _ {d : Draft} {w mid : List ℕ} {c : Counts} (h : Holds d w c) (ps kept 
         atoms = refl;
         initial = h .initial;
         goal = h .goal;
+        pairs = let a = h .pairs in let b = h .apart in omega (arith, pairs-closed (d .task .schemas) one);
+        apart = refl;
         few = record {
           predicates = few .predicates;
           schemas = omega arith;
@@ -255,6 +285,7 @@ module _ {d : Draft} {w mid : List ℕ} {c : Counts} (h : Holds d w c) (ps kept 
           total = omega arith;
           initial = few .initial;
           goal = few .goal;
+          pairs = let most = few .pairs in omega arith;
         };
         order = record {
           no-arity = λ q. absurd (omega arith);
@@ -273,6 +304,7 @@ module _ {d : Draft} {w mid : List ℕ} {c : Counts} (h : Holds d w c) (ps kept 
         arities-stand = λ k l. let p = h .predicates in
             early (headWords + k) (omega arith) (λ q. omega arith) ∙ h .arities-stand k l;
         params-stand = rw (map-append (λ s. s .params) (d .task .schemas) (one ∷ [])) (params-closed long);
+        pairs-stand = subst (Standing last (pairsAt (length (d .task .arities)))) (sym pairs-same) pairs-again;
         rows-stand = subst (Standing last (rowsAt (length (d .task .arities)))) (sym rows) rows-again;
         rows-length = ap length rows ∙ rows-size ci cg;
       }

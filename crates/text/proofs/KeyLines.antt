@@ -16,9 +16,9 @@ use borrow.Author.Tests.{eqb-true, eqb-false, eq-eqb, ne-eqb, not-true}
 use Rattle.words.specs.Lists.{all, any}
 use Rattle.words.proofs.Lists.{In, here, there, and-left, and-right, all-in, any-in, in-any, in-getD, both-ft, no-ft}
 use Rattle.text.specs.Lines.{Taken, Reader, andThen, orElse, after, readKey, readLine, bytes, equals}
-use Rattle.text.specs.Text.{Key, task, objects, arity, schema, pre, add, del, part, init, goal, end, keyName}
-use Rattle.text.specs.Text.{Phase, atTask, atObjects, atArity, between, inPre, inAdd, inDel, inInit, inGoal}
-use Rattle.text.specs.Text.{readBody, keysAt, Draft, nextLine}
+use Rattle.text.specs.Text.{Key, task, objects, arity, schema, differ, pre, add, del, part, init, goal, end}
+use Rattle.text.specs.Text.{keyName, Phase, atTask, atObjects, atArity, between, inDiffer, inPre, inAdd, inDel}
+use Rattle.text.specs.Text.{inInit, inGoal, readBody, keysAt, Draft, nextLine}
 use Rattle.text.specs.declared.cursor.Cursor.{Cursor}
 use Rattle.text.specs.declared.keys.Keyed.{Keyed}
 use Rattle.text.specs.ReadCode.{rest, keyBytes, keyNumber, phaseNumber, lastKey, KeyHere, KeyAt, OnceKeyAt}
@@ -109,12 +109,13 @@ two-keys h (there {y = i} {ys = ks} l) (there m) =
 
 -- all keys, by number
 abbrev everyKey : List Key
-everyKey = task ∷ objects ∷ arity ∷ pre ∷ add ∷ del ∷ part ∷ schema ∷ init ∷ goal ∷ end ∷ []
+everyKey = task ∷ objects ∷ arity ∷ differ ∷ pre ∷ add ∷ del ∷ part ∷ schema ∷ init ∷ goal ∷ end ∷ []
 
 numbered : (k : Key) → getD everyKey (keyNumber k) task ≡ k
 numbered task = refl
 numbered objects = refl
 numbered arity = refl
+numbered differ = refl
 numbered pre = refl
 numbered add = refl
 numbered del = refl
@@ -130,10 +131,11 @@ key-of-number j k e = sym (numbered j) ∙ (ap (λ (n : ℕ). getD everyKey n ta
 every-key : (k : Key) → In k everyKey
 every-key k = subst (λ (x : Key). In x everyKey) (numbered k) (in-getD everyKey (keyNumber k) task (small k))
   where
-    small : (k : Key) → keyNumber k < 11
+    small : (k : Key) → keyNumber k < 12
     small task = omega arith
     small objects = omega arith
     small arity = omega arith
+    small differ = omega arith
     small pre = omega arith
     small add = omega arith
     small del = omega arith
@@ -175,6 +177,7 @@ tested atTask = refl
 tested atObjects = refl
 tested atArity = refl
 tested between = refl
+tested inDiffer = refl
 tested inPre = refl
 tested inAdd = refl
 tested inDel = refl
@@ -228,6 +231,7 @@ key-found {text} {c} k told word =
     }
 
 pub record NoLaterKey (bs : List ℕ) : Type 0 where
+  pub no-differ : after (keyBytes differ) bs ≡ none
   pub no-pre : after (keyBytes pre) bs ≡ none
   pub no-add : after (keyBytes add) bs ≡ none
   pub no-del : after (keyBytes del) bs ≡ none
@@ -244,6 +248,7 @@ once-key text c variant.Missing h l = no-key
     no-key task = h .no-task
     no-key objects = h .no-objects
     no-key arity = h .no-arity
+    no-key differ = l .no-differ
     no-key pre = l .no-pre
     no-key add = l .no-add
     no-key del = l .no-del

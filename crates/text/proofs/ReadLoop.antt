@@ -13,7 +13,7 @@ use borrow.Author.Tests.{le-leb, lt-leb}
 use Rattle.task.specs.Limits.{tableWords}
 use Rattle.words.specs.Lists.{over, all, sum, concatMap, joined}
 use Rattle.task.specs.Task.{Task, wellFormed}
-use Rattle.task.specs.Table.{wordsOf, schemasFrom, longEnough}
+use Rattle.task.specs.Table.{wordsOf, rowsFrom, longEnough}
 use Rattle.text.specs.declared.cursor.Cursor.{Cursor}
 use Rattle.text.specs.declared.ReadAnswer.{ReadAnswer}
 use Rattle.task.specs.Answers.{refused, refuseUnless, inOrder}
@@ -21,7 +21,7 @@ use Rattle.text.specs.Outcomes.{readDone, readOutcome, readAnswerTold}
 use Rattle.text.specs.Reading.{Reading, read, refusedAt, atEnd, readLines}
 use Rattle.text.specs.Text.{Draft, started, atPhase, takeLine, nextLine, readText}
 use Rattle.text.specs.ReadCode.{rest, Placed, startCursor}
-use Rattle.text.specs.Holding.{noCounts, rowBlocks, Holds, Touched, Refuses, GoesOn, Finishes}
+use Rattle.text.specs.Holding.{noCounts, rowBlocks, pairsOf, Holds, Touched, Refuses, GoesOn, Finishes}
 use Rattle.text.proofs.ReadersAt.{readText-lines, text-line}
 use Rattle.text.proofs.TaskRead.{read-fits}
 use Rattle.text.proofs.WholeLines.{next-placed}
@@ -36,7 +36,7 @@ pub record SoFar (text lent : List ℕ) (at : Cursor) (c : Counts) (w : List ℕ
   pub so-far : readText text ≡ readLines nextLine takeLine (at .line) draft (rest text at)
 
 pub begins : (text lent : List ℕ) → tableWords ≤ length lent → SoFar text lent startCursor noCounts lent
-unfolding started atPhase all sum rowBlocks joined schemasFrom concatMap
+unfolding started atPhase all sum rowBlocks pairsOf joined rowsFrom concatMap
 begins text lent long = record {
   placed = record { inside = omega arith; line = omega arith };
   touched = untouched lent;
@@ -51,6 +51,8 @@ begins text lent long = record {
     atoms = refl;
     initial = refl;
     goal = refl;
+    pairs = refl;
+    apart = refl;
     few = record {
       predicates = omega arith;
       schemas = omega arith;
@@ -60,6 +62,7 @@ begins text lent long = record {
       total = omega arith;
       initial = omega arith;
       goal = omega arith;
+      pairs = omega arith;
     };
     order = record {
       no-arity = λ l. refl;
@@ -77,6 +80,7 @@ begins text lent long = record {
     long = long;
     arities-stand = λ k l. absurd (omega arith);
     params-stand = λ k l. absurd (omega arith);
+    pairs-stand = λ k l. absurd (omega arith);
     rows-stand = λ k l. absurd (omega arith);
     rows-length = refl;
   };
@@ -126,7 +130,7 @@ module _ {text lent : List ℕ} {at : Cursor} {c : Counts} {w : List ℕ} (s : S
     unfolding atEnd
     whole-text l = ends ∙ ap (atEnd (s .draft .task) (next .line)) (drop-of-length-le text l)
 
-    pub last-phase : 7 ≤ c .phase
+    pub last-phase : 8 ≤ c .phase
     last-phase = let p = s .holds .phase in let q = f .closed in omega arith
 
     pub well : length text ≤ next .at → wellFormed (s .draft .task) ≡ true
@@ -153,7 +157,7 @@ module _ (lent text : List ℕ) where
   unfolding readDone
   buffer-read t after e q = q ∙ sym (ap (λ (x : Reading Task). readDone lent x .buffer) e)
 
--- refusal 1, "a lent table is shorter than 13,406 words"
+-- refusal 1, "a lent table is shorter than 14,007 words"
 module _ (text lent : List ℕ) where
   pub short-outcome : length lent < tableWords →
       readOutcome text lent ≡ record { told = refused 1 place.Nowhere []; buffer = lent }

@@ -5,17 +5,20 @@ use Prim.Native.Nat.{_-_}
 use mathlib.Core.Path.{subst}
 use borrow.Author.Needs.{needs}
 use Rattle.text.specs.Lines.{bytes}
-use Rattle.text.specs.Text.{pre, add, del, part, schema, init, goal, keyName}
+use Rattle.text.specs.Text.{pre, add, del, part, schema, differ, init, goal, keyName}
 use Rattle.text.specs.ReadCode.{WordAt}
 use Rattle.text.proofs.KeyLines.{key-found, once-key}
 use Rattle.text.proofs.keys.key_at.Statement.{statement}
 
 -- ---- the keys that were looked for in vain, the last first
-abbrev init₁ : tie.After-enum-told7 → tie.After-enum-told6
+abbrev init₁ : tie.After-enum-told8 → tie.After-enum-told7
 init₁ c = c .before .before .before .before
 
+abbrev differ₁ : tie.After-enum-told7 → tie.After-enum-told6
+differ₁ c = c .before .before .before .before
+
 abbrev schema₁ : tie.After-enum-told7 → tie.After-enum-told5
-schema₁ c = init₁ c .before .before .before .before
+schema₁ c = differ₁ c .before .before .before .before
 
 abbrev part₁ : tie.After-enum-told7 → tie.After-enum-told4
 part₁ c = schema₁ c .before .before .before .before
@@ -55,19 +58,27 @@ returns-5 c = key-found schema (c .before .body5 .given .1) (c .before .before .
 
 returns-6 : tie.Need-returns-6
 unfolding bytes keyName
-returns-6 c = key-found init (c .before .body6 .given .1) (c .before .before .before .word6 .ensures)
+returns-6 c = key-found differ (c .before .body6 .given .1) (c .before .before .before .word6 .ensures)
 
 returns-7 : tie.Need-returns-7
 unfolding bytes keyName
-returns-7 c = key-found goal (c .before .body7 .given .1) (c .before .before .before .word7 .ensures)
+returns-7 c = key-found init (c .before .body7 .given .1) (c .before .before .before .word7 .ensures)
 
-head-key-at-requires : tie.Need-head-key-at-requires
-head-key-at-requires c κs = start c .pre
+word-requires-8 : tie.Need-word-requires-8
+word-requires-8 c κs = start (c .before) .pre
 
 returns-8 : tie.Need-returns-8
 unfolding bytes keyName
-returns-8 c =
-    let t = c .before in
+returns-8 c = key-found goal (c .before .body8 .given .1) (c .before .before .before .word8 .ensures)
+
+head-key-at-requires : tie.Need-head-key-at-requires
+head-key-at-requires c κs = start (init₁ c) .pre
+
+returns-9 : tie.Need-returns-9
+unfolding bytes keyName
+returns-9 c =
+    let g = c .before in
+    let t = init₁ g in
     let args = start t .args in
     once-key (args .text .now) (args .from) (c .head-key-at .result) (c .head-key-at .ensures) (record {
       no-pre = subst (WordAt _ _ _) (pre₁ t .enum-told .given .1) (pre₁ t .before .before .word .ensures);
@@ -75,8 +86,9 @@ returns-8 c =
       no-del = subst (WordAt _ _ _) (del₁ t .enum-told3 .given .1) (del₁ t .before .before .word3 .ensures);
       no-part = subst (WordAt _ _ _) (part₁ t .enum-told4 .given .1) (part₁ t .before .before .word4 .ensures);
       no-schema = subst (WordAt _ _ _) (schema₁ t .enum-told5 .given .1) (schema₁ t .before .before .word5 .ensures);
-      no-init = subst (WordAt _ _ _) (init₁ t .enum-told6 .given .1) (init₁ t .before .before .word6 .ensures);
-      no-goal = subst (WordAt _ _ _) (t .enum-told7 .given .1) (t .before .before .word7 .ensures);
+      no-differ = subst (WordAt _ _ _) (differ₁ t .enum-told6 .given .1) (differ₁ t .before .before .word6 .ensures);
+      no-init = subst (WordAt _ _ _) (t .enum-told7 .given .1) (t .before .before .word7 .ensures);
+      no-goal = subst (WordAt _ _ _) (g .enum-told8 .given .1) (g .before .before .word8 .ensures);
     })
 
 pub key-at-spec : {M : Type 1} → statement M
@@ -88,4 +100,5 @@ key-at-spec =
     (λ c. search needs) returns-4 (λ c. search needs) (λ c. search needs) (λ c κs. search needs) (λ c. search needs)
     returns-5 (λ c. search needs) (λ c. search needs) (λ c κs. search needs) (λ c. search needs) returns-6
     (λ c. search needs) (λ c. search needs) (λ c κs. search needs) (λ c. search needs) returns-7 (λ c. search needs)
-    head-key-at-requires returns-8)
+    (λ c. search needs) word-requires-8 (λ c. search needs) returns-8 (λ c. search needs)
+    head-key-at-requires returns-9)

@@ -110,6 +110,9 @@ put-row-requires c κs =
       ),
     )
 
+first-row-requires : tie.Need-first-row-requires
+first-row-requires c κs = start (c .before .before .before) .pre .0 .holds .few
+
 repeated-requires : tie.Need-repeated-requires
 repeated-requires c κs =
     let p = c .before .before .before .before in
@@ -133,5 +136,5 @@ pub add-atom-spec : {M : Type 1} → statement M
 add-atom-spec =
     tie.close
     (tie.spec returns (λ c. search needs) returns-2 fits-requires (λ c. search needs) returns-3 (λ c κs. search needs)
-    (λ c. search needs) put-row-requires (λ c κs. search needs) repeated-requires (λ c. search needs) returns-4
+    (λ c. search needs) put-row-requires first-row-requires repeated-requires (λ c. search needs) returns-4
     (λ c. search needs) returns-5)
