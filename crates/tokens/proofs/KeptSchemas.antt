@@ -15,7 +15,7 @@ use lib.Seq.{getD-take, length-take-le, getD-set-other}
 use borrow.Author.Tests.{eqb-true, leb-true}
 use Rattle.words.specs.Lists.{sum, head, first, upTo, upFrom}
 use Rattle.task.specs.Layout.{headIn}
-use Rattle.task.specs.Task.{Atom, Task, schemaAtoms, partCount}
+use Rattle.task.specs.Task.{Atom, Task, schemaAtoms, schemaPairs, partCount}
 use Rattle.task.specs.Run.{schemaAt}
 use Rattle.task.specs.Table.{taskOf, isTable}
 use Rattle.task.specs.declared.Part.{Part}
@@ -24,7 +24,7 @@ use Rattle.words.proofs.Lists.{map-append, sum-append, upTo-suc, in-eq, in-map,
 use Rattle.words.proofs.Ascending.{ascend-upTo, covered-few}
 use Rattle.task.proofs.Tests.{hasPart, schema-tests, task-tests}
 use Rattle.task.proofs.Tables.{of-table}
-use Rattle.task.proofs.TablesByIndex.{table-frame, atoms-word, start-suc}
+use Rattle.task.proofs.TablesByIndex.{table-frame, atoms-word, pairs-word, start-suc}
 use Rattle.task.proofs.StartLaws.{start-rises}
 use Rattle.arcs.specs.declared.Order.{Order}
 use Rattle.arcs.specs.Order.{inPart, orderOf}
@@ -39,7 +39,7 @@ use Rattle.tokens.proofs.Refusals.{is-first}
 use Rattle.arcs.proofs.AtomWords.{schema-fits}
 use Rattle.tokens.proofs.SchemaEnds.{schema-known}
 use Rattle.tokens.proofs.KeptParts.{part-is}
-use Rattle.task.specs.Limits.{mostParts, mostSchemas, mostSchemaAtoms}
+use Rattle.task.specs.Limits.{mostParts, mostSchemas, mostSchemaAtoms, mostPairs}
 use Rattle.task.specs.Turns.{firstAtom, firstPair}
 use Rattle.tokens.specs.Kept.{startPlace, firstPlace, countPlace, pairPlace, orderPlace, ownPlace, keptRow}
 use Rattle.tokens.specs.Kept.{keptWords, withField, ownWord, wordIn, keptStart, keptFirst, keptCount, keptPair}
@@ -117,6 +117,12 @@ module _ (w : List ℕ) (h : isTable w ≡ true) where
       let tests = task-tests (taskOf w) (of-table w h .0) in
       let b = leb-true (schemaAtoms (taskOf w .schemas)) mostSchemaAtoms (tests .atoms) in
       omega (arith, atoms-word w (table-frame w h))
+
+  pub pairs-few : headIn w .pairs ≤ mostPairs
+  pairs-few =
+      let tests = task-tests (taskOf w) (of-table w h .0) in
+      let b = leb-true (schemaPairs (taskOf w .schemas)) mostPairs (tests .pairs) in
+      omega (arith, pairs-word w (table-frame w h))
 
   -- "It has 1 to 16 parts"
   pub parts-few : (s : ℕ) → s < length (taskOf w .schemas) → partCount (schemaAt (taskOf w) s .atoms) ≤ mostParts

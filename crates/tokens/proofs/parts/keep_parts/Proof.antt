@@ -1,5 +1,5 @@
 -- `tokens::parts::keep_parts` meets its contract. The invariant: the parts of the schemas before s are kept; s begins
--- at atom `from`, and its parts at `first` of the split. The measure is the schemas left.
+-- at atom `from` and at pair `pair`, and its parts at `first` of the split. The measure is the schemas left.
 use Rattle.tokens.proofs.parts.keep_parts.Tie as tie
 use Prim.Native.Nat.{ℕ, suc, _+_, _-_, _≤_, _<_, _*_}
 use mathlib.Core.Path.{_≡_, refl, sym, _∙_, ap, ap₂, subst}
@@ -15,28 +15,29 @@ use Rattle.task.specs.Run.{schemaAt}
 use Rattle.task.specs.Table.{taskOf, isTable}
 use Rattle.task.proofs.TableReads.{counts-inside}
 use Rattle.task.proofs.TablesByIndex.{table-frame, schemas-word}
-use Rattle.arcs.specs.Stretches.{IsStretch, stretchIn, orderTold}
+use Rattle.arcs.specs.Stretches.{IsStretch, stretchIn, IsPairStretch, pairStretchIn, orderTold}
 use Rattle.words.proofs.Ascending.{no-none}
-use Rattle.arcs.proofs.Stretches.{schema-atoms, schema-stretch}
+use Rattle.arcs.proofs.Stretches.{schema-atoms, schema-stretch, schema-pairs, schema-pair-stretch}
 use Rattle.tokens.specs.Acceptance.{circularTold, OrderKept}
 use Rattle.tokens.proofs.KeptSchemas.{schemas-few, atoms-few, parts-none, parts-more, told-none, circular-here}
 use Rattle.tokens.proofs.KeptSchemas.{circular-nowhere, found-small, found-inside, parts-few, first-more}
+use Rattle.tokens.proofs.KeptSchemas.{pairs-few}
 use Rattle.tokens.proofs.parts.keep_parts.Statement.{statement}
 use Rattle.task.specs.Limits.{mostParts, mostSchemas}
 use Rattle.task.specs.Task.{Task}
-use Rattle.task.specs.Turns.{firstAtom}
+use Rattle.task.specs.Turns.{firstAtom, firstPair}
 use Rattle.arcs.specs.Order.{orderOf}
 use Rattle.tokens.specs.Split.{firstOf}
 use Rattle.tokens.specs.Kept.{keptWords, countPlace, PartsKept}
 use Rattle.tokens.proofs.KeptRows.{field-long}
 
 abbrev Inv-loop : tie.InvT-loop
-Inv-loop table kept₀ schemas from₀ first₀ s₀ kept from first s =
+Inv-loop table kept₀ schemas from₀ pair₀ first₀ s₀ kept from pair first s =
     (s ≤ schemas) × (from ≡ firstAtom (taskOf table) s) × (first ≡ firstOf (taskOf table) s) ×
-    (first ≤ mostParts * s) × PartsKept (taskOf table) s kept
+    (first ≤ mostParts * s) × PartsKept (taskOf table) s kept × (pair ≡ firstPair (taskOf table) s)
 
 abbrev μ-loop : tie.MeasureT-loop
-μ-loop table kept₀ schemas from₀ first₀ s₀ kept from first s = schemas - s
+μ-loop table kept₀ schemas from₀ pair₀ first₀ s₀ kept from pair first s = schemas - s
 
 -- ---- at the loop's head
 abbrev Loop : Type 0
@@ -46,7 +47,7 @@ abbrev start : tie.At-loop Inv-loop μ-loop → tie.Start Inv-loop μ-loop
 start c = c .before .before .before .before .before
 
 abbrev turn : tie.After-order-of Inv-loop μ-loop → tie.In-loop Inv-loop μ-loop
-turn c = c .before .before
+turn c = c .before .before .before
 
 abbrev ordered : tie.After-keep-count Inv-loop μ-loop → tie.After-order-of Inv-loop μ-loop
 ordered c = c .before .before .before .before
@@ -78,31 +79,51 @@ known i = let n = counted (i .before) in omega (arith, i .loop-test .taken)
 few : (i : Turn) → i .before .loop .s < mostSchemas
 few i = let k = known i in omega (arith, schemas-few (words (i .before)) (is-table (i .before)))
 
--- the atoms of schema s
+-- the atoms and the pairs of schema s
+said : (i : Turn) → i .before .loop .s < headIn (words (i .before)) .schemas
+said i =
+    let w = words (i .before) in
+    let k = known i in
+    omega (arith, schemas-word w (table-frame w (is-table (i .before))))
+
 module _ (i : Turn) (to : ℕ) (e : to ≡ firstAtom (task (i .before)) (suc (i .before .loop .s))) where
   abbrev l : Loop
   l = i .before
-
-  said : l .loop .s < headIn (words l) .schemas
-  said = let k = known i in omega (arith, schemas-word (words l) (table-frame (words l) (is-table l)))
 
   stretch : IsStretch (words l) (l .loop .from) to
   stretch =
       subst (λ (n : ℕ). IsStretch (words l) n to) (sym (l .loop .inv .1))
       (subst (λ (n : ℕ). IsStretch (words l) (firstAtom (task l) (l .loop .s)) n) (sym e)
-      (schema-stretch (words l) (is-table l) (l .loop .s) said))
+      (schema-stretch (words l) (is-table l) (l .loop .s) (said i)))
 
   atoms-are : schemaAt (task l) (l .loop .s) .atoms ≡ stretchIn (words l) (l .loop .from) to
   atoms-are =
-      schema-atoms (words l) (is-table l) (l .loop .s) said ∙ ap₂ (stretchIn (words l)) (sym (l .loop .inv .1)) (sym e)
+      schema-atoms (words l) (is-table l) (l .loop .s) (said i) ∙
+      ap₂ (stretchIn (words l)) (sym (l .loop .inv .1)) (sym e)
+
+module _ (i : Turn) (end : ℕ) (e : end ≡ firstPair (task (i .before)) (suc (i .before .loop .s))) where
+  abbrev at : Loop
+  at = i .before
+
+  pair-stretch : IsPairStretch (words at) (at .loop .pair) end
+  pair-stretch =
+      subst (λ (n : ℕ). IsPairStretch (words at) n end) (sym (at .loop .inv .5))
+      (subst (λ (n : ℕ). IsPairStretch (words at) (firstPair (task at) (at .loop .s)) n) (sym e)
+      (schema-pair-stretch (words at) (is-table at) (at .loop .s) (said i)))
+
+  pairs-are : schemaAt (task at) (at .loop .s) .pairs ≡ pairStretchIn (words at) (at .loop .pair) end
+  pairs-are =
+      schema-pairs (words at) (is-table at) (at .loop .s) (said i) ∙
+      ap₂ (pairStretchIn (words at)) (sym (at .loop .inv .5)) (sym e)
 
 -- what is found of its order
 told : (c : tie.After-order-of Inv-loop μ-loop) →
     orderTold (c .order-of .result) ≡ orderOf (schemaAt (task (turn c .before)) (turn c .before .loop .s))
 told c =
-    let to = c .before .schema-end in
+    let end = c .before .pairs-end in
+    let to = c .before .before .schema-end in
     c .order-of .ensures .0 (schemaAt (task (turn c .before)) (turn c .before .loop .s))
-    (atoms-are (turn c) (to .result) (to .ensures))
+    (pairs-are (turn c) (end .result) (end .ensures)) (atoms-are (turn c) (to .result) (to .ensures))
 
 -- the array with the count, before its order is kept
 count-kept : (c : tie.After-keep-count Inv-loop μ-loop) →
@@ -119,7 +140,7 @@ word-requires c κs =
     omega (arith, counts-inside (s .args .table .now) (s .pre .0))
 
 keep-begin-requires : tie.Need-keep-begin-requires Inv-loop μ-loop
-keep-begin-requires c κs = (omega arith, (omega arith, omega arith))
+keep-begin-requires c κs = (omega arith, (omega arith, omega arith, omega arith))
 
 loop-holds : tie.Need-loop-holds Inv-loop μ-loop
 unfolding sum firstOf upTo upFrom
@@ -133,13 +154,20 @@ loop-holds c =
       omega arith,
       subst (PartsKept (taskOf w) 0) (sym (c .keep-begin .ensures))
           (parts-none w (s .pre .0) (a .kept .now) (s .pre .1)),
+      refl,
     )
 
 schema-end-requires : tie.Need-schema-end-requires Inv-loop μ-loop
 schema-end-requires c κs = (is-table (c .before), (known c, c .before .loop .inv .1))
 
+pairs-end-requires : tie.Need-pairs-end-requires Inv-loop μ-loop
+pairs-end-requires c κs = let i = c .before in (is-table (i .before), (known i, i .before .loop .inv .5))
+
 order-of-requires : tie.Need-order-of-requires Inv-loop μ-loop
-order-of-requires c κs = stretch (c .before) (c .schema-end .result) (c .schema-end .ensures)
+order-of-requires c κs =
+    let to = c .before .schema-end in
+    let i = c .before .before in
+    (stretch i (to .result) (to .ensures), pair-stretch i (c .pairs-end .result) (c .pairs-end .ensures))
 
 returns : tie.Need-returns Inv-loop μ-loop
 unfolding circularTold
@@ -189,11 +217,19 @@ keep-begin-requires-2 : tie.Need-keep-begin-requires-2 Inv-loop μ-loop
 keep-begin-requires-2 c κs =
     let d = ordered (c .before .before .before .before) in
     let l = turn d .before in
-    let to = ordered (c .before .before .before .before) .before .schema-end in
+    let to = d .before .before .schema-end in
+    let end = d .before .pairs-end in
     let h = l .loop .inv .3 in
     let k = few (turn d) in
     let e = stretch (turn d) (to .result) (to .ensures) .known in
-    (omega arith, (omega (arith, atoms-few (words l) (is-table l)), omega (arith, d .order-of .ensures .1 .0 .0)))
+    let p = pair-stretch (turn d) (end .result) (end .ensures) .known in (
+      omega arith,
+      (
+        omega (arith, atoms-few (words l) (is-table l)),
+        omega (arith, d .order-of .ensures .1 .0 .0),
+        omega (arith, pairs-few (words l) (is-table l)),
+      ),
+    )
 
 loop-less : tie.Need-loop-less Inv-loop μ-loop
 loop-less c = omega (arith, turn (ordered (counting c)) .loop-test .taken)
@@ -204,7 +240,8 @@ loop-again c =
     let l = turn d .before in
     let w = words l in
     let h = l .loop in
-    let to = ordered (counting c) .before .schema-end in
+    let to = d .before .before .schema-end in
+    let end = d .before .pairs-end in
     let f = d .order-of .result in
     let n = d .order-of .ensures .1 .0 in
     let atoms = atoms-are (turn d) (to .result) (to .ensures) in
@@ -215,14 +252,15 @@ loop-again c =
     (counting c .keep-count .ensures) (order .ensures) in
     let fits : f .count ≤ length (f .parts) = omega (arith, n .0, n .1) in
     let next = first-more (task l) (h .s) f (told d) yes fits (h .first) (h .inv .2) in
-    let more = parts-more w (is-table l) (h .s) (h .from) (to .result) (h .first + f .count) (known (turn d))
-    (h .inv .1) (to .ensures) atoms f fits yes (told d) next (d .order-of .ensures .1 .1) (h .kept) kept new
-    (h .inv .4) in (
+    let more = parts-more w (is-table l) (h .s) (h .from) (to .result) (h .first + f .count) (end .result)
+    (known (turn d)) (h .inv .1) (to .ensures) (end .ensures) atoms f fits yes (told d) next
+    (d .order-of .ensures .1 .1) (h .kept) kept new (h .inv .4) in (
       omega (arith, turn d .loop-test .taken),
       to .ensures ∙ ap (firstAtom (task l)) (sym (add-one (h .s))),
       next,
       omega (arith, h .inv .3, n .0),
       subst (PartsKept (task l) (h .s + 1)) (sym (c .keep-begin2 .ensures)) more,
+      end .ensures ∙ ap (firstPair (task l)) (sym (add-one (h .s))),
     )
 
 returns-2 : tie.Need-returns-2 Inv-loop μ-loop
@@ -238,5 +276,6 @@ returns-2 c =
 pub keep-parts-spec : {M : Type 1} → statement M
 keep-parts-spec =
     tie.close
-    (tie.spec Inv-loop μ-loop word-requires keep-begin-requires loop-holds schema-end-requires order-of-requires returns
-    keep-count-requires keep-order-requires add-first add-s keep-begin-requires-2 loop-less loop-again returns-2)
+    (tie.spec Inv-loop μ-loop word-requires keep-begin-requires loop-holds schema-end-requires pairs-end-requires
+    order-of-requires returns keep-count-requires keep-order-requires add-first add-s keep-begin-requires-2 loop-less
+    loop-again returns-2)
