@@ -1,6 +1,6 @@
 -- "With one part, procnone joins the preconditions only": the schema of a lone part is the old one with that atom.
--- It asks for no par and adds and deletes no token; it has every atom and every parameter, and renumbering the
--- parameters 0, 1, .. by their places changes nothing.
+-- It asks for no par and adds and deletes no token; it has every atom, every parameter and every pair, and renumbering
+-- the parameters 0, 1, .. by their places changes nothing.
 use Prim.Native.Nat.{ℕ, zero, suc, _+_, _≤_, _<_}
 use mathlib.Core.Path.{_≡_, sym, _∙_, ap, ap₂}
 use mathlib.Core.Bool.{true}
@@ -11,14 +11,15 @@ use lib.ListN.{length, getD}
 use lib.Dec.{eqb}
 use borrow.Author.Tests.{le-ltb, eq-eqb, ne-eqb}
 use Rattle.words.specs.Lists.{upTo, upFrom, indexOf}
-use Rattle.task.specs.Task.{Atom, Task, precondition, addition, deletion}
+use Rattle.task.specs.Task.{Atom, Pair, Task, precondition, addition, deletion}
 use Rattle.task.specs.Run.{schemaAt, ofRole}
 use Rattle.tokens.specs.Split.{has, paramsOf, firstPosition, parts, procnone, token, own, oldAtoms, required}
-use Rattle.tokens.specs.Split.{lone, laterHere, pars, splitSchema}
-use Rattle.words.proofs.Lists.{In, in-getD, filter-in, upTo-in, length-upTo, filter-all, filter-none, map-keeps}
+use Rattle.tokens.specs.Split.{hasBoth, ownPairs, lone, laterHere, pars, splitSchema}
+use Rattle.words.proofs.Lists.{and-both, In, in-getD, filter-in, upTo-in, length-upTo, filter-all, filter-none, map-keeps}
 use Rattle.task.proofs.SchemaWords.{part-small}
 use Rattle.tokens.proofs.Places.{atom-has}
 use Rattle.tokens.proofs.RoleAtoms.{renumber, atomsHere, parAtom, here-atom}
+use Rattle.tokens.proofs.PartPairs.{renumberPair, pairHere}
 use Rattle.tokens.proofs.PartRoles.{PartOf, facts}
 
 -- ---- the tokens of a lone part
@@ -59,11 +60,15 @@ module _ (t : Task) (s : ℕ) (o : List ℕ) (P : PartOf t s o 0) (alone : lengt
   unfolding parts
   every-part a i = let z = part-small i in let e = first-part in omega (arith, P .order .size)
 
+  has-every : (x : ℕ) → x < schemaAt t s .params → has (schemaAt t s) x (getD o 0 0) ≡ true
+  has-every x l =
+      let (a, k, n) = facts t s o 0 P .used x l in
+      atom-has (schemaAt t s) x (getD o 0 0) a k (every-part a k) n
+
   lone-own : own t s o 0 ≡ upTo (schemaAt t s .params)
   unfolding own paramsOf
   lone-own = filter-all (λ x. has (schemaAt t s) x (getD o 0 0)) (upTo (schemaAt t s .params)) (λ x i.
-      let (a, k, n) = facts t s o 0 P .used x (upTo-in (schemaAt t s .params) x i) in
-      atom-has (schemaAt t s) x (getD o 0 0) a k (every-part a k) n)
+      has-every x (upTo-in (schemaAt t s .params) x i))
 
   pub lone-params : splitSchema t s o 0 .params ≡ schemaAt t s .params
   unfolding splitSchema
@@ -74,6 +79,22 @@ module _ (t : Task) (s : ℕ) (o : List ℕ) (P : PartOf t s o 0) (alone : lengt
   index-keeps x l =
       let z = index-upFrom 0 (schemaAt t s .params) x (omega arith) (omega arith) in
       ap (indexOf x) lone-own ∙ omega arith
+
+  pub lone-pairs : splitSchema t s o 0 .pairs ≡ schemaAt t s .pairs
+  unfolding splitSchema ownPairs hasBoth
+  lone-pairs =
+      ap (map (renumberPair t s o 0)) (filter-all (pairHere t s o 0) (schemaAt t s .pairs)
+      (λ q i. and-both _ _ (has-every (q .lower) (lower-small q i)) (has-every (q .higher) (higher-small q i)))) ∙
+      map-keeps (renumberPair t s o 0) (schemaAt t s .pairs) (λ q i.
+      let l = index-keeps (q .lower) (lower-small q i) in
+      let h = index-keeps (q .higher) (higher-small q i) in
+      λ d. record { lower = l d; higher = h d })
+    where
+      higher-small : (q : Pair) → In q (schemaAt t s .pairs) → q .higher < schemaAt t s .params
+      higher-small q i = facts t s o 0 P .pairs q i .known
+
+      lower-small : (q : Pair) → In q (schemaAt t s .pairs) → q .lower < schemaAt t s .params
+      lower-small q i = let f = facts t s o 0 P .pairs q i in omega (arith, f .ascends, f .known)
 
   renumber-keeps : (r : ℕ) (a : Atom) → In a (schemaAt t s .atoms) → a .role ≡ r → renumber t s o 0 r a ≡ a
   renumber-keeps r a i q =
