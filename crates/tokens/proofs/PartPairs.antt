@@ -31,7 +31,7 @@ module _ (t : Task) (s : ℕ) (o : List ℕ) (j : ℕ) where
     pub higher : has (schemaAt t s) (pair .higher) (getD o j 0) ≡ true
     pub is : r ≡ renumberPair pair
 
-  here-both : (q : Pair) → In q (filter pairHere (schemaAt t s .pairs)) → In q (schemaAt t s .pairs) ×
+  pub here-both : (q : Pair) → In q (filter pairHere (schemaAt t s .pairs)) → In q (schemaAt t s .pairs) ×
       (has (schemaAt t s) (q .lower) (getD o j 0) ≡ true) × (has (schemaAt t s) (q .higher) (getD o j 0) ≡ true)
   unfolding hasBoth
   here-both q i =

@@ -74,7 +74,7 @@ module _ (t : Task) (s : ℕ) (o : List ℕ) (j : ℕ) (P : PartOf t s o j) (set
       filter-same (λ x. has (schemaAt t s) x (getD o j 0)) (member set) (upTo (schemaAt t s .params))
       (λ x i. sym (is x))
 
-  new-index : (x : ℕ) → In x (own t s o j) → newNumber set x ≡ indexOf x (own t s o j)
+  pub new-index : (x : ℕ) → In x (own t s o j) → newNumber set x ≡ indexOf x (own t s o j)
   unfolding own
   new-index x i =
       let (l, h) = in-params (schemaAt t s) x (getD o j 0) i in

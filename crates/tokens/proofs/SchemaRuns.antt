@@ -1,7 +1,7 @@
 -- The rows of the split's schemas, atoms or pairs, as loops put them: one part or one schema further, and no more at a
 -- place on the way than in all.
-use Prim.Native.Nat.{ℕ, suc, _+_, _-_, _≤_}
-use mathlib.Core.Path.{_≡_, sym, _∙_, ap}
+use Prim.Native.Nat.{ℕ, zero, suc, _+_, _-_, _≤_}
+use mathlib.Core.Path.{_≡_, refl, sym, _∙_, ap, ap₂}
 use mathlib.Core.List.{List, [], _∷_, _++_, map, append-nil, append-assoc}
 use native.Mathlib.Omega.{arith}
 use native.Mathlib.Numerals.{add-one}
@@ -60,6 +60,10 @@ module _ {Row : Type 0} (words : ℕ → Row → List ℕ) (rows : Schema → Li
     abbrev pub partsUpTo : ℕ → List ℕ
     partsUpTo j = rowsFrom words rows n (map f (upTo j))
 
+    pub parts-none : partsUpTo 0 ≡ []
+    unfolding rowsFrom upTo upFrom
+    parts-none = refl
+
     pub parts-more : (j : ℕ) → partsUpTo (j + 1) ≡ partsUpTo j ++ concatMap (words (n + j)) (rows (f j))
     unfolding rowsFrom
     parts-more j =
@@ -70,6 +74,14 @@ module _ {Row : Type 0} (words : ℕ → Row → List ℕ) (rows : Schema → Li
         (ap (λ (l : List ℕ). partsUpTo j ++ l)
         (append-nil (concatMap (words (n + length (map f (upTo j)))) (rows (f j)))) ∙
         ap (λ (k : ℕ). partsUpTo j ++ concatMap (words k) (rows (f j))) e))))
+
+    -- parts without rows have no words
+    pub parts-bare : ((j : ℕ) → rows (f j) ≡ []) → (j : ℕ) → partsUpTo j ≡ []
+    unfolding concatMap
+    parts-bare h zero = parts-none
+    parts-bare h (suc j) =
+        ap partsUpTo (sym (add-one j)) ∙ (parts-more j ∙
+        ap₂ (λ (xs ys : List ℕ). xs ++ ys) (parts-bare h j) (ap (concatMap (words (n + j))) (h j)))
 
     pub parts-fewer : (j m : ℕ) → j ≤ m → length (partsUpTo j) ≤ length (partsUpTo m)
     parts-fewer j m l =

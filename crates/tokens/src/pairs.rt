@@ -14,7 +14,7 @@ use task::limits::PAIR_SIZE;
 use task::limits::SCHEMAS;
 use words::runs::word;
 use words::sets::has;
-ghost use Prim.Native.Nat.{ℕ, _+_, _*_, _≤_, _<_};
+ghost use Prim.Native.Nat.{_+_, _-_, _*_, _≤_, _<_};
 ghost use mathlib.Core.Path.{_≡_};
 ghost use mathlib.Core.Bool.{true, not};
 ghost use lib.ListN.{length};
@@ -24,12 +24,12 @@ ghost use Rattle.words.specs.Words.{wordBound};
 ghost use Rattle.task.specs.Layout.{headIn};
 ghost use Rattle.task.specs.Limits.{mostParts, mostSchemas, pairSize};
 ghost use Rattle.task.specs.Run.{schemaAt};
-ghost use Rattle.task.specs.Table.{taskOf, isTable, pairIn, pairsFrom};
+ghost use Rattle.task.specs.Table.{taskOf, isTable, pairIn, pairWords, pairsFrom};
 ghost use Rattle.arcs.specs.Stretches.{IsPairStretch, pairStretchIn};
 ghost use Rattle.tokens.specs.Split.{hasBoth, pairsKept, parts, splitTask};
 ghost use Rattle.tokens.specs.Kept.{keptFirst, keptCount, keptOwn, PartsKept, SchemaKept};
 ghost use Rattle.tokens.specs.Acceptance.{partedTold, partSchemas, AcceptedParts};
-ghost use Rattle.tokens.specs.Writing.{carries, carriedWords};
+ghost use Rattle.tokens.specs.Writing.{carries, renumberedPair, carriedWords};
 
 // The lowest schema with a pair that no part has both parameters of, if there is one.
 pub enum Parted {
@@ -105,6 +105,7 @@ pub fn first_parted(table: &[u16], kept: &Kept) -> Parted
 pub fn carried(table: &[u16], own: u64, from: usize, to: usize) -> usize
     requires { ⌜ IsPairStretch (now table) from to ⌝ }
     ensures { λ r. ⌜ r ≡ length (filter (carries own) (pairStretchIn (now (table .entry)) from to)) ⌝ }
+    ensures { λ r. ⌜ r ≤ to - from ⌝ }
 {
     let mut n = 0;
     let mut i = from;
@@ -115,6 +116,22 @@ pub fn carried(table: &[u16], own: u64, from: usize, to: usize) -> usize
         i += 1;
     }
     n
+}
+
+// Pair i, renumbered for a part with these parameters, under the part's number in the split.
+fn put_pair(table: &[u16], own: u64, number: u16, i: usize, out: &mut [u16], at: usize) -> usize
+    requires { ⌜ isTable (now table) ≡ true ⌝ }
+    requires { ⌜ i < headIn (now table) .pairs ⌝ }
+    requires { ⌜ at + pairSize ≤ length (now out) ⌝ }
+    ensures { λ r. ⌜ Puts (now (out .entry)) at (pairWords number (renumberedPair own (pairIn (now (table .entry)) i)))
+        (now (out .exit)) r ⌝ }
+{
+    let low = renumbered_in(own, Parameter(lower(table, i) as u16));
+    let high = renumbered_in(own, Parameter(higher(table, i) as u16));
+    out[at] = number;
+    out[at + 1] = low.0;
+    out[at + 2] = high.0;
+    at + PAIR_SIZE
 }
 
 // "A part that has both parameters carries the line, renumbered": puts those of the pairs `from` to `to - 1` that a part
@@ -137,10 +154,7 @@ fn put_carried(
     let mut i = from;
     while i < to {
         if carries_pair(table, own, i) {
-            out[next] = number;
-            out[next + 1] = renumbered_in(own, Parameter(lower(table, i) as u16)).0;
-            out[next + 2] = renumbered_in(own, Parameter(higher(table, i) as u16)).0;
-            next += PAIR_SIZE;
+            next = put_pair(table, own, number, i, out, next);
         }
         i += 1;
     }

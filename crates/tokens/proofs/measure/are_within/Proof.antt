@@ -1,6 +1,6 @@
 -- `tokens::measure::are_within` meets its contract.
--- The definition is six tests in the code's order. Each early answer is false: the tests before it are passed, and its
--- own fails (`lt-leb`, `not-true`). Behind five that are passed the last one decides.
+-- The definition is seven tests in the code's order. Each early answer is false: the tests before it are passed, and its
+-- own fails (`lt-leb`, `not-true`). Behind six that are passed the last one decides.
 use Rattle.tokens.proofs.measure.are_within.Tie as tie
 use mathlib.Core.Path.{_≡_, refl, sym}
 use mathlib.Core.Bool.{Bool, true, false, _&&_}
@@ -9,7 +9,7 @@ use borrow.Author.Tests.{le-leb, lt-leb, not-true, not-false}
 use Rattle.words.specs.Lists.{every}
 use Rattle.tokens.proofs.measure.are_within.Statement.{statement}
 use Rattle.tokens.specs.Acceptance.{areWithin}
-use Rattle.task.specs.Limits.{mostPredicates, mostSchemas, mostSchemaAtoms, mostInitial, mostGoal}
+use Rattle.task.specs.Limits.{mostPredicates, mostSchemas, mostSchemaAtoms, mostInitial, mostGoal, mostPairs}
 
 and-true : (b : Bool) → b && true ≡ b
 and-true true = refl
@@ -66,14 +66,28 @@ returns-5 c =
 returns-6 : tie.Need-returns-6
 unfolding areWithin every
 returns-6 c =
-    let a = c .before .before .before .before .before .args in
+    let a = c .before .before .before .before .before .before .args in
     rw (
-      le-leb (a .predicates) mostPredicates (c .before .before .before .before .if1 .left),
-      le-leb (a .schemas) mostSchemas (c .before .before .before .if2 .left),
-      le-leb (a .atoms) mostSchemaAtoms (c .before .before .if3 .left),
-      not-false (a .few) (c .before .if4 .left),
-      le-leb (a .initial) mostInitial (c .if5 .left),
-    ) (sym (and-true (leb (a .goal) mostGoal)))
+      le-leb (a .predicates) mostPredicates (c .before .before .before .before .before .if1 .left),
+      le-leb (a .schemas) mostSchemas (c .before .before .before .before .if2 .left),
+      le-leb (a .atoms) mostSchemaAtoms (c .before .before .before .if3 .left),
+      not-false (a .few) (c .before .before .if4 .left),
+      le-leb (a .initial) mostInitial (c .before .if5 .left),
+      lt-leb (a .goal) mostGoal (c .if6 .taken),
+    ) refl
+
+returns-7 : tie.Need-returns-7
+unfolding areWithin every
+returns-7 c =
+    let a = c .before .before .before .before .before .before .args in
+    rw (
+      le-leb (a .predicates) mostPredicates (c .before .before .before .before .before .if1 .left),
+      le-leb (a .schemas) mostSchemas (c .before .before .before .before .if2 .left),
+      le-leb (a .atoms) mostSchemaAtoms (c .before .before .before .if3 .left),
+      not-false (a .few) (c .before .before .if4 .left),
+      le-leb (a .initial) mostInitial (c .before .if5 .left),
+      le-leb (a .goal) mostGoal (c .if6 .left),
+    ) (sym (and-true (leb (a .pairs) mostPairs)))
 
 pub are-within-spec : {M : Type 1} → statement M
-are-within-spec = tie.close (tie.spec returns returns-2 returns-3 returns-4 returns-5 returns-6)
+are-within-spec = tie.close (tie.spec returns returns-2 returns-3 returns-4 returns-5 returns-6 returns-7)

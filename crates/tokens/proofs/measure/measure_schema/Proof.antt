@@ -16,7 +16,7 @@ use Rattle.tokens.specs.Acceptance.{areFew, mostPartAtoms}
 use Rattle.tokens.proofs.KeptSchema.{schema-small, count-small, kept-fits, kept-params, kept-order, counted}
 use Rattle.tokens.proofs.KeptSchema.{params-kept}
 use Rattle.tokens.proofs.SharedParameters.{shared-bounded}
-use Rattle.tokens.proofs.SplitSizes.{partsUpTo, part-atoms-none, part-few-none, part-atoms-more, part-few-more}
+use Rattle.tokens.proofs.SplitSizes.{partsUpTo, part-sum-none, part-few-none, part-sum-more, part-few-more}
 use Rattle.tokens.proofs.measure.measure_schema.Statement.{statement}
 use Rattle.task.specs.Limits.{mostParts, mostAtoms}
 
@@ -62,7 +62,7 @@ loop-holds : tie.Need-loop-holds Inv-loop μ-loop
 loop-holds c =
     let a = c .before .before .before .before .args in
     let t = taskOf (a .table .now) in
-    (omega arith, omega arith, sym (part-atoms-none t (a .s)), sym (part-few-none t (a .s)))
+    (omega arith, omega arith, sym (part-sum-none t (a .s) (λ u. length (u .atoms))), sym (part-few-none t (a .s)))
 
 part-size-requires : tie.Need-part-size-requires Inv-loop μ-loop
 part-size-requires c κs =
@@ -90,7 +90,7 @@ loop-again c =
     let t = taskOf (a .table .now) in
     let n = c .before .part-size in
     let size = length (splitSchema t (a .s) (orders t (a .s)) (h .j) .atoms) in
-    let e = part-atoms-more t (a .s) (h .j) in
+    let e = part-sum-more t (a .s) (λ u. length (u .atoms)) (h .j) in
     let m = n .ensures .0 in
     let few : c .if1 .few ≡ areFew (partsUpTo t (a .s) (h .j)) && leb size mostAtoms = ⊎-elim
     (λ x. x .1 ∙ sym (and-no (areFew (partsUpTo t (a .s) (h .j))) (leb size mostAtoms)

@@ -51,7 +51,7 @@ word-requires c κs =
     omega (arith, counts-inside (s .args .table .now) (s .pre .0))
 
 loop-holds : tie.Need-loop-holds Inv-loop μ-loop
-loop-holds c = (omega arith, sizes-none (taskOf (c .before .before .args .table .now)) _ refl refl refl refl refl)
+loop-holds c = (omega arith, sizes-none (taskOf (c .before .before .args .table .now)) _ refl refl refl refl refl refl)
 
 measure-schema-requires : tie.Need-measure-schema-requires Inv-loop μ-loop
 measure-schema-requires c κs = kept c
@@ -67,9 +67,13 @@ with-schema-requires c κs =
     let l = schema-small k in
     let x = h .later-most in
     let y = h .schemas-most in
-    let z = h .atoms-most in (
+    let z = h .atoms-most in
+    let one = c .before .measure-schema .ensures in (
       (omega (arith, count-some k), omega (arith, count-small k)),
-      ((omega arith, omega arith), (omega arith, c .before .measure-schema .ensures .atoms-most)),
+      (
+        (omega arith, omega arith),
+        (omega arith, (one .atoms-most, (omega (arith, h .pairs-most), one .pairs-most))),
+      ),
     )
 
 add-s : tie.Need-add-s Inv-loop μ-loop
@@ -91,7 +95,7 @@ loop-again c =
       omega (arith, i .loop-test .taken),
       sizes-more t (h .s) (h .sizes) (c .with-schema .result) (one .result) (count .result) (k .known) (n ∙ counted k)
           (n ∙ count-parts k) (omega (arith, count-small k)) (one .ensures) (h .inv .1)
-          (e .0) (e .1 .0) (e .1 .1 .0) (e .1 .1 .1 .0) (e .1 .1 .1 .1),
+          (e .0) (e .1 .0) (e .1 .1 .0) (e .1 .1 .1 .0) (e .1 .1 .1 .1 .0) (e .1 .1 .1 .1 .1),
     )
 
 within-limits-requires : tie.Need-within-limits-requires Inv-loop μ-loop

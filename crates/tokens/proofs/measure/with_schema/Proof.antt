@@ -17,14 +17,15 @@ larger c = ⊎-elim (λ x. omega arith) (λ x. omega arith) (c .if1 .came)
 returns : tie.Need-returns
 returns c =
     let a = c .before .before .args in
-    (refl, (larger (c .before), (refl, (refl, ap (λ b. b && a .one .few) (sym (c .if2 .taken))))))
+    (refl, (larger (c .before), (refl, (refl, (refl, ap (λ b. b && a .one .few) (sym (c .if2 .taken)))))))
 
 returns-2 : tie.Need-returns-2
 returns-2 c =
     let a = c .before .before .args in
-    (refl, (larger (c .before), (refl, (refl, c .if2 .left ∙ ap (λ b. b && a .one .few) (sym (c .if2 .left))))))
+    (refl, (larger (c .before), (refl, (refl, (refl, c .if2 .left ∙ ap (λ b. b && a .one .few) (sym (c .if2 .left)))))))
 
 pub with-schema-spec : {M : Type 1} → statement M
 with-schema-spec =
     tie.close
-    (tie.spec (λ c. search needs) (λ c. search needs) (λ c. search needs) (λ c. search needs) returns returns-2)
+    (tie.spec (λ c. search needs) (λ c. search needs) (λ c. search needs) (λ c. search needs) (λ c. search needs) returns
+    returns-2)

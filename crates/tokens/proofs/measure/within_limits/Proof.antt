@@ -36,7 +36,8 @@ returns c =
     let initial = c .before .before .before .before .word2 in
     let goal = c .before .before .before .word3 in
     let fit : ℕ → ℕ → ℕ → Bool = λ p i g.
-    areWithin (p + 1 + r .later + r .pars) (r .schemas) (r .atoms) (r .within) (i + 1) (g + 1) in
+    areWithin (p + 1 + r .later + r .pars) (r .schemas) (r .atoms) (r .within) (i + 1) (g + 1)
+    (r .pairs) in
     c .are-within .ensures ∙ ap (λ p. fit p (initial .result) (goal .result)) (old .ensures .0) ∙
     ap (λ i. fit (headIn w .predicates) i (goal .result)) (initial .ensures .0) ∙
     ap (fit (headIn w .predicates) (headIn w .initialAtoms)) (goal .ensures .0)

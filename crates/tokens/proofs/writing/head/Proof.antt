@@ -1,4 +1,4 @@
--- `tokens::writing::head` meets its contract: four words, then two. The counts fit words, as the contract asks, so each
+-- `tokens::writing::head` meets its contract: four words, then three. The counts fit words, as the contract asks, so each
 -- sum and each cast fits.
 use Rattle.tokens.proofs.writing.head.Tie as tie
 use Prim.Native.Nat.{_+_}
@@ -91,29 +91,44 @@ slice-write-out-2 c =
     let l = begun (counted (object (written (c .before)))) .pre .1 .1 .1 .1 in
     simp length-set (omega (arith, f .place, puts-length f))
 
+cast-out : tie.Need-cast-out
+cast-out c = omega (arith, begun (counted (object (written (c .before .before)))) .pre .1 .1 .1 .0)
+
+add-out-4 : tie.Need-add-out-4
+add-out-4 c = let f = written (c .before .before) .four .ensures in omega (arith, f .place, puts-length f)
+
+mul-out-3 : tie.Need-mul-out-3
+mul-out-3 c = let f = written (c .before .before) .four .ensures in omega (arith, f .place, puts-length f)
+
+slice-write-out-3 : tie.Need-slice-write-out-3
+slice-write-out-3 c =
+    let f = written (c .before .before) .four .ensures in
+    let l = begun (counted (object (written (c .before .before)))) .pre .1 .1 .1 .1 in
+    simp length-set (omega (arith, f .place, puts-length f))
+
 add-result : tie.Need-add-result
-add-result c = let f = written (c .before) .four .ensures in omega (arith, f .place, puts-length f)
+add-result c = let f = written (c .before .before) .four .ensures in omega (arith, f .place, puts-length f)
 
 same-length : tie.Need-same-length
-same-length c = let f = written (c .before) .four .ensures in simp length-set (puts-length f)
+same-length c = let f = written (c .before .before) .four .ensures in simp length-set (puts-length f)
 
 returns : tie.Need-returns
 returns c =
-    let a = begun (counted (object (written (c .before)))) .args in
-    let r = a .sizes in
-    let f = written (c .before) .four .ensures in
-    let next = written (c .before) .four .result in
-    let o = sym (object (written (c .before)) .word-at .ensures) in
-    let p = sym (counted (object (written (c .before))) .word .ensures .0) in
-    let i = sym (c .before .word-at2 .ensures) in
-    let g = sym (c .word-at3 .ensures) in
-    puts-is (puts-word (puts-word f (c .before .word-at2 .result + 1) _ refl (next + 1) refl)
-    (c .word-at3 .result + 1) _ refl (next + 2) (omega arith)) refl refl _
-    (λ k. o k ∷ (p k + 1 + r .later + r .pars) ∷ r .schemas ∷ r .atoms ∷ (i k + 1) ∷ (g k + 1) ∷ [])
+    let w = written (c .before .before) in
+    let r = begun (counted (object w)) .args .sizes in
+    let next = w .four .result in
+    let o = sym (object w .word-at .ensures) in
+    let p = sym (counted (object w) .word .ensures .0) in
+    let i = sym (c .before .before .word-at2 .ensures) in
+    let g = sym (c .before .word-at3 .ensures) in
+    puts-is (puts-word (puts-word (puts-word (w .four .ensures) (c .before .before .word-at2 .result + 1) _ refl
+    (next + 1) refl) (c .before .word-at3 .result + 1) _ refl (next + 2) (omega arith)) (r .pairs) _ refl (next + 3)
+    (omega arith)) refl refl _
+    (λ k. o k ∷ (p k + 1 + r .later + r .pars) ∷ r .schemas ∷ r .atoms ∷ (i k + 1) ∷ (g k + 1) ∷ r .pairs ∷ [])
 
 pub head-spec : {M : Type 1} → statement M
 head-spec =
     tie.close
     (tie.spec word-requires add-predicates add-predicates-2 add-predicates-3 word-at-requires cast-four cast-four-2
     cast-four-3 four-requires word-at-requires-2 add-out mul-out slice-write-out word-at-requires-3 add-out-2 add-out-3
-    mul-out-2 slice-write-out-2 add-result same-length returns)
+    mul-out-2 slice-write-out-2 cast-out add-out-4 mul-out-3 slice-write-out-3 add-result same-length returns)
