@@ -35,8 +35,9 @@ use Rattle.defines.specs.Outcome.{pddlOutcome}
 use Rattle.defines.specs.ByWords.{longestPddl}
 use Rattle.defines.proofs.PddlOutcome.{pddl-written}
 use Rattle.defines.proofs.Longest.{table-most}
-use Rattle.tokens.specs.Split.{Splitting, circular, tooLarge, splitAs, split, splitOutcome}
-use Rattle.tokens.proofs.SplitOutcome.{refused-nine, refused-ten, split-refused as outcome-refused, split-done}
+use Rattle.tokens.specs.Split.{Splitting, circular, parted, tooLarge, splitAs, split, splitOutcome}
+use Rattle.tokens.proofs.SplitOutcome.{refused-nine, refused-twenty, refused-ten, split-refused as outcome-refused}
+use Rattle.tokens.proofs.SplitOutcome.{split-done}
 use Rattle.programs.specs.Programs.{taken, refusal, printReading, printSplitting, splitProgram, pddlProgram}
 use Rattle.task.proofs.Answers.{told-by, left-by, tells}
 use Rattle.programs.specs.Printing.{Prints, made, roomFor}
@@ -135,6 +136,11 @@ split-refused table out is-table out-long {k} {at} h prints = go (split (taskOf 
     go (circular s) e =
         let nine = told (outcome-refused table out room (refused-nine table long is-table e)) in
         let number : k ≡ 9 = cc in
+        let schema : at ≡ place.Schema s = cc in
+        ap₂ refusal number (ap placeNumber schema) ∙ sym (ap (printSplitting prints) e)
+    go (parted s) e =
+        let twenty = told (outcome-refused table out room (refused-twenty table long is-table e)) in
+        let number : k ≡ 20 = cc in
         let schema : at ≡ place.Schema s = cc in
         ap₂ refusal number (ap placeNumber schema) ∙ sym (ap (printSplitting prints) e)
     go tooLarge e =

@@ -1,21 +1,21 @@
--- A plan read, unfolded and written: its steps are those of the task and few, so their blocks fit the words lent, and
--- are steps of the split, whose plan fits the bytes lent.
+-- A plan read, unfolded and written: its words are few steps, and the first that is none of the task is refused. Where
+-- each is one, their blocks fit the words lent, and are steps of the split, whose plan fits the bytes lent.
 use Rattle.tokens.proofs.SplitOutcome.{split-refused as outcome-refused}
 use Prim.Native.Nat.{ℕ, _*_, _≤_}
 use mathlib.Core.Path.{_≡_, refl, sym, _∙_, ap}
 use mathlib.Core.Bool.{true}
 use mathlib.Core.List.{List, [], _∷_}
-use mathlib.Core.Option.{none}
+use mathlib.Core.Option.{Option, none, some}
 use native.Mathlib.Omega.{arith}
 use lib.ListN.{length, take, length-take}
 use borrow.Author.Tests.{le-leb}
 use Rattle.task.specs.declared.Place.{Place}
-use Rattle.words.specs.Lists.{all, over}
+use Rattle.words.specs.Lists.{all, concatMap, over}
 use Rattle.task.specs.Limits.{tableWords, stepSize}
 use Rattle.task.specs.Answers.{placeNumber, result, refused}
 use Rattle.task.specs.Task.{Task}
 use Rattle.task.specs.Table.{taskOf, longEnough, isTable}
-use Rattle.task.specs.Run.{Step, isStep, stepsIn, badStep}
+use Rattle.task.specs.Run.{Step, isStep, stepWords, stepsIn, badStep}
 use Rattle.words.proofs.Puts.{take-over}
 use Rattle.task.proofs.Answers.{told-by}
 use Rattle.task.proofs.TablesByIndex.{table-long}
@@ -34,8 +34,9 @@ use Rattle.text.specs.TableLines.{longestText}
 use Rattle.text.proofs.PlanSteps.{planWords-is}
 use Rattle.text.proofs.PlanAnswers.{answer-read, answer-refused}
 use Rattle.text.proofs.PlanWritten.{plan-fits}
-use Rattle.programs.specs.Programs.{taken, refusal, printReading, printSplitting, unfoldProgram}
-use Rattle.programs.specs.Printing.{PlanSteps}
+use Rattle.programs.specs.Programs.{taken, refusal, printReading, printSplitting, printUnlessBad, printUnfolding}
+use Rattle.programs.specs.Programs.{unfoldProgram}
+use Rattle.programs.specs.Printing.{PlanChoices, PlanSteps}
 use Rattle.programs.proofs.Answered.{split-refused}
 use Rattle.programs.proofs.Printed.{printed-within}
 use Rattle.blocks.proofs.SplitSteps.{the-given, unfolded-steps, unfolded-between}
@@ -58,9 +59,13 @@ plan-refused table text lent {k} {at} told uses =
 -- the steps that were read, and their words
 pub record StepsRead (table text words : List ℕ) (n : ℕ) : Type 0 where
   pub reads : readPlan (taskOf table) text ≡ read (stepsIn (taskOf table) (take (stepSize * n) words))
-  pub plan : PlanSteps table (take (stepSize * n) words)
+  pub plan : PlanChoices table (take (stepSize * n) words)
   pub few : n ≤ mostPlanSteps
   pub inside : stepSize * n ≤ length words
+
+list-is : (xs : List Step) → listWords xs ≡ concatMap stepWords xs
+unfolding listWords
+list-is xs = refl
 
 pub plan-read : (table text lent : List ℕ) {words : List ℕ} {n : ℕ} → isTable table ≡ true →
     result (n ∷ []) ≡ planOutcome table text lent .told → words ≡ planOutcome table text lent .buffer →
@@ -70,16 +75,45 @@ plan-read table text lent {words} {n} is-table told left =
     let p = r .words in
     let few = p .few in
     let count = r .count in
-    let long = steps-whole (taskOf table) (take (stepSize * n) words) (p .good) .0 in
-    let size = ap length (p .steps) in
+    let size = p .size in
     let front = length-take (stepSize * n) words in
     let z = planWords-is in
     record {
       reads = r .is ∙ ap read (sym (p .steps));
-      plan = record { good = p .good; few = omega arith };
+      plan = record { are = ap listWords (p .steps) ∙ (list-is (r .steps) ∙ sym (p .are)); few = omega arith };
       few = omega arith;
       inside = omega arith;
     }
+
+-- ---- equal objects at a pair
+printUnfolding-is : (t : Task) (xs : List Step) →
+    printUnfolding t xs ≡ printUnlessBad (badStep t (listWords xs)) (writePlan (unfoldSteps t xs))
+unfolding printUnfolding
+printUnfolding-is t xs = refl
+
+module _ (table steps : List ℕ) (p : PlanChoices table steps) where
+  judged : {o : Option ℕ} → badStep (taskOf table) steps ≡ o →
+      printUnlessBad o (writePlan (unfoldingOf table steps)) ≡
+      printUnfolding (taskOf table) (stepsIn (taskOf table) steps)
+  judged e =
+      sym (printUnfolding-is (taskOf table) (stepsIn (taskOf table) steps) ∙
+      ap (λ (o : Option ℕ). printUnlessBad o (writePlan (unfoldingOf table steps)))
+      (ap (badStep (taskOf table)) (p .are) ∙ e))
+
+  -- a step that is none of the task is refused with its number
+  pub bad-printed : {i : ℕ} → badStep (taskOf table) steps ≡ some i →
+      refusal 12 i ≡ printUnfolding (taskOf table) (stepsIn (taskOf table) steps)
+  unfolding printUnlessBad
+  bad-printed e = judged e
+
+  -- where each is one, they are unfolded
+  pub good-printed : badStep (taskOf table) steps ≡ none →
+      writePlan (unfoldingOf table steps) ≡ printUnfolding (taskOf table) (stepsIn (taskOf table) steps)
+  unfolding printUnlessBad
+  good-printed e = judged e
+
+  pub good-plan : badStep (taskOf table) steps ≡ none → PlanSteps table steps
+  good-plan e = record { good = e; few = p .few }
 
 -- ---- blocks
 -- what splitting refuses is printed
@@ -142,7 +176,7 @@ module _ (table words steps : List ℕ) (s : AcceptedSplit table words) (p : Pla
 -- ---- the program `unfold`
 -- what is printed of a task and steps of it, and of a task and the text of a plan
 abbrev pub printsSteps : Task → List Step → List ℕ
-printsSteps t steps = printSplitting (λ t′. writePlan (unfoldSteps t steps)) (split t)
+printsSteps t steps = printSplitting (λ t′. printUnfolding t steps) (split t)
 
 abbrev pub printsPlan : List ℕ → Task → List ℕ
 printsPlan plan t = printReading (printsSteps t) (readPlan t (taken plan))

@@ -8,13 +8,14 @@ use lib.ListN.{length}
 use Rattle.words.specs.Lists.{over}
 use Rattle.task.specs.Task.{Task}
 use Rattle.task.specs.Table.{taskOf}
-use Rattle.task.specs.Run.{badStep}
+use Rattle.task.specs.Run.{stepsIn, badStep}
 use Rattle.text.specs.Text.{write}
 use Rattle.text.specs.TableLines.{longestText}
 use Rattle.text.specs.Plan.{planWords}
 use Rattle.defines.specs.Pddl.{pddl}
 use Rattle.defines.specs.ByWords.{longestPddl}
 use Rattle.tokens.specs.Split.{split}
+use Rattle.blocks.specs.Blocks.{listWords}
 use Rattle.programs.specs.Programs.{printSplitting}
 use Rattle.programs.specs.declared.tasks.Form.{Form}
 
@@ -23,7 +24,12 @@ pub record Prints (lent text after : List ℕ) (n : ℕ) : Type 0 where
   pub bytes : after ≡ over text lent
   pub count : n ≡ length text
 
--- the words of "at most 100" steps of a table's task
+-- the words of "at most 100" steps that were read, which may have equal objects at a pair
+pub record PlanChoices (table steps : List ℕ) : Type 0 where
+  pub are : listWords (stepsIn (taskOf table) steps) ≡ steps
+  pub few : length steps ≤ planWords
+
+-- the words of so many steps of a table's task
 pub record PlanSteps (table steps : List ℕ) : Type 0 where
   pub good : badStep (taskOf table) steps ≡ none
   pub few : length steps ≤ planWords

@@ -1,10 +1,12 @@
 -- 'Text form', the two programs as functions of their input bytes; and the program of document 02's note 1.
 use Prim.Native.Nat.{ℕ}
 use mathlib.Core.List.{List, [], _∷_}
+use mathlib.Core.Option.{Option, none, some}
 use lib.ListN.{take}
 use Rattle.task.specs.Task.{Task}
-use Rattle.tokens.specs.Split.{Splitting, circular, tooLarge, splitAs, split}
-use Rattle.blocks.specs.Blocks.{unfoldSteps}
+use Rattle.task.specs.Run.{Step, badStep}
+use Rattle.tokens.specs.Split.{Splitting, circular, parted, tooLarge, splitAs, split}
+use Rattle.blocks.specs.Blocks.{listWords, unfoldSteps}
 use Rattle.text.specs.Lines.{entryBytes, line}
 use Rattle.text.specs.Reading.{Reading, read, refusedAt}
 use Rattle.text.specs.Text.{write, readText}
@@ -24,12 +26,23 @@ unfoldable pub refusal : ℕ → ℕ → List ℕ
 unfolding line entryBytes
 refusal number place = line "refused" (entryBytes (record { head = number; list = place ∷ [] }))
 
--- what splitting gives is printed, or its refusal: 9 with the schema, 10 with none
+-- what splitting gives is printed, or its refusal: 9 and 20 with the schema, 10 with none
 unfoldable pub printSplitting : (Task → List ℕ) → Splitting → List ℕ
 unfolding refusal
 printSplitting prints (circular s) = refusal 9 s
+printSplitting prints (parted s) = refusal 20 s
 printSplitting prints tooLarge = refusal 10 0
 printSplitting prints (splitAs t) = prints t
+
+-- "A step with equal objects there isn't a step of the task (12)": the first such step is refused with its number
+unfoldable pub printUnlessBad : Option ℕ → List ℕ → List ℕ
+unfolding refusal
+printUnlessBad (some i) text = refusal 12 i
+printUnlessBad none text = text
+
+unfoldable pub printUnfolding : Task → List Step → List ℕ
+unfolding printUnlessBad badStep listWords writePlan unfoldSteps
+printUnfolding t steps = printUnlessBad (badStep t (listWords steps)) (writePlan (unfoldSteps t steps))
 
 -- what is read is used, or its refusal printed with the line
 unfoldable pub printReading : {R : Type 0} → (R → List ℕ) → Reading R → List ℕ
@@ -46,11 +59,11 @@ splitProgram input = printReading (λ t. printSplitting write (split t)) (readTe
 -- "`task` is read first, unfolding comes last", and unfolding first refuses "as splitting would";
 -- "a missing file counts as empty"
 unfoldable pub unfoldProgram : List ℕ → List ℕ → List ℕ
-unfolding printReading readText readPlan taken printSplitting split writePlan unfoldSteps
+unfolding printReading readText readPlan taken printSplitting split printUnfolding
 unfoldProgram task plan =
     printReading
     (λ t. printReading
-    (λ steps. printSplitting (λ t′. writePlan (unfoldSteps t steps)) (split t))
+    (λ steps. printSplitting (λ t′. printUnfolding t steps) (split t))
     (readPlan t (taken plan)))
     (readText (taken task))
 

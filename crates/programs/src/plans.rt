@@ -2,9 +2,12 @@
 use crate::inputs::bytes_taken;
 use crate::printing::put_refusal;
 use blocks::unfolding;
+use task::BadStep;
+use task::Place;
 use task::limits::MOST_PARTS;
 use task::limits::STEP_SIZE;
 use task::limits::TABLE_WORDS;
+use task::steps::bad_step;
 use text::plan::PLAN_WORDS;
 use text::plan::PlanAnswer;
 use text::plan::read_plan;
@@ -25,8 +28,8 @@ ghost use Rattle.tokens.specs.Split.{split};
 ghost use Rattle.blocks.specs.Blocks.{unfoldSteps};
 ghost use Rattle.text.specs.Plan.{readPlan, writePlan};
 ghost use Rattle.text.specs.PlanCode.{longestPlan};
-ghost use Rattle.programs.specs.Programs.{taken, printReading, printSplitting};
-ghost use Rattle.programs.specs.Printing.{Prints, PlanSteps};
+ghost use Rattle.programs.specs.Programs.{taken, printReading, printSplitting, printUnfolding};
+ghost use Rattle.programs.specs.Printing.{Prints, PlanChoices, PlanSteps};
 ghost use Rattle.tokens.specs.Acceptance.{AcceptedKept};
 
 // The words of 100 blocks of 16 parts.
@@ -48,21 +51,38 @@ fn put_blocks(table: &[u16], kept: &Kept, sizes: Sizes, steps: &[u16], out: &mut
     write_plan(&split_table, &words[..end], out)
 }
 
+// "A step with equal objects there isn't a step of the task (12)": of a split that is accepted and kept the unfolding is
+// printed, or the number of the first step that is none.
+fn put_steps(table: &[u16], kept: &Kept, sizes: Sizes, steps: &[u16], out: &mut [u8]) -> usize
+    requires { ⌜ AcceptedKept (now table) sizes (now kept) ⌝ }
+    requires { ⌜ PlanChoices (now table) (now steps) ⌝ }
+    requires { ⌜ longestPlan ≤ length (now out) ⌝ }
+    ensures { λ r. do
+      let t = taskOf (now (table .entry))
+      ⌜ Prints (now (out .entry)) (printUnfolding t (stepsIn t (now (steps .entry)))) (now (out .exit)) r ⌝ }
+{
+    let bad = bad_step(table, steps);
+    if let BadStep::At(i) = bad {
+        return put_refusal(out, 12, Place::Step(i));
+    }
+    put_blocks(table, kept, sizes, steps, out)
+}
+
 // "unfolding comes last": what it writes is printed, or what splitting refuses.
 fn put_unfolding(table: &[u16], steps: &[u16], out: &mut [u8]) -> usize
     requires { ⌜ isTable (now table) ≡ true ⌝ }
-    requires { ⌜ PlanSteps (now table) (now steps) ⌝ }
+    requires { ⌜ PlanChoices (now table) (now steps) ⌝ }
     requires { ⌜ longestPlan ≤ length (now out) ⌝ }
     ensures { λ r. do
       let t = taskOf (now (table .entry))
       ⌜ Prints (now (out .entry))
-          (printSplitting (λ t′. writePlan (unfoldSteps t (stepsIn t (now (steps .entry))))) (split t))
+          (printSplitting (λ t′. printUnfolding t (stepsIn t (now (steps .entry)))) (split t))
           (now (out .exit)) r ⌝ }
 {
     let mut kept = [0u16; KEPT_WORDS];
     let accepted = keep_accepted(table, &mut kept);
     match accepted {
-        Acceptance::Accepted(sizes) => put_blocks(table, &kept, sizes, steps, out),
+        Acceptance::Accepted(sizes) => put_steps(table, &kept, sizes, steps, out),
         Acceptance::Refused(number, place) => put_refusal(out, number, place),
     }
 }
@@ -74,7 +94,7 @@ pub fn put_plan(table: &[u16], plan: &[u8], out: &mut [u8]) -> usize
     ensures { λ r. do
       let t = taskOf (now (table .entry))
       ⌜ Prints (now (out .entry))
-          (printReading (λ steps. printSplitting (λ t′. writePlan (unfoldSteps t steps)) (split t))
+          (printReading (λ steps. printSplitting (λ t′. printUnfolding t steps) (split t))
           (readPlan t (taken (now (plan .entry)))))
           (now (out .exit)) r ⌝ }
 {

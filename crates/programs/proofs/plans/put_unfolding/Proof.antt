@@ -1,13 +1,12 @@
--- `programs::plans::put_unfolding` meets its contract: of a split that is accepted the blocks are written; a refusal is
--- the one that is printed.
+-- `programs::plans::put_unfolding` meets its contract: of a split that is accepted the unfolding is printed, or a step
+-- that is none; a refusal is the one that is printed.
 use Rattle.programs.proofs.plans.put_unfolding.Tie as tie
 use Prim.Native.Nat.{ℕ}
 use mathlib.Core.List.{List}
 use Rattle.task.specs.Task.{Task}
 use Rattle.task.specs.Table.{taskOf}
 use Rattle.task.specs.Run.{stepsIn}
-use Rattle.blocks.specs.Blocks.{unfoldSteps}
-use Rattle.text.specs.Plan.{writePlan}
+use Rattle.programs.specs.Programs.{printUnfolding}
 use Rattle.programs.proofs.Answered.{split-printed}
 use Rattle.programs.proofs.Printed.{prints-same}
 use Rattle.programs.proofs.PlanUnfolded.{text-room, refused-printed}
@@ -22,10 +21,10 @@ start k = k .before .before .before .before .before
 abbrev prints : tie.Start → Task → List ℕ
 prints s t′ =
     let t = taskOf (s .args .table .now) in
-    writePlan (unfoldSteps t (stepsIn t (s .args .steps .now)))
+    printUnfolding t (stepsIn t (s .args .steps .now))
 
-put-blocks-requires : tie.Need-put-blocks-requires
-put-blocks-requires c κs =
+put-steps-requires : tie.Need-put-steps-requires
+put-steps-requires c κs =
     let d = c .before .before .before in
     let k = d .before .before in
     let p = start k .pre in
@@ -41,7 +40,7 @@ returns c =
     let s = start k in
     let accepted = told-accepted (d .accepted .given .1) (k .keep-accepted .ensures) in
     prints-same (split-printed (prints s) (taskOf (s .args .table .now)) (accepted .accepted))
-    (c .before .before .put-blocks .ensures)
+    (c .before .before .put-steps .ensures)
 
 returns-2 : tie.Need-returns-2
 returns-2 c =
@@ -55,5 +54,5 @@ returns-2 c =
 pub put-unfolding-spec : {M : Type 1} → statement M
 put-unfolding-spec =
     tie.close
-    (tie.spec (λ c κs. search needs) (λ c. search needs) put-blocks-requires (λ c. search needs) put-refusal-requires
+    (tie.spec (λ c κs. search needs) (λ c. search needs) put-steps-requires (λ c. search needs) put-refusal-requires
     (λ c. search needs) returns (λ c. search needs) returns-2)
