@@ -1,4 +1,4 @@
--- The pairs that a part of the split carries, as they are counted and put, pair by pair. The set of a part's parameters
+-- The pairs that a part of the split carries, as they are counted and put, pair by pair and part by part. The set of a part's parameters
 -- has just the part's own, so a parameter's number among the set's is its index among the own.
 use Prim.Native.Nat.{ℕ, _+_, _≤_, _<_}
 use mathlib.Core.Path.{_≡_, sym, _∙_, ap, ap₂}
@@ -11,7 +11,7 @@ use Rattle.words.specs.Lists.{filter, keepIf, concatMap}
 use Rattle.words.specs.Sets.{member}
 use Rattle.words.proofs.Lists.{In, map-same, filter-same}
 use Rattle.task.specs.Limits.{mostPairs}
-use Rattle.task.specs.Task.{Pair, Task, schemaPairs}
+use Rattle.task.specs.Task.{Pair, Schema, Task, schemaPairs}
 use Rattle.task.specs.Run.{schemaAt}
 use Rattle.task.specs.Table.{taskOf, pairIn, pairWords}
 use Rattle.task.proofs.Tests.{task-tests}
@@ -27,6 +27,7 @@ use Rattle.tokens.proofs.PartRoles.{PartOf, facts}
 use Rattle.tokens.proofs.PartSplit.{new-index}
 use Rattle.tokens.proofs.WellSplit.{part-of}
 use Rattle.tokens.proofs.KeptSchema.{counted, kept-pairs, kept-pair-stretch}
+use Rattle.tokens.proofs.SchemaRuns.{partsUpTo, parts-more}
 
 -- ---- the pairs that a part carries
 pub carried-is : (t : Task) (s : ℕ) (o : List ℕ) (j : ℕ) → PartOf t s o j → (set : ℕ) →
@@ -68,6 +69,16 @@ module _ {w : List ℕ} {s : ℕ} {kept : List ℕ} (K : SchemaKept w s kept) {f
     unfolding carriedIn
     carried-count =
         sym (length-map (filter (carries own) (pairStretchIn w from to)) (renumberedPair own)) ∙ ap length kept-carried
+
+    -- their words come behind those of the parts before
+    pub kept-words : (n number : ℕ) → number ≡ n + j →
+        partsUpTo pairWords (λ (u : Schema). u .pairs) n (splitSchema t s o) (j + 1) ≡
+        partsUpTo pairWords (λ (u : Schema). u .pairs) n (splitSchema t s o) j ++ carriedWords w number own from to
+    kept-words n number is =
+        parts-more pairWords (λ (u : Schema). u .pairs) n (splitSchema t s o) j ∙
+        ap₂ (λ (k : ℕ) (qs : List Pair).
+        partsUpTo pairWords (λ (u : Schema). u .pairs) n (splitSchema t s o) j ++ concatMap (pairWords k) qs) (sym is)
+        (sym kept-carried)
 
   -- there are no more than a table has
   pub pairs-few : to ≤ mostPairs

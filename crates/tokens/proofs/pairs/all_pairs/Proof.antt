@@ -1,0 +1,140 @@
+-- `tokens::pairs::all_pairs` meets its contract. The invariant: the pairs of the parts of the first s schemas were put.
+-- The measure is the schemas left.
+use Rattle.tokens.proofs.pairs.all_pairs.Tie as tie
+use Prim.Native.Nat.{ℕ, _+_, _-_, _≤_, _<_}
+use mathlib.Core.Path.{_≡_, refl, sym, _∙_, ap, subst}
+use mathlib.Core.List.{_++_}
+use native.Mathlib.Omega.{arith}
+use lib.ListN.{length, length-append}
+use Rattle.words.specs.Lists.{concatMap, upFrom, upTo}
+use Rattle.task.specs.Task.{Task}
+use Rattle.task.specs.Table.{taskOf, pairWords, rowsFrom, pairsFrom}
+use Rattle.task.proofs.TableReads.{counts-inside}
+use Rattle.task.proofs.TablesByIndex.{table-frame, schemas-word}
+use Rattle.words.specs.Putting.{Puts}
+use Rattle.words.proofs.Puts.{puts-none, puts-then, puts-length}
+use Rattle.tokens.proofs.SchemaRuns.{schemasUpTo, schemas-more, schemas-fewer}
+use Rattle.tokens.proofs.KeptSchema.{count-small}
+use Rattle.tokens.proofs.Splitting.{few-schemas, split-schemas, kept-number, kept-few, schema-kept}
+use Rattle.tokens.proofs.pairs.all_pairs.Statement.{statement}
+use Rattle.tokens.specs.Kept.{keptFirst}
+use Rattle.tokens.specs.Acceptance.{partSchemas}
+use Rattle.task.specs.Limits.{mostParts}
+
+abbrev Inv-loop : tie.InvT-loop
+Inv-loop table kept out₀ at schemas next₀ s₀ out next s =
+    (s ≤ schemas) × (length out ≡ length out₀) ×
+    Puts out₀ at (pairsFrom 0 (schemasUpTo (partSchemas (taskOf table)) s)) out next
+
+abbrev μ-loop : tie.MeasureT-loop
+μ-loop table kept out₀ at schemas next₀ s₀ out next s = schemas - s
+
+abbrev Loop : Type 0
+Loop = tie.At-loop Inv-loop μ-loop
+
+abbrev start : tie.At-loop Inv-loop μ-loop → tie.Start Inv-loop μ-loop
+start c = c .before .before .before .before
+
+abbrev turn-of : tie.After-schema-pairs Inv-loop μ-loop → tie.In-loop Inv-loop μ-loop
+turn-of c = c .before .before
+
+abbrev task : Loop → Task
+task l = taskOf (start l .args .table .now)
+
+-- as many schemas as the table says
+schemas-are : (l : Loop) → l .before .word .result ≡ length (task l .schemas)
+schemas-are l =
+    let w = start l .args .table .now in
+    l .before .word .ensures .0 ∙ sym (schemas-word w (table-frame w (start l .pre .0 .1 .table)))
+
+-- the words of the schema of a turn come behind those before, and leave room
+record Turn (l : Loop) : Type 0 where
+  more : pairsFrom 0 (schemasUpTo (partSchemas (task l)) (l .loop .s + 1)) ≡
+      pairsFrom 0 (schemasUpTo (partSchemas (task l)) (l .loop .s)) ++
+      pairsFrom (keptFirst (start l .args .kept .now) (l .loop .s)) (partSchemas (task l) (l .loop .s))
+  room : start l .args .at + length (pairsFrom 0 (schemasUpTo (partSchemas (task l)) (l .loop .s + 1))) ≤
+       length (start l .args .out .now)
+
+turn : (l : Loop) → l .loop .s < length (task l .schemas) → Turn l
+turn l k =
+    let s = start l in
+    let t = task l in
+    let n = length (t .schemas) in
+    let r = s .pre .1 in
+    let e = ap (λ ss. length (pairsFrom 0 ss)) (split-schemas t) in
+    record {
+      more = schemas-more pairWords (λ s. s .pairs) (partSchemas t) (l .loop .s) ∙
+          ap (λ (i : ℕ). pairsFrom 0 (schemasUpTo (partSchemas t) (l .loop .s)) ++
+          pairsFrom i (partSchemas t (l .loop .s))) (sym (kept-number (s .pre .0 .1) (l .loop .s) k));
+      room = omega (arith, schemas-fewer pairWords (λ s. s .pairs) (partSchemas t) (l .loop .s + 1) n (omega arith));
+    }
+
+known : (i : tie.In-loop Inv-loop μ-loop) → i .before .loop .s < length (task (i .before) .schemas)
+known i = let n = schemas-are (i .before) in omega (arith, i .loop-test .taken)
+
+word-requires : tie.Need-word-requires Inv-loop μ-loop
+word-requires c κs =
+    let s = c .before .before in
+    omega (arith, counts-inside (s .args .table .now) (s .pre .0 .1 .table))
+
+loop-holds : tie.Need-loop-holds Inv-loop μ-loop
+unfolding concatMap upTo upFrom rowsFrom
+loop-holds c =
+    let a = c .before .before .before .args in
+    (omega arith, refl, puts-none (a .out .now) (a .at))
+
+schema-pairs-requires : tie.Need-schema-pairs-requires Inv-loop μ-loop
+schema-pairs-requires c κs =
+    let i = c .before in
+    let l = i .before in
+    let s = start l in
+    let h = l .loop in
+    let t = task l in
+    let k = turn l (known i) in
+    let p = h .inv .2 .place in
+    let m = h .inv .1 in
+    let r = k .room in
+    let e = ap length (k .more) in
+    let g = length-append (pairsFrom 0 (schemasUpTo (partSchemas t) (h .s)))
+    (pairsFrom (keptFirst (s .args .kept .now) (h .s)) (partSchemas t (h .s))) in
+    let S = s .pre .0 .1 in
+    let K = schema-kept S (h .s) (known i) in
+    (K, (omega (arith, kept-few S (h .s) (known i), count-small K), omega arith))
+
+add-s : tie.Need-add-s Inv-loop μ-loop
+add-s c =
+    let i = turn-of (c .before .before) in
+    let k = known i in
+    omega (arith, few-schemas (start (i .before) .pre .0 .1))
+
+loop-less : tie.Need-loop-less Inv-loop μ-loop
+loop-less c = omega (arith, turn-of (c .before .before) .loop-test .taken)
+
+loop-again : tie.Need-loop-again Inv-loop μ-loop
+loop-again c =
+    let i = turn-of (c .before .before) in
+    let h = i .before .loop in
+    let p = puts-then (h .inv .2) (c .before .before .schema-pairs .ensures) _
+    (turn (i .before) (known i) .more) in
+    (omega (arith, i .loop-test .taken), puts-length p, p)
+
+same-length : tie.Need-same-length Inv-loop μ-loop
+same-length c = c .before .loop .inv .1
+
+returns : tie.Need-returns Inv-loop μ-loop
+returns c =
+    let l = c .before in
+    let a = start l .args in
+    let t = task l in
+    let h = l .loop in
+    let n = schemas-are l in
+    let e : h .s ≡ length (t .schemas) = omega (arith, c .loop-test .left) in
+    subst (λ ss. Puts (a .out .now) (a .at) (pairsFrom 0 ss) (h .out) (h .next)) (sym (split-schemas t))
+    (subst (λ (k : ℕ). Puts (a .out .now) (a .at) (pairsFrom 0 (schemasUpTo (partSchemas t) k)) (h .out) (h .next)) e
+    (h .inv .2))
+
+pub all-pairs-spec : {M : Type 1} → statement M
+all-pairs-spec =
+    tie.close
+    (tie.spec Inv-loop μ-loop word-requires loop-holds schema-pairs-requires add-s loop-less loop-again same-length
+    returns)
