@@ -105,28 +105,34 @@ loop-again c =
       few ∙ sym (part-few-more t (a .s) (h .j)),
     )
 
+pairs-carried-requires : tie.Need-pairs-carried-requires Inv-loop μ-loop
+pairs-carried-requires c κs = start (c .before) .pre
+
 returns : tie.Need-returns Inv-loop μ-loop
 returns c =
-    let s = start (c .before) in
+    let l = c .before .before in
+    let s = start (c .before .before) in
     let a = s .args in
     let t = taskOf (a .table .now) in
-    let h = c .before .loop in
+    let h = l .loop in
     let K = s .pre in
-    let n = c .before .before .count-of .ensures in
-    let e : h .j ≡ length (orders t (a .s)) = let y = counted K in omega (arith, c .loop-test .left) in
-    let b = c .before .before .before .bound .ensures in
-    let set = c .before .before .before .before .shared-in in
+    let n = l .before .count-of .ensures in
+    let e : h .j ≡ length (orders t (a .s)) = let y = counted K in omega (arith, c .before .loop-test .left) in
+    let b = l .before .before .bound .ensures in
+    let set = l .before .before .before .shared-in in
     record {
       atoms = h .inv .2 ∙ ap (λ (n : ℕ). schemaAtoms (partsUpTo t (a .s) n)) e;
       few = h .inv .3 ∙ ap (λ (n : ℕ). areFew (partsUpTo t (a .s) n)) e;
       shared = b .0 ∙ shared-bounded t (a .s) (orders t (a .s)) (set .result) (kept-fits K) (kept-params K)
           (kept-order K) (set .ensures t (orders t (a .s)) (params-kept K));
-      atoms-most = let z = few-parts (c .before) in omega arith;
+      pairs = c .pairs-carried .ensures .0;
+      atoms-most = let z = few-parts l in omega arith;
       shared-most = b .1;
+      pairs-most = c .pairs-carried .ensures .1;
     }
 
 pub measure-schema-spec : {M : Type 1} → statement M
 measure-schema-spec =
     tie.close
     (tie.spec Inv-loop μ-loop shared-in-requires bound-requires count-of-requires loop-holds part-size-requires
-    add-atoms add-j loop-less loop-again returns)
+    add-atoms add-j loop-less loop-again pairs-carried-requires returns)

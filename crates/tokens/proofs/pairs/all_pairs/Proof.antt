@@ -53,7 +53,7 @@ record Turn (l : Loop) : Type 0 where
       pairsFrom 0 (schemasUpTo (partSchemas (task l)) (l .loop .s)) ++
       pairsFrom (keptFirst (start l .args .kept .now) (l .loop .s)) (partSchemas (task l) (l .loop .s))
   room : start l .args .at + length (pairsFrom 0 (schemasUpTo (partSchemas (task l)) (l .loop .s + 1))) ≤
-       length (start l .args .out .now)
+      length (start l .args .out .now)
 
 turn : (l : Loop) → l .loop .s < length (task l .schemas) → Turn l
 turn l k =

@@ -9,7 +9,8 @@ use lib.ListN.{length, replicate}
 use borrow.Author.Needs.{needs}
 use Rattle.words.specs.Lists.{concatMap, joined}
 use Rattle.task.specs.Layout.{headBlock, headIn, factsBase}
-use Rattle.task.specs.Limits.{tableWords, atomSize, mostSchemas, headWords, tableLength}
+use Rattle.task.specs.Limits.{tableWords, atomSize, pairSize, mostPredicates, mostSchemas, mostPairs, headWords}
+use Rattle.task.specs.Limits.{tableLength}
 use Rattle.task.specs.Task.{Schema, Task, initial, goalRole}
 use Rattle.task.specs.Table.{factWords, taskOf, headOf, blocksOf, wordsOf}
 use Rattle.words.proofs.Puts.{put-over, puts-is, puts-then, puts-append, puts-same, puts-length}
@@ -37,8 +38,11 @@ counted c = c .before .before
 abbrev names : tie.After-all-params → tie.After-arities
 names c = counted c .before .before .before
 
-abbrev sizes : tie.After-all-parts → tie.After-all-params
+abbrev sizes : tie.After-all-pairs → tie.After-all-params
 sizes c = c .before .before .before .before
+
+abbrev pairs : tie.After-all-parts → tie.After-all-pairs
+pairs c = c .before .before .before .before
 
 abbrev atoms : tie.After-all-facts → tie.After-all-parts
 atoms c = c .before .before .before .before
@@ -118,16 +122,17 @@ sizes-put c =
     (params-written (s .pre .0) (n .result) (n .ensures .0 ∙ sym (known s .old)))
 
 content-put : (c : tie.After-all-facts) →
-    let s = begun (head (names (sizes (atoms c)))) in
+    let s = begun (head (names (sizes (pairs (atoms c))))) in
     Puts (s .args .out .now) 0 (content (split s)) (c .all-facts .last .1 .0) (c .all-facts .result)
 unfolding joined blocksOf
 content-put c =
-    let t = split (begun (head (names (sizes (atoms c))))) in
+    let t = split (begun (head (names (sizes (pairs (atoms c)))))) in
     let last : List ℕ = concatMap (factWords goalRole) (t .goal) in
-    puts-append (head-put (head (names (sizes (atoms c))))) (puts-append (names-put (names (sizes (atoms c))))
-    (puts-append (sizes-put (sizes (atoms c))) (puts-append (atoms c .all-parts .ensures)
+    puts-append (head-put (head (names (sizes (pairs (atoms c)))))) (puts-append (names-put (names (sizes (pairs (atoms c)))))
+    (puts-append (sizes-put (sizes (pairs (atoms c)))) (puts-append (pairs (atoms c) .all-pairs .ensures)
+    (puts-append (atoms c .all-parts .ensures)
     (puts-same (ap (λ (l : List ℕ). concatMap (factWords initial) (t .init) ++ l) (sym (append-nil last)))
-    (c .all-facts .ensures)))))
+    (c .all-facts .ensures))))))
 
 -- ---- where each of them ends
 record Headed (c : tie.After-head) : Type 0 where
@@ -158,6 +163,20 @@ sizes-end c =
     let p = sizes-put c in
     record { ends = omega (arith, p .place, n .ends); long = puts-length p ∙ n .long }
 
+record Paired (c : tie.After-all-pairs) : Type 0 where
+  ends : c .all-pairs .result ≤ headWords + mostPredicates + mostSchemas + pairSize * mostPairs
+  long : length (c .all-pairs .last .1 .1 .0) ≡ length (begun (head (names (sizes c))) .args .out .now)
+
+pairs-end : (c : tie.After-all-pairs) → Paired c
+pairs-end c =
+    let z = sizes-end (sizes c) in
+    let p = c .all-pairs .ensures in
+    let r = known (begun (head (names (sizes c)))) .room in
+    record {
+      ends = omega (arith, p .place, z .ends, r .arities, r .params, r .pair-words);
+      long = puts-length p ∙ z .long;
+    }
+
 head-requires : tie.Need-head-requires
 head-requires c κs =
     let s = c .before .before .before in
@@ -176,7 +195,7 @@ head-requires c κs =
         omega (arith, r .arities),
         (
           (omega (arith, r .schemas), omega (arith, r .atoms)),
-          ((omega (arith, r .init), omega (arith, r .goal)), omega arith),
+          ((omega (arith, r .init), omega (arith, r .goal), omega (arith, z .pairs, r .pairs)), omega arith),
         ),
       ),
     )
@@ -213,46 +232,52 @@ all-params-requires c κs =
       ),
     )
 
-all-parts-requires : tie.Need-all-parts-requires
-all-parts-requires c κs =
+all-pairs-requires : tie.Need-all-pairs-requires
+all-pairs-requires c κs =
     let st = begun (head (names (c .before .before .before))) in
     let k = known st in
     let z = sizes-end (c .before .before .before) in
     let r = k .room in
     let l = k .long in
-    (st .pre .0, omega (arith, z .ends, z .long, r .arities, r .params, r .words))
+    ((st .args .sizes, st .pre .0), omega (arith, z .ends, z .long, r .arities, r .params, r .pair-words))
+
+all-parts-requires : tie.Need-all-parts-requires
+all-parts-requires c κs =
+    let st = begun (head (names (sizes (c .before .before .before)))) in
+    let k = known st in
+    let z = pairs-end (c .before .before .before) in
+    let l = k .long in
+    (st .pre .0, omega (arith, z .ends, z .long, k .room .words))
 
 all-facts-requires : tie.Need-all-facts-requires
 all-facts-requires c κs =
-    let st = begun (head (names (sizes (c .before .before .before)))) in
+    let st = begun (head (names (sizes (pairs (c .before .before .before))))) in
     let k = known st in
-    let z = sizes-end (sizes (c .before .before .before)) in
+    let z = pairs-end (pairs (c .before .before .before)) in
     let u = c .before .before .before .all-parts .ensures in
     let r = k .room in
     let l = k .long in
     let i = k .inits in
     let g = k .goals in
-    let m = puts-length u in (
-      st .pre .0 .table,
-      omega (arith, u .place, z .ends, z .long, r .arities, r .params, r .words, r .init, r .goal),
-    )
+    let m = puts-length u in
+    (st .pre .0 .table, omega (arith, u .place, z .ends, z .long, r .words, r .init, r .goal))
 
 sub-fill : tie.Need-sub-fill
 sub-fill c =
-    let k = known (begun (head (names (sizes (atoms (c .before .before .before)))))) in
+    let k = known (begun (head (names (sizes (pairs (atoms (c .before .before .before))))))) in
     let p = content-put (c .before .before .before) .place in
     omega (arith, k .room .whole, tableWords-is)
 
 fill-requires : tie.Need-fill-requires
 fill-requires c κs =
-    let k = known (begun (head (names (sizes (atoms (c .before .before .before)))))) in
+    let k = known (begun (head (names (sizes (pairs (atoms (c .before .before .before))))))) in
     let p = content-put (c .before .before .before) in
     let l = puts-length p in
     omega (arith, p .place, k .room .whole, k .long, tableWords-is)
 
 returns : tie.Need-returns
 returns c =
-    let st = begun (head (names (sizes (atoms (facts (c .before .before)))))) in
+    let st = begun (head (names (sizes (pairs (atoms (facts (c .before .before))))))) in
     let t = split st in
     let d = facts (c .before .before) in
     let p = content-put d in
@@ -267,5 +292,5 @@ returns c =
 pub write-split-spec : {M : Type 1} → statement M
 write-split-spec =
     tie.close
-    (tie.spec head-requires arities-requires word-requires all-params-requires all-parts-requires all-facts-requires
-    sub-fill fill-requires (λ c. search needs) returns)
+    (tie.spec head-requires arities-requires word-requires all-params-requires all-pairs-requires all-parts-requires
+    all-facts-requires sub-fill fill-requires (λ c. search needs) returns)
