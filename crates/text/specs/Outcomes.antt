@@ -21,7 +21,7 @@ use Rattle.text.specs.Reading.{Reading, read, refusedAt}
 use Rattle.text.specs.Text.{write, readText}
 use Rattle.text.specs.Plan.{planWords, readPlan}
 
--- refusals 3 to 8 leave the "table all 0"; "words past 13,406 are never touched"
+-- refusals 3 to 8, 19 and 21 leave the "table all 0"; words past 14,007 "are never touched"
 unfoldable pub readDone : List ℕ → Reading Task → Outcome (List ℕ)
 unfolding over wordsOf tableWords
 readDone table (read t) = record { told = result []; buffer = over (wordsOf t) table }
