@@ -1,5 +1,5 @@
--- What is known of one schema of a table whose parts are kept: its stretches of atoms and of pairs, and that its numbers
--- are small.
+-- What is known of one schema of a table whose parts are kept: its stretches of atoms and of pairs, and that its
+-- numbers are small.
 use Prim.Native.Nat.{ℕ, _+_, _-_, _≤_, _<_, suc}
 use mathlib.Core.Path.{_≡_, sym, _∙_, ap, ap₂, subst}
 use mathlib.Core.Bool.{true}

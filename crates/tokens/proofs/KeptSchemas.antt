@@ -4,8 +4,8 @@
 use Prim.Native.Nat.{ℕ, suc, _+_, _-_, _*_, _≤_, _<_}
 use mathlib.Core.Path.{_≡_, sym, _∙_, ap, subst}
 use mathlib.Core.Bool.{Bool, true, false, cond}
-use mathlib.Core.List.{List, [], _++_, map, _∷_}
-use mathlib.Core.Option.{Option, none, some}
+use mathlib.Core.List.{List, [], _∷_, map}
+use mathlib.Core.Option.{none, some}
 use native.Mathlib.Omega.{arith}
 use native.Mathlib.Decide.{decLt}
 use native.Mathlib.Numerals.{add-one}
@@ -181,11 +181,14 @@ module _ (w : List ℕ) (h : isTable w ≡ true) where
   parts-none kept l = record {
     long = begun-long kept 0 0 0 0 l;
     start = λ s k. let e : s ≡ 0 = omega arith in
-        subst (λ (n : ℕ). keptStart begun n ≡ firstAtom (taskOf w) n) (sym e) (begun-start kept 0 0 0 0 l (omega arith));
+        subst (λ (n : ℕ). keptStart begun n ≡ firstAtom (taskOf w) n) (sym e)
+        (begun-start kept 0 0 0 0 l (omega arith));
     first = λ s k. let e : s ≡ 0 = omega arith in
-        subst (λ (n : ℕ). keptFirst begun n ≡ firstOf (taskOf w) n) (sym e) (begun-first kept 0 0 0 0 l (omega arith));
+        subst (λ (n : ℕ). keptFirst begun n ≡ firstOf (taskOf w) n) (sym e)
+        (begun-first kept 0 0 0 0 l (omega arith));
     pair = λ s k. let e : s ≡ 0 = omega arith in
-        subst (λ (n : ℕ). keptPair begun n ≡ firstPair (taskOf w) n) (sym e) (begun-pair kept 0 0 0 0 l (omega arith));
+        subst (λ (n : ℕ). keptPair begun n ≡ firstPair (taskOf w) n) (sym e)
+        (begun-pair kept 0 0 0 0 l (omega arith));
     taken = λ s k. absurd (omega arith);
     count = λ s k. absurd (omega arith);
     part = λ s j k. absurd (omega arith);

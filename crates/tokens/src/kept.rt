@@ -1,7 +1,7 @@
 // What is kept of a table's parts, all in one array. First a row for each schema, and one row more, for where the last
 // one's atoms and pairs end: the index of the schema's first atom, the split's number of its first part, how many parts
-// it has, and the index of its first pair. Then the parts, in order, and then the parameters of each, a bit for each. A schema has no more parts than
-// atoms, so its part at position j stands at the place of its atom j.
+// it has, and the index of its first pair. Then the parts, in order, and then the parameters of each, a bit for each. A
+// schema has no more parts than atoms, so its part at position j stands at the place of its atom j.
 use task::Part;
 use task::limits::MOST_SCHEMA_ATOMS;
 use task::limits::MOST_SCHEMAS;

@@ -1,6 +1,6 @@
 -- `tokens::acceptance::keep_accepted` meets its contract: each check that fails is the first of those of acceptance;
--- what is kept of the parts says whether one is circular, the sizes whether a limit is passed, and where neither is,
--- all pass.
+-- what is kept of the parts says whether one is circular and whether a pair is parted, the sizes whether a limit is
+-- passed, and where none is, all pass.
 use Rattle.tokens.proofs.acceptance.keep_accepted.Tie as tie
 use Prim.Native.Nat.{ℕ}
 use mathlib.Core.Path.{_≡_, sym, _∙_, ap}
@@ -10,14 +10,13 @@ use mathlib.Core.Option.{none}
 use lib.ListN.{length}
 use borrow.Author.Needs.{needs}
 use borrow.Author.Tests.{not-true, not-false}
-use Rattle.words.specs.Lists.{first, upTo}
 use Rattle.task.specs.Task.{Task}
 use Rattle.task.specs.Table.{taskOf, longEnough, isTable}
 use Rattle.task.proofs.LongEnough.{too-short, long-enough, has-table-words}
-use Rattle.tokens.specs.Split.{isNone, orderAt}
-use Rattle.tokens.specs.Acceptance.{AcceptanceTold, circularTold}
+use Rattle.tokens.specs.Acceptance.{AcceptanceTold, circularTold, partedTold}
+use Rattle.tokens.proofs.Accepted.{circularAt, partedAt}
 use Rattle.tokens.proofs.SplitOutcome.{found-circular, found-large, found-split, refused-short, refused-no-table}
-use Rattle.tokens.proofs.SplitOutcome.{refused-nine, refused-ten}
+use Rattle.tokens.proofs.SplitOutcome.{found-parted, refused-nine, refused-twenty, refused-ten}
 use Rattle.tokens.proofs.acceptance.keep_accepted.Statement.{statement}
 use Rattle.tokens.specs.Kept.{PartsKept}
 
@@ -47,8 +46,7 @@ keeper d = d .before .before
 abbrev task : tie.After-enum-told → Task
 task d = taskOf (words (keeper d))
 
-none-circular : (d : tie.After-enum-told) →
-    first (λ s. isNone (orderAt (task d) s)) (upTo (length (task d .schemas))) ≡ none
+none-circular : (d : tie.After-enum-told) → circularAt (task d) ≡ none
 unfolding circularTold
 none-circular d = sym (keeper d .keep-parts .ensures .0) ∙ ap circularTold (d .enum-told .given .1)
 
@@ -56,8 +54,19 @@ kept : (d : tie.After-enum-told) → PartsKept (task d) (length (task d .schemas
 unfolding circularTold
 kept d = keeper d .keep-parts .ensures .1 (ap circularTold (d .enum-told .given .1))
 
+-- where the pairs were asked for
+abbrev asker : tie.After-enum-told2 → tie.After-first-parted
+asker p = p .before .before
+
+abbrev settled : tie.After-first-parted → tie.After-enum-told
+settled f = f .before .before
+
+none-parted : (p : tie.After-enum-told2) → partedAt (task (settled (asker p))) ≡ none
+unfolding partedTold
+none-parted p = sym (asker p .first-parted .ensures) ∙ ap partedTold (p .enum-told2 .given .1)
+
 -- where the sizes were counted
-abbrev counted : tie.After-sizes-of → tie.After-enum-told
+abbrev counted : tie.After-sizes-of → tie.After-enum-told2
 counted z = z .before .before
 
 returns : tie.Need-returns
@@ -87,31 +96,49 @@ returns-3 c =
     let s = sym (k .keep-parts .ensures .0) ∙ ap circularTold (c .before .circular .given .1) in
     refused-nine (words k) (long (e .before .before)) (table e) (found-circular (taskOf (words k)) s)
 
-sizes-of-requires : tie.Need-sizes-of-requires
-sizes-of-requires c κs = let d = c .before in (table (tested (keeper d)), kept d)
+first-parted-requires : tie.Need-first-parted-requires
+first-parted-requires c κs = let d = c .before in (table (tested (keeper d)), kept d)
 
 returns-4 : tie.Need-returns-4
-unfolding AcceptanceTold
+unfolding AcceptanceTold partedTold
 returns-4 c =
-    let z = c .before .before in
-    let k = keeper (counted z) in
+    let f = c .before .before .before in
+    let d = settled f in
+    let k = keeper d in
     let e = tested k in
-    let over = sym (z .sizes-of .ensures .within) ∙ not-true (z .sizes-of .result .within) (c .if3 .taken) in
-    let large = found-large (taskOf (words k)) (none-circular (counted z)) over in
-    refused-ten (words k) (long (e .before .before)) (table e) large
+    let s = sym (f .first-parted .ensures) ∙ ap partedTold (c .before .parted .given .1) in
+    refused-twenty (words k) (long (e .before .before)) (table e)
+    (found-parted (taskOf (words k)) (none-circular d) s)
+
+sizes-of-requires : tie.Need-sizes-of-requires
+sizes-of-requires c κs = let d = settled (asker (c .before)) in (table (tested (keeper d)), kept d)
 
 returns-5 : tie.Need-returns-5
 unfolding AcceptanceTold
 returns-5 c =
     let z = c .before .before in
-    let k = keeper (counted z) in
+    let p = counted z in
+    let d = settled (asker p) in
+    let k = keeper d in
+    let e = tested k in
+    let over = sym (z .sizes-of .ensures .within) ∙ not-true (z .sizes-of .result .within) (c .if3 .taken) in
+    let large = found-large (taskOf (words k)) (none-circular d) (none-parted p) over in
+    refused-ten (words k) (long (e .before .before)) (table e) large
+
+returns-6 : tie.Need-returns-6
+unfolding AcceptanceTold
+returns-6 c =
+    let z = c .before .before in
+    let p = counted z in
+    let d = settled (asker p) in
+    let k = keeper d in
     let e = tested k in
     let within = sym (z .sizes-of .ensures .within) ∙ not-false (z .sizes-of .result .within) (c .if3 .left) in
     record {
       long = long (e .before .before);
       table = table e;
-      accepted = found-split (taskOf (words k)) (none-circular (counted z)) within;
-      parts = kept (counted z);
+      accepted = found-split (taskOf (words k)) (none-circular d) (none-parted p) within;
+      parts = kept d;
       sized = z .sizes-of .ensures;
     }
 
@@ -119,4 +146,4 @@ pub keep-accepted-spec : {M : Type 1} → statement M
 keep-accepted-spec =
     tie.close
     (tie.spec returns is-table-requires returns-2 keep-parts-requires (λ c. search needs) returns-3 (λ c. search needs)
-    sizes-of-requires returns-4 returns-5)
+    first-parted-requires (λ c. search needs) returns-4 (λ c. search needs) sizes-of-requires returns-5 returns-6)

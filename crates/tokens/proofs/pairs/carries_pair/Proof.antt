@@ -1,7 +1,7 @@
 -- `tokens::pairs::carries_pair` meets its contract: the set is asked for both parameters of the pair. A parameter of a
 -- table's pair is below twelve, so the set has a bit for it.
 use Rattle.tokens.proofs.pairs.carries_pair.Tie as tie
-use Prim.Native.Nat.{ℕ, _<_}
+use Prim.Native.Nat.{_<_}
 use mathlib.Core.Path.{_≡_, sym, _∙_, ap}
 use mathlib.Core.Bool.{Bool, _&&_}
 use native.Mathlib.Omega.{arith}

@@ -1,5 +1,5 @@
--- `tokens::pairs::first_parted` meets its contract. The invariant: of each schema before s, every pair has its part. The
--- measure is the schemas left.
+-- `tokens::pairs::first_parted` meets its contract. The invariant: of each schema before s, every pair has its part.
+-- The measure is the schemas left.
 use Rattle.tokens.proofs.pairs.first_parted.Tie as tie
 use Prim.Native.Nat.{ℕ, _-_, _≤_, _<_}
 use mathlib.Core.Path.{_≡_, sym, _∙_, ap}

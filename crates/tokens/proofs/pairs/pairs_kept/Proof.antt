@@ -1,8 +1,7 @@
 -- `tokens::pairs::pairs_kept` meets its contract. The invariant: whether each pair has its part is whether each from
 -- pair i on does. The measure is the pairs left.
 use Rattle.tokens.proofs.pairs.pairs_kept.Tie as tie
-use Prim.Native.Nat.{ℕ, _-_, _≤_, _<_}
-use mathlib.Core.Bool.{Bool}
+use Prim.Native.Nat.{_-_}
 use native.Mathlib.Omega.{arith}
 use Rattle.words.specs.Lists.{any, upTo}
 use Rattle.words.proofs.Loops.{AllLeft, all-no, all-yes, all-ends}

@@ -1,9 +1,8 @@
 -- `tokens::pairs::some_part_carries` meets its contract. The invariant: whether some part has both parameters is
 -- whether one at a position from j on does. The measure is the positions left.
 use Rattle.tokens.proofs.pairs.some_part_carries.Tie as tie
-use Prim.Native.Nat.{ℕ, _-_, _≤_, _<_}
+use Prim.Native.Nat.{ℕ, _-_}
 use mathlib.Core.Path.{_≡_, _∙_, ap}
-use mathlib.Core.Bool.{Bool}
 use native.Mathlib.Omega.{arith}
 use Rattle.words.specs.Lists.{any, upTo}
 use Rattle.words.proofs.Loops.{AnyLeft, any-no, any-yes, any-ends}
@@ -19,7 +18,8 @@ use Rattle.tokens.proofs.pairs.some_part_carries.Statement.{statement}
 abbrev Inv-loop : tie.InvT-loop
 Inv-loop table kept s i count j₀ j =
     let t = schemaAt (taskOf table) s in
-    AnyLeft (λ k. carries (keptOwn kept s k) (pairIn table i)) count (any (hasBoth t (pairIn table i)) (upTo (parts t))) j
+    AnyLeft (λ k. carries (keptOwn kept s k) (pairIn table i)) count
+    (any (hasBoth t (pairIn table i)) (upTo (parts t))) j
 
 abbrev μ-loop : tie.MeasureT-loop
 μ-loop table kept s i count j₀ j = count - j
@@ -34,10 +34,12 @@ turn c = c .before .before
 -- what was asked of the part at position j
 tested : (c : tie.After-carries-pair Inv-loop μ-loop) →
     let a = start (turn c .before) .args in
-    c .carries-pair .result ≡ carries (keptOwn (a .kept .now) (a .s) (turn c .before .loop .j)) (pairIn (a .table .now) (a .i))
+    let own = keptOwn (a .kept .now) (a .s) (turn c .before .loop .j) in
+    c .carries-pair .result ≡ carries own (pairIn (a .table .now) (a .i))
 tested c =
     let a = start (turn c .before) .args in
-    c .carries-pair .ensures ∙ ap (λ (own : ℕ). carries own (pairIn (a .table .now) (a .i))) (c .before .own-at .ensures)
+    c .carries-pair .ensures ∙
+    ap (λ (own : ℕ). carries own (pairIn (a .table .now) (a .i))) (c .before .own-at .ensures)
 
 loop-holds : tie.Need-loop-holds Inv-loop μ-loop
 loop-holds c =

@@ -71,8 +71,8 @@ loop-again : tie.Need-loop-again Inv-loop μ-loop
 loop-again c =
     let s = start (turn (c .before)) in
     let h = turn (c .before) .loop in
-    let l = pairs-go-on (s .args .table .now) (s .pre .0) (s .args .s) (s .pre .1 .0) (h .i) (inside (c .before .before))
-    (sym (c .before .pair-number .ensures) ∙ c .if1 .left) in
+    let l = pairs-go-on (s .args .table .now) (s .pre .0) (s .args .s) (s .pre .1 .0) (h .i)
+    (inside (c .before .before)) (sym (c .before .pair-number .ensures) ∙ c .if1 .left) in
     (omega arith, omega arith)
 
 returns-2 : tie.Need-returns-2 Inv-loop μ-loop
