@@ -73,7 +73,8 @@ module _ {w : List ℕ} {schemas size from total : ℕ} {first many : ℕ → �
               let b = here .left-are in
               let within = run .within in
               let stop : first s + many s < first (suc s) =
-              subst (λ (x : ℕ). first s + many s < first (suc x)) named (block .lies (first s + many s) (omega arith)) in
+              subst (λ (x : ℕ). first s + many s < first (suc x)) named
+              (block .lies (first s + many s) (omega arith)) in
               omega arith)
           | no k ↦ omega arith
         ]

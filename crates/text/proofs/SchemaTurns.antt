@@ -19,12 +19,20 @@ use Rattle.text.proofs.TableText.{schemaLinesIn, schema-lines}
 use Rattle.text.proofs.RowRuns.{RowsLeft, pair-block, atom-block, rows-first, row-begin, left-inside}
 use Rattle.text.proofs.RowRuns.{run-long, run-inside, rows-next}
 
--- a turn at schema s: its pairs begin at `pair` and its atoms at `atom`, and so many pairs and atoms of schemas are from
--- there on
+-- a turn at schema s: its pairs begin at `pair` and its atoms at `atom`, and so many pairs and atoms of schemas are
+-- left from there on
 pub record Turn (w : List ℕ) (schemas pair pairs-left atom atoms-left s : ℕ) : Type 0 where
   pub schemas-are : schemas ≡ headIn w .schemas
   pub pairs : RowsLeft pairSize (pairsBase w) (headIn w .pairs) (pairStart (taskOf w)) s pair pairs-left
   pub atoms : RowsLeft atomSize (rowsBase w) (headIn w .schemaAtoms) (startOf (taskOf w)) s atom atoms-left
+
+-- what such a turn finds: rows in the table whose lines are those of its schema, and where the next turn stands
+pub record Found (w : List ℕ) (schemas pairs-left atoms-left s : ℕ) (rows : Rows) : Type 0 where
+  pub inside : RowsInside w rows
+  pub atoms-end : rows .atom + atomSize * rows .atoms ≤ length w
+  pub lines : schemaLinesIn w s ≡ schemaTextOf w (paramsIn w s) rows
+  pub next : Turn w schemas (rows .pair + pairSize * rows .pairs) (pairs-left - rows .pairs)
+      (rows .atom + atomSize * rows .atoms) (atoms-left - rows .atoms) (s + 1)
 
 module _ {w : List ℕ} (table : isTable w ≡ true) where
   pub turn-first : {schemas pair pairs-left atom atoms-left : ℕ} → schemas ≡ headIn w .schemas →
@@ -53,16 +61,13 @@ module _ {w : List ℕ} (table : isTable w ≡ true) where
 
     module _ {m n : ℕ} (h : s < schemas) (pairs-run : SchemaRun w pairSize pair pairs-left s m)
         (atoms-run : SchemaRun w atomSize atom atoms-left s n) where
-      abbrev pub rowsOf : Rows
+      abbrev rowsOf : Rows
       rowsOf = record { pair = pair; pairs = m; atom = atom; atoms = n }
 
       known : s < headIn w .schemas
       known = let e = turn .schemas-are in omega arith
 
-      pub pairs-inside : pair + pairSize * m ≤ length w
-      pairs-inside = run-inside (pair-block w table) (turn .pairs) known pairs-run
-
-      pub atoms-end : atom + atomSize * n ≤ length w
+      atoms-end : atom + atomSize * n ≤ length w
       atoms-end = run-inside (atom-block w table) (turn .atoms) known atoms-run
 
       atoms-inside : (k : ℕ) → k < n → AtomInside w (atom + atomSize * k)
@@ -73,10 +78,7 @@ module _ {w : List ℕ} (table : isTable w ≡ true) where
           subst (AtomInside w) (row-begin (atom-block w table) (turn .atoms) k)
           (each-inside w table (startOf (taskOf w) s + k) (omega arith))
 
-      pub rows-inside : RowsInside w rowsOf
-      rows-inside = let e = atoms-end in record { pairs = pairs-inside; atom = omega arith; atoms = atoms-inside }
-
-      pub turn-lines : schemaLinesIn w s ≡ schemaTextOf w (paramsIn w s) rowsOf
+      turn-lines : schemaLinesIn w s ≡ schemaTextOf w (paramsIn w s) rowsOf
       unfolding pairBase atomBase
       turn-lines =
           let pairs = run-long (pair-block w table) (turn .pairs) known pairs-run in
@@ -89,9 +91,20 @@ module _ {w : List ℕ} (table : isTable w ≡ true) where
           ap₂ (λ (b k : ℕ). schemaTextOf w (paramsIn w s) (record { pair = pair; pairs = m; atom = b; atoms = k }))
           (sym (turn .atoms .begin)) (sym atoms))
 
-      pub turn-next : Turn w schemas (pair + pairSize * m) (pairs-left - m) (atom + atomSize * n) (atoms-left - n) (s + 1)
-      turn-next = record {
-        schemas-are = turn .schemas-are;
-        pairs = rows-next (pair-block w table) (turn .pairs) known pairs-run;
-        atoms = rows-next (atom-block w table) (turn .atoms) known atoms-run;
+      pub turn-found : Found w schemas pairs-left atoms-left s rowsOf
+      turn-found = record {
+        inside =
+            let e = atoms-end in
+            record {
+              pairs = run-inside (pair-block w table) (turn .pairs) known pairs-run;
+              atom = omega arith;
+              atoms = atoms-inside;
+            };
+        atoms-end = atoms-end;
+        lines = turn-lines;
+        next = record {
+          schemas-are = turn .schemas-are;
+          pairs = rows-next (pair-block w table) (turn .pairs) known pairs-run;
+          atoms = rows-next (atom-block w table) (turn .atoms) known atoms-run;
+        };
       }

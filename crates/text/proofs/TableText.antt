@@ -1,5 +1,5 @@
--- The text of a table's task by the words of the table: the head, the lines of each schema where its pairs and its atoms
--- begin, and the lines of the initial and the goal atoms, which follow one another.
+-- The text of a table's task by the words of the table: the head, the lines of each schema where its pairs and its
+-- atoms begin, and the lines of the initial and the goal atoms, which follow one another.
 use Prim.Native.Nat.{ℕ, zero, suc, _+_, _-_, _*_, _≤_, _<_}
 use mathlib.Core.Path.{_≡_, refl, sym, _∙_, ap, ap₂, subst}
 use mathlib.Core.Bool.{true}

@@ -1,10 +1,9 @@
--- `text::writer::put_schema` meets its contract: the schema line, the lines of the atoms and the part line are put one
--- behind another. A lemma for each says what is still to come behind it.
-use native.Mathlib.Omega.{arith}
+-- `text::writer::put_schema` meets its contract: the schema line, the lines of the pairs and of the atoms and the part
+-- line are put one behind another. A lemma for each says what is still to come behind it.
 use Prim.Native.Nat.{ℕ, _+_}
 use mathlib.Core.List.{List, _++_}
 use Rattle.text.specs.Lines.{bytes, digits, line}
-use Rattle.text.specs.TableLines.{atomsText, schemaText}
+use Rattle.text.specs.TableLines.{atomsText, pairsText, schemaTextOf}
 use Rattle.words.proofs.Puts.{Going, going-start, going-left, going-room, going-on, last-room, going-last}
 use Rattle.text.proofs.SchemaLines.{partsAt, schemaText-is, parts-inside}
 use borrow.Author.Needs.{needs}
@@ -14,28 +13,34 @@ use Rattle.text.proofs.writer.put_schema.Tie as tie
 abbrev schemaLine : tie.Start → List ℕ
 schemaLine c = line "schema" (digits (c .args .params))
 
+abbrev pairs : tie.Start → List ℕ
+pairs c = pairsText (c .args .table .now) (c .args .rows .pair) (c .args .rows .pairs)
+
 abbrev atoms : tie.Start → List ℕ
-atoms c = atomsText (c .args .table .now) (c .args .base) (c .args .n)
+atoms c = atomsText (c .args .table .now) (c .args .rows .atom) (c .args .rows .atoms)
 
 abbrev partLine : tie.Start → List ℕ
-partLine c = line "part" (partsAt (c .args .table .now) (c .args .params) (c .args .base) (c .args .n))
+partLine c = line "part" (partsAt (c .args .table .now) (c .args .rows .atom) (c .args .rows .atoms))
 
 -- what is still to come of the lines, in a text and from a place on
 abbrev Left : tie.Start → List ℕ → List ℕ → ℕ → Type 0
 Left c left text next =
-    Going (c .args .text .now) (c .args .at)
-    (schemaText (c .args .table .now) (c .args .params) (c .args .base) (c .args .n)) left text next
+    Going (c .args .text .now) (c .args .at) (schemaTextOf (c .args .table .now) (c .args .params) (c .args .rows))
+    left text next
 
-begin : (c : tie.Start) → Left c (schemaLine c ++ (atoms c ++ partLine c)) (c .args .text .now) (c .args .at)
+begin : (c : tie.Start) →
+    Left c (schemaLine c ++ (pairs c ++ (atoms c ++ partLine c))) (c .args .text .now) (c .args .at)
 begin c =
-    going-left (schemaText-is (c .args .table .now) (c .args .params) (c .args .base) (c .args .n))
-    (going-start (c .pre .1 .1))
+    let rows = c .args .rows in
+    going-left
+    (schemaText-is (c .args .table .now) (c .args .params) (rows .pair) (rows .pairs) (rows .atom) (rows .atoms))
+    (going-start (c .pre .1))
 
 abbrev start : tie.After-slice-known2 → tie.Start
 start c = c .before .before .before .before .before .before .before
 
 behind-schema : (c : tie.After-slice-known2) →
-    Left (start c) (atoms (start c) ++ partLine (start c))
+    Left (start c) (pairs (start c) ++ (atoms (start c) ++ partLine (start c)))
     (c .before .before .put-number-line .last .0) (c .before .before .put-number-line .result)
 unfolding line bytes
 behind-schema c = going-on {ys = schemaLine (start c)} (begin (start c)) (c .before .before .put-number-line .ensures)
@@ -43,40 +48,53 @@ behind-schema c = going-on {ys = schemaLine (start c)} (begin (start c)) (c .bef
 abbrev opened : tie.After-slice-known3 → tie.After-slice-known2
 opened c = c .before .before .before .before
 
-behind-atoms : (c : tie.After-slice-known3) →
-    Left (start (opened c)) (partLine (start (opened c)))
+behind-pairs : (c : tie.After-slice-known3) →
+    Left (start (opened c)) (atoms (start (opened c)) ++ partLine (start (opened c)))
+    (c .before .before .put-pairs .last .0) (c .before .before .put-pairs .result)
+behind-pairs c = going-on (behind-schema (opened c)) (c .before .before .put-pairs .ensures)
+
+abbrev paired : tie.After-slice-known4 → tie.After-slice-known3
+paired c = c .before .before .before .before
+
+behind-atoms : (c : tie.After-slice-known4) →
+    Left (start (opened (paired c))) (partLine (start (opened (paired c))))
     (c .before .before .put-atoms .last .0) (c .before .before .put-atoms .result)
-behind-atoms c = going-on (behind-schema (opened c)) (c .before .before .put-atoms .ensures)
+behind-atoms c = going-on (behind-pairs (paired c)) (c .before .before .put-atoms .ensures)
 
 put-number-line-requires : tie.Need-put-number-line-requires
 unfolding line bytes
 put-number-line-requires c κs =
     let start = c .before .before .before .before in
-    going-room (schemaLine start) (atoms start ++ partLine start) (begin start)
+    going-room (schemaLine start) (pairs start ++ (atoms start ++ partLine start)) (begin start)
+
+put-pairs-requires : tie.Need-put-pairs-requires
+put-pairs-requires c κs =
+    let start = start (c .before) in
+    (start .pre .0 .pairs, going-room (pairs start) (atoms start ++ partLine start) (behind-schema (c .before)))
 
 put-atoms-requires : tie.Need-put-atoms-requires
 put-atoms-requires c κs =
-    let start = start (c .before) in
-    (start .pre .0, going-room (atoms start) (partLine start) (behind-schema (c .before)))
-
-add-put-list-line : tie.Need-add-put-list-line
-add-put-list-line c = omega (arith, start (opened (c .before .before)) .pre .1 .0)
+    let start = start (opened (c .before)) in
+    (start .pre .0 .atoms, going-room (atoms start) (partLine start) (behind-pairs (c .before)))
 
 put-list-line-requires : tie.Need-put-list-line-requires
 unfolding line bytes
 put-list-line-requires c κs =
-    let start = start (opened (c .before .before)) in (
-      parts-inside (start .args .table .now) (start .args .params) (start .args .base) (start .args .n) (start .pre .0),
-      last-room (behind-atoms (c .before .before)),
+    let put = c .before .before .before in
+    let start = start (opened (paired put)) in
+    let rows = start .args .rows in (
+      parts-inside (start .args .table .now) (rows .atom) (rows .atoms) (start .pre .0 .atoms),
+      last-room (behind-atoms put),
     )
 
 returns : tie.Need-returns
 unfolding line bytes
 returns c =
-    going-last (behind-atoms (c .before .before .before .before .before)) (c .before .before .put-list-line .ensures)
+    going-last (behind-atoms (c .before .before .before .before .before .before))
+    (c .before .before .put-list-line .ensures)
 
 pub put-schema-spec : {M : Type 1} → statement M
 put-schema-spec =
     tie.close
-    (tie.spec (λ c. search needs) put-number-line-requires put-atoms-requires (λ c. search needs) add-put-list-line
-    put-list-line-requires (λ c. search needs) returns)
+    (tie.spec (λ c. search needs) put-number-line-requires put-pairs-requires put-atoms-requires (λ c. search needs)
+    (λ c. search needs) put-list-line-requires (λ c. search needs) returns)

@@ -7,22 +7,24 @@ use Prim.Native.Nat.{ℕ, _+_, _-_, _≤_}
 use mathlib.Core.Path.{_≡_, sym, _∙_, ap}
 use mathlib.Core.List.{List, _++_}
 use lib.ListN.{length}
-use Rattle.text.specs.TableLines.{schemaText, schemasText}
+use Rattle.text.specs.declared.writer.Rows.{Rows}
+use Rattle.text.specs.TableLines.{schemaTextOf, schemasText}
 use Rattle.text.proofs.TableText.{schemaLinesIn, schemas-onwards}
-use Rattle.text.proofs.SchemaTurns.{Turn, turn-first, read-inside, count-inside, run-inside}
-use Rattle.text.proofs.SchemaTurns.{atoms-inside, turn-lines, turn-next}
+use Rattle.text.proofs.SchemaTurns.{Turn, turn-first, pairs-read, atoms-read, count-inside, Found, turn-found}
 use Rattle.words.proofs.Puts.{puts-same, Going, going-start, going-long, going-left, going-room, going-on, going-end}
 use Rattle.text.proofs.Onwards.{onwards, onwards-next, onwards-none}
 use Rattle.text.proofs.writer.put_schemas.Statement.{statement}
 use Rattle.text.proofs.writer.put_schemas.Tie as tie
 
 abbrev Inv-loop : tie.InvT-loop
-Inv-loop text₀ at table schemas base₀ left₀ next₀ s₀ text base left next s =
-    (s ≤ schemas) × (Turn table schemas base left s ×
+Inv-loop text₀ at table schemas pair₀ pairs-left₀ atom₀ atoms-left₀ next₀ s₀ text pair pairs-left atom atoms-left next
+    s =
+    (s ≤ schemas) × (Turn table schemas pair pairs-left atom atoms-left s ×
     Going text₀ next₀ (schemasText table) (onwards (schemaLinesIn table) s schemas) text next)
 
 abbrev μ-loop : tie.MeasureT-loop
-μ-loop text₀ at table schemas base₀ left₀ next₀ s₀ text base left next s = schemas - s
+μ-loop text₀ at table schemas pair₀ pairs-left₀ atom₀ atoms-left₀ next₀ s₀ text pair pairs-left atom atoms-left next s =
+    schemas - s
 
 word-requires : tie.Need-word-requires Inv-loop μ-loop
 word-requires c κs =
@@ -30,11 +32,10 @@ word-requires c κs =
     let l = counts-inside (start .args .table .now) (start .pre .0) in
     omega arith
 
-rows-base-requires : tie.Need-rows-base-requires Inv-loop μ-loop
-rows-base-requires c κs =
+pairs-base-requires : tie.Need-pairs-base-requires Inv-loop μ-loop
+pairs-base-requires c κs =
     let start = c .before .before .before in
-    let l = counts-inside (start .args .table .now) (start .pre .0) in
-    omega arith
+    counts-inside (start .args .table .now) (start .pre .0)
 
 word-requires-2 : tie.Need-word-requires-2 Inv-loop μ-loop
 word-requires-2 c κs =
@@ -42,114 +43,134 @@ word-requires-2 c κs =
     let l = counts-inside (start .args .table .now) (start .pre .0) in
     omega arith
 
+rows-base-requires : tie.Need-rows-base-requires Inv-loop μ-loop
+rows-base-requires c κs =
+    let start = c .before .before .before .before .before in
+    counts-inside (start .args .table .now) (start .pre .0)
+
+word-requires-3 : tie.Need-word-requires-3 Inv-loop μ-loop
+word-requires-3 c κs =
+    let start = c .before .before .before .before .before .before in
+    let l = counts-inside (start .args .table .now) (start .pre .0) in
+    omega arith
+
 loop-holds : tie.Need-loop-holds Inv-loop μ-loop
 loop-holds c =
-    let start = c .before .before .before .before .before in
+    let start = c .before .before .before .before .before .before .before in
     let w = start .args .table .now in
-    let found = c .before .before .word .ensures .0 in
+    let found = c .before .before .before .before .word .ensures .0 in
     let e = ap (onwards (schemaLinesIn w) 0) found in (
       omega arith,
       (
-        turn-first (start .pre .0) _ _ _ found (c .before .rows-base .ensures .0) (c .word2 .ensures .0),
+        turn-first (start .pre .0) found (c .before .before .before .pairs-base .ensures .0)
+            (c .before .before .word2 .ensures .0) (c .before .rows-base .ensures .0) (c .word3 .ensures .0),
         going-left (sym (e ∙ schemas-onwards w)) (going-start (start .pre .1)),
       ),
     )
 
 -- what the loop's head knows: the function's entry, and the counts that were read
 abbrev start : tie.At-loop Inv-loop μ-loop → tie.Start Inv-loop μ-loop
-start c = c .before .before .before .before .before .before
+start c = c .before .before .before .before .before .before .before .before
 
 abbrev words : tie.At-loop Inv-loop μ-loop → List ℕ
 words c = start c .args .table .now
 
 abbrev schemas : tie.At-loop Inv-loop μ-loop → ℕ
-schemas c = c .before .before .before .word .result
+schemas c = c .before .before .before .before .before .word .result
 
--- the lines of the turn's schema
-abbrev lines : tie.After-atoms-of Inv-loop μ-loop → List ℕ
-lines c =
-    let at-loop = c .before .before in
-    schemaText (words at-loop) (paramsIn (words at-loop) (at-loop .loop .s)) (at-loop .loop .base) (c .atoms-of .result)
+-- the rows that a turn finds, and what they are
+abbrev turn : tie.After-rows-of2 Inv-loop μ-loop → tie.At-loop Inv-loop μ-loop
+turn c = c .before .before .before
 
--- what is to come is the lines of schema s, and then those from s + 1 on
-to-come : (c : tie.After-atoms-of Inv-loop μ-loop) →
-    let at-loop = c .before .before in
-    Going (start at-loop .args .text .now) (start at-loop .args .at) (schemasText (words at-loop))
-    (lines c ++ onwards (schemaLinesIn (words at-loop)) (at-loop .loop .s + 1) (schemas at-loop))
-    (at-loop .loop .text) (at-loop .loop .next)
+abbrev rows : tie.After-rows-of2 Inv-loop μ-loop → Rows
+rows c = record {
+  pair = turn c .loop .pair;
+  pairs = c .before .rows-of .result;
+  atom = turn c .loop .atom;
+  atoms = c .rows-of2 .result;
+}
+
+found : (c : tie.After-rows-of2 Inv-loop μ-loop) →
+    Found (words (turn c)) (schemas (turn c)) (turn c .loop .pairs-left) (turn c .loop .atoms-left) (turn c .loop .s)
+    (rows c)
+found c =
+    turn-found (start (turn c) .pre .0) (turn c .loop .inv .1 .0) (c .before .before .loop-test .taken)
+    (c .before .rows-of .ensures) (c .rows-of2 .ensures)
+
+-- what is to come is the lines of the turn's schema, and then those of the schemas behind it
+abbrev lines : tie.After-rows-of2 Inv-loop μ-loop → List ℕ
+lines c = schemaTextOf (words (turn c)) (paramsIn (words (turn c)) (turn c .loop .s)) (rows c)
+
+abbrev behind : tie.After-rows-of2 Inv-loop μ-loop → List ℕ
+behind c = onwards (schemaLinesIn (words (turn c))) (turn c .loop .s + 1) (schemas (turn c))
+
+to-come : (c : tie.After-rows-of2 Inv-loop μ-loop) →
+    Going (start (turn c) .args .text .now) (start (turn c) .args .at) (schemasText (words (turn c)))
+    (lines c ++ behind c) (turn c .loop .text) (turn c .loop .next)
 to-come c =
-    let at-loop = c .before .before in
-    let pieces = schemaLinesIn (words at-loop) in
-    let behind = onwards pieces (at-loop .loop .s + 1) (schemas at-loop) in
-    let said = turn-lines (start (c .before .before) .pre .0) (c .before .before .loop .inv .1 .0)
-    (c .before .loop-test .taken) (c .atoms-of .ensures) in
     going-left
-    (onwards-next pieces (at-loop .loop .s) (schemas at-loop) (c .before .loop-test .taken) ∙
-    ap (λ (bs : List ℕ). bs ++ behind) said)
-    (at-loop .loop .inv .1 .1)
+    (onwards-next (schemaLinesIn (words (turn c))) (turn c .loop .s) (schemas (turn c))
+    (c .before .before .loop-test .taken) ∙
+    ap (λ (bs : List ℕ). bs ++ behind c) (found c .lines))
+    (turn c .loop .inv .1 .1)
 
-atoms-of-requires : tie.Need-atoms-of-requires Inv-loop μ-loop
-atoms-of-requires c κs = read-inside (start (c .before) .pre .0) (c .before .loop .inv .1 .0)
+rows-of-requires : tie.Need-rows-of-requires Inv-loop μ-loop
+rows-of-requires c κs = pairs-read (start (c .before) .pre .0) (c .before .loop .inv .1 .0)
+
+rows-of-requires-2 : tie.Need-rows-of-requires-2 Inv-loop μ-loop
+rows-of-requires-2 c κs = atoms-read (start (c .before .before) .pre .0) (c .before .before .loop .inv .1 .0)
 
 params-of-requires : tie.Need-params-of-requires Inv-loop μ-loop
 params-of-requires c κs =
-    let at-loop = c .before .before .before in
-    count-inside (start at-loop .pre .0) (at-loop .loop .inv .1 .0) (c .before .before .loop-test .taken)
+    let at-loop = turn (c .before) in
+    count-inside (start at-loop .pre .0) (at-loop .loop .inv .1 .0) (c .before .before .before .loop-test .taken)
 
 cast-put-schema : tie.Need-cast-put-schema Inv-loop μ-loop
 cast-put-schema c = omega (arith, c .params-of .ensures .1)
 
 -- the parameter count that was read is the schema's
 lines-read : (c : tie.After-params-of Inv-loop μ-loop) →
-    let at-loop = c .before .before .before .before in
-    schemaText (words at-loop) (c .params-of .result) (at-loop .loop .base) (c .before .before .atoms-of .result) ≡
-    lines (c .before .before)
+    let done = c .before .before in
+    schemaTextOf (words (turn done)) (c .params-of .result) (rows done) ≡ lines done
 lines-read c =
-    let at-loop = c .before .before .before .before in
-    ap (λ (p : ℕ). schemaText (words at-loop) p (at-loop .loop .base) (c .before .before .atoms-of .result))
-    (c .params-of .ensures .0)
+    let done = c .before .before in
+    ap (λ (p : ℕ). schemaTextOf (words (turn done)) p (rows done)) (c .params-of .ensures .0)
 
 put-schema-requires : tie.Need-put-schema-requires Inv-loop μ-loop
 put-schema-requires c κs =
-    let at-loop = c .before .before .before .before in
-    let l = run-inside (start (c .before .before .before .before) .pre .0)
-    (c .before .before .before .before .loop .inv .1 .0) (c .before .before .before .loop-test .taken)
-    (c .before .before .atoms-of .ensures) in
+    let done = c .before .before in
     let e = ap length (lines-read c) in
-    let r = going-room (lines (c .before .before)) (onwards (schemaLinesIn (words at-loop)) (at-loop .loop .s + 1)
-    (schemas at-loop)) (to-come (c .before .before)) in (
-      atoms-inside (start (c .before .before .before .before) .pre .0)
-          (c .before .before .before .before .loop .inv .1 .0) (c .before .before .before .loop-test .taken)
-          (c .before .before .atoms-of .ensures),
-      (omega arith, omega arith),
-    )
+    let r = going-room (lines done) (behind done) (to-come done) in
+    (found done .inside, omega arith)
 
-mul-base : tie.Need-mul-base Inv-loop μ-loop
-mul-base c =
-    let l = run-inside (start (c .before .before .before .before .before .before .before) .pre .0)
-    (c .before .before .before .before .before .before .before .loop .inv .1 .0)
-    (c .before .before .before .before .before .before .loop-test .taken)
-    (c .before .before .before .before .before .atoms-of .ensures) in omega arith
+-- the rows that the turn found, from its end
+abbrev ended : tie.After-slice-known2 Inv-loop μ-loop → tie.After-rows-of2 Inv-loop μ-loop
+ended c = c .before .before .before .before .before
 
-add-base : tie.Need-add-base Inv-loop μ-loop
-add-base c =
-    let l = run-inside (start (c .before .before .before .before .before .before .before) .pre .0)
-    (c .before .before .before .before .before .before .before .loop .inv .1 .0)
-    (c .before .before .before .before .before .before .loop-test .taken)
-    (c .before .before .before .before .before .atoms-of .ensures) in omega arith
+mul-pair : tie.Need-mul-pair Inv-loop μ-loop
+mul-pair c = omega (arith, found (ended c) .inside .pairs)
 
-sub-left : tie.Need-sub-left Inv-loop μ-loop
-sub-left c = c .before .before .before .before .before .atoms-of .ensures .within
+add-pair : tie.Need-add-pair Inv-loop μ-loop
+add-pair c = omega (arith, found (ended c) .inside .pairs)
+
+sub-pairs-left : tie.Need-sub-pairs-left Inv-loop μ-loop
+sub-pairs-left c = ended c .before .rows-of .ensures .within
+
+mul-atom : tie.Need-mul-atom Inv-loop μ-loop
+mul-atom c = omega (arith, found (ended c) .atoms-end)
+
+add-atom : tie.Need-add-atom Inv-loop μ-loop
+add-atom c = omega (arith, found (ended c) .atoms-end)
+
+sub-atoms-left : tie.Need-sub-atoms-left Inv-loop μ-loop
+sub-atoms-left c = ended c .rows-of2 .ensures .within
 
 loop-again : tie.Need-loop-again Inv-loop μ-loop
 loop-again c = (
   omega arith,
   (
-    turn-next (start (c .before .before .before .before .before .before .before) .pre .0)
-        (c .before .before .before .before .before .before .before .loop .inv .1 .0)
-        (c .before .before .before .before .before .before .loop-test .taken)
-        (c .before .before .before .before .before .atoms-of .ensures),
-    going-on (to-come (c .before .before .before .before .before))
+    found (ended c) .next,
+    going-on (to-come (ended c))
         (puts-same (lines-read (c .before .before .before)) (c .before .before .put-schema .ensures)),
   ),
 )
@@ -166,6 +187,7 @@ returns c =
 pub put-schemas-spec : {M : Type 1} → statement M
 put-schemas-spec =
     tie.close
-    (tie.spec Inv-loop μ-loop word-requires rows-base-requires word-requires-2 loop-holds atoms-of-requires
-    params-of-requires cast-put-schema put-schema-requires mul-base add-base sub-left (λ c. omega arith)
-    (λ c. omega arith) loop-again same-length returns)
+    (tie.spec Inv-loop μ-loop word-requires pairs-base-requires word-requires-2 rows-base-requires word-requires-3
+    loop-holds rows-of-requires rows-of-requires-2 params-of-requires cast-put-schema put-schema-requires mul-pair
+    add-pair sub-pairs-left mul-atom add-atom sub-atoms-left (λ c. omega arith) (λ c. omega arith) loop-again
+    same-length returns)
