@@ -44,8 +44,8 @@ module _ {w : List ℕ} (table : isTable w ≡ true) where
     atoms = rows-first (atom-block w table) atom atoms;
   }
 
-  module _ {schemas pair pairs-left atom atoms-left s : ℕ} (turn : Turn w schemas pair pairs-left atom atoms-left s)
-      where
+  module _ {schemas pair pairs-left atom atoms-left s : ℕ}
+      (turn : Turn w schemas pair pairs-left atom atoms-left s) where
     -- the first words of the rows left, and the parameter count
     pub pairs-read : (k : ℕ) → k < pairs-left → pair + pairSize * k < length w
     pairs-read k h = let l = left-inside (pair-block w table) (turn .pairs) in omega arith

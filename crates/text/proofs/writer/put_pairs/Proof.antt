@@ -68,13 +68,13 @@ put-list-line-requires c κs =
 
 loop-again : tie.Need-loop-again Inv-loop μ-loop
 unfolding line bytes
-loop-again c = (
-  omega arith,
-  let turn = c .before .before .before .before .before in
-  let args = start (turn .before) .args in
-  going-on {ys = pairLine (args .table .now) (args .base) (turn .before .loop .k)} (to-come turn)
-      (c .before .before .put-list-line .ensures),
-)
+loop-again c =
+    let turn = c .before .before .before .before .before in
+    let args = start (turn .before) .args in (
+      omega arith,
+      going-on {ys = pairLine (args .table .now) (args .base) (turn .before .loop .k)} (to-come turn)
+          (c .before .before .put-list-line .ensures),
+    )
 
 same-length : tie.Need-same-length Inv-loop μ-loop
 same-length c = going-long (c .before .loop .inv .1)
