@@ -1,9 +1,9 @@
--- The pairs that a part of the split carries, as they are counted and put, pair by pair and part by part. The set of a part's parameters
--- has just the part's own, so a parameter's number among the set's is its index among the own.
+-- The pairs that a part of the split carries, as they are counted and put, pair by pair and part by part. The set of a
+-- part's parameters has just the part's own, so a parameter's number among the set's is its index among the own.
 use Prim.Native.Nat.{ℕ, _+_, _≤_, _<_}
 use mathlib.Core.Path.{_≡_, sym, _∙_, ap, ap₂}
 use mathlib.Core.Bool.{Bool, true, false, _&&_}
-use mathlib.Core.List.{List, [], _∷_, _++_, map}
+use mathlib.Core.List.{List, [], _++_, map}
 use native.Mathlib.Omega.{arith}
 use lib.ListN.{length, getD, length-map}
 use borrow.Author.Tests.{leb-true}

@@ -3,17 +3,17 @@
 use Prim.Native.Nat.{ℕ, zero, suc, _+_, _-_, _≤_, _<_}
 use mathlib.Core.Path.{_≡_, refl, sym, _∙_, ap}
 use mathlib.Core.Bool.{true, cond}
-use mathlib.Core.List.{List, [], _∷_}
+use mathlib.Core.List.{List, [], _∷_, _++_}
 use native.Mathlib.Omega.{arith}
-use lib.ListN.{length, take, length-map}
+use lib.ListN.{length, take, length-map, length-append}
 use lib.Seq.{take-length}
 use lib.Dec.{eqb}
 use borrow.Author.Tests.{leb-true}
 use Rattle.words.specs.Lists.{concatMap, sum, upTo, upFrom}
 use Rattle.task.specs.Layout.{headIn, paramsBase, paramsIn}
-use Rattle.task.specs.Task.{Atom, Task, partCount, schemaFits, wellFormed, noSchema}
+use Rattle.task.specs.Task.{Atom, Schema, Task, partCount, schemaFits, wellFormed, noSchema}
 use Rattle.task.specs.Run.{schemaAt}
-use Rattle.task.specs.Table.{atomWords, taskOf}
+use Rattle.task.specs.Table.{atomWords, rowsFrom, taskOf}
 use Rattle.words.proofs.Lists.{all-in, in-getD, length-upTo, length-concatMap, map-same}
 use Rattle.task.proofs.Tests.{TaskTests, task-tests, schema-tests, SchemaTests}
 use Rattle.task.proofs.Tables.{of-table}
@@ -29,7 +29,7 @@ use Rattle.tokens.proofs.Accepted.{Ordered, later-step, later-mono, tok
 use Rattle.tokens.proofs.Predicates.{predicate-count}
 use Rattle.tokens.proofs.WellSplit.{part-of, limits-only}
 use Rattle.tokens.proofs.PartSplit.{part-words}
-use Rattle.tokens.proofs.SchemaRuns.{schemasUpTo, all-fewer}
+use Rattle.tokens.proofs.SchemaRuns.{schemasUpTo, all-fewer, schemas-more, schemas-fewer}
 use Rattle.task.specs.Limits.{mostSchemas, mostPredicates, mostParts, mostParameters}
 use Rattle.tokens.specs.Kept.{keptStart, keptEnd, keptFirst, keptPart, keptOwn, SchemaKept}
 use Rattle.tokens.specs.Acceptance.{AcceptedKept, partSchemas}
@@ -167,7 +167,32 @@ module _ {w : List ℕ} {sizes : Sizes} {kept : List ℕ} (S : AcceptedKept w si
       ap sum (map-same (λ q. length (partSchemas t q)) (λ q. length (orders t q)) (upTo s) (λ q i.
       length-map (upTo (length (orders t q))) (splitSchema t q (orders t q)) ∙ length-upTo (length (orders t q)))))
 
-  -- and so they are few
+  -- one schema further: the words of its rows, atoms or pairs, come behind those of the schemas before
+  module _ {Row : Type 0} (words : ℕ → Row → List ℕ) (rows : Schema → List Row) (s : ℕ) (l : s < length (t .schemas))
+    where
+      pub rows-behind : rowsFrom words rows 0 (schemasUpTo (partSchemas t) (s + 1)) ≡
+          rowsFrom words rows 0 (schemasUpTo (partSchemas t) s) ++
+          rowsFrom words rows (keptFirst kept s) (partSchemas t s)
+      rows-behind =
+          schemas-more words rows (partSchemas t) s ∙
+          ap (λ (i : ℕ). rowsFrom words rows 0 (schemasUpTo (partSchemas t) s) ++
+          rowsFrom words rows i (partSchemas t s)) (sym (kept-number s l))
+
+      -- and there are no more than in all
+      pub rows-within : length (rowsFrom words rows 0 (schemasUpTo (partSchemas t) s)) +
+          length (rowsFrom words rows (keptFirst kept s) (partSchemas t s)) ≤
+          length (rowsFrom words rows 0 (splitTask t .schemas))
+      unfolding splitTask
+      rows-within =
+          omega (
+            arith,
+            ap length rows-behind,
+            length-append (rowsFrom words rows 0 (schemasUpTo (partSchemas t) s))
+                (rowsFrom words rows (keptFirst kept s) (partSchemas t s)),
+            schemas-fewer words rows (partSchemas t) (s + 1) (length (t .schemas)) (omega arith),
+          )
+
+  -- the schemas before are few
   pub kept-few : (s : ℕ) → s < length (t .schemas) → keptFirst kept s ≤ mostSchemas
   unfolding splitTask
   kept-few s l =

@@ -1,5 +1,5 @@
-// The pairs of parameters that must differ: which part carries each, and refusal 20, "when no part has both parameters of
-// a pair".
+// The pairs of parameters that must differ: which part carries each, and refusal 20, "when no part has both parameters
+// of a pair".
 use crate::kept::Kept;
 use crate::kept::count_of;
 use crate::kept::first_of;
@@ -134,8 +134,8 @@ fn put_pair(table: &[u16], own: u64, number: u16, i: usize, out: &mut [u16], at:
     at + PAIR_SIZE
 }
 
-// "A part that has both parameters carries the line, renumbered": puts those of the pairs `from` to `to - 1` that a part
-// with these parameters carries, under the part's number in the split.
+// "A part that has both parameters carries the line, renumbered": puts those of the pairs `from` to `to - 1` that a
+// part with these parameters carries, under the part's number in the split.
 fn put_carried(
     table: &[u16],
     own: u64,

@@ -1,6 +1,6 @@
 -- `tokens::measure::are_within` meets its contract.
--- The definition is seven tests in the code's order. Each early answer is false: the tests before it are passed, and its
--- own fails (`lt-leb`, `not-true`). Behind six that are passed the last one decides.
+-- The definition is seven tests in the code's order. Each early answer is false: the tests before it are passed, and
+-- its own fails (`lt-leb`, `not-true`). Behind six that are passed the last one decides.
 use Rattle.tokens.proofs.measure.are_within.Tie as tie
 use mathlib.Core.Path.{_≡_, refl, sym}
 use mathlib.Core.Bool.{Bool, true, false, _&&_}

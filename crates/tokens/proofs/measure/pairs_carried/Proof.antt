@@ -1,6 +1,6 @@
 -- `tokens::measure::pairs_carried` meets its contract. A schema without pairs has no part that carries one. The
--- invariant: n counts the pairs of the first j parts, each of which carries no more than a table has. The measure is the
--- parts left.
+-- invariant: n counts the pairs of the first j parts, each of which carries no more than a table has. The measure is
+-- the parts left.
 use Rattle.tokens.proofs.measure.pairs_carried.Tie as tie
 use Prim.Native.Nat.{ℕ, _-_, _*_, _≤_}
 use mathlib.Core.Path.{_≡_, sym, _∙_, ap}

@@ -1,25 +1,23 @@
 -- `tokens::pairs::all_pairs` meets its contract. The invariant: the pairs of the parts of the first s schemas were put.
 -- The measure is the schemas left.
 use Rattle.tokens.proofs.pairs.all_pairs.Tie as tie
-use Prim.Native.Nat.{ℕ, _+_, _-_, _≤_, _<_}
-use mathlib.Core.Path.{_≡_, refl, sym, _∙_, ap, subst}
-use mathlib.Core.List.{_++_}
+use Prim.Native.Nat.{ℕ, _-_, _≤_, _<_}
+use mathlib.Core.Path.{_≡_, refl, sym, _∙_, subst}
 use native.Mathlib.Omega.{arith}
-use lib.ListN.{length, length-append}
+use lib.ListN.{length}
 use Rattle.words.specs.Lists.{concatMap, upFrom, upTo}
-use Rattle.task.specs.Task.{Task}
+use Rattle.task.specs.Task.{Schema, Task}
 use Rattle.task.specs.Table.{taskOf, pairWords, rowsFrom, pairsFrom}
 use Rattle.task.proofs.TableReads.{counts-inside}
 use Rattle.task.proofs.TablesByIndex.{table-frame, schemas-word}
 use Rattle.words.specs.Putting.{Puts}
 use Rattle.words.proofs.Puts.{puts-none, puts-then, puts-length}
-use Rattle.tokens.proofs.SchemaRuns.{schemasUpTo, schemas-more, schemas-fewer}
+use Rattle.tokens.proofs.SchemaRuns.{schemasUpTo}
 use Rattle.tokens.proofs.KeptSchema.{count-small}
-use Rattle.tokens.proofs.Splitting.{few-schemas, split-schemas, kept-number, kept-few, schema-kept}
+use Rattle.tokens.proofs.Splitting.{few-schemas, split-schemas, kept-few, schema-kept, rows-behind}
+use Rattle.tokens.proofs.Splitting.{rows-within}
 use Rattle.tokens.proofs.pairs.all_pairs.Statement.{statement}
-use Rattle.tokens.specs.Kept.{keptFirst}
 use Rattle.tokens.specs.Acceptance.{partSchemas}
-use Rattle.task.specs.Limits.{mostParts}
 
 abbrev Inv-loop : tie.InvT-loop
 Inv-loop table kept out₀ at schemas next₀ s₀ out next s =
@@ -47,28 +45,6 @@ schemas-are l =
     let w = start l .args .table .now in
     l .before .word .ensures .0 ∙ sym (schemas-word w (table-frame w (start l .pre .0 .1 .table)))
 
--- the words of the schema of a turn come behind those before, and leave room
-record Turn (l : Loop) : Type 0 where
-  more : pairsFrom 0 (schemasUpTo (partSchemas (task l)) (l .loop .s + 1)) ≡
-      pairsFrom 0 (schemasUpTo (partSchemas (task l)) (l .loop .s)) ++
-      pairsFrom (keptFirst (start l .args .kept .now) (l .loop .s)) (partSchemas (task l) (l .loop .s))
-  room : start l .args .at + length (pairsFrom 0 (schemasUpTo (partSchemas (task l)) (l .loop .s + 1))) ≤
-      length (start l .args .out .now)
-
-turn : (l : Loop) → l .loop .s < length (task l .schemas) → Turn l
-turn l k =
-    let s = start l in
-    let t = task l in
-    let n = length (t .schemas) in
-    let r = s .pre .1 in
-    let e = ap (λ ss. length (pairsFrom 0 ss)) (split-schemas t) in
-    record {
-      more = schemas-more pairWords (λ s. s .pairs) (partSchemas t) (l .loop .s) ∙
-          ap (λ (i : ℕ). pairsFrom 0 (schemasUpTo (partSchemas t) (l .loop .s)) ++
-          pairsFrom i (partSchemas t (l .loop .s))) (sym (kept-number (s .pre .0 .1) (l .loop .s) k));
-      room = omega (arith, schemas-fewer pairWords (λ s. s .pairs) (partSchemas t) (l .loop .s + 1) n (omega arith));
-    }
-
 known : (i : tie.In-loop Inv-loop μ-loop) → i .before .loop .s < length (task (i .before) .schemas)
 known i = let n = schemas-are (i .before) in omega (arith, i .loop-test .taken)
 
@@ -86,20 +62,14 @@ loop-holds c =
 schema-pairs-requires : tie.Need-schema-pairs-requires Inv-loop μ-loop
 schema-pairs-requires c κs =
     let i = c .before in
-    let l = i .before in
-    let s = start l in
-    let h = l .loop in
-    let t = task l in
-    let k = turn l (known i) in
-    let p = h .inv .2 .place in
-    let m = h .inv .1 in
-    let r = k .room in
-    let e = ap length (k .more) in
-    let g = length-append (pairsFrom 0 (schemasUpTo (partSchemas t) (h .s)))
-    (pairsFrom (keptFirst (s .args .kept .now) (h .s)) (partSchemas t (h .s))) in
+    let s = start (c .before .before) in
     let S = s .pre .0 .1 in
+    let h = i .before .loop in
+    let m = h .inv .1 in
+    let r = s .pre .1 in
+    let w = rows-within S pairWords (λ (u : Schema). u .pairs) (h .s) (known i) in
     let K = schema-kept S (h .s) (known i) in
-    (K, (omega (arith, kept-few S (h .s) (known i), count-small K), omega arith))
+    (K, (omega (arith, kept-few S (h .s) (known i), count-small K), omega (arith, h .inv .2 .place)))
 
 add-s : tie.Need-add-s Inv-loop μ-loop
 add-s c =
@@ -115,7 +85,7 @@ loop-again c =
     let i = turn-of (c .before .before) in
     let h = i .before .loop in
     let p = puts-then (h .inv .2) (c .before .before .schema-pairs .ensures) _
-    (turn (i .before) (known i) .more) in
+    (rows-behind (start (i .before) .pre .0 .1) pairWords (λ (u : Schema). u .pairs) (h .s) (known i)) in
     (omega (arith, i .loop-test .taken), puts-length p, p)
 
 same-length : tie.Need-same-length Inv-loop μ-loop

@@ -1,6 +1,6 @@
 -- `tokens::pairs::carried` meets its contract. The invariant: n counts the pairs before i that the part carries. The
 -- measure is the pairs left.
-use Prim.Native.Nat.{ℕ, _+_, _-_, _≤_}
+use Prim.Native.Nat.{_+_, _-_, _≤_}
 use mathlib.Core.Path.{_≡_, sym, _∙_, ap}
 use mathlib.Core.Logic.{⊎-elim}
 use native.Mathlib.Omega.{arith}

@@ -2,8 +2,8 @@
 -- a word, and a set has a bit for it.
 use Rattle.tokens.proofs.pairs.put_pair.Tie as tie
 use borrow.Author.Needs.{needs}
-use Prim.Native.Nat.{ℕ, _+_, _<_}
-use mathlib.Core.Path.{_≡_, refl, sym, _∙_, ap}
+use Prim.Native.Nat.{_+_, _<_}
+use mathlib.Core.Path.{refl, sym, _∙_, ap}
 use mathlib.Core.List.{[], _∷_}
 use native.Mathlib.Omega.{arith}
 use lib.ListN.{length-set}
@@ -54,10 +54,11 @@ returns : tie.Need-returns
 unfolding pairWords
 returns c =
     let a = begun c .args in
-    let low = c .before .before .renumbered-in .ensures ∙ ap (newNumber (a .own)) (c .before .before .before .lower .ensures) in
+    let r = c .before .before in
+    let low = r .renumbered-in .ensures ∙ ap (newNumber (a .own)) (r .before .lower .ensures) in
     let high = c .renumbered-in2 .ensures ∙ ap (newNumber (a .own)) (c .before .higher .ensures) in
     puts-is (puts-word (puts-word (puts-word (puts-none (a .out .now) (a .at)) (a .number) _ refl (a .at + 1) refl)
-    (c .before .before .renumbered-in .result .0) _ refl (a .at + 2) (omega arith))
+    (r .renumbered-in .result .0) _ refl (a .at + 2) (omega arith))
     (c .renumbered-in2 .result .0) _ refl (a .at + 3) (omega arith)) refl refl _
     (λ k. a .number ∷ sym low k ∷ sym high k ∷ [])
 
@@ -66,5 +67,5 @@ put-pair-spec =
     tie.close
     (tie.spec (λ c κs. known (c .before .before)) (λ c. omega (arith, lower-low c)) (λ c κs. omega (arith, lower-low c))
     (λ c κs. known (start c)) (λ c. omega (arith, higher-low c)) (λ c κs. omega (arith, higher-low c))
-    (λ c. search needs) (λ c. search needs) (λ c. search needs) (λ c. search needs) slice-write-out-2 (λ c. search needs)
-    (λ c. search needs) slice-write-out-3 (λ c. search needs) (λ c. search needs) returns)
+    (λ c. search needs) (λ c. search needs) (λ c. search needs) (λ c. search needs) slice-write-out-2
+    (λ c. search needs) (λ c. search needs) slice-write-out-3 (λ c. search needs) (λ c. search needs) returns)

@@ -1,14 +1,15 @@
--- `tokens::pairs::schema_pairs` meets its contract. A schema without pairs has no words to put. The invariant: the pairs
--- of the first j parts were put. The measure is the parts left.
+-- `tokens::pairs::schema_pairs` meets its contract. A schema without pairs has no words to put. The invariant: the
+-- pairs of the first j parts were put. The measure is the parts left.
 use Rattle.tokens.proofs.pairs.schema_pairs.Tie as tie
 use Prim.Native.Nat.{ℕ, _+_, _-_, _≤_, _<_}
-use mathlib.Core.Path.{_≡_, refl, sym, _∙_, ap, subst}
+use mathlib.Core.Path.{_≡_, refl, _∙_, ap, subst}
 use mathlib.Core.List.{List, _++_}
 use native.Mathlib.Omega.{arith}
 use lib.ListN.{length, length-append}
 use Rattle.task.specs.Limits.{mostParts}
 use Rattle.task.specs.Task.{Schema}
 use Rattle.task.specs.Table.{taskOf, pairWords}
+use Rattle.words.specs.Words.{wordBound}
 use Rattle.words.specs.Putting.{Puts}
 use Rattle.words.proofs.Puts.{puts-none, puts-is, puts-then, puts-length}
 use Rattle.tokens.specs.Split.{orders, splitSchema}
@@ -97,7 +98,8 @@ own-at-requires c κs =
     (schema-small (k .kept), omega (arith, k .few, c .loop-test .taken))
 
 -- the part's number fits a word
-number-low : (i : tie.In-loop Inv-loop μ-loop) → found (i .before) .before .first-of .result + i .before .loop .j < 65536
+number-low : (i : tie.In-loop Inv-loop μ-loop) →
+    found (i .before) .before .first-of .result + i .before .loop .j < wordBound
 number-low i =
     let k = known (found (i .before)) in
     omega (arith, k .first, k .count, start (found (i .before)) .pre .1 .0, i .loop-test .taken)
@@ -114,8 +116,8 @@ more c =
     let f = found (c .before .before) in
     let j = c .before .before .loop .j in
     let k = known f in
-    kept-words (k .kept) (k .begins) (k .stops) j (c .own-at .result) (omega (arith, k .count, c .before .loop-test .taken))
-    (c .own-at .ensures) (number f) (f .before .first-of .result + j) (omega (arith, k .first))
+    kept-words (k .kept) (k .begins) (k .stops) j (c .own-at .result)
+    (omega (arith, k .count, c .before .loop-test .taken)) (c .own-at .ensures) (number f) (f .before .first-of .result + j) (omega (arith, k .first))
 
 put-carried-requires : tie.Need-put-carried-requires Inv-loop μ-loop
 put-carried-requires c κs =

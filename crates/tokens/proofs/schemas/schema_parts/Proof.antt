@@ -73,7 +73,8 @@ one-part-requires c κs =
     let p = h .inv .2 .place in
     let m = h .inv .1 in
     let r = s .pre .1 .1 in
-    let f = parts-fewer atomWords (λ (u : Schema). u .atoms) (first s) (schemaOf s) (h .j) (c .before .before .before .count-of .result) (h .inv .0) in
+    let f = parts-fewer atomWords (λ (u : Schema). u .atoms) (first s) (schemaOf s) (h .j)
+    (c .before .before .before .count-of .result) (h .inv .0) in
     let e = ap (λ (k : ℕ). length (atomsUpTo (first s) (schemaOf s) k)) n in
     (s .pre .0, (s .pre .1 .0, (omega (arith, i .loop-test .taken), omega arith)))
 

@@ -1,5 +1,5 @@
--- `tokens::writing::head` meets its contract: four words, then three. The counts fit words, as the contract asks, so each
--- sum and each cast fits.
+-- `tokens::writing::head` meets its contract: four words, then three. The counts fit words, as the contract asks, so
+-- each sum and each cast fits.
 use Rattle.tokens.proofs.writing.head.Tie as tie
 use Prim.Native.Nat.{_+_}
 use mathlib.Core.Path.{refl, sym}

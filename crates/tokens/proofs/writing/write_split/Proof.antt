@@ -126,11 +126,12 @@ content-put : (c : tie.After-all-facts) →
     Puts (s .args .out .now) 0 (content (split s)) (c .all-facts .last .1 .0) (c .all-facts .result)
 unfolding joined blocksOf
 content-put c =
-    let t = split (begun (head (names (sizes (pairs (atoms c)))))) in
+    let q = pairs (atoms c) in
+    let z = sizes (pairs (atoms c)) in
+    let t = split (begun (head (names z))) in
     let last : List ℕ = concatMap (factWords goalRole) (t .goal) in
-    puts-append (head-put (head (names (sizes (pairs (atoms c)))))) (puts-append (names-put (names (sizes (pairs (atoms c)))))
-    (puts-append (sizes-put (sizes (pairs (atoms c)))) (puts-append (pairs (atoms c) .all-pairs .ensures)
-    (puts-append (atoms c .all-parts .ensures)
+    puts-append (head-put (head (names z))) (puts-append (names-put (names z)) (puts-append (sizes-put z)
+    (puts-append (q .all-pairs .ensures) (puts-append (atoms c .all-parts .ensures)
     (puts-same (ap (λ (l : List ℕ). concatMap (factWords initial) (t .init) ++ l) (sym (append-nil last)))
     (c .all-facts .ensures))))))
 
