@@ -17,12 +17,14 @@ use Rattle.task.specs.Task.{Pair, Schema, pairFits, pairLess, schemaPairs}
 use Rattle.task.specs.Table.{pairWords, pairsFrom}
 use Rattle.words.proofs.Lists.{and-left, and-right, append-concatMap}
 use Rattle.words.proofs.Words.{at-right, at-move, at-join, at-row, length-rows}
+use Rattle.task.proofs.PairOrder.{fits-not, fits-known}
 use Rattle.task.proofs.PairsStand.{noPair, length-pairWords, pairs-even}
 use Rattle.task.proofs.SchemaRows.{length-rowsFrom}
-use Rattle.text.specs.Reading.{Turn, goOn, refuse, need}
+use Rattle.task.proofs.Tables.{tableWords-is}
+use Rattle.text.specs.Reading.{goOn, refuse}
 use Rattle.text.specs.Text.{Draft, differ, pairFollows, addPair}
 use Rattle.text.specs.ReadCode.{Standing, Wrote, Listed, Words}
-use Rattle.text.specs.Holding.{Few, Holds, Allows, PairTurn, rowBlocks, pairsOf, pairsAt, rowsAt, pairAt, pairOf}
+use Rattle.text.specs.Holding.{Holds, Allows, PairTurn, rowBlocks, pairsOf, pairsAt, rowsAt, pairAt, pairOf}
 use Rattle.text.specs.Holding.{withPair, onePairMore}
 use Rattle.text.proofs.Reading.{need-met, need-went}
 use Rattle.text.proofs.Growing.{later-pair}
@@ -61,6 +63,15 @@ module _ {d : Draft} {w : List ℕ} {c : Counts} (h : Holds d w c) where
   -- there is room for all of them before the rows
   pub pairs-before : pairsAt (c .predicates) + length (pairsOf d) ≤ rowsAt (c .predicates)
   pairs-before = let l = pairs-length in let few = h .few .pairs in omega arith
+
+  -- and for the last one in the table
+  pub last-inside : {at : ℕ} → at ≡ pairAt c - pairSize → at + pairSize ≤ length w
+  last-inside e =
+      let few = h .few .pairs in
+      let p = h .few .predicates in
+      let z = tableWords-is in
+      let long = h .long in
+      omega arith
 
   -- the pair that was read last in its schema, before the place of the next
   last-stands : 0 < c .apart →
@@ -130,6 +141,65 @@ module _ (d : Draft) (ns : List ℕ) where
             need-met 3 (eq-eqb (length ns) 2 two)
             (need-met 21 (lt-ltb all-pairs 200 room) (need-met 19 low (need-met 19 f refl)))
 
+-- the two numbers that were kept are those of the line
+pub kept-pair : {ns kept : List ℕ} {count : ℕ} → Listed ns count kept → count ≡ 2 → length kept ≡ 2 →
+    pairOf kept ≡ pairOf ns
+kept-pair s e l =
+    let n = s .counted in
+    let lower = s .held 0 (omega arith) (omega arith) in
+    let higher = s .held 1 (omega arith) (omega arith) in
+    λ j. record { lower = lower j; higher = higher j }
+
+-- and said of the numbers that were kept
+module _ {d : Draft} {w : List ℕ} {c : Counts} (h : Holds d w c) {ns kept : List ℕ} {count : ℕ}
+    (s : Listed ns count kept) (size : length kept ≡ 2) where
+  pub count-wrong : (count ≡ 2 → ⊥) → addPair d ns ≡ refuse 3
+  count-wrong n = not-two d ns (λ e. n (sym (s .counted) ∙ e))
+
+  module _ (two : count ≡ 2) where
+    abbrev line-two : length ns ≡ 2
+    line-two = s .counted ∙ two
+
+    pub count-full : 200 ≤ c .pairs + c .apart → addPair d ns ≡ refuse 21
+    count-full l = let p = h .pairs in let a = h .apart in pairs-full d ns line-two (omega arith)
+
+    module _ (room : c .pairs + c .apart < 200) where
+      line-room : schemaPairs (d .task .schemas) + length (d .current .pairs) < 200
+      line-room = let p = h .pairs in let a = h .apart in omega arith
+
+      line-fits : {b : Bool} → pairFits (d .current .params) (pairOf kept) ≡ b →
+          pairFits (d .current .params) (pairOf ns) ≡ b
+      line-fits e = ap (pairFits (d .current .params)) (sym (kept-pair s two size)) ∙ e
+
+      pub not-lower : getD kept 1 0 ≤ getD kept 0 0 → addPair d ns ≡ refuse 19
+      not-lower l =
+          pair-misfits d ns line-two line-room (line-fits (sym (fits-not (d .current .params) (pairOf kept) l)))
+
+      module _ (lower : getD kept 0 0 < getD kept 1 0) where
+        pub too-high : c .params ≤ getD kept 1 0 → addPair d ns ≡ refuse 19
+        too-high l =
+            let p = h .params in
+            pair-misfits d ns line-two line-room
+            (line-fits (sym (fits-known (d .current .params) (pairOf kept) lower) ∙
+            le-ltb (getD kept 1 0) (d .current .params) (omega arith)))
+
+        module _ (known : getD kept 1 0 < c .params) where
+          low : pairFits (d .current .params) (pairOf ns) ≡ true
+          low =
+              let p = h .params in
+              line-fits (sym (fits-known (d .current .params) (pairOf kept) lower) ∙
+              lt-ltb (getD kept 1 0) (d .current .params) (omega arith))
+
+          line-follows : {b : Bool} → pairFollows (d .current .pairs) (pairOf kept) ≡ b →
+              pairFollows (d .current .pairs) (pairOf ns) ≡ b
+          line-follows e = ap (pairFollows (d .current .pairs)) (sym (kept-pair s two size)) ∙ e
+
+          pub not-behind : pairFollows (d .current .pairs) (pairOf kept) ≡ false → addPair d ns ≡ refuse 19
+          not-behind e = pair-unordered d ns line-two line-room low (line-follows e)
+
+          pub pair-passes : pairFollows (d .current .pairs) (pairOf kept) ≡ true → PairTurn d ns check.Passes
+          pair-passes e = (pair-taken d ns line-two line-room low (line-follows e), line-two)
+
 -- what a pair that is taken has passed
 pub record PairPassed (d : Draft) (ns : List ℕ) : Type 0 where
   pub room : schemaPairs (d .task .schemas) + length (d .current .pairs) < 200
@@ -150,15 +220,6 @@ pair-passed d ns e h =
       low = ltb-true (q .higher) (d .current .params)
           (and-right (ltb (q .lower) (q .higher)) (ltb (q .higher) (d .current .params)) low);
     }
-
--- the two numbers that were kept are those of the line
-pub kept-pair : {ns kept : List ℕ} {count : ℕ} → Listed ns count kept → count ≡ 2 → length kept ≡ 2 →
-    pairOf kept ≡ pairOf ns
-kept-pair s e l =
-    let n = s .counted in
-    let lower = s .held 0 (omega arith) (omega arith) in
-    let higher = s .held 1 (omega arith) (omega arith) in
-    λ j. record { lower = lower j; higher = higher j }
 
 -- ---- one pair more
 module _ {d : Draft} {w : List ℕ} {c : Counts} (h : Holds d w c) (q : Pair) where
@@ -241,15 +302,53 @@ module _ {d : Draft} {w : List ℕ} {c : Counts} (h : Holds d w c) (q : Pair) wh
         rows-length = h .rows-length;
       }
 
--- the pair's words lie in the table, before its rows, and they are words
-pub pair-room : {c : Counts} → Few c → c .pairs + c .apart < 200 → pairAt c + pairSize ≤ tableLength
-pair-room f l = let p = f .predicates in omega arith
-
 pub three-words : {a b c : ℕ} → a < wordBound → b < wordBound → c < wordBound → Words pairSize (a ∷ b ∷ c ∷ [])
 three-words {a} {b} {c} ha hb hc = record { enough = omega arith; small = at }
   where
-    at : (k : ℕ) → k < 3 → getD (a ∷ b ∷ c ∷ []) k 0 < wordBound
+    at : (k : ℕ) → k < pairSize → getD (a ∷ b ∷ c ∷ []) k 0 < wordBound
     at zero l = ha
     at (suc zero) l = hb
     at (suc (suc zero)) l = hc
     at (suc (suc (suc k))) l = absurd (omega arith)
+
+-- a pair's row by other names of its parts
+pair-row : {w after : List ℕ} {at at′ s s′ : ℕ} (q r : Pair) → at ≡ at′ → s ≡ s′ → q ≡ r →
+    Wrote w at pairSize (λ k. getD (s ∷ q .lower ∷ q .higher ∷ []) k 0) after →
+    Wrote w at′ pairSize (λ k. getD (pairWords s′ r) k 0) after
+unfolding pairWords
+pair-row {w} {after} {at} {at′} {s} {s′} q r e f g h =
+    subst (λ (i : ℕ). Wrote w i pairSize (λ k. getD (pairWords s′ r) k 0) after) e
+    (subst (λ (i : ℕ). Wrote w at pairSize (λ k. getD (pairWords i r) k 0) after) f
+    (subst (λ (p : Pair). Wrote w at pairSize (λ k. getD (pairWords s p) k 0) after) g h))
+
+-- of a pair that passes: its words lie in the table, before its rows, they are words, and once they are put the code
+-- holds the draft again
+module _ {d : Draft} {w : List ℕ} {c : Counts} (h : Holds d w c) {ns kept : List ℕ} {count : ℕ}
+    (s : Listed ns count kept) (size : length kept ≡ 2) (passes : PairTurn d ns check.Passes) where
+  passed : PairPassed d ns
+  passed = pair-passed d ns _ (passes .0)
+
+  room : c .pairs + c .apart < 200
+  room = let p = h .pairs in let a = h .apart in let l = passed .room in omega arith
+
+  pub pair-inside : {at : ℕ} → at ≡ pairAt c → at + pairSize ≤ tableLength
+  pair-inside e = let l = room in let p = h .few .predicates in omega arith
+
+  pub pair-numbers : Words pairSize (c .schemas ∷ getD kept 0 0 ∷ getD kept 1 0 ∷ [])
+  pair-numbers =
+      let two = passes .1 in
+      let lower = s .held 0 (omega arith) (omega arith) in
+      let higher = s .held 1 (omega arith) (omega arith) in
+      let ascends = passed .ascends in
+      let known = passed .low in
+      let params = h .params in
+      let few = h .few .params in
+      let schemas = h .few .schemas in
+      three-words (omega arith) (omega arith) (omega arith)
+
+  pub pair-put : {after : List ℕ} {at : ℕ} → Allows c differ → at ≡ pairAt c →
+      Wrote w at pairSize (λ k. getD (c .schemas ∷ getD kept 0 0 ∷ getD kept 1 0 ∷ []) k 0) after →
+      Holds (withPair d (pairOf ns)) after (onePairMore c)
+  pair-put allowed e wrote =
+      pair-held h (pairOf ns) allowed room
+      (pair-row (pairOf kept) (pairOf ns) e (h .schemas) (kept-pair s (sym (s .counted) ∙ passes .1) size) wrote)

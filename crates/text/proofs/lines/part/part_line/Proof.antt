@@ -133,10 +133,15 @@ add-read c = let schemas = held (c .before .before .before .before .before) .hol
 add-read-2 : tie.Need-add-read-2
 add-read-2 c = let total = held (c .before .before .before .before .before .before) .holds .few .total in omega arith
 
+add-read-3 : tie.Need-add-read-3
+add-read-3 c =
+    let pairs = held (c .before .before .before .before .before .before .before) .holds .few .pairs in
+    omega arith
+
 returns-3 : tie.Need-returns-3
 unfolding takeLine
 returns-3 c =
-    let p = c .before .before .before .before .before .before in
+    let p = c .before .before .before .before .before .before .before in
     let k = closed p in
     let list = read (lists k) in
     let many = list .listed .counted in
@@ -174,4 +179,4 @@ part-line-spec =
     (tie.spec (λ c. search needs) (λ c κs. search needs) list-line-requires (λ c. search needs) (λ c. search needs)
     returns (λ c. search needs) (λ c κs. search needs) (λ c. search needs) (λ c. search needs) returns-2
     (λ c. search needs) (λ c κs. search needs) (λ c. search needs) put-parts-requires (λ c. search needs) add-at-2
-    mul-table slice-write-table add-read add-read-2 (λ c. search needs) returns-3)
+    mul-table slice-write-table add-read add-read-2 add-read-3 (λ c. search needs) returns-3)
