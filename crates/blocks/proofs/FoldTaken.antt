@@ -36,8 +36,8 @@ found-whole {t} {steps} n i e h = record {
   right = λ g. taken-whole t steps n i (omega arith) (h .right g);
 }
 
-module _ {t : Task} {kept begins params origins places limits : List ℕ}
-    (K : BlocksKnown t kept params origins places limits) (B : BeginsKept t begins)
+module _ {t : Task} {kept begins params origins places limits pairs : List ℕ}
+    (K : BlocksKnown t kept params origins places limits pairs) (B : BeginsKept t begins)
     {steps : List ℕ} {n i : ℕ} (h : FoundSo t steps n i) (l : i < length steps / stepSize) where
   abbrev word : ℕ
   word = getD begins (getD steps (stepSize * i) 0) 0

@@ -121,8 +121,9 @@ module _ {t : Task} {kept origins : List ℕ} where
   }
 
 -- ---- a part whose parameters are counted and whose places are noted, by its number
-module _ {t : Task} {kept params origins places limits : List ℕ} (K : BlocksKnown t kept params origins places limits)
-    (s j n : ℕ) (l : s < length (t .schemas)) (m : j < length (orders t s)) (e : n ≡ firstOf t s + j) where
+module _ {t : Task} {kept params origins places limits pairs : List ℕ}
+    (K : BlocksKnown t kept params origins places limits pairs) (s j n : ℕ) (l : s < length (t .schemas))
+    (m : j < length (orders t s)) (e : n ≡ firstOf t s + j) where
   abbrev set-of : ℕ
   set-of = keptOwn kept s j
 

@@ -1,47 +1,126 @@
--- What code finds of a step of the split, one test after another, from the number of parameters noted for each schema:
--- it is whole, its schema is known, and behind that are objects of the task and zeros.
+-- What code finds of a step of the split, one test after another, from what is noted of each schema: it is whole, its
+-- schema is known, behind that are objects of the task and zeros, as many as the schema's parameters say, and at each
+-- pair that the schema carries, of the rows of all, the objects differ.
 use Prim.Native.Nat.{ℕ, _+_, _*_, _≤_, _<_}
-use mathlib.Core.Path.{_≡_, sym, _∙_}
-use mathlib.Core.Bool.{Bool, false}
-use mathlib.Core.List.{List}
+use mathlib.Core.Path.{_≡_, refl, sym, _∙_, ap, ap₂, subst}
+use mathlib.Core.Bool.{Bool, true, false, _&&_}
+use mathlib.Core.List.{List, [], _∷_}
 use native.Mathlib.Omega.{arith}
-use lib.ListN.{length, getD}
-use Rattle.task.specs.Limits.{stepSize}
-use Rattle.task.specs.Task.{Task}
-use Rattle.task.specs.Run.{isStepAt}
-use Rattle.task.specs.StepTests.{limitsFor, objectsThenZeros}
+use lib.ListN.{length, getD, take}
+use borrow.Author.Tests.{leb-true}
+use Rattle.words.specs.Lists.{all, upTo}
+use Rattle.words.specs.Putting.{Puts}
+use Rattle.words.proofs.Puts.{put-over, puts-length, take-over}
+use Rattle.words.proofs.Lists.{In}
+use Rattle.words.proofs.Words.{At, at-right, at-wordsAt, wordsAt-take}
+use Rattle.task.specs.Limits.{mostPairs, pairSize, stepSize}
+use Rattle.task.specs.Task.{Pair, Schema, Task, noSchema, schemaPairs, wellFormed}
+use Rattle.task.specs.Table.{pairWords, pairsFrom}
+use Rattle.task.specs.Run.{schemaAt, paramCount, isStepAt}
+use Rattle.task.specs.StepTests.{limitsFor, objectsThenZeros, apartAt, PairsFew}
+use Rattle.task.proofs.Tests.{task-tests}
+use Rattle.task.proofs.States.{PairFits, wellFormed-is}
+use Rattle.task.proofs.SchemaRows.{length-rowsFrom}
+use Rattle.task.proofs.PairsStand.{pairs-even}
+use Rattle.task.proofs.StepPairs.{rows-apart, rows-few}
 use Rattle.task.proofs.StepWords.{params-few, step-short, step-unknown, step-whole}
 use Rattle.tokens.specs.Split.{splitTask, firstOf}
-use Rattle.blocks.specs.FoldCode.{StepsKnown}
+use Rattle.blocks.specs.FoldCode.{carriedRows, carriedRoom, PairsNoted, StepsKnown}
 use Rattle.blocks.proofs.Numbers.{split-count}
 
-module _ {t : Task} {params limits : List ℕ} (S : StepsKnown t params limits) (steps : List ℕ) (i : ℕ) where
-  abbrev number : ℕ
-  number = getD steps (stepSize * i) 0
+-- ---- the rows of the split's pairs
+-- "at most 200", three words each
+pub rows-room : (t : Task) → wellFormed (splitTask t) ≡ true →
+    (schemaPairs (splitTask t .schemas) ≤ mostPairs) ×
+    (length (pairsFrom 0 (splitTask t .schemas)) ≡ pairSize * schemaPairs (splitTask t .schemas))
+rows-room t well = (
+  leb-true _ _ (task-tests (splitTask t) well .pairs),
+  length-rowsFrom pairWords (λ s. s .pairs) pairSize 0 (splitTask t .schemas) (pairs-even (splitTask t .schemas)),
+)
 
-  abbrev splits : ℕ
-  splits = firstOf t (length (t .schemas))
+-- their count, and then they, put over zeros
+pub rows-noted : (t : Task) → wellFormed (splitTask t) ≡ true → (lent pairs : List ℕ) (next : ℕ) →
+    length lent ≡ carriedRoom → Puts lent 0 (carriedRows t) pairs next → PairsNoted t pairs
+rows-noted t well lent pairs next l h =
+    let rows = carriedRows t in
+    let (few, e) = rows-room t well in
+    let m = puts-length h in
+    record {
+      long = m ∙ l;
+      rows =
+          wordsAt-take pairs (length rows) (omega arith) ∙
+          (ap (take (length rows)) (h .words ∙ put-over rows lent (omega arith)) ∙
+          take-over rows lent (length rows) refl);
+    }
 
-  pub split-short : length steps < stepSize * i + stepSize → isStepAt (splitTask t) steps i ≡ false
-  split-short l = step-short (splitTask t) (S .well) steps i l
+module _ {t : Task} {params limits pairs : List ℕ} (S : StepsKnown t params limits pairs) where
+  abbrev ss : List Schema
+  ss = splitTask t .schemas
 
-  pub split-unknown : splits ≤ number → isStepAt (splitTask t) steps i ≡ false
-  split-unknown l = step-unknown (splitTask t) (S .well) steps i (let e = split-count t in omega arith)
+  stand : At pairs 0 (carriedRows t)
+  stand = subst (At pairs 0) (S .carried .rows) (at-wordsAt pairs 0 (length (carriedRows t)))
 
-  -- a known schema's parameters
-  pub split-few : number < splits → getD params number 0 ≤ 12
-  split-few k =
-      let e = S .counts .count number k in
-      let f = params-few (splitTask t) (S .well) number in
-      omega arith
+  -- their count, and where they stand
+  pub pair-count : getD pairs 0 0 ≡ schemaPairs ss
+  pair-count = stand 0 (omega arith)
 
-  -- they, and zeros behind them, decide
-  pub split-whole : stepSize * i + stepSize ≤ length steps → number < splits → {r : Bool} →
-      ((objects : ℕ) → limits ≡ limitsFor objects →
-      r ≡ objectsThenZeros objects steps (stepSize * i + 1) (getD params number 0)) →
-      r ≡ isStepAt (splitTask t) steps i
-  unfolding splitTask
-  split-whole w k h =
-      h (t .objects) (S .bounds)
-      ∙ sym (step-whole (splitTask t) (S .well) steps i (getD params number 0) (S .counts .count number k) w
-      (let e = split-count t in omega arith))
+  stand-rows : At pairs 1 (pairsFrom 0 ss)
+  stand-rows = at-right pairs 0 (schemaPairs ss ∷ []) (pairsFrom 0 ss) stand
+
+  pub rows-inside : 1 + pairSize * getD pairs 0 0 ≤ length pairs
+  rows-inside =
+      let (few, e) = rows-room t (S .well) in
+      let l = S .carried .long in
+      omega (arith, pair-count)
+
+  pair-fits : (s : ℕ) → s < length ss → (q : Pair) → In q (getD ss s noSchema .pairs) →
+      PairFits (paramCount (splitTask t) s) q
+  unfolding paramCount schemaAt
+  pair-fits s l = wellFormed-is (splitTask t) (S .well) .schema s l .pairs
+
+  -- each row names parameters that a step has words for
+  pub rows-small : PairsFew pairs 1 (getD pairs 0 0)
+  rows-small =
+      rw pair-count (rows-few pairs 1 ss stand-rows (λ s l q i.
+      let f = pair-fits s l q i in
+      let a = f .known in
+      let b = params-few (splitTask t) (S .well) s in
+      record { ascends = f .ascends; known = omega arith }))
+
+  module _ (steps : List ℕ) (i : ℕ) where
+    abbrev number : ℕ
+    number = getD steps (stepSize * i) 0
+
+    abbrev splits : ℕ
+    splits = firstOf t (length (t .schemas))
+
+    pub split-short : length steps < stepSize * i + stepSize → isStepAt (splitTask t) steps i ≡ false
+    split-short l = step-short (splitTask t) (S .well) steps i l
+
+    pub split-unknown : splits ≤ number → isStepAt (splitTask t) steps i ≡ false
+    split-unknown l = step-unknown (splitTask t) (S .well) steps i (let e = split-count t in omega arith)
+
+    -- a known schema's parameters
+    pub split-few : number < splits → getD params number 0 ≤ 12
+    split-few k =
+        let e = S .counts .count number k in
+        let f = params-few (splitTask t) (S .well) number in
+        omega arith
+
+    -- they, zeros behind them, and the pairs decide
+    pub split-whole : stepSize * i + stepSize ≤ length steps → number < splits → {within apart : Bool} →
+        ((objects : ℕ) → limits ≡ limitsFor objects →
+        within ≡ objectsThenZeros objects steps (stepSize * i + 1) (getD params number 0)) →
+        apart ≡ all (apartAt pairs 1 steps (stepSize * i + 1) number) (upTo (getD pairs 0 0)) →
+        within && apart ≡ isStepAt (splitTask t) steps i
+    unfolding splitTask
+    split-whole w k h a =
+        let at : ℕ = stepSize * i + 1 in
+        let n = getD params number 0 in
+        let e = S .counts .count number k in
+        let l : number < length (splitTask t .schemas) = let c = split-count t in omega arith in
+        let rows = rows-apart pairs 1 (splitTask t .schemas) stand-rows number n l
+        (λ q j. subst (λ (m : ℕ). PairFits m q) (sym e) (pair-fits number l q j)) steps at in
+        ap₂ _&&_ (h (t .objects) (S .bounds))
+        (a ∙ (ap (λ (m : ℕ). all (apartAt pairs 1 steps at number) (upTo m)) pair-count ∙ sym rows)) ∙
+        sym (step-whole (splitTask t) (S .well) steps i n e w l)

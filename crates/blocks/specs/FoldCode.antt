@@ -5,15 +5,16 @@ use Rattle.blocks.specs.declared.folding.Judged.the-variants as judged
 use Prim.Native.Nat.{ℕ, _+_, _*_, _/_, _≤_, _<_}
 use mathlib.Core.Path.{_≡_}
 use mathlib.Core.Bool.{Bool, true, false, _&&_}
-use mathlib.Core.List.{List, map}
+use mathlib.Core.List.{List, _∷_, map}
 use mathlib.Core.Option.{Option, none, some}
 use lib.ListN.{length, getD}
 use lib.Dec.{eqb}
 use Rattle.words.specs.Lists.{upTo, eqList}
 use Rattle.words.specs.Sets.{member, members}
 use Rattle.words.specs.Words.{wordsAt}
-use Rattle.task.specs.Limits.{mostParameters, mostSchemas, stepSize}
-use Rattle.task.specs.Task.{Task, wellFormed}
+use Rattle.task.specs.Limits.{mostParameters, mostSchemas, mostPairs, pairSize, stepSize}
+use Rattle.task.specs.Task.{Task, schemaPairs, wellFormed}
+use Rattle.task.specs.Table.{pairsFrom}
 use Rattle.task.specs.Run.{Step, paramCount, stepAt, isStepAt, stepsIn, badStep}
 use Rattle.task.specs.StepTests.{limitsFor}
 use Rattle.tokens.specs.Split.{orders, splitTask, firstOf}
@@ -38,6 +39,18 @@ pub record BeginsKept (t : Task) (begins : List ℕ) : Type 0 where
 pub record ParamsNoted (t : Task) (n : ℕ) (params : List ℕ) : Type 0 where
   pub long : length params ≡ mostSchemas
   pub count : (k : ℕ) → k < n → getD params k 0 ≡ paramCount (splitTask t) k
+
+-- ---- the pairs that the split's schemas carry
+-- how many there are, then a row for each, and the words for them
+abbrev pub carriedRows : Task → List ℕ
+carriedRows t = schemaPairs (splitTask t .schemas) ∷ pairsFrom 0 (splitTask t .schemas)
+
+abbrev pub carriedRoom : ℕ
+carriedRoom = 1 + pairSize * mostPairs
+
+pub record PairsNoted (t : Task) (pairs : List ℕ) : Type 0 where
+  pub long : length pairs ≡ carriedRoom
+  pub rows : wordsAt pairs 0 (length (carriedRows t)) ≡ carriedRows t
 
 -- ---- where a block gives its objects
 -- where the origin of parameter p of schema s stands among all, and how many there are
@@ -125,17 +138,18 @@ isPart t steps origins i s j =
     isStepAt (splitTask t) steps (i + j) && (eqb (y .schema) (z .schema) && eqList (y .objects) (z .objects))
 
 -- ---- what is known of a split
--- to tell its steps: how many schemas it has and their parameters, and the limits of a step's words
-pub record StepsKnown (t : Task) (params limits : List ℕ) : Type 0 where
+-- to tell its steps: how many schemas it has, their parameters and pairs, and the limits of a step's words
+pub record StepsKnown (t : Task) (params limits pairs : List ℕ) : Type 0 where
   pub well : wellFormed (splitTask t) ≡ true
   pub few : firstOf t (length (t .schemas)) ≤ mostSchemas
   pub counts : ParamsNoted t (firstOf t (length (t .schemas))) params
   pub bounds : limits ≡ limitsFor (t .objects)
+  pub carried : PairsNoted t pairs
 
 -- and its blocks
-pub record BlocksKnown (t : Task) (kept params origins places limits : List ℕ) : Type 0 where
+pub record BlocksKnown (t : Task) (kept params origins places limits pairs : List ℕ) : Type 0 where
   pub blocks : BlocksKept t kept
-  pub known : StepsKnown t params limits
+  pub known : StepsKnown t params limits pairs
   pub origin : OriginsKept kept (length (t .schemas)) origins
   pub place : PlacesNoted t kept origins (firstOf t (length (t .schemas))) places
 

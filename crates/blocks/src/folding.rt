@@ -5,11 +5,14 @@ use task::Parameter;
 use task::layout::object_count;
 use task::layout::param_count;
 use task::layout::schema_count;
+use task::limits::MOST_PAIRS;
 use task::limits::MOST_PARAMETERS;
 use task::limits::MOST_SCHEMAS;
+use task::limits::PAIR_SIZE;
 use task::limits::STEP_SIZE;
 use task::steps::Limits;
 use task::steps::are_within;
+use task::steps::keep_apart;
 use task::steps::limits_of;
 use task::steps::object_of;
 use task::steps::schema_at;
@@ -18,6 +21,7 @@ use tokens::kept::count_of;
 use tokens::kept::first_of;
 use tokens::kept::own_at;
 use tokens::measure::Sizes;
+use tokens::pairs::all_pairs;
 use words::putting::fill;
 use words::runs::wide;
 use words::sets;
@@ -36,7 +40,7 @@ ghost use Rattle.tokens.specs.Acceptance.{AcceptedKept};
 ghost use Rattle.blocks.specs.Blocks.{foldSteps, folded, listWords};
 ghost use Rattle.blocks.specs.Unfolding.{BlocksKept, TableKept};
 ghost use Rattle.blocks.specs.FoldCode.{BeginsKept, ParamsNoted, originPlace, originWords, OriginsKept};
-ghost use Rattle.blocks.specs.FoldCode.{PartNoted, PartsNoted, PartPlaced, PlacesNoted};
+ghost use Rattle.blocks.specs.FoldCode.{PartNoted, PartsNoted, PartPlaced, PlacesNoted, PairsNoted};
 ghost use Rattle.blocks.specs.FoldCode.{objectIn, agreesAt, gathered};
 ghost use Rattle.blocks.specs.FoldCode.{isPart, StepsKnown, BlocksKnown, GoodBefore, SplitStepsKept};
 ghost use Rattle.blocks.specs.FoldCode.{reachedBy, TakenTold, judgedOf};
@@ -55,6 +59,11 @@ pub type Origins = [u16; ORIGIN_WORDS];
 
 // For each parameter of each schema of the split: the origin of the task's parameter that it is.
 type Places = [u16; ORIGIN_WORDS];
+
+// The pairs that the schemas of the split carry: how many there are, then a row for each, as in a table.
+const PAIR_WORDS: usize = 1 + PAIR_SIZE * MOST_PAIRS;
+
+type Pairs = [u16; PAIR_WORDS];
 
 // What a list is taken apart into: so many steps; or the step that fits no block is told, or the step count where the
 // last block is unfinished.
@@ -198,6 +207,17 @@ fn place_part(own: u64, s: usize, number: usize, origins: &Origins, places: &mut
     }
 }
 
+// The pairs of an accepted split: "A part that has both parameters carries the line, renumbered".
+fn pairs_of(table: &[u16], kept: &Kept, sizes: Sizes) -> Pairs
+    requires { ⌜ AcceptedKept (now table) sizes (now kept) ⌝ }
+    ensures { λ r. ⌜ PairsNoted (taskOf (now (table .entry))) r ⌝ }
+{
+    let mut pairs = [0; PAIR_WORDS];
+    pairs[0] = sizes.pairs as u16;
+    all_pairs(table, kept, &mut pairs, 1);
+    pairs
+}
+
 // The schema whose block the step whose words begin at `at` can begin: its number and one, 0 for none.
 fn begun_at(steps: &[u16], at: usize, begins: &Begins) -> usize
     requires { ⌜ (at < length (now steps)) × (length (now begins) ≡ mostSchemas) ⌝ }
@@ -252,6 +272,30 @@ fn agree(
     true
 }
 
+// Whether the whole step at index i, of the split's schema with that number, is one of the split: behind the schema
+// objects of the task, then zeros, and different objects at each pair that the schema carries.
+fn is_schema_step(
+    steps: &[u16],
+    i: usize,
+    number: usize,
+    params: &Params,
+    limits: &Limits,
+    pairs: &Pairs,
+) -> bool
+    requires { ⌜ stepSize * i + stepSize ≤ length (now steps) ⌝ }
+    requires { ⌜ number ≡ getD (now steps) (stepSize * i) 0 ⌝ }
+    requires { ⌜ ((t : Task) × StepsKnown t (now params) (now limits) (now pairs) ×
+        (number < firstOf t (length (t .schemas)))) ⌝ }
+    ensures { λ r. ⌜ ((t : Task) → StepsKnown t (now (params .entry)) (now (limits .entry)) (now (pairs .entry)) →
+        number < firstOf t (length (t .schemas)) → r ≡ isStepAt (splitTask t) (now (steps .entry)) i) ⌝ }
+{
+    let at = STEP_SIZE * i;
+    if !are_within(steps, at, wide(params[number]), limits) {
+        return false;
+    }
+    keep_apart(pairs, 1, wide(pairs[0]), steps, at, number)
+}
+
 // Whether what stands at position j of the block that begins at split step i is a step of the split, the part of schema
 // s there, and agrees with the parts before it.
 fn part_fits(
@@ -263,13 +307,14 @@ fn part_fits(
     params: &Params,
     places: &Places,
     limits: &Limits,
+    pairs: &Pairs,
 ) -> bool
     requires { ⌜ ((t : Task) × (origins : List ℕ) ×
-        BlocksKnown t (now kept) (now params) origins (now places) (now limits) ×
+        BlocksKnown t (now kept) (now params) origins (now places) (now limits) (now pairs) ×
         (s < length (t .schemas)) × (j < length (orders t s)) × (stepSize * (i + j) ≤ length (now steps))) ⌝ }
     ensures { λ r. ⌜ ((t : Task) (origins : List ℕ) →
-        BlocksKnown t (now (kept .entry)) (now (params .entry)) origins (now (places .entry)) (now (limits .entry)) →
-        s < length (t .schemas) → j < length (orders t s) →
+        BlocksKnown t (now (kept .entry)) (now (params .entry)) origins (now (places .entry)) (now (limits .entry))
+        (now (pairs .entry)) → s < length (t .schemas) → j < length (orders t s) →
         r ≡ isPart t (now (steps .entry)) origins i s j) ⌝ }
 {
     let at = STEP_SIZE * (i + j);
@@ -280,7 +325,7 @@ fn part_fits(
     if schema_at(steps, at) != number {
         return false;
     }
-    if !are_within(steps, at, wide(params[number]), limits) {
+    if !is_schema_step(steps, i + j, number, params, limits, pairs) {
         return false;
     }
     agree(steps, places, STEP_SIZE * i, at, number, params[number])
@@ -294,12 +339,14 @@ fn take_apart(
     params: &Params,
     places: &Places,
     limits: &Limits,
+    pairs: &Pairs,
 ) -> Taken
     requires { ⌜ ((t : Task) × (origins : List ℕ) ×
-        BlocksKnown t (now kept) (now params) origins (now places) (now limits) × BeginsKept t (now begins)) ⌝ }
+        BlocksKnown t (now kept) (now params) origins (now places) (now limits) (now pairs) ×
+        BeginsKept t (now begins)) ⌝ }
     ensures { λ r. ⌜ ((t : Task) (origins : List ℕ) →
-        BlocksKnown t (now (kept .entry)) (now (params .entry)) origins (now (places .entry)) (now (limits .entry)) →
-        BeginsKept t (now (begins .entry)) → TakenTold t (now (steps .entry)) r) ⌝ }
+        BlocksKnown t (now (kept .entry)) (now (params .entry)) origins (now (places .entry)) (now (limits .entry))
+        (now (pairs .entry)) → BeginsKept t (now (begins .entry)) → TakenTold t (now (steps .entry)) r) ⌝ }
 {
     let count = steps.len() / STEP_SIZE;
     let mut taken: u64 = 0;
@@ -317,7 +364,7 @@ fn take_apart(
         let begin = i;
         let mut j = 0;
         while j < parts {
-            if !part_fits(steps, begin, s, j, kept, params, places, limits) {
+            if !part_fits(steps, begin, s, j, kept, params, places, limits, pairs) {
                 break 'list Taken::Misfit(i as u64);
             }
             i += 1;
@@ -338,11 +385,18 @@ fn reached(taken: Taken, count: usize) -> usize
 }
 
 // Whether the list's words have a whole step of the split at index i, of a split with so many schemas.
-fn is_split_step(steps: &[u16], i: usize, splits: usize, params: &Params, limits: &Limits) -> bool
+fn is_split_step(
+    steps: &[u16],
+    i: usize,
+    splits: usize,
+    params: &Params,
+    limits: &Limits,
+    pairs: &Pairs,
+) -> bool
     requires { ⌜ stepSize * i ≤ length (now steps) ⌝ }
-    requires { ⌜ ((t : Task) × StepsKnown t (now params) (now limits) ×
+    requires { ⌜ ((t : Task) × StepsKnown t (now params) (now limits) (now pairs) ×
         (splits ≡ firstOf t (length (t .schemas)))) ⌝ }
-    ensures { λ r. ⌜ ((t : Task) → StepsKnown t (now (params .entry)) (now (limits .entry)) →
+    ensures { λ r. ⌜ ((t : Task) → StepsKnown t (now (params .entry)) (now (limits .entry)) (now (pairs .entry)) →
         splits ≡ firstOf t (length (t .schemas)) → r ≡ isStepAt (splitTask t) (now (steps .entry)) i) ⌝ }
 {
     let at = STEP_SIZE * i;
@@ -353,21 +407,28 @@ fn is_split_step(steps: &[u16], i: usize, splits: usize, params: &Params, limits
     if splits <= number {
         return false;
     }
-    are_within(steps, at, wide(params[number]), limits)
+    is_schema_step(steps, i, number, params, limits, pairs)
 }
 
 // The first bad step of a list of which the steps before one are the split's.
-fn bad_from(steps: &[u16], from: usize, splits: usize, params: &Params, limits: &Limits) -> BadStep
-    requires { ⌜ ((t : Task) × StepsKnown t (now params) (now limits) ×
+fn bad_from(
+    steps: &[u16],
+    from: usize,
+    splits: usize,
+    params: &Params,
+    limits: &Limits,
+    pairs: &Pairs,
+) -> BadStep
+    requires { ⌜ ((t : Task) × StepsKnown t (now params) (now limits) (now pairs) ×
         (splits ≡ firstOf t (length (t .schemas)))) ⌝ }
-    ensures { λ r. ⌜ ((t : Task) → StepsKnown t (now (params .entry)) (now (limits .entry)) →
+    ensures { λ r. ⌜ ((t : Task) → StepsKnown t (now (params .entry)) (now (limits .entry)) (now (pairs .entry)) →
         splits ≡ firstOf t (length (t .schemas)) → GoodBefore t (now (steps .entry)) from →
         badStepFound r ≡ badStep (splitTask t) (now (steps .entry))) ⌝ }
 {
     let begun = (steps.len() + STEP_SIZE - 1) / STEP_SIZE;
     let mut i = from;
     while i < begun {
-        if !is_split_step(steps, i, splits, params, limits) {
+        if !is_split_step(steps, i, splits, params, limits, pairs) {
             return BadStep::At(i as u64);
         }
         i += 1;
@@ -396,13 +457,15 @@ pub fn judge(
     let params = params_of(kept, schemas);
     let places = places_of(kept, schemas, origins);
     let limits = limits_of(object_count(table));
-    let taken = take_apart(steps, kept, begins, &params, &places, &limits);
+    let pairs = pairs_of(table, kept, sizes);
+    let taken = take_apart(steps, kept, begins, &params, &places, &limits, &pairs);
     let bad = bad_from(
         steps,
         reached(taken, steps.len() / STEP_SIZE),
         sizes.schemas,
         &params,
         &limits,
+        &pairs,
     );
     if let BadStep::At(i) = bad {
         return Judged::Bad(i);
