@@ -7,43 +7,38 @@ use mathlib.Core.Path.{_≡_, refl, _∙_, ap, ap₂, subst}
 use mathlib.Core.Bool.{Bool, true, false, cond, _&&_}
 use mathlib.Core.List.{List, [], _∷_}
 use mathlib.Core.Option.{Option, none, some}
-use lib.ListN.{length}
 use Rattle.task.specs.declared.Place.{Place}
-use Rattle.words.specs.Lists.{first, upTo, over}
+use Rattle.words.specs.Lists.{over}
 use Rattle.task.specs.Answers.{result, Check, Outcome, refuseUnless, inOrder, firstRefusal}
 use Rattle.task.specs.Task.{Task}
 use Rattle.task.specs.Table.{taskOf, wordsOf, longEnough, isTable}
-use Rattle.tokens.specs.Split.{orderAt, isNone, circular, parted, tooLarge, splitAs, settle, split, splitTask}
+use Rattle.tokens.specs.Split.{circular, parted, tooLarge, splitAs, settle, split, splitTask}
 use Rattle.tokens.specs.Split.{withinLimits, splitCheck, splitOutcome, Splitting}
 use Rattle.tokens.specs.declared.measure.Sizes.{Sizes}
 use Rattle.tokens.specs.declared.acceptance.Acceptance.{Acceptance}
 use Rattle.tokens.specs.Acceptance.{acceptedThen, RefusedAs, AcceptedKept, AcceptanceTold}
-use Rattle.tokens.proofs.Accepted.{partedAt}
+use Rattle.tokens.proofs.Accepted.{circularAt, partedAt}
 use Rattle.task.proofs.Answers.{asFound, check-refuses, first-passes, first-refuses, same-refusal, refusal-stands}
 
--- ---- what splitting gives, by what is found of the orders and the sizes
+-- ---- what splitting gives, by what is found of the orders, the pairs and the sizes
 module _ (t : Task) where
-  -- the lowest schema for whose parts no order was found
-  abbrev lowest : Option ℕ
-  lowest = first (λ s. isNone (orderAt t s)) (upTo (length (t .schemas)))
-
-  pub found-circular : {s : ℕ} → lowest ≡ some s → split t ≡ circular s
+  pub found-circular : {s : ℕ} → circularAt t ≡ some s → split t ≡ circular s
   unfolding split settle
   found-circular e = ap (λ (o : Option ℕ). settle o (partedAt t) (splitTask t)) e
 
-  pub found-parted : {s : ℕ} → lowest ≡ none → partedAt t ≡ some s → split t ≡ parted s
+  pub found-parted : {s : ℕ} → circularAt t ≡ none → partedAt t ≡ some s → split t ≡ parted s
   unfolding split settle
   found-parted e f = ap₂ (λ (o p : Option ℕ). settle o p (splitTask t)) e f
 
-  settled : lowest ≡ none → partedAt t ≡ none →
+  settled : circularAt t ≡ none → partedAt t ≡ none →
       split t ≡ cond (withinLimits (splitTask t)) (splitAs (splitTask t)) tooLarge
   unfolding split settle
   settled e f = ap₂ (λ (o p : Option ℕ). settle o p (splitTask t)) e f
 
-  pub found-large : lowest ≡ none → partedAt t ≡ none → withinLimits (splitTask t) ≡ false → split t ≡ tooLarge
+  pub found-large : circularAt t ≡ none → partedAt t ≡ none → withinLimits (splitTask t) ≡ false → split t ≡ tooLarge
   found-large e f h = settled e f ∙ ap (λ (b : Bool). cond b (splitAs (splitTask t)) tooLarge) h
 
-  pub found-split : lowest ≡ none → partedAt t ≡ none → withinLimits (splitTask t) ≡ true →
+  pub found-split : circularAt t ≡ none → partedAt t ≡ none → withinLimits (splitTask t) ≡ true →
       split t ≡ splitAs (splitTask t)
   found-split e f h = settled e f ∙ ap (λ (b : Bool). cond b (splitAs (splitTask t)) tooLarge) h
 
