@@ -5,24 +5,27 @@ use mathlib.Core.Path.{_≡_, refl, sym, _∙_, ap, ap₂}
 use mathlib.Core.Bool.{true}
 use mathlib.Core.List.{List, [], _∷_, _++_, map}
 use Rattle.words.proofs.Lists.{In, map-map, map-same}
-use Rattle.task.specs.Task.{Atom, Schema, precondition, addition, deletion, rolesAscend}
+use Rattle.task.specs.Task.{Atom, Pair, Schema, precondition, addition, deletion, rolesAscend}
 use Rattle.task.specs.Run.{ofRole}
 use Rattle.text.specs.Lines.{bytes}
 use Rattle.defines.specs.Pddl.{parameter, schema, bracket, named, namesUpTo, schemaAtomText, negated, conjunction}
-use Rattle.defines.specs.Pddl.{preconditions, effects, actionText}
+use Rattle.defines.specs.Pddl.{pairText, preconditions, effects, actionText}
 use Rattle.defines.specs.Parts.{withoutPart, undivided}
 use Rattle.defines.proofs.Items.{Item, Items, none, more, bracket-item, bracket-same, items-append, items-map}
-use Rattle.defines.proofs.Told.{map-tells, kinds-told}
+use Rattle.defines.proofs.Told.{map-tells, map-fixes, kinds-told}
 use Rattle.defines.proofs.NamesTold.{isWord, behind-word, named-item, names-items, names-same}
 use Rattle.defines.proofs.AtomsTold.{Writable, atom-item, atom-same, negated-item, negated-same}
-use Rattle.defines.proofs.AtomsTold.{atom-not-negated, conjunction-item, conjunction-same}
+use Rattle.defines.proofs.AtomsTold.{atom-not-negated, conjunction-item, conjunction-same, WritablePair}
+use Rattle.defines.proofs.AtomsTold.{pair-item, pair-same, atom-no-pair}
 use Rattle.defines.proofs.Pieces.{deleteText}
 use Rattle.defines.proofs.Roles.{has-role, roles-tell, role-without}
 
 -- ---- an action is an item
 preconditions-items : (s : Schema) → Items (preconditions s)
 unfolding preconditions
-preconditions-items s = items-map schemaAtomText atom-item (ofRole precondition (s .atoms))
+preconditions-items s =
+    items-append (items-map schemaAtomText atom-item (ofRole precondition (s .atoms)))
+    (items-map pairText pair-item (s .pairs))
 
 effects-items : (s : Schema) → Items (effects s)
 unfolding effects
@@ -47,10 +50,11 @@ unfolding actionText
 action-item k s = bracket-item (action-items k s)
 
 -- ---- what an action tells
--- what is asked of a schema: roles that ascend, and numbers that five digits hold
+-- what is asked of a schema: roles that ascend, and numbers that five digits hold, in atoms and in pairs
 pub record Tame (s : Schema) : Type 0 where
   pub roles : rolesAscend (s .atoms) ≡ true
   pub atoms : (a : Atom) → In a (s .atoms) → Writable (a .pred) (a .args)
+  pub pairs : (q : Pair) → In q (s .pairs) → WritablePair q
 
 module _ (s u : Schema) (h : Tame s) (k : Tame u) where
   -- texts that tell an atom's text tell the atoms of a role, but for their parts
@@ -67,15 +71,29 @@ module _ (s u : Schema) (h : Tame s) (k : Tame u) where
       let args : a .args ≡ b .args = same .1 in
       λ i. record { role = role i; pred = pred i; part = 0; args = args i })
 
+  -- preconditions tell their atoms and the pairs: no atom is a pair
+  tests-told : preconditions s ≡ preconditions u →
+      (map schemaAtomText (ofRole precondition (s .atoms)) ≡ map schemaAtomText (ofRole precondition (u .atoms))) ×
+      (map pairText (s .pairs) ≡ map pairText (u .pairs))
+  unfolding preconditions
+  tests-told e =
+      kinds-told schemaAtomText pairText atom-no-pair (ofRole precondition (s .atoms))
+      (ofRole precondition (u .atoms)) (s .pairs) (u .pairs) e
+
+  pairs-told : preconditions s ≡ preconditions u → s .pairs ≡ u .pairs
+  pairs-told e =
+      map-fixes pairText (s .pairs) (u .pairs) (λ q r i j. pair-same q r (h .pairs q i) (k .pairs r j))
+      (tests-told e .1)
+
   atoms-told : preconditions s ≡ preconditions u → effects s ≡ effects u →
       map withoutPart (s .atoms) ≡ map withoutPart (u .atoms)
-  unfolding preconditions effects
+  unfolding effects
   atoms-told e f =
       let (adds, deletes) = kinds-told schemaAtomText deleteText (λ a b. atom-not-negated a (atom-item b))
       (ofRole addition (s .atoms)) (ofRole addition (u .atoms)) (ofRole deletion (s .atoms))
       (ofRole deletion (u .atoms)) f in
       roles-tell (s .atoms) (u .atoms) (h .roles) (k .roles)
-      (role-told precondition schemaAtomText (λ a b q. q) e)
+      (role-told precondition schemaAtomText (λ a b q. q) (tests-told e .0))
       (role-told addition schemaAtomText (λ a b q. q) adds)
       (role-told deletion deleteText (λ a b q. negated-same (atom-item a) (atom-item b) q) deletes)
 
@@ -86,9 +104,10 @@ module _ (s u : Schema) (h : Tame s) (k : Tame u) where
       let names : namesUpTo parameter (s .params) ≡ namesUpTo parameter (u .params) =
       bracket-same (names-items parameter refl (s .params)) (names-items parameter refl (u .params)) (cc) in
       let params = names-same parameter (s .params) (u .params) names in
-      let atoms = atoms-told (conjunction-same (preconditions-items s) (preconditions-items u) (cc))
-      (conjunction-same (effects-items s) (effects-items u) (cc)) in
-      λ i. record { params = params i; atoms = atoms i }
+      let tests = conjunction-same (preconditions-items s) (preconditions-items u) (cc) in
+      let pairs = pairs-told tests in
+      let atoms = atoms-told tests (conjunction-same (effects-items s) (effects-items u) (cc)) in
+      λ i. record { params = params i; pairs = pairs i; atoms = atoms i }
 
 -- ---- the partition does not matter
 role-without-text : (f : Atom → List ℕ) → ((a : Atom) → f (withoutPart a) ≡ f a) → (r : ℕ) (atoms : List Atom) →
@@ -104,7 +123,9 @@ atom-without a = refl
 
 preconditions-without : (s : Schema) → preconditions (undivided s) ≡ preconditions s
 unfolding preconditions undivided
-preconditions-without s = role-without-text schemaAtomText atom-without precondition (s .atoms)
+preconditions-without s =
+    ap (λ (xs : List (List ℕ)). xs ++ map pairText (s .pairs))
+    (role-without-text schemaAtomText atom-without precondition (s .atoms))
 
 effects-without : (s : Schema) → effects (undivided s) ≡ effects s
 unfolding effects undivided

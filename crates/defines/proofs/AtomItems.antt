@@ -17,7 +17,7 @@ use Rattle.defines.proofs.Pieces.{atom-pieces, deleteText, negated-piec
 use Rattle.defines.proofs.Formulas.{item-first, item-delete, item-other}
 
 -- ---- names
-marked-names : (kind : String) (ns : List ℕ) → marked (space ∷ bytes kind) ns ≡ following (map (named kind) ns)
+pub marked-names : (kind : String) (ns : List ℕ) → marked (space ∷ bytes kind) ns ≡ following (map (named kind) ns)
 unfolding marked following named
 marked-names kind ns = sym (pieces-map (λ item. space ∷ item) (named kind) ns)
 

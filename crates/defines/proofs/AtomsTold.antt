@@ -1,18 +1,19 @@
--- Atoms in brackets are items, and tell their predicate and their arguments, as far as five digits hold the numbers.
+-- Atoms in brackets are items, and tell their predicate and their arguments, as far as five digits hold the numbers; and
+-- so do pairs.
 use Prim.Native.Nat.{ℕ, _<_}
 use Prim.Native.Char.{code}
 use Prim.Native.String.{String}
 use mathlib.Core.Path.{_≡_, refl}
 use mathlib.Core.Bool.{true}
-use mathlib.Core.List.{List, _∷_, map}
+use mathlib.Core.List.{List, [], _∷_, map}
 use native.Mathlib.Omega.{arith}
 use Rattle.words.specs.Lists.{upTo}
 use Rattle.words.proofs.Lists.{In}
-use Rattle.task.specs.Task.{Atom, Fact}
+use Rattle.task.specs.Task.{Atom, Fact, Pair}
 use Rattle.task.proofs.States.{fact-path}
 use Rattle.text.specs.Lines.{bytes}
 use Rattle.defines.specs.Pddl.{parameter, object, predicate, named, atomicFormula, predicateText, schemaAtomText}
-use Rattle.defines.specs.Pddl.{factText, negated, conjunction}
+use Rattle.defines.specs.Pddl.{factText, negated, conjunction, equality, pairText}
 use Rattle.defines.proofs.Items.{Item, Items, none, more, bracket-item, bracket-same, items-map}
 use Rattle.defines.proofs.Told.{map-fixes, count-told}
 use Rattle.defines.proofs.NamesTold.{isWord, behind-word, headed-item, headed-same, named-item, named-items}
@@ -103,3 +104,34 @@ conjunction-item is = headed-item "and" refl is
 pub conjunction-same : {xs ys : List (List ℕ)} → Items xs → Items ys → conjunction xs ≡ conjunction ys → xs ≡ ys
 unfolding conjunction isWord
 conjunction-same is js e = headed-same "and" refl is js e
+
+-- ---- pairs
+-- numbers that five digits hold
+pub record WritablePair (q : Pair) : Type 0 where
+  pub lower : q .lower < 100000
+  pub higher : q .higher < 100000
+
+equality-items : (q : Pair) → Items (named parameter (q .lower) ∷ named parameter (q .higher) ∷ [])
+unfolding isWord
+equality-items q = more (named-item parameter refl (q .lower)) (more (named-item parameter refl (q .higher)) none)
+
+equality-item : (q : Pair) → Item (equality q)
+unfolding equality isWord
+equality-item q = headed-item "=" refl (equality-items q)
+
+pub pair-item : (q : Pair) → Item (pairText q)
+unfolding pairText
+pair-item q = negated-item (equality-item q)
+
+pub pair-same : (q r : Pair) → WritablePair q → WritablePair r → pairText q ≡ pairText r → q ≡ r
+unfolding pairText equality isWord
+pair-same q r h k e =
+    let same = headed-same "=" refl (equality-items q) (equality-items r)
+    (negated-same (equality-item q) (equality-item r) e) in
+    let lower = named-same parameter (q .lower) (r .lower) (h .lower) (k .lower) (cc) in
+    let higher = named-same parameter (q .higher) (r .higher) (h .higher) (k .higher) (cc) in
+    λ i. record { lower = lower i; higher = higher i }
+
+pub atom-no-pair : (a : Atom) (q : Pair) → schemaAtomText a ≡ pairText q → ⊥
+unfolding pairText
+atom-no-pair a q e = atom-not-negated a (equality-item q) e

@@ -9,16 +9,17 @@ use native.Mathlib.Omega.{arith}
 use lib.ListN.{length, getD}
 use Rattle.words.specs.Lists.{upTo, upFrom, concatMap}
 use Rattle.task.specs.Layout.{headIn, goalsFrom, atomTotal}
-use Rattle.task.specs.Task.{Task, noSchema}
+use Rattle.task.specs.Task.{Task, noSchema, schemaPairs}
 use Rattle.task.specs.Table.{taskOf, isTable}
 use Rattle.task.specs.Run.{schemaAt}
-use Rattle.task.proofs.TablesByIndex.{table-frame, objects-word, arities-word, schemas-word, arity-at}
+use Rattle.task.proofs.TablesByIndex.{table-frame, objects-word, arities-word, schemas-word, pairs-word, arity-at}
 use Rattle.text.specs.Lines.{bytes, newline}
 use Rattle.defines.specs.Pddl.{space, object, following, namesUpTo, numbered, predicateText, actionText}
-use Rattle.defines.specs.Pddl.{domainText, problemText}
-use Rattle.defines.specs.ByWords.{marked, itemsIn, predicateIn, actionIn}
+use Rattle.defines.specs.Pddl.{requirements, domainText, problemText}
+use Rattle.defines.specs.ByWords.{marked, itemsIn, needsIn, predicateIn, actionIn}
 use Rattle.defines.proofs.Pieces.{domain-pieces, problem-pieces}
 use Rattle.defines.proofs.AtomItems.{names-marked, predicate-is}
+use Rattle.defines.proofs.PairItems.{needs-said}
 use Rattle.defines.proofs.RoleRuns.{initial-items, goal-items}
 
 -- ---- things that are numbered, each said by its number
@@ -64,10 +65,14 @@ module _ (w : List ℕ) (h : isTable w ≡ true) where
       numbered-said actionText noSchema (actionIn w) (t .schemas) (headIn w .schemas)
       (schemas-word w (table-frame w h)) (λ s l. refl)
 
+  pub needs-in : following (requirements (schemaPairs (t .schemas))) ≡ needsIn (headIn w .pairs)
+  needs-in = needs-said (schemaPairs (t .schemas)) ∙ ap needsIn (pairs-word w (table-frame w h))
+
   pub domain-in : domainText t ++ (newline ∷ []) ≡
-      bytes "(define (domain d) (:predicates" ++ (concatMap (predicateIn w) (upTo (headIn w .predicates)) ++
-      (bytes ")" ++ (concatMap (actionIn w) (upTo (headIn w .schemas)) ++ bytes ")\n")))
-  domain-in = domain-pieces t ∙ rw (predicates-in, actions-in) refl
+      bytes "(define (domain d)" ++ (needsIn (headIn w .pairs) ++
+      (bytes " (:predicates" ++ (concatMap (predicateIn w) (upTo (headIn w .predicates)) ++
+      (bytes ")" ++ (concatMap (actionIn w) (upTo (headIn w .schemas)) ++ bytes ")\n")))))
+  domain-in = domain-pieces t ∙ rw (needs-in, predicates-in, actions-in) refl
 
   -- ---- the problem
   pub objects-in : following (namesUpTo object (t .objects)) ≡ marked (bytes " o") (upTo (headIn w .objects))

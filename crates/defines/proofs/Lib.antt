@@ -17,6 +17,7 @@ pub mod MarkedNames
 pub mod Formulas
 pub mod AtomItems
 pub mod TableItems
+pub mod PairItems
 pub mod RoleRuns
 pub mod RunsPut
 pub mod Frames

@@ -1,6 +1,7 @@
 -- How long the text of a task can be, by its pieces. A number below 10 ^ d has at most d digits: predicates, schemas
 -- and objects have three, parameters two, those in `:predicates` one. With four arguments at most, an atom takes 26
--- bytes, a delete 32, a predicate 22, a schema without its atoms 122; the limits on how many there are bound the whole.
+-- bytes, a delete 32, a pair 19, a predicate 22, a schema without its atoms and pairs 122; the limits on how many there
+-- are bound the whole.
 use Prim.Native.Nat.{ℕ, suc, _+_, _*_, _^_, _≤_, _<_}
 use Prim.Native.String.{String}
 use mathlib.Core.Path.{_≡_, refl, _∙_, ap}
@@ -14,13 +15,13 @@ use borrow.Author.Tests.{leb-true}
 use Rattle.words.specs.Lists.{upTo, sum, concatMap}
 use Rattle.words.proofs.Lists.{In, here, there, all-in}
 use Rattle.task.specs.Limits.{mostObjects, mostPredicates, mostSchemas, mostSchemaAtoms, mostInitial, mostGoal}
-use Rattle.task.specs.Limits.{mostArity, mostParameters}
-use Rattle.task.specs.Task.{Atom, Fact, Schema, Task, precondition, addition, deletion, argsFit, factsFit, rolesAscend}
-use Rattle.task.specs.Task.{schemaFits, schemaAtoms, wellFormed}
+use Rattle.task.specs.Limits.{mostArity, mostParameters, mostPairs}
+use Rattle.task.specs.Task.{Atom, Fact, Pair, Schema, Task, precondition, addition, deletion, argsFit, factsFit}
+use Rattle.task.specs.Task.{rolesAscend, pairFits, schemaFits, schemaAtoms, schemaPairs, wellFormed}
 use Rattle.task.specs.Table.{taskOf, isTable}
 use Rattle.task.specs.Run.{ofRole}
 use Rattle.task.proofs.Tests.{SchemaTests, schema-tests, fits, fact-tests, TaskTests, task-tests}
-use Rattle.task.proofs.States.{argsFit-fitting}
+use Rattle.task.proofs.States.{argsFit-fitting, pairFits-fits}
 use Rattle.task.proofs.AtomsStand.{sized}
 use Rattle.task.proofs.Tables.{of-table}
 use Rattle.text.specs.Lines.{bytes}
@@ -28,13 +29,14 @@ use Rattle.text.proofs.DigitSteps.{digits-most}
 use Rattle.text.proofs.Pieces.{pieces-map, pieces-most}
 use Rattle.defines.specs.Pddl.{space, object, parameter, following, namesUpTo, numbered, atomicFormula}
 use Rattle.defines.specs.Pddl.{predicateText, schemaAtomText, factText, negated, preconditions, effects}
-use Rattle.defines.specs.Pddl.{actionText, pddl}
+use Rattle.defines.specs.Pddl.{pairText, actionText, pddl}
 use Rattle.defines.specs.ByWords.{longestPddl}
 use Rattle.defines.proofs.Pieces.{following-append, deleteText, negated-pieces, action-long, pddl-long}
 use Rattle.defines.proofs.MarkedNames.{names-long, below-long}
 use Rattle.defines.proofs.Formulas.{formula-most}
 use Rattle.defines.proofs.AtomItems.{names-marked, formula-is}
 use Rattle.defines.proofs.Frames.{parameters-few, predicate-long}
+use Rattle.defines.proofs.PairItems.{both, apart-is, apart-long, two-digits, needs-said, needs-few}
 use Rattle.defines.proofs.Roles.{has-role, by-roles}
 
 -- ---- items
@@ -47,18 +49,19 @@ following-most f most xs h =
     let m = pieces-most (λ x. space ∷ f x) most xs h in
     omega arith
 
--- .. and numbered items that besides take bytes for each of what they hold
-numbered-most : {A : Type 0} (f : ℕ → A → List ℕ) (most more : ℕ) (held : A → ℕ) (i : ℕ) (xs : List A) →
-    ((k : ℕ) → k < i + length xs → (x : A) → In x xs → length (f k x) < most + more * held x) →
-    length (following (numbered f i xs)) ≤ most * length xs + more * sum (map held xs)
+-- .. and numbered items that besides take bytes for each of two kinds of what they hold
+numbered-most : {A : Type 0} (f : ℕ → A → List ℕ) (most more extra : ℕ) (held kept : A → ℕ) (i : ℕ) (xs : List A) →
+    ((k : ℕ) → k < i + length xs → (x : A) → In x xs → length (f k x) < most + more * held x + extra * kept x) →
+    length (following (numbered f i xs)) ≤ most * length xs + more * sum (map held xs) + extra * sum (map kept xs)
 unfolding numbered following concatMap sum
-numbered-most f most more held i [] h = omega arith
-numbered-most f most more held i (x ∷ xs) h =
+numbered-most f most more extra held kept i [] h = omega arith
+numbered-most f most more extra held kept i (x ∷ xs) h =
     let a = h i (omega arith) x (here refl) in
-    let r = numbered-most f most more held (suc i) xs (λ k l y j. h k (omega arith) y (there j)) in
+    let r = numbered-most f most more extra held kept (suc i) xs (λ k l y j. h k (omega arith) y (there j)) in
     let l = length-append (f i x) (following (numbered f (suc i) xs)) in
     let m = mul-suc most (length xs) in
     let d = mul-add more (held x) (sum (map held xs)) in
+    let e = mul-add extra (kept x) (sum (map kept xs)) in
     omega arith
 
 -- ---- a predicate, and a delete
@@ -78,12 +81,25 @@ deleted-most item h =
     let l = length-append item (bytes ")") in
     omega arith
 
--- ---- the atoms of a schema, of at most 26 bytes each
+-- a pair, its parameters of two digits each
+pair-most : (q : Pair) → q .lower < 100 → q .higher < 100 → length (pairText q) < 20
+unfolding bytes
+pair-most q low high =
+    let e = ap length (apart-is q) in
+    let l = apart-long (both q) in
+    let a = digits-most 2 (omega arith) (q .lower) (omega arith) in
+    let b = digits-most 2 (omega arith) (q .higher) (omega arith) in
+    let c = two-digits (q .lower) (q .higher) in
+    omega arith
+
+-- ---- the atoms of a schema, of at most 26 bytes each, and its pairs, of at most 19
 atoms-most : (s : Schema) → rolesAscend (s .atoms) ≡ true →
     ((a : Atom) → In a (s .atoms) → length (schemaAtomText a) < 27) →
-    length (following (preconditions s)) + length (following (effects s)) ≤ 33 * length (s .atoms)
+    ((q : Pair) → In q (s .pairs) → length (pairText q) < 20) →
+    length (following (preconditions s)) + length (following (effects s)) ≤
+    33 * length (s .atoms) + 20 * length (s .pairs)
 unfolding preconditions effects
-atoms-most s roles short =
+atoms-most s roles short slim =
     let of : ℕ → List Atom = λ r. ofRole r (s .atoms) in
     let each : (r : ℕ) (a : Atom) → In a (of r) → length (schemaAtomText a) < 27 =
     λ r a i. short a (has-role r (s .atoms) a i .0) in
@@ -96,6 +112,10 @@ atoms-most s roles short =
     let add = following-most schemaAtomText 27 (of addition) (each addition) in
     let del = following-most deleteText 33 (of deletion) (λ a i. deleted-most (schemaAtomText a) (each deletion a i)) in
     let both = ap length (following-append adds dels) ∙ length-append (following adds) (following dels) in
+    let tests = map schemaAtomText (of precondition) in
+    let apart = map pairText (s .pairs) in
+    let pairs = following-most pairText 20 (s .pairs) slim in
+    let all-tests = ap length (following-append tests apart) ∙ length-append (following tests) (following apart) in
     omega arith
 
 module _ (t : Task) (c : TaskTests t) where
@@ -132,7 +152,7 @@ module _ (t : Task) (c : TaskTests t) where
 
   -- ---- a schema
   action-most : (k : ℕ) → k < mostSchemas → (s : Schema) → schemaFits (t .arities) s ≡ true →
-      length (actionText k s) < 123 + 33 * length (s .atoms)
+      length (actionText k s) < 123 + 33 * length (s .atoms) + 20 * length (s .pairs)
   unfolding bytes
   action-most k few s h =
       let q = schema-tests (t .arities) s h in
@@ -140,24 +160,28 @@ module _ (t : Task) (c : TaskTests t) where
       let l = action-long k s in
       let name = digits-most 3 (omega arith) k (omega arith) in
       let names = parameters-few (s .params) params in
-      let atoms = atoms-most s (q .roles) (atom-most s q) in
+      let atoms = atoms-most s (q .roles) (atom-most s q) (λ p i.
+      let fits = pairFits-fits (s .params) p (all-in (pairFits (s .params)) (q .pairs) i) in
+      let low = fits .ascends in
+      let high = fits .known in
+      pair-most p (omega arith) (omega arith)) in
       omega arith
 
   -- ---- all of a kind
   predicates-most : length (following (numbered predicateText 0 (t .arities))) ≤ 23 * length (t .arities)
   predicates-most =
       let preds = leb-true (length (t .arities)) mostPredicates (c .preds) in
-      let m = numbered-most predicateText 23 0 (λ n. 0) 0 (t .arities) (λ p l n i.
+      let m = numbered-most predicateText 23 0 0 (λ n. 0) (λ n. 0) 0 (t .arities) (λ p l n i.
       let arity = leb-true n mostArity (all-in (λ n. leb n mostArity) (c .arities) i) in
       let m = predicate-most p (omega arith) n arity in
       omega arith) in
       omega arith
 
   actions-most : length (following (numbered actionText 0 (t .schemas))) ≤
-      123 * length (t .schemas) + 33 * schemaAtoms (t .schemas)
+      123 * length (t .schemas) + 33 * schemaAtoms (t .schemas) + 20 * schemaPairs (t .schemas)
   actions-most =
       let many = leb-true (length (t .schemas)) mostSchemas (c .schemas) in
-      numbered-most actionText 123 33 (λ s. length (s .atoms)) 0 (t .schemas)
+      numbered-most actionText 123 33 20 (λ s. length (s .atoms)) (λ s. length (s .pairs)) 0 (t .schemas)
       (λ k l s i. action-most k (omega arith) s (all-in (schemaFits (t .arities)) (c .fit) i))
 
   objects-most : length (following (namesUpTo object (t .objects))) ≤ 5 * t .objects
@@ -174,6 +198,9 @@ unfolding longestPddl
 pddl-most t well =
     let c = task-tests t well in
     let long = pddl-long t in
+    let n = ap length (needs-said (schemaPairs (t .schemas))) in
+    let r = needs-few (schemaPairs (t .schemas)) in
+    let pairs = leb-true (schemaPairs (t .schemas)) mostPairs (c .pairs) in
     let p = predicates-most t c in
     let a = actions-most t c in
     let o = objects-most t c in

@@ -10,8 +10,9 @@ use Rattle.words.specs.Lists.{concatMap, joined, sum, padded}
 use Rattle.words.proofs.Lists.{In, here, there, map-in, map-map, map-same, length-padded}
 use Rattle.task.specs.Limits.{tableWords, mostArity, atomSize}
 use Rattle.task.specs.Layout.{headBlock, Head}
-use Rattle.task.specs.Task.{Atom, Schema, Task, schemaAtoms, initial, goalRole}
-use Rattle.task.specs.Table.{atomWords, factWords, schemasFrom, headOf, blocksOf, wordsOf}
+use Rattle.task.specs.Task.{Atom, Schema, Task, schemaAtoms, schemaPairs, initial, goalRole}
+use Rattle.task.specs.Table.{pairWords, atomWords, factWords, rowsFrom, pairsFrom, schemasFrom, headOf, blocksOf}
+use Rattle.task.specs.Table.{wordsOf}
 use Rattle.task.proofs.AtomsStand.{Sized, Short, Lengths}
 use Rattle.task.proofs.Tables.{content, wordsOf-is, length-content, blockSizes}
 use Rattle.defines.specs.Parts.{withoutPart, undivided, withoutParts}
@@ -89,7 +90,7 @@ atoms-cleared (suc b) a s (x ∷ xs) e h =
 
 schemas-cleared : (n : ℕ) (ss : List Schema) → Short ss →
     Clears (schemaAtoms ss) 0 (schemasFrom n ss) (schemasFrom n (map undivided ss))
-unfolding schemasFrom sum undivided
+unfolding rowsFrom sum undivided
 schemas-cleared n [] h = record { at = λ rest. refl }
 schemas-cleared n (s ∷ ss) h =
     through-append
@@ -108,6 +109,17 @@ lengths-without t q = record {
   goal = q .goal;
 }
 
+-- the pairs stay, and so do their words
+pub pairs-without : (ss : List Schema) → schemaPairs (map undivided ss) ≡ schemaPairs ss
+unfolding undivided
+pairs-without ss = ap sum (map-map (λ (s : Schema). length (s .pairs)) undivided ss)
+
+pair-words-without : (n : ℕ) (ss : List Schema) → pairsFrom n (map undivided ss) ≡ pairsFrom n ss
+unfolding rowsFrom undivided
+pair-words-without n [] = refl
+pair-words-without n (s ∷ ss) =
+    ap (λ (ws : List ℕ). concatMap (pairWords n) (s .pairs) ++ ws) (pair-words-without (suc n) ss)
+
 pub head-without : (t : Task) → headOf (withoutParts t) ≡ headOf t
 unfolding withoutParts undivided
 head-without t =
@@ -116,6 +128,7 @@ head-without t =
     ap sum (map-map (λ (s : Schema). length (s .atoms)) undivided (t .schemas) ∙
     map-same (λ s. length (undivided s .atoms)) (λ s. length (s .atoms)) (t .schemas)
     (λ s i. length-map (s .atoms) withoutPart)) in
+    let pairs = pairs-without (t .schemas) in
     λ j. record {
       objects = t .objects;
       predicates = length (t .arities);
@@ -123,11 +136,13 @@ head-without t =
       schemaAtoms = atoms j;
       initialAtoms = length (t .init);
       goalAtoms = length (t .goal);
+      pairs = pairs j;
     }
 
 -- those before the schema atoms, and those behind them
 abbrev pub before : Task → List ℕ
-before t = headBlock (headOf t) ++ (t .arities ++ map (λ s. s .params) (t .schemas))
+before t =
+    headBlock (headOf t) ++ (t .arities ++ (map (λ s. s .params) (t .schemas) ++ pairsFrom 0 (t .schemas)))
 
 abbrev facts : Task → List ℕ
 facts t = concatMap (factWords initial) (t .init) ++ (concatMap (factWords goalRole) (t .goal) ++ [])
@@ -139,18 +154,19 @@ words-parted : (t : Task) → wordsOf t ≡ (before t ++ schemasFrom 0 (t .schem
 unfolding blocksOf joined
 words-parted t =
     wordsOf-is t ∙
-    regroup (headBlock (headOf t)) (t .arities) (map (λ s. s .params) (t .schemas)) (schemasFrom 0 (t .schemas))
-    (facts t) (replicate (tableWords - length (content t)) 0)
+    regroup (headBlock (headOf t)) (t .arities) (map (λ s. s .params) (t .schemas)) (pairsFrom 0 (t .schemas))
+    (schemasFrom 0 (t .schemas)) (facts t) (replicate (tableWords - length (content t)) 0)
   where
-    regroup : (us vs xs ys zs rest : List ℕ) →
-        (us ++ (vs ++ (xs ++ (ys ++ zs)))) ++ rest ≡ ((us ++ (vs ++ xs)) ++ ys) ++ (zs ++ rest)
-    regroup us vs xs ys zs rest = simp append-assoc
+    regroup : (us vs xs qs ys zs rest : List ℕ) →
+        (us ++ (vs ++ (xs ++ (qs ++ (ys ++ zs))))) ++ rest ≡ ((us ++ (vs ++ (xs ++ qs))) ++ ys) ++ (zs ++ rest)
+    regroup us vs xs qs ys zs rest = simp append-assoc
 
 before-without : (t : Task) → before (withoutParts t) ≡ before t
 unfolding withoutParts undivided
 before-without t =
     ap₂ (λ (h : Head) (ps : List ℕ). headBlock h ++ (t .arities ++ ps)) (head-without t)
-    (map-map (λ (s : Schema). s .params) undivided (t .schemas))
+    (ap₂ (λ (ps qs : List ℕ). ps ++ qs) (map-map (λ (s : Schema). s .params) undivided (t .schemas))
+    (pair-words-without 0 (t .schemas)))
 
 behind-without : (t : Task) → Lengths t → behind (withoutParts t) ≡ behind t
 unfolding withoutParts

@@ -9,12 +9,12 @@ use native.Mathlib.Omega.{arith}
 use lib.ListN.{length, length-append}
 use Rattle.words.specs.Lists.{concatMap}
 use Rattle.words.proofs.Lists.{append-concatMap}
-use Rattle.task.specs.Task.{Atom, Schema, Task}
+use Rattle.task.specs.Task.{Atom, Schema, Task, schemaPairs}
 use Rattle.text.specs.Lines.{bytes, digits, newline}
 use Rattle.defines.specs.Pddl.{space, opening, closing, object, parameter, following, neighbours, bracket, named}
 use Rattle.defines.specs.Pddl.{namesUpTo, numbered, atomicFormula, predicateText, schemaAtomText, factText}
-use Rattle.defines.specs.Pddl.{negated, conjunction, preconditions, effects, actionText, domainText, problemText}
-use Rattle.defines.specs.Pddl.{pddl}
+use Rattle.defines.specs.Pddl.{negated, conjunction, preconditions, effects, actionText, requirements}
+use Rattle.defines.specs.Pddl.{domainText, problemText, pddl}
 
 -- ---- items one behind another
 pub following-append : (xs ys : List (List ℕ)) → following (xs ++ ys) ≡ following xs ++ following ys
@@ -32,6 +32,15 @@ nothing = record { is = refl }
 
 these : {items : List (List ℕ)} {rest : List ℕ} → Onto items rest (following items ++ rest)
 these = record { is = refl }
+
+-- items that are not looked into, then what follows them
+items-then : {ys : List (List ℕ)} {rest z : List ℕ} (xs : List (List ℕ)) → Onto ys rest z →
+    Onto (xs ++ ys) rest (following xs ++ z)
+items-then {ys} {rest} xs e = record {
+  is =
+      ap (λ (zs : List ℕ). zs ++ rest) (following-append xs ys) ∙
+      (append-assoc (following xs) (following ys) rest ∙ ap (λ (zs : List ℕ). following xs ++ zs) (e .is));
+}
 
 -- a word, then what follows it
 word-then : {xs : List (List ℕ)} {rest z : List ℕ} (x : List ℕ) → Onto xs rest z →
@@ -108,21 +117,25 @@ action-pieces k s =
     action-of (digits k) (namesUpTo parameter (s .params)) (preconditions s) (effects s)
 
 -- ---- the two defines, each with its byte 10
--- predicates and actions
-domain-of : (ps qs : List (List ℕ)) →
-    bracket (bytes "define" ∷ bracket (bytes "domain" ∷ bytes "d" ∷ []) ∷ bracket (bytes ":predicates" ∷ ps) ∷ qs) ++
-    (newline ∷ []) ≡
-    bytes "(define (domain d) (:predicates" ++ (following ps ++ (bytes ")" ++ (following qs ++ bytes ")\n")))
+-- requirements, predicates and actions
+domain-of : (rs ps qs : List (List ℕ)) →
+    bracket (bytes "define" ∷ bracket (bytes "domain" ∷ bytes "d" ∷ []) ∷
+    (rs ++ (bracket (bytes ":predicates" ∷ ps) ∷ qs))) ++ (newline ∷ []) ≡
+    bytes "(define (domain d)" ++ (following rs ++ (bytes " (:predicates" ++ (following ps ++
+    (bytes ")" ++ (following qs ++ bytes ")\n")))))
 unfolding bytes
-domain-of ps qs =
-    whole-is (bytes "define") (group-then (bytes "domain") (group-then (bytes ":predicates") these these)
-    (word-then (bytes "d") nothing))
+domain-of rs ps qs =
+    whole-is (bytes "define") (group-then (bytes "domain") (items-then rs
+    (group-then (bytes ":predicates") these these)) (word-then (bytes "d") nothing))
 
 pub domain-pieces : (t : Task) → domainText t ++ (newline ∷ []) ≡
-    bytes "(define (domain d) (:predicates" ++ (following (numbered predicateText 0 (t .arities)) ++
-    (bytes ")" ++ (following (numbered actionText 0 (t .schemas)) ++ bytes ")\n")))
+    bytes "(define (domain d)" ++ (following (requirements (schemaPairs (t .schemas))) ++
+    (bytes " (:predicates" ++ (following (numbered predicateText 0 (t .arities)) ++
+    (bytes ")" ++ (following (numbered actionText 0 (t .schemas)) ++ bytes ")\n")))))
 unfolding domainText
-domain-pieces t = domain-of (numbered predicateText 0 (t .arities)) (numbered actionText 0 (t .schemas))
+domain-pieces t =
+    domain-of (requirements (schemaPairs (t .schemas))) (numbered predicateText 0 (t .arities))
+    (numbered actionText 0 (t .schemas))
 
 -- objects, initial and goal atoms
 problem-of : (os is gs : List (List ℕ)) →
@@ -177,13 +190,16 @@ action-long k s =
     omega arith
 
 pub pddl-long : (t : Task) → length (pddl t) ≡
-    100 + length (following (numbered predicateText 0 (t .arities))) +
+    100 + length (following (requirements (schemaPairs (t .schemas)))) +
+    length (following (numbered predicateText 0 (t .arities))) +
     length (following (numbered actionText 0 (t .schemas))) + length (following (namesUpTo object (t .objects))) +
     length (following (map factText (t .init))) + length (following (map factText (t .goal)))
 unfolding bytes
 pddl-long t =
+    let required = following (requirements (schemaPairs (t .schemas))) in
     let predicates = following (numbered predicateText 0 (t .arities)) in
     let actions = following (numbered actionText 0 (t .schemas)) in
+    let listed = bytes " (:predicates" ++ (predicates ++ (bytes ")" ++ (actions ++ bytes ")\n"))) in
     let objects = following (namesUpTo object (t .objects)) in
     let inits = following (map factText (t .init)) in
     let goals = following (map factText (t .goal)) in
@@ -191,7 +207,8 @@ pddl-long t =
     let e = ap length (pddl-pieces t) in
     let two = length-append (domainText t ++ (newline ∷ [])) (problemText t ++ (newline ∷ [])) in
     let domain = ap length (domain-pieces t) in
-    let a = three-long (bytes "(define (domain d) (:predicates") predicates (bytes ")" ++ (actions ++ bytes ")\n")) in
+    let r = three-long (bytes "(define (domain d)") required listed in
+    let a = three-long (bytes " (:predicates") predicates (bytes ")" ++ (actions ++ bytes ")\n")) in
     let b = three-long (bytes ")") actions (bytes ")\n") in
     let problem = ap length (problem-pieces t) in
     let c = three-long (bytes "(define (problem q) (:domain d) (:objects") objects

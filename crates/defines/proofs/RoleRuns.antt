@@ -15,18 +15,19 @@ use Rattle.task.specs.Layout.{headIn, goalsFrom, atomTotal, paramsIn}
 use Rattle.task.specs.Task.{Atom, Task, precondition, addition, deletion, initial, goalRole, schemaFits, noSchema}
 use Rattle.task.specs.Table.{atomIn, schemaNumberIn, factIn, taskOf, isTable}
 use Rattle.task.specs.Run.{schemaAt, ofRole}
-use Rattle.task.specs.Turns.{firstAtom}
+use Rattle.task.specs.Turns.{firstAtom, firstPair}
 use Rattle.task.proofs.Tests.{schema-tests, task-tests}
 use Rattle.task.proofs.Tables.{of-table, init-stands, goal-stands, atoms-are, inits-are, goals-are}
 use Rattle.task.proofs.TablesByIndex.{table-frame, schemas-word, init-word, goal-word, start-suc, atom-lies, params-at}
 use Rattle.task.proofs.SchemaAtoms.{schema-inside, own-number}
 use Rattle.text.specs.Lines.{bytes, digits}
-use Rattle.text.proofs.Pieces.{pieces-map}
 use Rattle.defines.specs.Pddl.{space, parameter, following, neighbours, namesUpTo, schemaAtomText, factText}
-use Rattle.defines.specs.Pddl.{preconditions, effects}
-use Rattle.defines.specs.ByWords.{itemIn, itemsIn, RoleRun, headText, actionIn}
+use Rattle.defines.specs.Pddl.{pairText, preconditions, effects}
+use Rattle.defines.specs.ByWords.{itemIn, itemsIn, pairsIn, RoleRun, headText, actionIn}
 use Rattle.defines.proofs.Pieces.{following-append, deleteText, action-pieces}
 use Rattle.defines.proofs.AtomItems.{item-plain, item-negated, item-fact}
+use Rattle.defines.proofs.TableItems.{items-listed}
+use Rattle.defines.proofs.PairItems.{pair-items}
 use Rattle.defines.proofs.Roles.{byRoles, by-roles, has-role}
 
 -- ---- lists by a counter
@@ -39,21 +40,6 @@ counted-parts f i xs ys e =
     (length-map (upFrom i (length xs)) f ∙ length-upFrom i (length xs))
     (sym (map-append f (upFrom i (length xs)) (upFrom (i + length xs) (length ys))) ∙
     (ap (map f) (sym (upFrom-append i (length xs) (length ys)) ∙ ap (upFrom i) (sym (length-append xs ys))) ∙ e))
-
--- things that a table has from a place on, as its items say them
-items-listed : {A : Type 0} (w : List ℕ) (read : ℕ → A) (say : A → List ℕ) (from n : ℕ) (xs : List A) →
-    map read (upFrom from n) ≡ xs →
-    ((k : ℕ) → from ≤ k → k < from + n → itemIn w k ≡ space ∷ say (read k)) →
-    following (map say xs) ≡ itemsIn w from (from + n)
-unfolding following itemsIn
-items-listed {A} w read say from n xs e said =
-    let z : n ≡ from + n - from = omega arith in
-    ap (λ (ys : List A). following (map say ys)) (sym e) ∙
-    (pieces-map (λ item. space ∷ item) say (map read (upFrom from n)) ∙
-    (pieces-map (λ y. space ∷ say y) read (upFrom from n) ∙
-    (sym (concatMap-same (itemIn w) (λ k. space ∷ say (read k)) (upFrom from n)
-    (λ k i. let (a, b) = upFrom-in from n k i in said k a b)) ∙
-    ap (λ (m : ℕ). concatMap (itemIn w) (upFrom from m)) z)))
 
 -- ---- the facts of a table
 module _ (w : List ℕ) (h : isTable w ≡ true) where
@@ -99,16 +85,18 @@ module _ (w : List ℕ) (h : isTable w ≡ true) where
   }
 
   pub initial-items : following (map factText (t .init)) ≡ itemsIn w (headIn w .schemaAtoms) (goalsFrom w)
+  unfolding itemsIn
   initial-items =
       let fr = table-frame w h in
-      items-listed w (factIn w) factText (headIn w .schemaAtoms) (headIn w .initialAtoms) (t .init)
+      items-listed (itemIn w) (factIn w) factText (headIn w .schemaAtoms) (headIn w .initialAtoms) (t .init)
       (inits-are w t (fr .sizes) (fr .tabled))
       (λ k a b. let (_, e) = initial-fact k a b in item-fact w k (omega arith))
 
   pub goal-items : following (map factText (t .goal)) ≡ itemsIn w (goalsFrom w) (atomTotal w)
+  unfolding itemsIn
   goal-items =
       let fr = table-frame w h in
-      items-listed w (factIn w) factText (goalsFrom w) (headIn w .goalAtoms) (t .goal)
+      items-listed (itemIn w) (factIn w) factText (goalsFrom w) (headIn w .goalAtoms) (t .goal)
       (goals-are w t (fr .sizes) (fr .tabled))
       (λ k a b. let (_, e) = goal-fact k a b in item-fact w k (omega arith))
 
@@ -241,14 +229,22 @@ module _ (w : List ℕ) (h : isTable w ≡ true) (s : ℕ) (l : s < headIn w .sc
   role-items : (r from : ℕ) (say : Atom → List ℕ) → RoleFrom r from →
       ((k : ℕ) → atomIn w k .role ≡ r → itemIn w k ≡ space ∷ say (atomIn w k)) →
       following (map say (ofRole r atoms)) ≡ itemsIn w from (from + length (ofRole r atoms))
+  unfolding itemsIn
   role-items r from say e said =
-      items-listed w (atomIn w) say from (length (ofRole r atoms)) (ofRole r atoms) e
+      items-listed (itemIn w) (atomIn w) say from (length (ofRole r atoms)) (ofRole r atoms) e
       (λ k a b. said k (role-in r from e k a b))
 
-  pub precondition-items : following (preconditions (schemaAt task s)) ≡ itemsIn w first (addsFrom w s)
+  -- those of its pairs
+  abbrev apartness : List ℕ
+  apartness = pairsIn w (firstPair task s) (firstPair task (suc s))
+
+  pub precondition-items : following (preconditions (schemaAt task s)) ≡ itemsIn w first (addsFrom w s) ++ apartness
   unfolding preconditions addsFrom
   precondition-items =
-      role-items precondition first schemaAtomText (roles-from .0) (λ k e. item-plain w k (omega arith))
+      following-append (map schemaAtomText (ofRole precondition atoms)) (map pairText (schemaAt task s .pairs)) ∙
+      ap₂ (λ (xs ys : List ℕ). xs ++ ys)
+      (role-items precondition first schemaAtomText (roles-from .0) (λ k e. item-plain w k (omega arith)))
+      (pair-items w h s l)
 
   pub effect-items : following (effects (schemaAt task s)) ≡
       itemsIn w (addsFrom w s) (deletesFrom w s) ++ itemsIn w (deletesFrom w s) end
@@ -271,11 +267,12 @@ module _ (w : List ℕ) (h : isTable w ≡ true) (s : ℕ) (l : s < headIn w .sc
   head-then params rest = simp append-assoc
 
   pub action-in : actionIn w s ≡
-      headText s (paramsIn w s) ++ (itemsIn w first (addsFrom w s) ++ (bytes ") :effect (and" ++
-      (itemsIn w (addsFrom w s) (deletesFrom w s) ++ (itemsIn w (deletesFrom w s) end ++ bytes "))"))))
+      headText s (paramsIn w s) ++ (itemsIn w first (addsFrom w s) ++ (apartness ++ (bytes ") :effect (and" ++
+      (itemsIn w (addsFrom w s) (deletesFrom w s) ++ (itemsIn w (deletesFrom w s) end ++ bytes "))")))))
   unfolding actionIn bytes
   action-in =
       let behind : List ℕ → List ℕ → List ℕ = λ pres effs. pres ++ (bytes ") :effect (and" ++ (effs ++ bytes "))")) in
+      let pres = itemsIn w first (addsFrom w s) in
       let adds = itemsIn w (addsFrom w s) (deletesFrom w s) in
       let dels = itemsIn w (deletesFrom w s) end in
       ap {B = List ℕ} (λ text. space ∷ text) (action-pieces s (schemaAt task s)) ∙
@@ -285,6 +282,7 @@ module _ (w : List ℕ) (h : isTable w ≡ true) (s : ℕ) (l : s < headIn w .sc
       behind (following (preconditions (schemaAt task s))) (following (effects (schemaAt task s))))
       (params-at w (table-frame w h) s l) ∙
       (ap₂ (λ (pres effs : List ℕ). headText s (paramsIn w s) ++ behind pres effs) precondition-items effect-items ∙
-      ap (λ (effs : List ℕ). headText s (paramsIn w s) ++
-      (itemsIn w first (addsFrom w s) ++ (bytes ") :effect (and" ++ effs)))
-      (append-assoc adds dels (bytes "))")))))
+      ap (λ (rest : List ℕ). headText s (paramsIn w s) ++ rest)
+      (append-assoc pres apartness (bytes ") :effect (and" ++ ((adds ++ dels) ++ bytes "))")) ∙
+      ap (λ (effs : List ℕ). pres ++ (apartness ++ (bytes ") :effect (and" ++ effs)))
+      (append-assoc adds dels (bytes "))"))))))

@@ -1,17 +1,19 @@
 -- "No two tables that differ in anything but their partitions give the same text", word for word, and the text does not
 -- depend on the part words: a table with 0 for its part words is the table of its task without partitions, so tables
 -- agree in the other words just where their tasks agree in all but their partitions.
-use Prim.Native.Nat.{ℕ, _+_}
+use Prim.Native.Nat.{ℕ, _+_, _*_}
 use mathlib.Core.Path.{_≡_, sym, _∙_, ap, ap₂}
 use mathlib.Core.Bool.{true}
-use mathlib.Core.List.{List, map}
+use mathlib.Core.List.{List, _++_, map}
 use native.Mathlib.Omega.{arith}
 use lib.ListN.{length, getD, take, length-append, length-map}
 use lib.Seq.{getD-take, length-take-le}
-use Rattle.task.specs.Limits.{tableWords, headWords}
+use Rattle.task.specs.Limits.{tableWords, headWords, pairSize}
 use Rattle.task.specs.Layout.{Head, headIn, atomBase}
 use Rattle.task.specs.Task.{Schema, Task}
-use Rattle.task.specs.Table.{headOf, taskOf, wordsOf, isTable}
+use Rattle.task.specs.Table.{pairWords, pairsFrom, headOf, taskOf, wordsOf, isTable}
+use Rattle.task.proofs.SchemaRows.{length-rowsFrom}
+use Rattle.task.proofs.PairsStand.{pairs-even}
 use Rattle.task.proofs.Tables.{head-is, head-stands, words-tabled, task-is, tableWords-is, of-table}
 use Rattle.task.proofs.TablesByIndex.{table-frame, table-long, head-word}
 use Rattle.defines.specs.Pddl.{pddl}
@@ -27,7 +29,7 @@ bare w = withoutParts (taskOf w)
 
 -- where the first part word is, by the counts
 abbrev firstPart : Head → ℕ
-firstPart h = headWords + h .predicates + h .schemas + 3
+firstPart h = headWords + h .predicates + h .schemas + pairSize * h .pairs + 3
 
 abbrev cleared : Head → List ℕ → List ℕ
 cleared h w = clear (h .schemaAtoms) (firstPart h) (take tableWords w)
@@ -39,8 +41,11 @@ module _ (w : List ℕ) (h : isTable w ≡ true) where
   before-long : length (before t) + 3 ≡ firstPart (headOf t)
   before-long =
       let ps : List ℕ = map (λ (s : Schema). s .params) (t .schemas) in
+      let qs : List ℕ = pairsFrom 0 (t .schemas) in
       let e = length-map (t .schemas) (λ (s : Schema). s .params) in
-      omega (arith, length-append (t .arities) ps)
+      let p = length-rowsFrom pairWords (λ s. s .pairs) pairSize 0 (t .schemas) (pairs-even (t .schemas)) in
+      let r = length-append ps qs in
+      omega (arith, length-append (t .arities) (ps ++ qs))
 
   bare-words : wordsOf (bare w) ≡ cleared (headIn w) w
   bare-words =

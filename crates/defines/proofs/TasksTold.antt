@@ -2,27 +2,31 @@
 -- byte 10, so the text tells the two defines, each of them its items, and so on down to the names. Numbers of a
 -- well-formed task have at most five digits, and its roles ascend.
 use Prim.Native.Nat.{ℕ, suc, _≤_}
+use Prim.Native.Char.{code}
 use mathlib.Core.Path.{_≡_, refl, sym, _∙_, ap, ap₂}
-use mathlib.Core.Bool.{true}
+use mathlib.Core.Bool.{Bool, true, false, cond}
 use mathlib.Core.List.{List, [], _∷_, _++_, map}
 use native.Mathlib.Omega.{arith}
 use lib.ListN.{length}
+use lib.Dec.{eqb}
 use borrow.Author.Tests.{leb-true}
 use Rattle.words.proofs.Lists.{In, all-in}
 use Rattle.task.specs.Limits.{mostObjects, mostPredicates, mostParameters}
-use Rattle.task.specs.Task.{Fact, Schema, Task, argsFit, schemaFits, wellFormed}
-use Rattle.task.proofs.States.{Fitting, argsFit-fitting, factsFit-state}
+use Rattle.task.specs.Task.{Fact, Schema, Task, argsFit, pairFits, schemaFits, schemaPairs, wellFormed}
+use Rattle.task.proofs.States.{Fitting, argsFit-fitting, factsFit-state, pairFits-fits}
 use Rattle.task.proofs.Tests.{schema-tests, task-tests}
 use Rattle.text.specs.Lines.{bytes, newline}
 use Rattle.defines.specs.Pddl.{object, bracket, namesUpTo, numbered, predicateText, factText, conjunction}
-use Rattle.defines.specs.Pddl.{actionText, domainText, problemText, pddl}
+use Rattle.defines.specs.Pddl.{needsText, requirements, actionText, domainText, problemText, pddl}
 use Rattle.defines.specs.Parts.{undivided, withoutParts}
-use Rattle.defines.proofs.Items.{Item, Items, none, more, line-ends, item-same, items-numbered}
+use Rattle.defines.proofs.Items.{Item, Items, none, more, bracket-same, line-ends, item-same, items-append}
+use Rattle.defines.proofs.Items.{items-numbered}
 use Rattle.defines.proofs.Told.{numbered-tells, list-told}
 use Rattle.defines.proofs.NamesTold.{isWord, behind-word, headed-item, headed-same, names-items, names-same}
 use Rattle.defines.proofs.AtomsTold.{Writable, predicate-item, predicate-same, facts-items, facts-same}
 use Rattle.defines.proofs.AtomsTold.{conjunction-item, conjunction-same}
 use Rattle.defines.proofs.ActionsTold.{Tame, action-item, action-same, action-without}
+use Rattle.defines.proofs.PartsCleared.{pairs-without}
 
 -- ---- the numbers of a well-formed task
 fitting-writable : {bound p : ℕ} {arities args : List ℕ} → bound ≤ mostObjects → length arities ≤ mostPredicates →
@@ -51,26 +55,71 @@ tame t h =
             atoms = λ a j. fitting-writable {bound = s .params} (omega arith) few
                 (argsFit-fitting (s .params) (t .arities) (a .pred) (a .args)
                 (all-in (λ a. argsFit (t .arities) (s .params) (a .pred) (a .args)) (z .fit) j));
+            pairs = λ q j.
+                let fits = pairFits-fits (s .params) q (all-in (pairFits (s .params)) (z .pairs) j) in
+                let low = fits .ascends in
+                let high = fits .known in
+                record { lower = omega arith; higher = omega arith };
           };
       init = λ f i. fitting-writable low few (factsFit-state t (t .init) (c .init) .fit f i);
       goal = λ f i. fitting-writable low few (factsFit-state t (t .goal) (c .goal) .fit f i);
     }
 
 -- ---- the domain
-abbrev domainItems : List ℕ → List (List ℕ) → List (List ℕ)
-domainItems arities actions =
+abbrev domainItems : ℕ → List ℕ → List (List ℕ) → List (List ℕ)
+domainItems pairs arities actions =
     bracket (bytes "domain" ∷ bytes "d" ∷ []) ∷
-    bracket (bytes ":predicates" ∷ numbered predicateText 0 arities) ∷ actions
+    (requirements pairs ++ (bracket (bytes ":predicates" ∷ numbered predicateText 0 arities) ∷ actions))
 
 predicates-items : (arities : List ℕ) → Items (numbered predicateText 0 arities)
 predicates-items arities = items-numbered predicateText predicate-item 0 arities
 
-domain-items : (t : Task) → Items (domainItems (t .arities) (numbered actionText 0 (t .schemas)))
+needs-item : Item needsText
+unfolding needsText isWord
+needs-item =
+    headed-item ":requirements" refl (behind-word ":strips" refl (behind-word ":equality" refl
+    (behind-word ":negative-preconditions" refl none)))
+
+needs-items : (pairs : ℕ) → Items (requirements pairs)
+unfolding requirements
+needs-items pairs = go (eqb pairs 0)
+  where
+    go : (b : Bool) → Items (cond b [] (needsText ∷ []))
+    go true = none
+    go false = more needs-item none
+
+-- the predicates are no requirements: their key begins with another letter
+predicates-no-needs : (arities : List ℕ) → bracket (bytes ":predicates" ∷ numbered predicateText 0 arities) ≡ needsText → ⊥
+unfolding needsText isWord bytes
+predicates-no-needs arities e =
+    let same = bracket-same (behind-word ":predicates" refl (predicates-items arities))
+    (behind-word ":requirements" refl (behind-word ":strips" refl (behind-word ":equality" refl
+    (behind-word ":negative-preconditions" refl none)))) e in
+    let first : bytes ":predicates" ≡ bytes ":requirements" = cc in
+    let letter : code "p" ≡ code "r" = cc in
+    omega arith
+
+-- so what comes behind them is told
+behind-needs : (m n : ℕ) {x y : List ℕ} {xs ys : List (List ℕ)} → (x ≡ needsText → ⊥) → (y ≡ needsText → ⊥) →
+    requirements m ++ (x ∷ xs) ≡ requirements n ++ (y ∷ ys) → (x ≡ y) × (xs ≡ ys)
+unfolding requirements
+behind-needs m n {x} {y} {xs} {ys} h k = go (eqb m 0) (eqb n 0)
+  where
+    go : (b c : Bool) → cond b [] (needsText ∷ []) ++ (x ∷ xs) ≡ cond c [] (needsText ∷ []) ++ (y ∷ ys) →
+        (x ≡ y) × (xs ≡ ys)
+    go true true e = (cc, cc)
+    go true false e = absurd (h (cc))
+    go false true e = absurd (k (cc))
+    go false false e = (cc, cc)
+
+domain-items : (t : Task) →
+    Items (domainItems (schemaPairs (t .schemas)) (t .arities) (numbered actionText 0 (t .schemas)))
 unfolding isWord
 domain-items t =
     more (headed-item "domain" refl (behind-word "d" refl none))
+    (items-append (needs-items (schemaPairs (t .schemas)))
     (more (headed-item ":predicates" refl (predicates-items (t .arities)))
-    (items-numbered actionText action-item 0 (t .schemas)))
+    (items-numbered actionText action-item 0 (t .schemas))))
 
 domain-item : (t : Task) → Item (domainText t)
 unfolding domainText isWord
@@ -81,12 +130,15 @@ domain-told : (t u : Task) → TameTask t → TameTask u → domainText t ≡ do
 unfolding domainText isWord
 domain-told t u h k e =
     let same = headed-same "define" refl (domain-items t) (domain-items u) e in
-    let predicates = headed-same ":predicates" refl (predicates-items (t .arities)) (predicates-items (u .arities)) (cc)
+    let (named, actions) = behind-needs (schemaPairs (t .schemas)) (schemaPairs (u .schemas))
+    {xs = numbered actionText 0 (t .schemas)} {ys = numbered actionText 0 (u .schemas)}
+    (predicates-no-needs (t .arities)) (predicates-no-needs (u .arities)) (cc) in
+    let predicates = headed-same ":predicates" refl (predicates-items (t .arities)) (predicates-items (u .arities)) named
     in (
       list-told (numbered-tells predicateText (λ (n : ℕ). n) 0 (t .arities) (u .arities)
           (λ p x y i j. predicate-same p x y) predicates),
       numbered-tells actionText undivided 0 (t .schemas) (u .schemas)
-          (λ n x y i j. action-same x y (h .schema x i) (k .schema y j) n) (cc),
+          (λ n x y i j. action-same x y (h .schema x i) (k .schema y j) n) actions,
     )
 
 -- ---- the problem
@@ -145,9 +197,9 @@ actions-without i (s ∷ ss) =
 pddl-without : (t : Task) → pddl (withoutParts t) ≡ pddl t
 unfolding pddl withoutParts domainText problemText
 pddl-without t =
-    ap (λ (actions : List (List ℕ)).
-    bracket (bytes "define" ∷ domainItems (t .arities) actions) ++ (newline ∷ (problemText t ++ (newline ∷ []))))
-    (actions-without 0 (t .schemas))
+    ap₂ (λ (pairs : ℕ) (actions : List (List ℕ)).
+    bracket (bytes "define" ∷ domainItems pairs (t .arities) actions) ++ (newline ∷ (problemText t ++ (newline ∷ []))))
+    (pairs-without (t .schemas)) (actions-without 0 (t .schemas))
 
 -- so two tasks that differ in their partitions alone have one text
 pub same-pddl : (t u : Task) → withoutParts t ≡ withoutParts u → pddl t ≡ pddl u

@@ -2,11 +2,13 @@
 -- No promise of an entry point cites these.
 use Prim.Native.Nat.{ℕ, zero, suc, _+_, _-_, _≤_, _<_}
 use mathlib.Core.Path.{_≡_}
+use mathlib.Core.Bool.{cond}
 use mathlib.Core.List.{List, [], _∷_, _++_}
 use lib.ListN.{getD}
+use lib.Dec.{eqb}
 use Rattle.words.specs.Lists.{upTo, upFrom, concatMap}
 use Rattle.words.specs.Words.{wordsAt}
-use Rattle.task.specs.Layout.{atomTotal, arityIn, paramsIn, atomBase}
+use Rattle.task.specs.Layout.{atomTotal, arityIn, paramsIn, pairBase, atomBase}
 use Rattle.task.specs.Run.{schemaAt}
 use Rattle.task.specs.Table.{atomIn, schemaNumberIn, taskOf}
 use Rattle.text.specs.Lines.{bytes, digits}
@@ -52,6 +54,25 @@ pub record RoleRun (w : List ℕ) (schema role from to : ℕ) : Type 0 where
   pub has : (k : ℕ) → from ≤ k → k < to → (schemaNumberIn w k ≡ schema) × (atomIn w k .role ≡ role)
   pub stops : to < atomTotal w → schemaNumberIn w to ≡ schema → atomIn w to .role ≡ role → ⊥
 
+-- ` (not (= ?x0 ?x1))`: two numbers, behind a space
+unfoldable pub apart : List ℕ → List ℕ
+unfolding bytes marked
+apart ns = bytes " (not (=" ++ (marked (bytes " ?x") ns ++ bytes "))")
+
+-- pair i of a table; and those from one to another
+unfoldable pub apartIn : List ℕ → ℕ → List ℕ
+unfolding apart wordsAt pairBase
+apartIn w i = apart (wordsAt w (pairBase w i + 1) 2)
+
+unfoldable pub pairsIn : List ℕ → ℕ → ℕ → List ℕ
+unfolding concatMap apartIn upFrom
+pairsIn w from to = concatMap (apartIn w) (upFrom from (to - from))
+
+-- what so many pairs require, behind a space
+unfoldable pub needsIn : ℕ → List ℕ
+unfolding bytes
+needsIn pairs = cond (eqb pairs 0) [] (bytes " (:requirements :strips :equality :negative-preconditions)")
+
 -- ` (:action a0 :parameters (?x0 ?x1) :precondition (and`: an action up to its preconditions
 unfoldable pub headText : ℕ → ℕ → List ℕ
 unfolding bytes digits neighbours namesUpTo
@@ -59,7 +80,7 @@ headText s params =
     bytes " (:action a" ++ (digits s ++ (bytes " :parameters (" ++
     (neighbours (namesUpTo parameter params) ++ bytes ") :precondition (and")))
 
--- schema s of a table as an action that has no atoms: as long as what the action has besides them
+-- schema s of a table as an action that has no atoms and no pairs: as long as what the action has besides them
 unfoldable pub frameIn : List ℕ → ℕ → List ℕ
 unfolding bytes headText
 frameIn w s = headText s (paramsIn w s) ++ bytes ") :effect (and))"
@@ -74,8 +95,9 @@ unfoldable pub actionIn : List ℕ → ℕ → List ℕ
 unfolding actionText schemaAt taskOf
 actionIn w s = space ∷ actionText s (schemaAt (taskOf w) s)
 
--- no text is longer: of the domain 34 bytes, 23 for each of 400 predicates, 123 for each of 200 schemas with 12
--- parameters, 33 for each of 1,000 atoms, all deletes; of the problem 66, 5 for each of 1,000 objects, 27 for each of
--- 600 initial and goal atoms; shut, since a list function would count a numeral down
+-- no text is longer: of the domain 34 bytes, 58 for what pairs require, 23 for each of 400 predicates, 123 for each of
+-- 200 schemas with 12 parameters, 20 for each of 200 pairs, 33 for each of 1,000 atoms, all deletes; of the problem 66, 5
+-- for each of 1,000 objects, 27 for each of 600 initial and goal atoms; shut, since a list function would count a numeral
+-- down
 unfoldable pub longestPddl : ℕ
-longestPddl = 88100
+longestPddl = 92158

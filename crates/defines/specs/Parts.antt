@@ -13,7 +13,7 @@ withoutPart a = record { role = a .role; pred = a .pred; part = 0; args = a .arg
 
 unfoldable pub undivided : Schema → Schema
 unfolding withoutPart
-undivided s = record { params = s .params; atoms = map withoutPart (s .atoms) }
+undivided s = record { params = s .params; pairs = s .pairs; atoms = map withoutPart (s .atoms) }
 
 unfoldable pub withoutParts : Task → Task
 unfolding undivided

@@ -1,11 +1,14 @@
--- Note 1 of document 02: "a writer of a domain and a problem in the STRIPS fragment, without partitions".
+-- Note 1 of document 02: "a writer of a domain and a problem in the STRIPS fragment, without partitions", with note 4:
+-- "The PDDL writer states each pair as a `(not (= ..))` precondition after the atoms".
 -- All is made of bracketed lists, so that "One space parts neighbours, none stands just inside a bracket" is said once.
 use Prim.Native.Nat.{ℕ, suc}
 use Prim.Native.Char.{code}
 use Prim.Native.String.{String}
+use mathlib.Core.Bool.{cond}
 use mathlib.Core.List.{List, [], _∷_, _++_, map}
-use Rattle.words.specs.Lists.{upTo, concatMap}
-use Rattle.task.specs.Task.{Atom, Fact, Schema, Task, precondition, addition, deletion}
+use lib.Dec.{eqb}
+use Rattle.words.specs.Lists.{sum, upTo, concatMap}
+use Rattle.task.specs.Task.{Atom, Fact, Pair, Schema, Task, precondition, addition, deletion, schemaPairs}
 use Rattle.task.specs.Run.{ofRole}
 use Rattle.text.specs.Lines.{bytes, digits, newline}
 
@@ -96,9 +99,19 @@ unfolding bracket bytes
 conjunction items = bracket (bytes "and" ∷ items)
 
 -- ---- schemas
+-- "`(not (= ..))`": the parameters of a pair, the lower first
+unfoldable pub equality : Pair → List ℕ
+unfolding bracket bytes named
+equality q = bracket (bytes "=" ∷ named parameter (q .lower) ∷ named parameter (q .higher) ∷ [])
+
+unfoldable pub pairText : Pair → List ℕ
+unfolding negated equality
+pairText q = negated (equality q)
+
+-- the precondition atoms, and "after the atoms" the pairs
 unfoldable pub preconditions : Schema → List (List ℕ)
-unfolding schemaAtomText ofRole
-preconditions s = map schemaAtomText (ofRole precondition (s .atoms))
+unfolding schemaAtomText pairText ofRole
+preconditions s = map schemaAtomText (ofRole precondition (s .atoms)) ++ map pairText (s .pairs)
 
 -- adds, then deletes, one `(not (..))` each
 unfoldable pub effects : Schema → List (List ℕ)
@@ -117,14 +130,25 @@ actionText k s = bracket
     bytes ":effect" ∷ conjunction (effects s) ∷ [])
 
 -- ---- the two defines
+-- "with any pair `(:requirements :strips :equality :negative-preconditions)` before the predicates"
+unfoldable pub needsText : List ℕ
+unfolding bracket bytes
+needsText = bracket
+    (bytes ":requirements" ∷ bytes ":strips" ∷ bytes ":equality" ∷ bytes ":negative-preconditions" ∷ [])
+
+unfoldable pub requirements : ℕ → List (List ℕ)
+unfolding needsText
+requirements pairs = cond (eqb pairs 0) [] (needsText ∷ [])
+
 -- "`(define (domain d) (:predicates (p0 ?x0) ..) (:action ..) ..)`"
 unfoldable pub domainText : Task → List ℕ
-unfolding bracket bytes numbered predicateText actionText
+unfolding bracket bytes requirements sum numbered predicateText actionText
 domainText t = bracket
     (bytes "define" ∷
     bracket (bytes "domain" ∷ bytes "d" ∷ []) ∷
-    bracket (bytes ":predicates" ∷ numbered predicateText 0 (t .arities)) ∷
-    numbered actionText 0 (t .schemas))
+    (requirements (schemaPairs (t .schemas)) ++
+    (bracket (bytes ":predicates" ∷ numbered predicateText 0 (t .arities)) ∷
+    numbered actionText 0 (t .schemas))))
 
 -- "`(define (problem q) (:domain d) (:objects o0 ..) (:init ..) (:goal (and ..)))`"
 unfoldable pub problemText : Task → List ℕ

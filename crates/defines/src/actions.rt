@@ -4,6 +4,7 @@ use crate::atoms::put_run;
 use crate::names::PARAMETER;
 use crate::names::below_size;
 use crate::names::put_numbered;
+use crate::pairs::put_pairs;
 use task::layout::params_of;
 use task::limits::ADDITION;
 use task::limits::DELETION;
@@ -23,7 +24,7 @@ ghost use Rattle.words.specs.Putting.{Puts};
 ghost use Rattle.task.specs.Layout.{headIn};
 ghost use Rattle.task.specs.Limits.{mostParameters};
 ghost use Rattle.task.specs.Table.{taskOf, isTable};
-ghost use Rattle.task.specs.Turns.{firstAtom};
+ghost use Rattle.task.specs.Turns.{firstAtom, firstPair};
 ghost use Rattle.defines.specs.Pddl.{neighbours, parameter, namesUpTo};
 ghost use Rattle.defines.specs.ByWords.{headText, frameIn, actionIn};
 
@@ -51,31 +52,49 @@ fn put_head(text: &mut [u8], at: usize, schema: u16, params: u16) -> usize
     put_bytes(text, at_preconditions, b") :precondition (and")
 }
 
-// The action of a schema, whose atoms begin at `from`.
-fn put_action(text: &mut [u8], at: usize, table: &[u16], schema: u16, from: usize) -> Reached
+// How far the writer is: the place behind what it put, and the first atom and the first pair that it has not put.
+struct Acted {
+    at: usize,
+    atom: usize,
+    pair: usize,
+}
+
+// The action of a schema, whose atoms begin at `from` and whose pairs at `pair`.
+fn put_action(
+    text: &mut [u8],
+    at: usize,
+    table: &[u16],
+    schema: u16,
+    from: usize,
+    pair: usize,
+) -> Acted
     requires { ⌜ isTable (now table) ≡ true ⌝ }
     requires { ⌜ schema < headIn (now table) .schemas ⌝ }
     requires { ⌜ from ≡ firstAtom (taskOf (now table)) schema ⌝ }
+    requires { ⌜ pair ≡ firstPair (taskOf (now table)) schema ⌝ }
     requires { ⌜ at + length (actionIn (now table) schema) ≤ length (now text) ⌝ }
     ensures { λ r. ⌜ r .atom ≡ firstAtom (taskOf (now (table .entry))) (suc schema) ⌝ }
+    ensures { λ r. ⌜ r .pair ≡ firstPair (taskOf (now (table .entry))) (suc schema) ⌝ }
     ensures { λ r. ⌜ Puts (now (text .entry)) at (actionIn (now (table .entry)) schema) (now (text .exit)) (r .at) ⌝ }
 {
     let number = wide(schema);
     let params = params_of(table, number) as u16;
     let at_preconditions = put_head(text, at, schema, params);
     let adds = put_run(text, at_preconditions, table, number, PRECONDITION, from);
-    let at_effects = put_bytes(text, adds.at, b") :effect (and");
+    let apart = put_pairs(text, adds.at, table, number, pair);
+    let at_effects = put_bytes(text, apart.at, b") :effect (and");
     let deletes = put_run(text, at_effects, table, number, ADDITION, adds.atom);
     let end = put_run(text, deletes.at, table, number, DELETION, deletes.atom);
     let behind = put_bytes(text, end.at, b"))");
-    Reached {
+    Acted {
         at: behind,
         atom: end.atom,
+        pair: apart.pair,
     }
 }
 
-// The actions of all schemas. Their atoms stand one schema behind another, so each schema begins where the one before
-// it ends.
+// The actions of all schemas. Their atoms stand one schema behind another, and so do their pairs: those of each schema
+// begin where those of the one before it end.
 pub fn put_actions(text: &mut [u8], at: usize, table: &[u16]) -> Reached
     requires { ⌜ isTable (now table) ≡ true ⌝ }
     requires { ⌜ at + length (concatMap (actionIn (now table)) (upTo (headIn (now table) .schemas))) ≤
@@ -86,11 +105,18 @@ pub fn put_actions(text: &mut [u8], at: usize, table: &[u16]) -> Reached
         (now (text .exit)) (r .at) ⌝ }
 {
     let schemas = word_at(table, SCHEMAS);
-    let mut reached = Reached { at, atom: 0 };
+    let mut acted = Acted {
+        at,
+        atom: 0,
+        pair: 0,
+    };
     for s in 0..schemas {
-        reached = put_action(text, reached.at, table, s, reached.atom);
+        acted = put_action(text, acted.at, table, s, acted.atom, acted.pair);
     }
-    reached
+    Reached {
+        at: acted.at,
+        atom: acted.atom,
+    }
 }
 
 // The bytes that the parameters take.
@@ -115,7 +141,7 @@ fn head_size(schema: u16, params: usize) -> usize
         + b") :precondition (and".len()
 }
 
-// The bytes that all actions take besides their atoms.
+// The bytes that all actions take besides their atoms and their pairs.
 pub fn frames_size(table: &[u16]) -> usize
     requires { ⌜ isTable (now table) ≡ true ⌝ }
     ensures { λ r. ⌜ r ≡

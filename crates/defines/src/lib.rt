@@ -2,6 +2,7 @@
 mod actions;
 mod atoms;
 mod names;
+mod pairs;
 mod writer;
 
 ghost use mathlib.Core.Path.{_≡_};
@@ -14,7 +15,7 @@ use writer::has_room;
 use writer::put_pddl;
 
 // No text is longer.
-pub const LONGEST_PDDL: usize = 88100;
+pub const LONGEST_PDDL: usize = 92158;
 
 // Writes a table's task as a domain and a problem, each a line. Nothing is written before it is known that all of it
 // fits.

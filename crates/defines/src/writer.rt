@@ -10,6 +10,9 @@ use crate::names::OBJECT;
 use crate::names::PARAMETER;
 use crate::names::below_size;
 use crate::names::put_numbered;
+use crate::pairs::needs_size;
+use crate::pairs::pairs_size;
+use crate::pairs::put_needs;
 use task::layout::arity_of;
 use task::limits::GOAL;
 use task::limits::INITIAL;
@@ -64,7 +67,8 @@ fn put_predicates(text: &mut [u8], at: usize, table: &[u16]) -> usize
     next
 }
 
-// "`(define (domain d) (:predicates (p0 ?x0) ..) (:action ..) ..)`", and byte 10.
+// "`(define (domain d) (:predicates (p0 ?x0) ..) (:action ..) ..)`", and byte 10; what pairs require stands before the
+// predicates.
 fn put_domain(text: &mut [u8], table: &[u16]) -> Reached
     requires { ⌜ isTable (now table) ≡ true ⌝ }
     requires { ⌜ length (domainText (taskOf (now table)) ++ (newline ∷ [])) ≤ length (now text) ⌝ }
@@ -72,7 +76,9 @@ fn put_domain(text: &mut [u8], table: &[u16]) -> Reached
     ensures { λ r. ⌜ Puts (now (text .entry)) 0 (domainText (taskOf (now (table .entry))) ++ (newline ∷ []))
         (now (text .exit)) (r .at) ⌝ }
 {
-    let at_predicates = put_bytes(text, 0, b"(define (domain d) (:predicates");
+    let at_needs = put_bytes(text, 0, b"(define (domain d)");
+    let at_key = put_needs(text, at_needs, table);
+    let at_predicates = put_bytes(text, at_key, b" (:predicates");
     let at_bracket = put_predicates(text, at_predicates, table);
     let at_actions = put_byte(text, at_bracket, b')');
     let facts = put_actions(text, at_actions, table);
@@ -151,7 +157,13 @@ fn pddl_size(table: &[u16]) -> usize
         + b") (:init".len()
         + b") (:goal (and".len()
         + b")))\n".len();
-    fixed + predicates_size(table) + frames_size(table) + objects_size(table) + items_size(table)
+    fixed
+        + predicates_size(table)
+        + frames_size(table)
+        + objects_size(table)
+        + items_size(table)
+        + needs_size(table)
+        + pairs_size(table)
 }
 
 // Whether the text of a table's task is no longer than the lent bytes. No count is needed for bytes that hold any text.

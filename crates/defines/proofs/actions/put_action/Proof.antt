@@ -1,19 +1,20 @@
--- `defines::actions::put_action` meets its contract: the head, the runs of preconditions, adds and deletes, and the
--- fixed bytes around them are put one behind another (`action-in`). A lemma for each says what is still to come behind
--- it. Each run begins where the one before it ended.
+-- `defines::actions::put_action` meets its contract: the head, the run of preconditions, the pairs, the runs of adds and
+-- deletes, and the fixed bytes around them are put one behind another (`action-in`). A lemma for each says what is still
+-- to come behind it. Each run begins where the one before it ended.
 use native.Mathlib.Omega.{arith}
 use Prim.Native.Nat.{ℕ, suc, _<_}
-use mathlib.Core.Path.{_≡_, ap}
+use mathlib.Core.Path.{_≡_, sym, _∙_, ap, ap₂}
 use mathlib.Core.Bool.{true}
 use mathlib.Core.List.{List, _++_}
 use lib.ListN.{length}
-use Rattle.words.proofs.Puts.{puts-same, Going, going-start, going-left, going-room, going-on, last-room, going-last}
+use Rattle.words.proofs.Puts.{puts-same, puts-length, Going, going-start, going-left, going-room, going-on, last-room}
+use Rattle.words.proofs.Puts.{going-last}
 use Rattle.task.specs.Layout.{headIn, paramsIn}
 use Rattle.task.specs.Task.{precondition, addition, deletion}
 use Rattle.task.specs.Table.{taskOf, isTable}
-use Rattle.task.specs.Turns.{firstAtom}
+use Rattle.task.specs.Turns.{firstAtom, firstPair}
 use Rattle.text.specs.Lines.{bytes}
-use Rattle.defines.specs.ByWords.{itemsIn, RoleRun, headText, actionIn}
+use Rattle.defines.specs.ByWords.{itemsIn, pairsIn, RoleRun, headText, actionIn}
 use Rattle.defines.proofs.RoleRuns.{addsFrom, deletesFrom, precondition-run, add-run, delete-run, action-in}
 use Rattle.defines.proofs.RunsPut.{run-asked, run-ends, run-puts}
 use Rattle.defines.proofs.Frames.{count-inside, head-read}
@@ -61,6 +62,11 @@ adds c = itemsIn (words c) (to-adds c) (to-deletes c)
 abbrev deletes : tie.Start → List ℕ
 deletes c = itemsIn (words c) (to-deletes c) (to-end c)
 
+abbrev pairs : tie.Start → List ℕ
+pairs c =
+    let t = taskOf (words c) in
+    pairsIn (words c) (firstPair t (c .args .schema)) (firstPair t (suc (c .args .schema)))
+
 -- ---- what comes from each place on
 abbrev from-deletes : tie.Start → List ℕ
 from-deletes c = deletes c ++ bytes "))"
@@ -72,7 +78,7 @@ abbrev from-effect : tie.Start → List ℕ
 from-effect c = bytes ") :effect (and" ++ from-adds c
 
 abbrev from-preconditions : tie.Start → List ℕ
-from-preconditions c = preconditions c ++ from-effect c
+from-preconditions c = preconditions c ++ (pairs c ++ from-effect c)
 
 abbrev head : tie.Start → List ℕ
 head c = headText (c .args .schema) (paramsIn (words c) (c .args .schema))
@@ -82,7 +88,7 @@ abbrev Left : tie.Start → List ℕ → List ℕ → ℕ → Type 0
 Left c left text next = Going (c .args .text .now) (c .args .at) (actionIn (words c) (c .args .schema)) left text next
 
 begin : (c : tie.Start) → Left c (head c ++ from-preconditions c) (c .args .text .now) (c .args .at)
-begin c = going-left (action-in (words c) (table c) (c .args .schema) (known c)) (going-start (c .pre .1 .1 .1))
+begin c = going-left (action-in (words c) (table c) (c .args .schema) (known c)) (going-start (c .pre .1 .1 .1 .1))
 
 -- ---- the head, by the parameter count that was read
 params-of-requires : tie.Need-params-of-requires
@@ -123,15 +129,15 @@ put-run-requires c κs =
     let start = start (c .before) in (
       table start,
       run-asked (first-run start) (number (c .before)) (start .pre .1 .1 .0) _
-          (going-room (preconditions start) (from-effect start) (behind-head (c .before))),
+          (going-room (preconditions start) (pairs start ++ from-effect start) (behind-head (c .before))),
     )
 
 abbrev headed : tie.After-slice-known3 → tie.After-slice-known2
 headed c = c .before .before .before .before
 
 behind-preconditions : (c : tie.After-slice-known3) →
-    Left (start (headed c)) (from-effect (start (headed c))) (c .before .before .put-run .last .0)
-    (c .before .before .put-run .result .at)
+    Left (start (headed c)) (pairs (start (headed c)) ++ from-effect (start (headed c)))
+    (c .before .before .put-run .last .0) (c .before .before .put-run .result .at)
 behind-preconditions c =
     let start = start (headed c) in
     going-on (behind-head (headed c))
@@ -142,89 +148,139 @@ adds-found c =
     let start = start (headed c) in
     run-ends (first-run start) (number (headed c)) (start .pre .1 .1 .0) (c .before .before .put-run .ensures)
 
+-- ---- the pairs, by the schema as code holds it and by the place that was handed over
+pairs-said : (c : tie.After-slice-known3) →
+    let start = start (headed c) in
+    pairsIn (words start) (start .args .pair)
+    (firstPair (taskOf (words start)) (suc (read (headed c) .before .wide .result))) ≡ pairs start
+pairs-said c =
+    let start = start (headed c) in
+    let t = taskOf (words start) in
+    ap₂ (λ (i s : ℕ). pairsIn (words start) i (firstPair t (suc s))) (start .pre .1 .1 .1 .0) (number (headed c))
+
+put-pairs-requires : tie.Need-put-pairs-requires
+put-pairs-requires c κs =
+    let start = start (headed (c .before)) in
+    let schema = number (headed (c .before)) in
+    let known = known start in
+    let e = ap length (pairs-said (c .before)) in
+    let r = going-room (pairs start) (from-effect start) (behind-preconditions (c .before)) in (
+      table start,
+      (
+        omega arith,
+        (
+          start .pre .1 .1 .1 .0 ∙ ap (firstPair (taskOf (words start))) (sym schema),
+          omega arith,
+        ),
+      ),
+    )
+
+abbrev required : tie.After-slice-known4 → tie.After-slice-known3
+required c = c .before .before .before .before
+
+behind-pairs : (c : tie.After-slice-known4) →
+    Left (start (headed (required c))) (from-effect (start (headed (required c))))
+    (c .before .before .put-pairs .last .0) (c .before .before .put-pairs .result .at)
+behind-pairs c =
+    going-on (behind-preconditions (required c))
+    (puts-same (pairs-said (required c)) (c .before .before .put-pairs .ensures .1))
+
 put-bytes-requires : tie.Need-put-bytes-requires
 unfolding bytes
 put-bytes-requires c κs =
-    going-room (bytes ") :effect (and") (from-adds (start (headed (c .before .before))))
-    (behind-preconditions (c .before .before))
+    going-room (bytes ") :effect (and") (from-adds (start (headed (required (c .before .before)))))
+    (behind-pairs (c .before .before))
 
-abbrev required : tie.After-slice-known4 → tie.After-slice-known3
-required c = c .before .before .before .before .before
+abbrev paired : tie.After-slice-known5 → tie.After-slice-known4
+paired c = c .before .before .before .before .before
 
-abbrev started : tie.After-slice-known4 → tie.Start
-started c = start (headed (required c))
+abbrev told : tie.After-slice-known5 → tie.After-slice-known3
+told c = required (paired c)
 
-behind-effect : (c : tie.After-slice-known4) →
+abbrev started : tie.After-slice-known5 → tie.Start
+started c = start (headed (told c))
+
+behind-effect : (c : tie.After-slice-known5) →
     Left (started c) (from-adds (started c)) (c .before .before .put-bytes .last .0)
     (c .before .before .put-bytes .result)
 unfolding bytes
 behind-effect c =
-    going-on {ys = bytes ") :effect (and"} (behind-preconditions (required c)) (c .before .before .put-bytes .ensures)
+    going-on {ys = bytes ") :effect (and"} (behind-pairs (paired c)) (c .before .before .put-bytes .ensures)
 
 -- ---- the adds
 put-run-requires-2 : tie.Need-put-run-requires-2
 put-run-requires-2 c κs =
     let start = started (c .before) in (
       table start,
-      run-asked (second-run start) (number (headed (required (c .before)))) (adds-found (required (c .before))) _
+      run-asked (second-run start) (number (headed (told (c .before)))) (adds-found (told (c .before))) _
           (going-room (adds start) (from-deletes start) (behind-effect (c .before))),
     )
 
-abbrev opened : tie.After-slice-known5 → tie.After-slice-known4
+abbrev opened : tie.After-slice-known6 → tie.After-slice-known5
 opened c = c .before .before .before .before
 
-behind-adds : (c : tie.After-slice-known5) →
+behind-adds : (c : tie.After-slice-known6) →
     Left (started (opened c)) (from-deletes (started (opened c))) (c .before .before .put-run2 .last .0)
     (c .before .before .put-run2 .result .at)
 behind-adds c =
     going-on (behind-effect (opened c))
-    (run-puts (second-run (started (opened c))) (number (headed (required (opened c))))
-    (adds-found (required (opened c))) (c .before .before .put-run2 .ensures))
+    (run-puts (second-run (started (opened c))) (number (headed (told (opened c))))
+    (adds-found (told (opened c))) (c .before .before .put-run2 .ensures))
 
-deletes-found : (c : tie.After-slice-known5) →
+deletes-found : (c : tie.After-slice-known6) →
     c .before .before .put-run2 .result .atom ≡ to-deletes (started (opened c))
 deletes-found c =
-    run-ends (second-run (started (opened c))) (number (headed (required (opened c))))
-    (adds-found (required (opened c))) (c .before .before .put-run2 .ensures)
+    run-ends (second-run (started (opened c))) (number (headed (told (opened c))))
+    (adds-found (told (opened c))) (c .before .before .put-run2 .ensures)
 
 -- ---- the deletes
 put-run-requires-3 : tie.Need-put-run-requires-3
 put-run-requires-3 c κs =
     let start = started (opened (c .before)) in (
       table start,
-      run-asked (third-run start) (number (headed (required (opened (c .before))))) (deletes-found (c .before)) _
+      run-asked (third-run start) (number (headed (told (opened (c .before))))) (deletes-found (c .before)) _
           (going-room (deletes start) (bytes "))") (behind-adds (c .before))),
     )
 
-abbrev added : tie.After-slice-known6 → tie.After-slice-known5
+abbrev added : tie.After-slice-known7 → tie.After-slice-known6
 added c = c .before .before .before .before
 
-behind-deletes : (c : tie.After-slice-known6) →
+behind-deletes : (c : tie.After-slice-known7) →
     Left (started (opened (added c))) (bytes "))") (c .before .before .put-run3 .last .0)
     (c .before .before .put-run3 .result .at)
 behind-deletes c =
     let opened = opened (added c) in
     going-on (behind-adds (added c))
-    (run-puts (third-run (started opened)) (number (headed (required opened))) (deletes-found (added c))
+    (run-puts (third-run (started opened)) (number (headed (told opened))) (deletes-found (added c))
     (c .before .before .put-run3 .ensures))
 
 put-bytes-requires-2 : tie.Need-put-bytes-requires-2
 unfolding bytes
 put-bytes-requires-2 c κs = last-room (behind-deletes (c .before .before))
 
+same-length : tie.Need-same-length
+unfolding bytes
+same-length c =
+    puts-length (going-last (behind-deletes (c .before .before .before .before .before))
+    (c .before .before .put-bytes2 .ensures))
+
 returns : tie.Need-returns
 unfolding bytes
 returns c =
     let ended = c .before .before .before .before .before in
-    let opened = opened (added ended) in (
-      run-ends (third-run (started opened)) (number (headed (required opened))) (deletes-found (added ended))
-          (ended .before .before .put-run3 .ensures),
-      going-last (behind-deletes ended) (c .before .before .put-bytes2 .ensures),
+    let opened = opened (added ended) in
+    let schema = number (headed (told opened)) in
+    let t = taskOf (words (started opened)) in (
+      run-ends (third-run (started opened)) schema (deletes-found (added ended)) (ended .before .before .put-run3 .ensures),
+      (
+        paired opened .before .before .put-pairs .ensures .0 ∙ ap (λ (s : ℕ). firstPair t (suc s)) schema,
+        going-last (behind-deletes ended) (c .before .before .put-bytes2 .ensures),
+      ),
     )
 
 pub put-action-spec : {M : Type 1} → statement M
 put-action-spec =
     tie.close
     (tie.spec (λ c κs. search needs) params-of-requires (λ c. search needs) put-head-requires put-run-requires
-    (λ c. search needs) put-bytes-requires put-run-requires-2 put-run-requires-3 (λ c. search needs)
-    put-bytes-requires-2 (λ c. search needs) returns)
+    put-pairs-requires (λ c. search needs) put-bytes-requires put-run-requires-2 put-run-requires-3 (λ c. search needs)
+    put-bytes-requires-2 same-length returns)

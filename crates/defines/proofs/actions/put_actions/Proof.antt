@@ -1,5 +1,5 @@
--- `defines::actions::put_actions` meets its contract. The invariant of its loop: the atoms of schema s come next, and
--- what is still to come is the actions from s on. The measure is the number of schemas less s.
+-- `defines::actions::put_actions` meets its contract. The invariant of its loop: the atoms and the pairs of schema s come
+-- next, and what is still to come is the actions from s on. The measure is the number of schemas less s.
 use native.Mathlib.Omega.{arith}
 use Prim.Native.Nat.{ℕ, suc, _+_, _-_, _≤_}
 use mathlib.Core.Path.{_≡_, refl, sym, _∙_, ap}
@@ -8,7 +8,7 @@ use Rattle.words.specs.Lists.{upTo, concatMap, sum}
 use Rattle.words.proofs.Puts.{Going, going-start, going-long, going-left, going-room, going-on, going-end}
 use Rattle.task.specs.Layout.{headIn}
 use Rattle.task.specs.Table.{taskOf}
-use Rattle.task.specs.Turns.{firstAtom}
+use Rattle.task.specs.Turns.{firstAtom, firstPair}
 use Rattle.task.proofs.TableReads.{counts-inside}
 use Rattle.task.proofs.TablesByIndex.{table-frame, start-end}
 use Rattle.text.proofs.Onwards.{onwards, onwards-all, onwards-next, onwards-none}
@@ -17,13 +17,13 @@ use Rattle.defines.proofs.actions.put_actions.Statement.{statement}
 use Rattle.defines.proofs.actions.put_actions.Tie as tie
 
 abbrev Inv-loop : tie.InvT-loop
-Inv-loop text₀ at table schemas reached₀ s₀ text reached s =
-    (s ≤ schemas) × ((reached .atom ≡ firstAtom (taskOf table) s) ×
+Inv-loop text₀ at table schemas acted₀ s₀ text acted s =
+    (s ≤ schemas) × ((acted .atom ≡ firstAtom (taskOf table) s) × ((acted .pair ≡ firstPair (taskOf table) s) ×
     Going text₀ at (concatMap (actionIn table) (upTo (headIn table .schemas))) (onwards (actionIn table) s schemas) text
-    (reached .at))
+    (acted .at)))
 
 abbrev μ-loop : tie.MeasureT-loop
-μ-loop text₀ at table schemas reached₀ s₀ text reached s = schemas - s
+μ-loop text₀ at table schemas acted₀ s₀ text acted s = schemas - s
 
 loop-holds : tie.Need-loop-holds Inv-loop μ-loop
 unfolding sum
@@ -31,7 +31,7 @@ loop-holds c =
     let start = c .before .before .before in
     let pieces = actionIn (start .args .table .now) in
     let e = ap (onwards pieces 0) (c .word-at .ensures) in
-    (omega arith, (refl, going-left (sym (e ∙ onwards-all pieces _)) (going-start (start .pre .1))))
+    (omega arith, (refl, (refl, going-left (sym (e ∙ onwards-all pieces _)) (going-start (start .pre .1)))))
 
 -- what the loop's head knows: the function's entry, and the count that was read
 abbrev start : tie.At-loop Inv-loop μ-loop → tie.Start Inv-loop μ-loop
@@ -51,11 +51,11 @@ to-come : (c : tie.In-loop Inv-loop μ-loop) →
     let at-loop = c .before in
     Going (start at-loop .args .text .now) (start at-loop .args .at)
     (concatMap (actionIn (words at-loop)) (upTo (headIn (words at-loop) .schemas)))
-    (actionIn (words at-loop) (at-loop .loop .s) ++ behind at-loop) (at-loop .loop .text) (at-loop .loop .reached .at)
+    (actionIn (words at-loop) (at-loop .loop .s) ++ behind at-loop) (at-loop .loop .text) (at-loop .loop .acted .at)
 to-come c =
     let at-loop = c .before in
     going-left (onwards-next (actionIn (words at-loop)) (at-loop .loop .s) (schemas at-loop) (c .loop-test .taken))
-    (at-loop .loop .inv .1 .1)
+    (at-loop .loop .inv .1 .1 .1)
 
 put-action-requires : tie.Need-put-action-requires Inv-loop μ-loop
 put-action-requires c κs =
@@ -66,7 +66,10 @@ put-action-requires c κs =
         omega arith,
         (
           at-loop .loop .inv .1 .0,
-          going-room (actionIn (words at-loop) (at-loop .loop .s)) (behind at-loop) (to-come (c .before)),
+          (
+            at-loop .loop .inv .1 .1 .0,
+            going-room (actionIn (words at-loop) (at-loop .loop .s)) (behind at-loop) (to-come (c .before)),
+          ),
         ),
       ),
     )
@@ -79,12 +82,15 @@ loop-again c =
       omega arith,
       (
         put .0 ∙ ap (firstAtom (taskOf (words at-loop))) e,
-        going-on (to-come (c .before .before .before .before)) (put .1),
+        (
+          put .1 .0 ∙ ap (firstPair (taskOf (words at-loop))) e,
+          going-on (to-come (c .before .before .before .before)) (put .1 .1),
+        ),
       ),
     )
 
 same-length : tie.Need-same-length Inv-loop μ-loop
-same-length c = going-long (c .before .loop .inv .1 .1)
+same-length c = going-long (c .before .loop .inv .1 .1 .1)
 
 returns : tie.Need-returns Inv-loop μ-loop
 returns c =
@@ -93,7 +99,7 @@ returns c =
     let e : at-loop .loop .s ≡ headIn w .schemas = let n = at-loop .before .word-at .ensures in omega arith in
     let none = onwards-none (actionIn w) (at-loop .loop .s) (schemas at-loop) (omega arith) in (
       at-loop .loop .inv .1 .0 ∙ (ap (firstAtom (taskOf w)) e ∙ start-end w (table-frame w (start at-loop .pre .0))),
-      going-end (going-left none (at-loop .loop .inv .1 .1)),
+      going-end (going-left none (at-loop .loop .inv .1 .1 .1)),
     )
 
 pub put-actions-spec : {M : Type 1} → statement M
