@@ -24,7 +24,7 @@ use Rattle.task.proofs.Tables.{tableWords-is}
 use Rattle.text.specs.Reading.{goOn, refuse}
 use Rattle.text.specs.Text.{Draft, differ, pairFollows, addPair}
 use Rattle.text.specs.ReadCode.{Standing, Wrote, Listed, Words}
-use Rattle.text.specs.Holding.{Holds, Allows, PairTurn, rowBlocks, pairsOf, pairsAt, rowsAt, pairAt, pairOf}
+use Rattle.text.specs.Holding.{Holds, Allows, PairTurn, rowBlocks, rowsOf, pairsOf, pairsAt, rowsAt, pairAt, pairOf}
 use Rattle.text.specs.Holding.{withPair, onePairMore}
 use Rattle.text.proofs.Reading.{need-met, need-went}
 use Rattle.text.proofs.Growing.{later-pair}
@@ -298,7 +298,7 @@ module _ {d : Draft} {w : List ℕ} {c : Counts} (h : Holds d w c) (q : Pair) wh
             (stays-before wrote base (pairsOf d) (omega arith) (h .pairs-stand))
             (at-move after (pairAt c) (base + length (pairsOf d)) (pairWords number q) (omega arith)
             (stands wrote (pairWords number q) (length-pairWords number q) (λ k l. refl))));
-        rows-stand = stays-behind wrote (rowsAt (length (d .task .arities))) _ (omega arith) (h .rows-stand);
+        rows-stand = stays-behind wrote (rowsAt (length (d .task .arities))) (rowsOf d) (omega arith) (h .rows-stand);
         rows-length = h .rows-length;
       }
 

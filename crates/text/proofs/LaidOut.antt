@@ -1,27 +1,29 @@
--- The table of the task that was read: the rows were moved down to their place, zeros follow them, and the six counts
--- come first, so the first 13,406 words are the task's and the others are as they were.
+-- The table of the task that was read: the pairs were moved down to their place, then the rows to theirs behind them,
+-- zeros follow, and the seven counts come first, so the first 14,007 words are the task's and the others are as they
+-- were.
 use Prim.Native.Nat.{ℕ, _+_, _-_, _*_, _≤_, _<_}
 use mathlib.Core.Path.{_≡_, refl, sym, _∙_, ap, subst}
 use mathlib.Core.Bool.{Bool, true, false}
-use mathlib.Core.List.{List, [], _∷_, _++_, map}
+use mathlib.Core.List.{List, [], _∷_, _++_, map, append-nil}
 use native.Mathlib.Omega.{arith}
 use lib.ListN.{length, getD, drop, replicate, length-append, length-map, length-drop, length-replicate, getD-replicate}
 use lib.ListN.{List·getD-append}
 use lib.Seq.{ext-getD, getD-append-add, getD-drop}
 use lib.Dec.{ltb}
 use borrow.Author.Tests.{ltb-true, ltb-false}
-use Rattle.task.specs.Limits.{tableWords, headWords, atomSize, tableLength}
+use Rattle.task.specs.Limits.{tableWords, headWords, pairSize, atomSize, tableLength}
 use Rattle.task.specs.Layout.{headBlock}
 use Rattle.words.specs.Lists.{concatMap, joined, over, sum}
 use Rattle.task.specs.Task.{wellFormed, initial, goalRole}
-use Rattle.task.specs.Table.{factWords, schemasFrom, headOf, blocksOf, wordsOf}
+use Rattle.task.specs.Table.{factWords, pairsFrom, schemasFrom, headOf, blocksOf, wordsOf}
 use Rattle.words.proofs.Words.{At, at-move}
 use Rattle.words.proofs.JoinedWords.{length-joined, at-place, stands-concat, concat-row}
 use Rattle.task.proofs.Tables.{content, words-are, words-length, tableWords-is}
-use Rattle.text.specs.Text.{Draft}
-use Rattle.text.specs.ReadCode.{Wrote}
-use Rattle.text.specs.Holding.{rowBlocks, rowsOf, Holds, Touched, rowsAt}
+use Rattle.text.specs.Text.{Draft, between}
+use Rattle.text.specs.ReadCode.{Wrote, phaseNumber}
+use Rattle.text.specs.Holding.{rowBlocks, rowsOf, pairsOf, Holds, Touched, pairsAt, rowsAt}
 use Rattle.text.proofs.WroteWords.{stands, stays-before, stays-behind}
+use Rattle.text.proofs.HeldPairs.{pairs-length}
 use Rattle.text.specs.declared.draft.Counts.{Counts}
 
 -- words that begin with a list, and else are as they were, are the list over them
@@ -80,9 +82,15 @@ over-touched xs lent w e l t =
     (getD-append-add xs (drop (length xs) w) (k - length xs) 0 ∙
     (getD-drop (length xs) w (k - length xs) 0 ∙ (ap (λ (i : ℕ). getD w i 0) z ∙ t .beyond k (omega arith)))))
 
-module _ {d : Draft} {w : List ℕ} {c : Counts} (h : Holds d w c) (closed : 7 ≤ c .phase) where
+module _ {d : Draft} {w : List ℕ} {c : Counts} (h : Holds d w c) (closed : phaseNumber between ≤ c .phase) where
+  abbrev pairsTo : ℕ
+  pairsTo = headWords + c .predicates + c .schemas
+
+  abbrev manyPairs : ℕ
+  manyPairs = pairSize * (c .pairs + c .apart)
+
   abbrev to : ℕ
-  to = headWords + c .predicates + c .schemas
+  to = pairsTo + manyPairs
 
   abbrev many : ℕ
   many = atomSize * (((c .closed + c .atoms) + c .initial) + c .goal)
@@ -95,9 +103,16 @@ module _ {d : Draft} {w : List ℕ} {c : Counts} (h : Holds d w c) (closed : 7 �
     schemaAtoms = c .closed;
     initialAtoms = c .initial;
     goalAtoms = c .goal;
+    pairs = c .pairs;
   })
 
-  -- the blocks behind the parameter counts
+  abbrev params : List ℕ
+  params = map (λ s. s .params) (d .task .schemas)
+
+  abbrev pairs : List ℕ
+  pairs = pairsFrom 0 (d .task .schemas)
+
+  -- the blocks behind the pairs
   abbrev atomBlocks : List (List ℕ)
   atomBlocks =
       schemasFrom 0 (d .task .schemas) ∷
@@ -107,35 +122,65 @@ module _ {d : Draft} {w : List ℕ} {c : Counts} (h : Holds d w c) (closed : 7 �
   abbrev rows : List ℕ
   rows = joined atomBlocks
 
+  -- no schema is being read any more
+  pairs-are : pairsOf d ≡ pairs
+  unfolding pairsOf concatMap
+  pairs-are = rw (h .order .closed closed) (append-nil pairs)
+
   rows-are : rowsOf d ≡ rows
   unfolding rowBlocks joined concatMap
   rows-are = rw (h .order .closed closed) refl
 
   head-is : head ≡ headBlock (headOf (d .task))
-  head-is = rw (h .objects, h .predicates, h .schemas, h .closed, h .initial, h .goal) refl
+  head-is = rw (h .objects, h .predicates, h .schemas, h .closed, h .initial, h .goal, h .pairs) refl
 
-  module _ {moved zeroed after : List ℕ} (down : Wrote w to many (λ k. getD w (rowsAt (c .predicates) + k) 0) moved)
+  pairs-long : length pairs ≡ manyPairs
+  pairs-long = ap length (sym pairs-are) ∙ pairs-length h
+
+  rows-long : length rows ≡ many
+  rows-long = ap length (sym rows-are) ∙ h .rows-length
+
+  module _ {paired moved zeroed after : List ℕ}
+      (first : Wrote w pairsTo manyPairs (λ k. getD w (pairsAt (c .predicates) + k) 0) paired)
+      (down : Wrote paired to many (λ k. getD paired (rowsAt (c .predicates) + k) 0) moved)
       (zeros : Wrote moved (to + many) (tableLength - (to + many)) (λ k. 0) zeroed)
       (heads : Wrote zeroed 0 headWords (λ k. getD head k 0) after) where
+    -- what stands before the rows' place once the pairs have moved
+    early-laid : (i : ℕ) (xs : List ℕ) → headWords ≤ i → i + length xs ≤ to → At paired i xs → At after i xs
+    early-laid i xs l m a =
+        stays-behind heads i xs l (stays-before zeros i xs (omega arith) (stays-before down i xs m a))
+
     arities-laid : At after headWords (d .task .arities)
     arities-laid =
         let p = h .predicates in
-        stays-behind heads headWords (d .task .arities) (omega arith)
-        (stays-before zeros headWords (d .task .arities) (omega arith)
-        (stays-before down headWords (d .task .arities) (omega arith) (h .arities-stand)))
+        early-laid headWords (d .task .arities) (omega arith) (omega arith)
+        (stays-before first headWords (d .task .arities) (omega arith) (h .arities-stand))
 
-    params-laid : At after (headWords + length (d .task .arities)) (map (λ s. s .params) (d .task .schemas))
+    params-laid : At after (headWords + length (d .task .arities)) params
     params-laid =
         let p = h .predicates in
         let s = h .schemas in
         let m = length-map (d .task .schemas) (λ s. s .params) in
-        let params = map (λ s. s .params) (d .task .schemas) in
-        stays-behind heads (headWords + length (d .task .arities)) params (omega arith)
-        (stays-before zeros (headWords + length (d .task .arities)) params (omega arith)
-        (stays-before down (headWords + length (d .task .arities)) params (omega arith) (h .params-stand)))
+        early-laid (headWords + length (d .task .arities)) params (omega arith) (omega arith)
+        (stays-before first (headWords + length (d .task .arities)) params (omega arith) (h .params-stand))
 
-    rows-long : length rows ≡ many
-    rows-long = ap length (sym rows-are) ∙ h .rows-length
+    pairs-laid : At after pairsTo pairs
+    pairs-laid =
+        let n = pairs-long in
+        early-laid pairsTo pairs (omega arith) (omega arith) (λ k l.
+        let p = h .predicates in
+        let z : pairsAt (c .predicates) + k ≡ pairsAt (length (d .task .arities)) + k = omega arith in
+        first .put k (omega arith) ∙ (ap (λ (i : ℕ). getD w i 0) z ∙
+        subst (At w (pairsAt (length (d .task .arities)))) pairs-are (h .pairs-stand) k l))
+
+    -- the pairs moved down before the rows, so these stand where they did
+    rows-kept : At paired (rowsAt (length (d .task .arities))) rows
+    rows-kept =
+        let p = h .predicates in
+        let s = h .few .schemas in
+        let n = h .few .pairs in
+        stays-behind first (rowsAt (length (d .task .arities))) rows (omega arith)
+        (subst (At w (rowsAt (length (d .task .arities)))) rows-are (h .rows-stand))
 
     rows-laid : At after to rows
     rows-laid =
@@ -144,8 +189,7 @@ module _ {d : Draft} {w : List ℕ} {c : Counts} (h : Holds d w c) (closed : 7 �
         (stays-before zeros to rows (omega arith) (λ k l.
         let p = h .predicates in
         let z : rowsAt (c .predicates) + k ≡ rowsAt (length (d .task .arities)) + k = omega arith in
-        down .put k (omega arith) ∙ (ap (λ (i : ℕ). getD w i 0) z ∙
-        subst (At w (rowsAt (length (d .task .arities)))) rows-are (h .rows-stand) k l)))
+        down .put k (omega arith) ∙ (ap (λ (i : ℕ). getD paired i 0) z ∙ rows-kept k l)))
 
     content-laid : At after 0 (content (d .task))
     unfolding blocksOf
@@ -153,12 +197,14 @@ module _ {d : Draft} {w : List ℕ} {c : Counts} (h : Holds d w c) (closed : 7 �
         let p = h .predicates in
         let s = h .schemas in
         let m = length-map (d .task .schemas) (λ s. s .params) in
-        let behind : ℕ = headWords + length (d .task .arities) + length (map (λ s. s .params) (d .task .schemas)) in
+        let n = pairs-long in
+        let behind : ℕ = pairsTo + length pairs in
         stands-concat after 0 (blocksOf (d .task))
         (at-place 0 refl (subst (At after 0) head-is (stands heads head refl (λ k l. refl)))
         (at-place headWords (omega arith) arities-laid
         (at-place (headWords + length (d .task .arities)) refl params-laid
-        (concat-row after behind atomBlocks (at-move after to behind rows (omega arith) rows-laid)))))
+        (at-place pairsTo (omega arith) pairs-laid
+        (concat-row after behind atomBlocks (at-move after to behind rows (omega arith) rows-laid))))))
 
     content-long : length (content (d .task)) ≡ to + many
     unfolding blocksOf sum
@@ -166,19 +212,21 @@ module _ {d : Draft} {w : List ℕ} {c : Counts} (h : Holds d w c) (closed : 7 �
         let p = h .predicates in
         let s = h .schemas in
         let m = length-map (d .task .schemas) (λ s. s .params) in
-        omega (arith, rows-long, length-joined atomBlocks, length-joined (blocksOf (d .task)))
+        omega (arith, pairs-long, rows-long, length-joined atomBlocks, length-joined (blocksOf (d .task)))
 
     pub laid-out : to + many ≤ tableLength → wellFormed (d .task) ≡ true → after ≡ over (wordsOf (d .task)) w
     laid-out room well =
         let t = tableWords-is in
         let long = h .long in
         let n = words-length (d .task) well in
+        let s₀ = first .size in
         let s₁ = down .size in
         let s₂ = zeros .size in
         let s₃ = heads .size in
         over-is (wordsOf (d .task)) w after (omega arith) (omega arith)
         (λ k l. words-are after (d .task) content-laid zeros-laid k (omega arith))
-        (λ k l. heads .behind k (omega arith) ∙ (zeros .behind k (omega arith) ∙ down .behind k (omega arith)))
+        (λ k l. heads .behind k (omega arith) ∙ (zeros .behind k (omega arith) ∙
+        (down .behind k (omega arith) ∙ first .behind k (omega arith))))
       where
         zeros-laid : (k : ℕ) → length (content (d .task)) ≤ k → k < tableWords → getD after k 0 ≡ 0
         zeros-laid k l m =
