@@ -1,5 +1,5 @@
--- A test of a task, one atom or pair at a time: what it says of a list that gains a last one, both ways. Where a test of
--- the longer list gives the test of the shorter one, it gives that of every beginning (`prefix`).
+-- A test of a task, one atom or pair at a time: what it says of a list that gains a last one, both ways. Where a test
+-- of the longer list gives the test of the shorter one, it gives that of every beginning (`prefix`).
 use Prim.Native.Nat.{ℕ, suc, _≤_}
 use mathlib.Core.Path.{_≡_, refl, sym, _∙_, ap, subst}
 use mathlib.Core.Bool.{Bool, true, not, _&&_}

@@ -1,6 +1,6 @@
--- A `differ` line: the code's tests of its pair are the definitions' tests, and behind the line the code holds the draft
--- with one pair more. The words of the pairs that were read, here for the other lines too, stand before all rows of
--- atoms.
+-- A `differ` line: the code's tests of its pair are the definitions' tests, and behind the line the code holds the
+-- draft with one pair more. The words of the pairs that were read, here for the other lines too, stand before all rows
+-- of atoms.
 use Rattle.text.specs.declared.draft.Check.the-variants as check
 use Prim.Native.Nat.{ℕ, zero, suc, _+_, _-_, _*_, _≤_, _<_}
 use mathlib.Core.Path.{_≡_, refl, sym, _∙_, ap, ap₂, subst}
@@ -10,7 +10,7 @@ use native.Mathlib.Omega.{arith}
 use lib.ListN.{length, getD, length-append, length-map}
 use lib.Dec.{eqb, ltb}
 use borrow.Author.Tests.{ltb-true, le-ltb, lt-ltb, eq-eqb, ne-eqb}
-use Rattle.words.specs.Lists.{concatMap, sum}
+use Rattle.words.specs.Lists.{concatMap}
 use Rattle.words.specs.Words.{wordBound}
 use Rattle.task.specs.Limits.{headWords, pairSize, tableLength}
 use Rattle.task.specs.Task.{Pair, Schema, pairFits, pairLess, schemaPairs}
@@ -24,8 +24,8 @@ use Rattle.task.proofs.Tables.{tableWords-is}
 use Rattle.text.specs.Reading.{goOn, refuse}
 use Rattle.text.specs.Text.{Draft, differ, pairFollows, addPair}
 use Rattle.text.specs.ReadCode.{Standing, Wrote, Listed, Words}
-use Rattle.text.specs.Holding.{Holds, Allows, PairTurn, rowBlocks, rowsOf, pairsOf, pairsAt, rowsAt, pairAt, pairOf}
-use Rattle.text.specs.Holding.{withPair, onePairMore}
+use Rattle.text.specs.Holding.{Holds, Allows, PairTurn, rowBlocks, rowsOf, pairsOf, pairsAt, rowsAt, pairAt}
+use Rattle.text.specs.Holding.{pairOf, withPair, onePairMore}
 use Rattle.text.proofs.Reading.{need-met, need-went}
 use Rattle.text.proofs.Growing.{later-pair}
 use Rattle.text.proofs.LineTurns.{need-fails}
@@ -112,29 +112,29 @@ module _ (d : Draft) (ns : List ℕ) where
   abbrev fits : Bool
   fits = pairFits (d .current .params) (pairOf ns)
 
-  pub not-two : (length ns ≡ 2 → ⊥) → addPair d ns ≡ refuse 3
+  not-two : (length ns ≡ 2 → ⊥) → addPair d ns ≡ refuse 3
   unfolding addPair
   not-two n = need-fails 3 _ (ne-eqb (length ns) 2 n)
 
   module _ (two : length ns ≡ 2) where
-    pub pairs-full : 200 ≤ all-pairs → addPair d ns ≡ refuse 21
+    pairs-full : 200 ≤ all-pairs → addPair d ns ≡ refuse 21
     unfolding addPair
     pairs-full l = need-met 3 (eq-eqb (length ns) 2 two) (need-fails 21 _ (le-ltb all-pairs 200 l))
 
     module _ (room : all-pairs < 200) where
-      pub pair-misfits : fits ≡ false → addPair d ns ≡ refuse 19
+      pair-misfits : fits ≡ false → addPair d ns ≡ refuse 19
       unfolding addPair
       pair-misfits f =
           need-met 3 (eq-eqb (length ns) 2 two) (need-met 21 (lt-ltb all-pairs 200 room) (need-fails 19 _ f))
 
       module _ (low : fits ≡ true) where
-        pub pair-unordered : pairFollows (d .current .pairs) (pairOf ns) ≡ false → addPair d ns ≡ refuse 19
+        pair-unordered : pairFollows (d .current .pairs) (pairOf ns) ≡ false → addPair d ns ≡ refuse 19
         unfolding addPair
         pair-unordered f =
             need-met 3 (eq-eqb (length ns) 2 two)
             (need-met 21 (lt-ltb all-pairs 200 room) (need-met 19 low (need-fails 19 _ f)))
 
-        pub pair-taken : pairFollows (d .current .pairs) (pairOf ns) ≡ true →
+        pair-taken : pairFollows (d .current .pairs) (pairOf ns) ≡ true →
             addPair d ns ≡ goOn (withPair d (pairOf ns))
         unfolding addPair withPair
         pair-taken f =
@@ -142,7 +142,7 @@ module _ (d : Draft) (ns : List ℕ) where
             (need-met 21 (lt-ltb all-pairs 200 room) (need-met 19 low (need-met 19 f refl)))
 
 -- the two numbers that were kept are those of the line
-pub kept-pair : {ns kept : List ℕ} {count : ℕ} → Listed ns count kept → count ≡ 2 → length kept ≡ 2 →
+kept-pair : {ns kept : List ℕ} {count : ℕ} → Listed ns count kept → count ≡ 2 → length kept ≡ 2 →
     pairOf kept ≡ pairOf ns
 kept-pair s e l =
     let n = s .counted in
@@ -201,12 +201,12 @@ module _ {d : Draft} {w : List ℕ} {c : Counts} (h : Holds d w c) {ns kept : Li
           pair-passes e = (pair-taken d ns line-two line-room low (line-follows e), line-two)
 
 -- what a pair that is taken has passed
-pub record PairPassed (d : Draft) (ns : List ℕ) : Type 0 where
-  pub room : schemaPairs (d .task .schemas) + length (d .current .pairs) < 200
-  pub ascends : pairOf ns .lower < pairOf ns .higher
-  pub low : pairOf ns .higher < d .current .params
+record PairPassed (d : Draft) (ns : List ℕ) : Type 0 where
+  room : schemaPairs (d .task .schemas) + length (d .current .pairs) < 200
+  ascends : pairOf ns .lower < pairOf ns .higher
+  low : pairOf ns .higher < d .current .params
 
-pub pair-passed : (d : Draft) (ns : List ℕ) (e : Draft) → addPair d ns ≡ goOn e → PairPassed d ns
+pair-passed : (d : Draft) (ns : List ℕ) (e : Draft) → addPair d ns ≡ goOn e → PairPassed d ns
 unfolding addPair
 pair-passed d ns e h =
     let (two, a) = need-went (eqb (length ns) 2) 3 _ e h in
@@ -235,7 +235,7 @@ module _ {d : Draft} {w : List ℕ} {c : Counts} (h : Holds d w c) (q : Pair) wh
       regroup : (x y z : List ℕ) → x ++ (y ++ (z ++ [])) ≡ (x ++ y) ++ z
       regroup x y z = simp (append-assoc, append-nil)
 
-  pub pair-held : {after : List ℕ} → Allows c differ → c .pairs + c .apart < 200 →
+  pair-held : {after : List ℕ} → Allows c differ → c .pairs + c .apart < 200 →
       Wrote w (pairAt c) pairSize (λ k. getD (pairWords number q) k 0) after →
       Holds (withPair d q) after (onePairMore c)
   unfolding withPair rowBlocks
@@ -302,7 +302,7 @@ module _ {d : Draft} {w : List ℕ} {c : Counts} (h : Holds d w c) (q : Pair) wh
         rows-length = h .rows-length;
       }
 
-pub three-words : {a b c : ℕ} → a < wordBound → b < wordBound → c < wordBound → Words pairSize (a ∷ b ∷ c ∷ [])
+three-words : {a b c : ℕ} → a < wordBound → b < wordBound → c < wordBound → Words pairSize (a ∷ b ∷ c ∷ [])
 three-words {a} {b} {c} ha hb hc = record { enough = omega arith; small = at }
   where
     at : (k : ℕ) → k < pairSize → getD (a ∷ b ∷ c ∷ []) k 0 < wordBound

@@ -52,8 +52,8 @@ pub enum Check {
     Refuses(u32),
 }
 
-// Pairs stand behind the seven counts, the arities, and room for the parameter counts of all schemas that may come; rows
-// behind room for all pairs that may.
+// Pairs stand behind the seven counts, the arities, and room for the parameter counts of all schemas that may come;
+// rows behind room for all pairs that may.
 pub const PAIRS_AT: usize = limits::HEAD_WORDS + limits::MOST_SCHEMAS;
 
 pub const ROWS_AT: usize = PAIRS_AT + limits::PAIR_SIZE * limits::MOST_PAIRS;

@@ -1,5 +1,5 @@
-// The `differ` line: "two parameters (3 unless two numbers), the lower first, the lines strictly ascending". The 201st is
-// 21; one "that names a parameter too high, or whose pair or place doesn't ascend" is 19.
+// The `differ` line: "two parameters (3 unless two numbers), the lower first, the lines strictly ascending". The 201st
+// is 21; one "that names a parameter too high, or whose pair or place doesn't ascend" is 19.
 use crate::cursor::Cursor;
 use crate::draft::Check;
 use crate::draft::Counts;
@@ -15,12 +15,12 @@ use task::limits::MOST_PAIRS;
 use task::limits::PAIR_SIZE;
 ghost use mathlib.Core.List.{List as Many};
 ghost use mathlib.Core.Path.{_≡_};
-ghost use Prim.Native.Nat.{ℕ, _<_};
-ghost use lib.ListN.{length, getD};
+ghost use Prim.Native.Nat.{ℕ};
+ghost use lib.ListN.{length};
 ghost use Rattle.text.specs.Lines.{ended, numbers};
 ghost use Rattle.text.specs.Text.{Draft, differLine, differ, pairFollows};
 ghost use Rattle.text.specs.ReadCode.{Placed, Listed};
-ghost use Rattle.text.specs.Holding.{Holds, Drafted, Touched, PairTurn, pairOf, Allows, Takes};
+ghost use Rattle.text.specs.Holding.{Holds, Drafted, Touched, PairTurn, Allows, Takes};
 
 // How many numbers a `differ` line has.
 const PARAMETERS: usize = 2;

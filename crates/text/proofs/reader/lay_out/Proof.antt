@@ -1,12 +1,10 @@
 -- `text::reader::lay_out`: the pairs, the rows behind them, the zeros behind these and the counts are written one after
 -- the other. Each write leaves what stands outside its place, so in the end the words are those of the task.
 use Rattle.text.proofs.reader.lay_out.Tie as tie
-use Prim.Native.Nat.{ℕ, _-_}
 use mathlib.Core.Path.{_≡_, _∙_}
 use native.Mathlib.Omega.{arith}
 use borrow.Author.Needs.{needs}
 use lib.ListN.{length}
-use Rattle.text.specs.Holding.{Drafted}
 use Rattle.text.proofs.TableRoom.{pairs-move-room, move-room, laid-room, zeros-room, head-room, head-words}
 use Rattle.text.proofs.LaidOut.{laid-out}
 use Rattle.text.proofs.reader.lay_out.Statement.{statement}
@@ -109,8 +107,8 @@ returns c =
     let z = cleared (counted (p .before)) in
     let m = moved z in
     λ d h closed well.
-    laid-out h closed (paired m .move-down .ensures) (m .move-down2 .ensures) (z .clear .ensures) (p .put-words .ensures)
-    (laid-room h) well
+    laid-out h closed (paired m .move-down .ensures) (m .move-down2 .ensures) (z .clear .ensures)
+    (p .put-words .ensures) (laid-room h) well
 
 pub lay-out-spec : {M : Type 1} → statement M
 lay-out-spec =

@@ -1,5 +1,5 @@
 -- `text::reader::refused` meets its contract.
--- What is cleared are 13,406 words, all of a table (`tableWords-is`), and that many are lent.
+-- What is cleared are 14,007 words, all of a table (`tableWords-is`), and that many are lent.
 use Rattle.text.proofs.reader.refused.Tie as tie
 use Prim.Native.Nat.{_-_}
 use mathlib.Core.Path.{refl, sym}

@@ -1,5 +1,5 @@
--- `text::lines::differ::check_pair` refuses as `addPair` does, test by test: what each test found of the numbers that were
--- kept is said of the draft by a law, and the answers cite it.
+-- `text::lines::differ::check_pair` refuses as `addPair` does, test by test: what each test found of the numbers that
+-- were kept is said of the draft by a law, and the answers cite it.
 use Rattle.text.proofs.lines.differ.check_pair.Tie as tie
 use mathlib.Core.Path.{sym, _∙_}
 use borrow.Author.Needs.{needs}

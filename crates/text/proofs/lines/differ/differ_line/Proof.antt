@@ -1,11 +1,8 @@
--- `text::lines::differ::differ_line`: the line has no list, or its numbers make no pair, or they do. Then the pair's words
--- go behind those of the pairs before, and the code holds the draft behind the line.
+-- `text::lines::differ::differ_line`: the line has no list, or its numbers make no pair, or they do. Then the pair's
+-- words go behind those of the pairs before, and the code holds the draft behind the line.
 use Rattle.text.proofs.lines.differ.differ_line.Tie as tie
 use Rattle.text.specs.declared.draft.Check.the-variants as check
-use Prim.Native.Nat.{ℕ}
 use mathlib.Core.Path.{subst}
-use mathlib.Core.List.{List}
-use native.Mathlib.Omega.{arith}
 use borrow.Author.Needs.{needs}
 use Rattle.text.specs.Lines.{numbers}
 use Rattle.text.specs.Text.{differLine, takeLine, Draft}

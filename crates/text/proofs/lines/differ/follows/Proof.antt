@@ -1,5 +1,5 @@
--- `text::lines::differ::follows`: the first pair of a schema comes behind none; another is compared with the words of the
--- one before it, by the lower parameter and then by the higher, as the definition compares the pairs.
+-- `text::lines::differ::follows`: the first pair of a schema comes behind none; another is compared with the words of
+-- the one before it, by the lower parameter and then by the higher, as the definition compares the pairs.
 use Rattle.text.proofs.lines.differ.follows.Tie as tie
 use Prim.Native.Nat.{ℕ, _+_, _-_}
 use mathlib.Core.Path.{_≡_, sym, _∙_, ap}
