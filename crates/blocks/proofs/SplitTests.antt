@@ -6,17 +6,18 @@ use mathlib.Core.Path.{_≡_, refl, sym, _∙_, ap, ap₂, subst}
 use mathlib.Core.Bool.{Bool, true, false, _&&_}
 use mathlib.Core.List.{List, [], _∷_}
 use native.Mathlib.Omega.{arith}
-use lib.ListN.{length, getD, take}
+use lib.ListN.{length, getD, set, take}
 use borrow.Author.Tests.{leb-true}
 use Rattle.words.specs.Lists.{all, upTo}
+use Rattle.words.specs.Words.{wordsAt}
 use Rattle.words.specs.Putting.{Puts}
-use Rattle.words.proofs.Puts.{put-over, puts-length, take-over}
+use Rattle.words.proofs.Puts.{put-over, puts-then, puts-length, take-over}
 use Rattle.words.proofs.Lists.{In}
 use Rattle.words.proofs.Words.{At, at-right, at-wordsAt, wordsAt-take}
 use Rattle.task.specs.Limits.{mostPairs, pairSize, stepSize}
 use Rattle.task.specs.Task.{Pair, Schema, Task, noSchema, schemaPairs, wellFormed}
 use Rattle.task.specs.Table.{pairWords, pairsFrom}
-use Rattle.task.specs.Run.{schemaAt, paramCount, isStepAt}
+use Rattle.task.specs.Run.{differ, schemaAt, paramCount, isStepAt}
 use Rattle.task.specs.StepTests.{limitsFor, objectsThenZeros, apartAt, PairsFew}
 use Rattle.task.proofs.Tests.{task-tests}
 use Rattle.task.proofs.States.{PairFits, wellFormed-is}
@@ -38,18 +39,22 @@ rows-room t well = (
   length-rowsFrom pairWords (λ s. s .pairs) pairSize 0 (splitTask t .schemas) (pairs-even (splitTask t .schemas)),
 )
 
--- their count, and then they, put over zeros
-pub rows-noted : (t : Task) → wellFormed (splitTask t) ≡ true → (lent pairs : List ℕ) (next : ℕ) →
-    length lent ≡ carriedRoom → Puts lent 0 (carriedRows t) pairs next → PairsNoted t pairs
-rows-noted t well lent pairs next l h =
+-- their count is set before them
+pub rows-noted : (t : Task) → wellFormed (splitTask t) ≡ true → (lent pairs : List ℕ) (n next : ℕ) →
+    length lent ≡ carriedRoom → n ≡ schemaPairs (splitTask t .schemas) →
+    Puts (set lent 0 n) 1 (pairsFrom 0 (splitTask t .schemas)) pairs next → PairsNoted t pairs
+rows-noted t well lent pairs n next l d h =
     let rows = carriedRows t in
     let (few, e) = rows-room t well in
-    let m = puts-length h in
+    let puts : Puts lent 0 rows pairs next =
+    puts-then {xs = n ∷ []} (record { words = refl; place = refl }) h rows
+    (ap (λ (k : ℕ). k ∷ pairsFrom 0 (splitTask t .schemas)) (sym d)) in
+    let m = puts-length puts in
     record {
       long = m ∙ l;
       rows =
           wordsAt-take pairs (length rows) (omega arith) ∙
-          (ap (take (length rows)) (h .words ∙ put-over rows lent (omega arith)) ∙
+          (ap (take (length rows)) (puts .words ∙ put-over rows lent (omega arith)) ∙
           take-over rows lent (length rows) refl);
     }
 
@@ -87,6 +92,14 @@ module _ {t : Task} {params limits pairs : List ℕ} (S : StepsKnown t params li
       let b = params-few (splitTask t) (S .well) s in
       record { ascends = f .ascends; known = omega arith }))
 
+  -- a known schema's parameters
+  pub split-few : (n : ℕ) → n < firstOf t (length (t .schemas)) → getD params n 0 ≤ 12
+  split-few n k =
+      let e = S .counts .count n k in
+      let f = params-few (splitTask t) (S .well) n in
+      omega arith
+
+  -- ---- the step at index i
   module _ (steps : List ℕ) (i : ℕ) where
     abbrev number : ℕ
     number = getD steps (stepSize * i) 0
@@ -100,27 +113,21 @@ module _ {t : Task} {params limits pairs : List ℕ} (S : StepsKnown t params li
     pub split-unknown : splits ≤ number → isStepAt (splitTask t) steps i ≡ false
     split-unknown l = step-unknown (splitTask t) (S .well) steps i (let e = split-count t in omega arith)
 
-    -- a known schema's parameters
-    pub split-few : number < splits → getD params number 0 ≤ 12
-    split-few k =
-        let e = S .counts .count number k in
-        let f = params-few (splitTask t) (S .well) number in
-        omega arith
-
-    -- they, zeros behind them, and the pairs decide
-    pub split-whole : stepSize * i + stepSize ≤ length steps → number < splits → {within apart : Bool} →
+    -- its schema's parameters, zeros behind them, and the rows of pairs decide
+    pub split-whole : (n : ℕ) → n ≡ number → stepSize * i + stepSize ≤ length steps → n < splits → {within : Bool} →
         ((objects : ℕ) → limits ≡ limitsFor objects →
-        within ≡ objectsThenZeros objects steps (stepSize * i + 1) (getD params number 0)) →
-        apart ≡ all (apartAt pairs 1 steps (stepSize * i + 1) number) (upTo (getD pairs 0 0)) →
-        within && apart ≡ isStepAt (splitTask t) steps i
+        within ≡ objectsThenZeros objects steps (stepSize * i + 1) (getD params n 0)) →
+        within && all (apartAt pairs 1 steps (stepSize * i + 1) n) (upTo (getD pairs 0 0)) ≡
+        isStepAt (splitTask t) steps i
     unfolding splitTask
-    split-whole w k h a =
+    split-whole n d w k {within} h =
         let at : ℕ = stepSize * i + 1 in
-        let n = getD params number 0 in
-        let e = S .counts .count number k in
-        let l : number < length (splitTask t .schemas) = let c = split-count t in omega arith in
-        let rows = rows-apart pairs 1 (splitTask t .schemas) stand-rows number n l
-        (λ q j. subst (λ (m : ℕ). PairFits m q) (sym e) (pair-fits number l q j)) steps at in
+        let few = getD params n 0 in
+        let e = S .counts .count n k in
+        let l : n < length (splitTask t .schemas) = let c = split-count t in omega arith in
+        let rows = rows-apart pairs 1 (splitTask t .schemas) stand-rows n few l
+        (λ q j. subst (λ (m : ℕ). PairFits m q) (sym e) (pair-fits n l q j)) steps at in
         ap₂ _&&_ (h (t .objects) (S .bounds))
-        (a ∙ (ap (λ (m : ℕ). all (apartAt pairs 1 steps at number) (upTo m)) pair-count ∙ sym rows)) ∙
-        sym (step-whole (splitTask t) (S .well) steps i n e w l)
+        (ap (λ (m : ℕ). all (apartAt pairs 1 steps at n) (upTo m)) pair-count ∙
+        (sym rows ∙ ap (λ (m : ℕ). all (differ (wordsAt steps at few)) (schemaAt (splitTask t) m .pairs)) d)) ∙
+        sym (step-whole (splitTask t) (S .well) steps i few (e ∙ ap (paramCount (splitTask t)) d) w (omega arith))

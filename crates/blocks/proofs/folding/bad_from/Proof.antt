@@ -16,12 +16,12 @@ use Rattle.blocks.specs.FoldCode.{StepsKnown, GoodBefore}
 use Rattle.blocks.proofs.folding.bad_from.Statement.{statement}
 
 abbrev Inv-loop : tie.InvT-loop
-Inv-loop steps from splits params limits begun i₀ i =
-    (t : Task) → StepsKnown t params limits → splits ≡ firstOf t (length (t .schemas)) → GoodBefore t steps from →
+Inv-loop steps from splits params limits pairs begun i₀ i =
+    (t : Task) → StepsKnown t params limits pairs → splits ≡ firstOf t (length (t .schemas)) → GoodBefore t steps from →
     GoodBefore t steps i
 
 abbrev μ-loop : tie.MeasureT-loop
-μ-loop steps from splits params limits begun i₀ i = begun - i
+μ-loop steps from splits params limits pairs begun i₀ i = begun - i
 
 is-split-step-requires : tie.Need-is-split-step-requires Inv-loop μ-loop
 is-split-step-requires c κs = (omega arith, c .before .before .before .pre)

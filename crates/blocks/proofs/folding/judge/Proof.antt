@@ -33,43 +33,46 @@ blocks : (s : tie.Start) → BlocksKept (task s) (s .args .kept .now)
 blocks s = table-kept (s .pre .0) .blocks
 
 -- ---- what is looked up
-abbrev start : tie.After-limits-of → tie.Start
-start c = c .before .before .before .before .before .before .before
+abbrev start : tie.After-pairs-of → tie.Start
+start c = c .before .before .before .before .before .before .before .before
 
-schemas : (c : tie.After-limits-of) →
-    c .before .before .before .before .schema-count .result ≡ length (task (start c) .schemas)
-schemas c = c .before .before .before .before .schema-count .ensures
+schemas : (c : tie.After-pairs-of) →
+    c .before .before .before .before .before .schema-count .result ≡ length (task (start c) .schemas)
+schemas c = c .before .before .before .before .before .schema-count .ensures
 
-steps-known : (c : tie.After-limits-of) →
-    StepsKnown (task (start c)) (c .before .before .before .params-of .result) (c .limits-of .result)
+steps-known : (c : tie.After-pairs-of) →
+    StepsKnown (task (start c)) (c .before .before .before .before .params-of .result) (c .before .limits-of .result)
+    (c .pairs-of .result)
 steps-known c =
     let s = start c in
     let well : wellFormed (task s) ≡ true = of-table (s .args .table .now) (s .pre .0 .table) .0 in
     record {
       well = split-well (task s) (splitTask (task s)) well (s .pre .0 .accepted);
       few = blocks s .few-splits;
-      counts = c .before .before .before .params-of .ensures (task s) (blocks s) (schemas c);
-      bounds = c .limits-of .ensures ∙ ap limitsFor (c .before .object-count .ensures);
+      counts = c .before .before .before .before .params-of .ensures (task s) (blocks s) (schemas c);
+      bounds = c .before .limits-of .ensures ∙ ap limitsFor (c .before .before .object-count .ensures);
+      carried = c .pairs-of .ensures;
     }
 
-known : (c : tie.After-limits-of) → let s = start c in
-    BlocksKnown (task s) (s .args .kept .now) (c .before .before .before .params-of .result) (s .args .origins .now)
-    (c .before .before .places-of .result) (c .limits-of .result)
+known : (c : tie.After-pairs-of) → let s = start c in
+    BlocksKnown (task s) (s .args .kept .now) (c .before .before .before .before .params-of .result)
+    (s .args .origins .now) (c .before .before .before .places-of .result) (c .before .limits-of .result)
+    (c .pairs-of .result)
 known c =
     let s = start c in
     record {
       blocks = blocks s;
       known = steps-known c;
       origin = s .pre .1 .1;
-      place = c .before .before .places-of .ensures (task s) (blocks s) (schemas c);
+      place = c .before .before .before .places-of .ensures (task s) (blocks s) (schemas c);
     }
 
 splits : (s : tie.Start) → s .args .sizes .schemas ≡ firstOf (task s) (length (task s .schemas))
 splits s = s .pre .0 .sized .schemas ∙ split-count (task s)
 
 -- ---- the list is taken apart
-abbrev looked : tie.After-take-apart → tie.After-limits-of
-looked c = c .before .before .before .before
+abbrev looked : tie.After-take-apart → tie.After-pairs-of
+looked c = c .before .before .before .before .before
 
 apart : (c : tie.After-take-apart) →
     TakenTold (task (start (looked c))) (words (start (looked c))) (c .take-apart .result)
@@ -79,7 +82,7 @@ apart c =
 
 -- ---- and its first bad step found
 abbrev parted : tie.After-bad-from → tie.After-take-apart
-parted c = c .before .before .before .before
+parted c = c .before .before .before .before .before
 
 abbrev from : tie.After-bad-from → tie.Start
 from c = start (looked (parted c))
@@ -91,7 +94,7 @@ found : (c : tie.After-bad-from) → bad c
 found c =
     let s = from c in
     c .bad-from .ensures (task s) (steps-known (looked (parted c))) (splits s)
-    (subst (GoodBefore (task s) (words s)) (sym (c .before .before .before .reached .ensures)) (apart (parted c) .good))
+    (subst (GoodBefore (task s) (words s)) (sym (c .before .before .before .before .reached .ensures)) (apart (parted c) .good))
 
 abbrev folding : tie.Start → Folding
 folding s = foldSteps (task s) (stepsIn (splitTask (task s)) (words s))
@@ -111,12 +114,12 @@ places-of-requires c κs =
 
 take-apart-requires : tie.Need-take-apart-requires
 take-apart-requires c κs =
-    let d = c .before .before .before in
+    let d = c .before .before .before .before in
     (task (start d), start d .args .origins .now, known d, start d .pre .1 .0)
 
 bad-from-requires : tie.Need-bad-from-requires
 bad-from-requires c κs =
-    let d = looked (c .before .before .before) in
+    let d = looked (c .before .before .before .before) in
     (task (start d), steps-known d, splits (start d))
 
 returns : tie.Need-returns
@@ -147,5 +150,5 @@ pub judge-spec : {M : Type 1} → statement M
 judge-spec =
     tie.close
     (tie.spec (λ c κs. search needs) params-of-requires places-of-requires (λ c κs. search needs) (λ c κs. search needs)
-    take-apart-requires (λ c κs. search needs) bad-from-requires (λ c. search needs) returns (λ c. search needs)
+    (λ c κs. search needs) take-apart-requires (λ c κs. search needs) bad-from-requires (λ c. search needs) returns (λ c. search needs)
     (λ c. search needs) (λ c. search needs) returns-2 returns-3)

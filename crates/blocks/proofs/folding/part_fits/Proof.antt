@@ -24,7 +24,9 @@ use Rattle.blocks.proofs.folding.part_fits.Statement.{statement}
 
 -- ---- what is known at each place
 abbrev Known : tie.Start → Task → List ℕ → Type 0
-Known c t os = let a = c .args in BlocksKnown t (a .kept .now) (a .params .now) os (a .places .now) (a .limits .now)
+Known c t os =
+    let a = c .args in
+    BlocksKnown t (a .kept .now) (a .params .now) os (a .places .now) (a .limits .now) (a .pairs .now)
 
 abbrev Position : tie.Start → Task → Type 0
 Position c t = (c .args .s < length (t .schemas)) × (c .args .j < length (orders t (c .args .s)))
@@ -92,27 +94,19 @@ known c t os K (l, m) =
     let n = part-number (K .blocks) (start c .args .s) (start c .args .j) l m in
     omega arith
 
--- the parameters noted for its schema
-count : (c : tie.After-wide) → let s = start (c .before .before) in
-    c .wide .result ≡ getD (s .args .params .now) (getD (words s) (stepSize * place s) 0) 0
-count c =
-    let d = c .before .before in
-    let e = d .before .schema-at .ensures in
-    c .wide .ensures ∙ ap (λ (n : ℕ). getD (start d .args .params .now) n 0) (sym (d .if2 .left) ∙ e)
-
 -- whether it is a step of the split
-abbrev tested : tie.After-are-within → tie.Else2
-tested c = c .before .before .before
+abbrev tested : tie.After-is-schema-step → tie.Else2
+tested c = c .before
 
-told : (c : tie.After-are-within) (t : Task) (os : List ℕ) → Known (start (tested c)) t os →
+told : (c : tie.After-is-schema-step) (t : Task) (os : List ℕ) → Known (start (tested c)) t os →
     Position (start (tested c)) t →
-    c .are-within .result ≡ isStepAt (splitTask t) (words (start (tested c))) (place (start (tested c)))
+    c .is-schema-step .result ≡ isStepAt (splitTask t) (words (start (tested c))) (place (start (tested c)))
 told c t os K p =
     let d = tested c in
-    let s = start d in
-    split-whole (K .known) (words s) (place s) (whole (numbered d .before)) (known d t os K p)
-    (λ o e. c .are-within .ensures o e
-    ∙ ap (objectsThenZeros o (words s) (stepSize * place s + 1)) (count (c .before)))
+    let e = here d t os K (p .0) in
+    let n = number-is (numbered d) t os K (p .0) in
+    let l = known d t os K p in
+    c .is-schema-step .ensures t (K .known) (omega arith)
 
 -- ---- the tests
 returns : tie.Need-returns
@@ -132,13 +126,13 @@ returns-2 c = λ t os K l m.
     sym (part-other (K .blocks) (K .origin) (words s) (s .args .i) (s .args .s) l (s .args .j) m
     (λ n. c .if2 .taken (omega arith)))
 
-are-within-requires : tie.Need-are-within-requires
-are-within-requires c κs =
-    let d = c .before .before in
-    let (t, os, K, l, m, w) = start d .pre in
-    let e = count c in
-    let n = split-few (K .known) (words (start d)) (place (start d)) (known d t os K (l, m)) in
-    (whole (numbered d .before), omega arith)
+is-schema-step-requires : tie.Need-is-schema-step-requires
+is-schema-step-requires c κs =
+    let (t, os, K, l, m, w) = start c .pre in
+    let e = here c t os K l in
+    let n = number-is (numbered c) t os K l in
+    let k = known c t os K (l, m) in
+    (whole (numbered c .before), (omega arith, (t, K .known, omega arith)))
 
 returns-3 : tie.Need-returns-3
 returns-3 c = λ t os K l m.
@@ -183,7 +177,6 @@ part-fits-spec =
     (tie.spec (λ c. let l = before (c .before) in omega arith) (λ c. let l = before (c .before) in omega arith)
     (λ c. before (c .before)) returns (λ c κs. let l = within (c .before .before) in omega arith)
     (λ c. let l = number c in omega arith) (λ c κs. let l = whole (c .before) in omega arith) returns-2
-    (λ c. let l = number (numbered c) in omega arith) (λ c. number (numbered c)) (λ c κs. search needs)
-    are-within-requires returns-3 (λ c. let l = before (begun c) in omega arith)
+    (λ c. let l = before (start c) in omega arith) is-schema-step-requires returns-3 (λ c. let l = before (begun c) in omega arith)
     (λ c. let l = number (numbered (tested (c .before))) in omega arith)
     (λ c. number (numbered (tested (c .before)))) agree-requires returns-4)

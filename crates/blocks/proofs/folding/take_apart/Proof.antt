@@ -21,29 +21,31 @@ use Rattle.blocks.proofs.FoldTaken.{found-more}
 use Rattle.blocks.proofs.folding.take_apart.Statement.{statement}
 
 abbrev Inv-loop : tie.InvT-loop
-Inv-loop steps kept begins params places limits count taken i₀ begun s parts begin j₀ i j =
+Inv-loop steps kept begins params places limits pairs count taken i₀ begun s parts begin j₀ i j =
     (j ≤ parts) × (i ≡ begin + j) × (i ≤ count) ×
-    ((t : Task) (os : List ℕ) → BlocksKnown t kept params os places limits → s < length (t .schemas) →
+    ((t : Task) (os : List ℕ) → BlocksKnown t kept params os places limits pairs → s < length (t .schemas) →
     (k : ℕ) → k < j → isPart t steps os begin s k ≡ true)
 
 abbrev μ-loop : tie.MeasureT-loop
-μ-loop steps kept begins params places limits count taken i₀ begun s parts begin j₀ i j = parts - j
+μ-loop steps kept begins params places limits pairs count taken i₀ begun s parts begin j₀ i j = parts - j
 
 abbrev Inv-list : tie.InvT-list
-Inv-list steps kept begins params places limits count taken₀ i₀ taken i =
+Inv-list steps kept begins params places limits pairs count taken₀ i₀ taken i =
     (i ≤ count) × (taken ≤ i) ×
-    ((t : Task) (os : List ℕ) → BlocksKnown t kept params os places limits → BeginsKept t begins →
+    ((t : Task) (os : List ℕ) → BlocksKnown t kept params os places limits pairs → BeginsKept t begins →
     FoundSo t steps taken i)
 
 abbrev μ-list : tie.MeasureT-list
-μ-list steps kept begins params places limits count taken₀ i₀ taken i = count - i
+μ-list steps kept begins params places limits pairs count taken₀ i₀ taken i = count - i
 
 -- ---- what is known at each place
 abbrev Start : Type 0
 Start = tie.Start Inv-loop μ-loop Inv-list μ-list
 
 abbrev Known : Start → Task → List ℕ → Type 0
-Known c t os = let a = c .args in BlocksKnown t (a .kept .now) (a .params .now) os (a .places .now) (a .limits .now)
+Known c t os =
+    let a = c .args in
+    BlocksKnown t (a .kept .now) (a .params .now) os (a .places .now) (a .limits .now) (a .pairs .now)
 
 abbrev Begins : Start → Task → Type 0
 Begins c t = BeginsKept t (c .args .begins .now)
