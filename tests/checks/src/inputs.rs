@@ -36,12 +36,13 @@ pub fn table_or_damaged(random: &mut Random, task: &Task) -> Vec<u16> {
     }
 }
 
-/// The words of steps, or damaged ones.
-pub fn step_words(random: &mut Random, list: &[Step]) -> Vec<u16> {
-    if random.chance(1, 3) {
-        steps::damaged(random, list)
-    } else {
-        steps::words(list)
+/// The words of steps of a task, or damaged ones, or such as have equal objects
+/// at a pair.
+pub fn step_words(random: &mut Random, task: &Task, list: &[Step]) -> Vec<u16> {
+    match random.below(9) {
+        0..=2 => steps::damaged(random, list),
+        3 => steps::words(&steps::equal_at_a_pair(random, task, list)),
+        _ => steps::words(list),
     }
 }
 

@@ -45,7 +45,7 @@ pub fn fold_row(answer: Answer<Folded>) -> Row {
 }
 
 /// The reasons of a refusal, by number from 1.
-const REASONS: [Reason; 18] = [
+const REASONS: [Reason; 21] = [
     Reason::TableTooShort,
     Reason::NotATable,
     Reason::LineOutOfForm,
@@ -64,6 +64,9 @@ const REASONS: [Reason; 18] = [
     Reason::PreconditionMissing,
     Reason::StateTooLarge,
     Reason::PddlTooLong,
+    Reason::BadPair,
+    Reason::PairInNoPart,
+    Reason::TooManyPairs,
 ];
 
 /// The answer that a row tells, with its two values.
@@ -73,8 +76,8 @@ pub fn told(row: Row) -> Answer<[u64; 2]> {
         return Ok([first, second]);
     }
     let place = match number {
-        3..=8 => Place::Line(place),
-        9 => Place::Schema(place),
+        3..=8 | 19 | 21 => Place::Line(place),
+        9 | 20 => Place::Schema(place),
         12 | 14 | 16 | 17 => Place::Step(place),
         _ => Place::Nowhere,
     };

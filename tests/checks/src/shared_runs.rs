@@ -220,6 +220,12 @@ pub fn usual_tasks(subject: &impl Subject, what: &str, count: usize) {
     });
 }
 
+/// Tasks with pairs, whose parts are often in an order only because of these.
+pub fn differing_tasks(subject: &impl Subject, what: &str, count: usize) {
+    let random = Random::new(34);
+    shared_runs(subject, what, count, random, cases::differing_case);
+}
+
 /// Tasks whose order is decided by what preconditions name.
 pub fn tying_tasks(subject: &impl Subject, what: &str, count: usize) {
     shared_runs(subject, what, count, Random::new(33), |random| {

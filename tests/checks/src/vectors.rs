@@ -82,17 +82,17 @@ fn shown(printed: &[u8]) -> String {
     String::from_utf8_lossy(printed).into_owned()
 }
 
-/// `02-split.txt`, put to the program.
+/// `04-split.txt`, put to the program.
 pub fn split_program_cases(program: impl Fn(&[u8]) -> Vec<u8>) {
-    each_case("02-split.txt", |case| {
+    each_case("04-split.txt", |case| {
         let [stdin, printed] = case.fields().map(bytes);
         assert_eq!(shown(&program(&stdin)), shown(&printed), "{}", case.label);
     });
 }
 
-/// `02-unfold_program.txt`, put to the program; an empty file may be missing too.
+/// `04-unfold_program.txt`, put to the program; an empty file may be missing too.
 pub fn unfold_program_cases(program: impl Fn(Option<&[u8]>, Option<&[u8]>) -> Vec<u8>) {
-    each_case("02-unfold_program.txt", |case| {
+    each_case("04-unfold_program.txt", |case| {
         let [task, plan, printed] = case.fields().map(bytes);
         let mut found = vec![program(Some(&task), Some(&plan))];
         if task.is_empty() {
@@ -107,10 +107,10 @@ pub fn unfold_program_cases(program: impl Fn(Option<&[u8]>, Option<&[u8]>) -> Ve
     });
 }
 
-/// `table.txt`, put to an entry point that answers 0 for a table and 2 for
+/// `04-table.txt`, put to an entry point that answers 0 for a table and 2 for
 /// another.
 pub fn table_cases(answer: impl Fn(&[u16]) -> u32) {
-    each_case("table.txt", |case| {
+    each_case("04-table.txt", |case| {
         let [text, changes, is_table] = case.fields();
         let expected = if is_table == "1" { 0 } else { 2 };
         let table = changed_table(text, changes);
@@ -118,9 +118,9 @@ pub fn table_cases(answer: impl Fn(&[u16]) -> u32) {
     });
 }
 
-/// `01-pddl.txt`, put to the writer of PDDL.
+/// `04-pddl.txt`, put to the writer of PDDL.
 pub fn pddl_cases(write: impl Fn(&[u16], &mut [u8]) -> Row) {
-    each_case("01-pddl.txt", |case| {
+    each_case("04-pddl.txt", |case| {
         let [text, changes, length, refusal, place, count, written] = case.fields();
         let mut lent = vec![LENT; number(length)];
         let found = write(&changed_table(text, changes), &mut lent);
@@ -132,9 +132,9 @@ pub fn pddl_cases(write: impl Fn(&[u16], &mut [u8]) -> Row) {
     });
 }
 
-/// `run.txt`, put to running.
+/// `04-run.txt`, put to running.
 pub fn run_cases(run: impl Fn(&[u16], &[u16], &mut [u16], u64) -> Row) {
-    each_case("run.txt", |case| {
+    each_case("04-run.txt", |case| {
         let [text, steps, lent, records, expected @ .., left] = case.fields::<9>();
         let mut state = words(lent);
         let table = read_table(&bytes(text));
@@ -144,7 +144,7 @@ pub fn run_cases(run: impl Fn(&[u16], &[u16], &mut [u16], u64) -> Row) {
     });
 }
 
-/// `02-unfold.txt` or `02-fold.txt`, which have the same fields.
+/// `04-unfold.txt` or `04-fold.txt`, which have the same fields.
 pub fn list_cases(file: &str, entry: impl Fn(&[u16], &[u16], &mut [u16]) -> Row) {
     each_case(file, |case| {
         let [text, steps, length, expected @ .., left] = case.fields::<8>();

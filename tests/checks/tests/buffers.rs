@@ -25,7 +25,7 @@ fn number<Value>(answer: &Answer<Value>) -> u64 {
 
 #[test]
 fn reading() {
-    let expected = [0, 1, 3, 4, 5, 6, 7, 8];
+    let expected = [0, 1, 3, 4, 5, 6, 7, 8, 19, 21];
     each_answer("reading", 71, CASES, &expected, |random| {
         let task = if random.chance(1, 32) {
             limits::any_side(random)
@@ -91,7 +91,7 @@ fn writing_pddl() {
 
 #[test]
 fn splitting() {
-    each_answer("splitting", 73, CASES, &[0, 1, 2, 9, 10], |random| {
+    each_answer("splitting", 73, CASES, &[0, 1, 2, 9, 10, 20], |random| {
         let (_, table) = task_and_table(random);
         let found = lent_table(random);
         let mut out = found.clone();
@@ -119,7 +119,7 @@ fn running() {
     each_answer("running", 74, 2 * CASES, &expected, |random| {
         let (task, table) = task_and_table(random);
         let (state, list) = generate::cases::run(random, &task);
-        let steps = step_words(random, &list);
+        let steps = step_words(random, &task, &list);
         let found = lent_state(random, &state);
         let mut lent = found.words.clone();
         let answer = reference::run(&table, &steps, &mut lent, found.records);
@@ -148,12 +148,12 @@ fn require_steps(out: &[u16], task: &Task, steps: u64) {
 
 #[test]
 fn unfolding() {
-    let expected = [0, 1, 2, 9, 10, 12, 13];
+    let expected = [0, 1, 2, 9, 10, 12, 13, 20];
     each_answer("unfolding", 75, CASES, &expected, |random| {
         let (task, table) = task_and_table(random);
         let length = random.below(6);
         let list = steps::list(random, &task, length);
-        let steps = step_words(random, &list);
+        let steps = step_words(random, &task, &list);
         let mut out = vec![7; random.below(30 * STEP_WORDS)];
         let answer = reference::unfold(&table, &steps, &mut out);
         let task = Task::from_words(&table).unwrap_or(task);
@@ -167,14 +167,16 @@ fn unfolding() {
 
 #[test]
 fn folding() {
-    let expected = [0, 1, 2, 9, 10, 12, 13, 14];
+    let expected = [0, 1, 2, 9, 10, 12, 13, 14, 20];
     each_answer("folding", 76, 2 * CASES, &expected, |random| {
         let (task, table) = task_and_table(random);
-        let list = match tokens::split(&task) {
-            Ok(split) => split_list(random, &task, &split),
-            Err(_) => steps::list(random, &task, 3),
+        let steps = match tokens::split(&task) {
+            Ok(split) => {
+                let list = split_list(random, &task, &split);
+                step_words(random, &split.task, &list)
+            }
+            Err(_) => steps::words(&steps::list(random, &task, 3)),
         };
-        let steps = step_words(random, &list);
         let mut out = vec![7; random.below(8 * STEP_WORDS)];
         let answer = reference::fold(&table, &steps, &mut out);
         let task = Task::from_words(&table).unwrap_or(task);

@@ -135,5 +135,6 @@ fn reaches_a_limit(task: &Task) -> bool {
         || task.schema_atoms() == 1000
         || task.initial.len() == 500
         || task.goal.len() == 100
+        || task.pairs() == 200
         || task.schemas.iter().any(|schema| schema.atoms.len() == 64)
 }

@@ -1,6 +1,6 @@
 //! Demand 3 on random tasks, states and lists.
 
-use checks::shared_runs::{small_tasks, tying_tasks, usual_tasks};
+use checks::shared_runs::{differing_tasks, small_tasks, tying_tasks, usual_tasks};
 use checks::subject::{OnWords, Reference};
 
 #[test]
@@ -16,4 +16,9 @@ fn usual_tasks_share_runs() {
 #[test]
 fn tying_tasks_share_runs() {
     tying_tasks(&OnWords(Reference), "tying shared runs", 3000);
+}
+
+#[test]
+fn differing_tasks_share_runs() {
+    differing_tasks(&OnWords(Reference), "differing shared runs", 8000);
 }

@@ -36,14 +36,14 @@ fn run_vectors() {
 
 #[test]
 fn unfold_vectors() {
-    list_cases("02-unfold.txt", |table, steps, out| {
+    list_cases("04-unfold.txt", |table, steps, out| {
         unfold_row(reference::unfold(table, steps, out))
     });
 }
 
 #[test]
 fn fold_vectors() {
-    list_cases("02-fold.txt", |table, steps, out| {
+    list_cases("04-fold.txt", |table, steps, out| {
         fold_row(reference::fold(table, steps, out))
     });
 }

@@ -5,7 +5,7 @@ use reference::run::{State, Step};
 use reference::table::Task;
 
 use crate::random::Random;
-use crate::tasks::{task, telling_task, Shape};
+use crate::tasks::{splittable_differing_task, task, telling_task, Shape};
 use crate::{states, steps};
 
 #[derive(Clone, Debug)]
@@ -22,6 +22,12 @@ pub fn case(random: &mut Random) -> Case {
     } else {
         task(random, &Shape::SMALL_SPLITTABLE)
     };
+    with_run(random, task)
+}
+
+/// A case whose task has pairs and a split.
+pub fn differing_case(random: &mut Random) -> Case {
+    let task = splittable_differing_task(random);
     with_run(random, task)
 }
 

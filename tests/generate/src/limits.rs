@@ -1,11 +1,12 @@
 //! Tasks at both sides of every limit.
 
 use reference::table::{
-    Atom, ObjectNumber, ParameterNumber, PartNumber, Role, Schema, SchemaAtom, Task,
-    MAX_PARAMETERS, MAX_PREDICATES, MAX_SCHEMAS,
+    Atom, ObjectNumber, Pair, ParameterNumber, PartNumber, Role, Schema, SchemaAtom, Task,
+    MAX_PAIRS, MAX_PARAMETERS, MAX_PREDICATES, MAX_SCHEMAS,
 };
 
 use crate::random::Random;
+use crate::tasks::every_pair;
 
 /// A task that still passes and one that is turned back.
 #[derive(Clone, Debug)]
@@ -41,6 +42,7 @@ fn precondition(part: usize, atom: Atom<ParameterNumber>) -> SchemaAtom {
 fn tests(parts: impl IntoIterator<Item = usize>) -> Schema {
     Schema {
         parameters: 0,
+        pairs: Vec::new(),
         atoms: (0..)
             .zip(parts)
             .map(|(predicate, part)| precondition(part, Atom::new(predicate, &[])))
@@ -63,7 +65,37 @@ fn sharing(parameters: u16, parts: u16) -> Schema {
     });
     Schema {
         parameters,
+        pairs: Vec::new(),
         atoms: atoms.collect(),
+    }
+}
+
+/// A schema of twelve parameters, each in every part, with the first so many of
+/// their 66 pairs.
+fn differing(pairs: usize, parts: u16) -> Schema {
+    let mut schema = sharing(MAX_PARAMETERS as u16, parts);
+    schema.pairs = every_pair(schema.parameters);
+    schema.pairs.truncate(pairs);
+    schema
+}
+
+/// A task of so many pairs: three times 66, then the rest.
+fn with_pairs(count: usize) -> Task {
+    let mut schemas = vec![differing(66, 1); 3];
+    schemas.push(differing(count - 198, 1));
+    Task {
+        arities: vec![1],
+        ..with_schemas(1, schemas)
+    }
+}
+
+/// A task of 100 pairs in two parts each, so that its split has 200, and so many
+/// in one part.
+fn with_pairs_in_two_parts(more: usize) -> Task {
+    let schemas = vec![differing(66, 2), differing(34, 2), differing(more, 1)];
+    Task {
+        arities: vec![1; 2],
+        ..with_schemas(2, schemas)
     }
 }
 
@@ -135,6 +167,11 @@ fn limit(
     }
 }
 
+/// The limit of pairs; the 201st stands in the last schema, the third there.
+pub fn pairs() -> Limit {
+    limit("pairs", 21, 247, [MAX_PAIRS, MAX_PAIRS + 1], with_pairs)
+}
+
 /// The limits of a table, with the refusal of its text and the line of that.
 pub fn reading() -> Vec<Limit> {
     vec![
@@ -164,6 +201,7 @@ pub fn reading() -> Vec<Limit> {
         limit("goal atoms", 4, 104, [100, 101], |count| {
             with_ground(0, count)
         }),
+        pairs(),
     ]
 }
 
@@ -195,6 +233,7 @@ pub fn splitting() -> Vec<Limit> {
         }),
         limit("initial atoms", [499, 500], &|count| with_ground(count, 0)),
         limit("goal atoms", [99, 100], &|count| with_ground(0, count)),
+        limit("pairs", [0, 1], &with_pairs_in_two_parts),
     ]
 }
 
@@ -233,11 +272,18 @@ fn atom_from_the_top<Argument: Copy + Default + From<u16>>(
     Atom::new(predicate as u16, &arguments)
 }
 
+/// The pair whose text is the longest, both of its numbers having two digits.
+const LONGEST_PAIR: Pair = Pair {
+    lower: ParameterNumber(10),
+    higher: ParameterNumber(11),
+};
+
 /// A task at every limit at once but those of a schema's atoms and parts; its
 /// text is as long as texts get, or nearly.
 pub fn largest() -> Task {
     let schema = |number: usize| Schema {
         parameters: 12,
+        pairs: vec![LONGEST_PAIR],
         atoms: (0..5)
             .map(|atom| precondition(atom, atom_from_the_top(399 - number % 200, 11, 2 * atom)))
             .collect(),
@@ -258,12 +304,13 @@ pub fn largest() -> Task {
     }
 }
 
-/// How many bytes the PDDL of a task has at most: 62,614 of the domain, of which
-/// an action has up to 268, and 21,156 of the problem.
-pub const LONGEST_PDDL: usize = 83_770;
+/// How many bytes the PDDL of a task has at most: 66,672 of the domain, of which
+/// the requirements have 58 and an action up to 288, and 21,156 of the problem.
+pub const LONGEST_PDDL: usize = 87_828;
 
 /// The task whose PDDL is the longest: its atoms are deletes, five for each
-/// schema, with each parameter of one digit once and else those of two.
+/// schema, with each parameter of one digit once and else those of two; and each
+/// schema has a pair.
 pub fn longest_pddl() -> Task {
     let delete = |pair: u16| SchemaAtom {
         role: Role::Delete,
@@ -275,6 +322,7 @@ pub fn longest_pddl() -> Task {
     };
     let schema = Schema {
         parameters: MAX_PARAMETERS as u16,
+        pairs: vec![LONGEST_PAIR],
         atoms: (0..5).map(delete).collect(),
     };
     Task {

@@ -9,15 +9,16 @@ use crate::random::Random;
 use crate::steps;
 
 /// An unfolding: whole, cut, woven from two, with a part dropped, doubled,
-/// swapped or given another object; or any split steps. Each step is one of
-/// the split task.
+/// swapped or given another object, or with the beginning of another block
+/// behind it; or any split steps. Each step is one of the split task but for
+/// equal objects at a pair.
 pub fn split_list(random: &mut Random, task: &Task, split: &Split) -> Vec<Step> {
     let mut list = unfolding(random, task, split);
     if list.is_empty() {
         return list;
     }
     let [at, other] = [(); 2].map(|()| random.below(list.len()));
-    match random.below(9) {
+    match random.below(10) {
         0 | 1 => {}
         2 => list.truncate(at),
         3 => drop(list.remove(at)),
@@ -28,6 +29,7 @@ pub fn split_list(random: &mut Random, task: &Task, split: &Split) -> Vec<Step> 
             let second = unfolding(random, task, split);
             return woven(random, &list, &second);
         }
+        8 => list.extend(beginning(random, task, split)),
         _ => list = steps::list(random, &split.task, list.len()),
     }
     list
@@ -36,6 +38,14 @@ pub fn split_list(random: &mut Random, task: &Task, split: &Split) -> Vec<Step> 
 fn unfolding(random: &mut Random, task: &Task, split: &Split) -> Vec<Step> {
     let length = random.below(5);
     unfold(split, &steps::list(random, task, length))
+}
+
+/// The first parts of the block of some choice of objects, which need be no
+/// step: they may be equal at a pair.
+fn beginning(random: &mut Random, task: &Task, split: &Split) -> Vec<Step> {
+    let mut block = unfold(split, &Vec::from_iter(steps::choice(random, task)));
+    block.truncate(random.below(block.len() + 1));
+    block
 }
 
 fn change_object(random: &mut Random, task: &Task, step: &mut Step) {

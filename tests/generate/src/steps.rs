@@ -1,7 +1,7 @@
-//! Step lists, sound and damaged.
+//! Step lists, sound and damaged; steps with equal objects at a pair.
 
 use reference::run::{run, State, Step, STEP_WORDS};
-use reference::table::{ObjectNumber, Task};
+use reference::table::{ObjectNumber, Pair, Task};
 
 use crate::random::Random;
 use crate::LIMIT_NUMBERS;
@@ -9,12 +9,21 @@ use crate::LIMIT_NUMBERS;
 /// How many steps a walk chooses from.
 const MOST_CHOICES: usize = 1000;
 
+/// How many choices of objects are tried for one that keeps the pairs apart.
+const TRIES: usize = 40;
+
 pub fn words(steps: &[Step]) -> Vec<u16> {
     steps.iter().flat_map(Step::words).collect()
 }
 
-/// A step of the task, its objects often equal; `None` without a schema.
+/// A step of the task; `None` where none was found.
 pub fn step(random: &mut Random, task: &Task) -> Option<Step> {
+    (0..TRIES).find_map(|_| choice(random, task).filter(|step| step.keeps_pairs_apart(task)))
+}
+
+/// A schema with a choice of objects, often equal, at a pair too; `None` without
+/// a schema.
+pub fn choice(random: &mut Random, task: &Task) -> Option<Step> {
     if task.schemas.is_empty() {
         return None;
     }
@@ -57,7 +66,25 @@ fn choices(random: &mut Random, task: &Task) -> Vec<Step> {
                 step
             })
         })
+        .filter(|step| step.keeps_pairs_apart(task))
         .collect()
+}
+
+/// The list with equal objects at a pair of one step, where it has one.
+pub fn equal_at_a_pair(random: &mut Random, task: &Task, steps: &[Step]) -> Vec<Step> {
+    let mut steps = steps.to_vec();
+    let pairs_of = |step: &Step| &task.schemas[usize::from(step.schema)].pairs;
+    let places: Vec<(usize, Pair)> = steps
+        .iter()
+        .enumerate()
+        .flat_map(|(at, step)| pairs_of(step).iter().map(move |pair| (at, *pair)))
+        .collect();
+    if !places.is_empty() {
+        let (at, Pair { lower, higher }) = random.pick(&places);
+        let objects = &mut steps[at].objects;
+        objects[higher.index()] = objects[lower.index()];
+    }
+    steps
 }
 
 /// A list of at most so many steps that runs from the state.

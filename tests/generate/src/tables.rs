@@ -1,6 +1,6 @@
 //! Tables, sound and damaged.
 
-use reference::table::{Task, TABLE_WORDS};
+use reference::table::{Task, HEADER_WORDS, MAX_PAIRS, PAIR_WORDS, TABLE_WORDS};
 
 use crate::random::Random;
 use crate::LIMIT_NUMBERS;
@@ -33,7 +33,7 @@ fn damage(random: &mut Random, table: &mut Vec<u16>, used: usize) {
         return;
     }
     let at = random.below(length);
-    match random.below(16) {
+    match random.below(18) {
         0 | 1 => table[at] = table[at].wrapping_add(1),
         2 | 3 => table[at] = table[at].wrapping_sub(1),
         4 => table[at] = random.word(),
@@ -43,8 +43,35 @@ fn damage(random: &mut Random, table: &mut Vec<u16>, used: usize) {
         8 => table[length - 1] = random.word(),
         9 if random.chance(1, 8) => table.truncate(random.below(TABLE_WORDS)),
         10 if random.chance(1, 4) => table.extend([random.word(), random.word()]),
-        11 => table[random.below(6)] = random.pick(LIMIT_NUMBERS) as u16,
+        11 => table[random.below(HEADER_WORDS)] = random.pick(LIMIT_NUMBERS) as u16,
+        12 | 13 => damage_pairs(random, table),
         _ => table[at] = random.pick(LIMIT_NUMBERS) as u16,
+    }
+}
+
+/// Changes a word of a pair, exchanges or repeats two neighbours, or drops the
+/// last one from the count, where the table has pairs.
+fn damage_pairs(random: &mut Random, table: &mut [u16]) {
+    let Some(&[_, predicates, schemas, _, _, _, pairs]) = table.first_chunk::<HEADER_WORDS>()
+    else {
+        return;
+    };
+    let first = HEADER_WORDS + usize::from(predicates) + usize::from(schemas);
+    let pairs = usize::from(pairs);
+    // The last one's neighbour is what stands behind the pairs.
+    let end = first + PAIR_WORDS * (pairs + 1);
+    if !(1..=MAX_PAIRS).contains(&pairs) || end > table.len() {
+        return;
+    }
+    let pair = first + PAIR_WORDS * random.below(pairs);
+    let (before, after) = table.split_at_mut(pair + PAIR_WORDS);
+    let next = &mut after[..PAIR_WORDS];
+    match random.below(6) {
+        0 => before[pair..].swap_with_slice(next),
+        1 => next.copy_from_slice(&before[pair..]),
+        2 => before.swap(pair + 1, pair + 2),
+        3 => before[HEADER_WORDS - 1] -= 1,
+        _ => before[pair + random.below(PAIR_WORDS)] = random.below(14) as u16,
     }
 }
 

@@ -3,10 +3,10 @@
 use std::collections::{BTreeMap, BTreeSet};
 use std::ops::RangeInclusive;
 
-use reference::arcs::RULES;
+use reference::arcs::{hold_a_pair, RULES};
 use reference::table::{
-    used_arguments, Atom, GroundAtom, LiftedAtom, ObjectNumber, ParameterNumber, PartNumber, Role,
-    Schema, SchemaAtom, Task, MAX_PARTS,
+    used_arguments, Atom, GroundAtom, LiftedAtom, ObjectNumber, Pair, ParameterNumber, PartNumber,
+    Role, Schema, SchemaAtom, Task, MAX_ATOMS_OF_SCHEMA, MAX_PAIRS, MAX_PARTS,
 };
 use reference::tokens;
 
@@ -99,6 +99,29 @@ impl Shape {
         parts: 6..=16,
         ..Shape::TYING
     };
+
+    /// For tasks with pairs; the atoms are those before each pair is tested.
+    pub const DIFFERING: Shape = Shape {
+        objects: 2..=4,
+        predicates: 1..=3,
+        arity: 1..=2,
+        schemas: 1..=2,
+        parameters: 2..=4,
+        atoms: 3..=9,
+        parts: 2..=4,
+        ..Shape::SMALL_SPLITTABLE
+    };
+
+    /// With up to as many parameters and parts as a schema may have.
+    pub const WIDE_DIFFERING: Shape = Shape {
+        objects: 3..=12,
+        predicates: 3..=8,
+        arity: 1..=4,
+        parameters: 4..=12,
+        atoms: 8..=24,
+        parts: 4..=16,
+        ..Shape::DIFFERING
+    };
 }
 
 pub fn task(random: &mut Random, shape: &Shape) -> Task {
@@ -109,15 +132,61 @@ pub fn task(random: &mut Random, shape: &Shape) -> Task {
     with_ground_atoms(random, shape, arities, schemas)
 }
 
-/// A task of any size, most of them small.
+/// A task of any size, most of them small; about one in three has pairs.
 pub fn any_task(random: &mut Random) -> Task {
-    match random.below(64) {
+    let task = match random.below(64) {
         0 => task(random, &Shape::LARGE),
-        1 => limits::any_table(random),
+        1 => return limits::any_table(random),
         2..=7 => task(random, &Shape::USUAL),
         8..=15 => telling_task(random),
+        16..=27 => return any_differing_task(random),
         _ => task(random, &Shape::SMALL),
+    };
+    if random.chance(1, 4) {
+        with_pairs(random, task)
+    } else {
+        task
     }
+}
+
+/// The task with random pairs, in most schemas only such as stand together in
+/// some part; with another one its split is refused by 20.
+fn with_pairs(random: &mut Random, mut task: Task) -> Task {
+    let mut room = MAX_PAIRS;
+    for schema in &mut task.schemas {
+        let any = random.chance(1, 8);
+        let mut pairs = every_pair(schema.parameters);
+        pairs.retain(|pair| {
+            (any || stand_together(&schema.atoms, &task.arities, pair)) && random.chance(1, 3)
+        });
+        pairs.truncate(room);
+        room -= pairs.len();
+        schema.pairs = pairs;
+    }
+    task
+}
+
+/// All pairs of so many parameters, ascending.
+pub(crate) fn every_pair(parameters: u16) -> Vec<Pair> {
+    (0..parameters)
+        .flat_map(|lower| {
+            (lower + 1..parameters).map(move |higher| Pair {
+                lower: ParameterNumber(lower),
+                higher: ParameterNumber(higher),
+            })
+        })
+        .collect()
+}
+
+/// Whether some part of these atoms has both parameters.
+fn stand_together(atoms: &[SchemaAtom], arities: &[u16], pair: &Pair) -> bool {
+    let parts_of = |parameter: ParameterNumber| -> BTreeSet<PartNumber> {
+        let stands_in =
+            |atom: &&SchemaAtom| used_arguments(&atom.atom, arities).contains(&parameter);
+        let atoms = atoms.iter().filter(stands_in);
+        atoms.map(|atom| atom.part).collect()
+    };
+    !parts_of(pair.lower).is_disjoint(&parts_of(pair.higher))
 }
 
 /// A task of any size, or the split of one where it has a split.
@@ -202,7 +271,7 @@ fn schema(random: &mut Random, shape: &Shape, arities: &[u16]) -> Schema {
     } else {
         part_along_arcs(random, &mut atoms, parts);
     }
-    finished(random, atoms, arities)
+    finished(random, atoms, Vec::new(), arities)
 }
 
 fn lifted_atom(
@@ -246,8 +315,14 @@ fn part_along_arcs(random: &mut Random, atoms: &mut [SchemaAtom], parts: usize) 
 }
 
 /// The schema of these atoms: sorted by role, its parameters without an unused
-/// one and its parts without a gap, numbered at random.
-fn finished(random: &mut Random, mut atoms: Vec<SchemaAtom>, arities: &[u16]) -> Schema {
+/// one and its parts without a gap, numbered at random. Pairs with an unused
+/// parameter are left out.
+fn finished(
+    random: &mut Random,
+    mut atoms: Vec<SchemaAtom>,
+    mut pairs: Vec<Pair>,
+    arities: &[u16],
+) -> Schema {
     atoms.sort_by_key(|atom| atom.role);
     let parts: BTreeSet<PartNumber> = atoms.iter().map(|atom| atom.part).collect();
     let new_parts = random.permutation(parts.len());
@@ -258,16 +333,23 @@ fn finished(random: &mut Random, mut atoms: Vec<SchemaAtom>, arities: &[u16]) ->
         .copied()
         .collect();
     let parameters: Vec<ParameterNumber> = parameters.into_iter().collect();
+    let renumber = |parameter: &mut ParameterNumber| {
+        let number = parameters.partition_point(|other| *other < *parameter);
+        *parameter = ParameterNumber(number as u16);
+    };
+    pairs.retain(|pair| pair.is_within(&parameters));
+    for pair in &mut pairs {
+        renumber(&mut pair.lower);
+        renumber(&mut pair.higher);
+    }
     for atom in &mut atoms {
         atom.part = PartNumber(parts[&atom.part] as u16);
         let arity = usize::from(arities[usize::from(atom.atom.predicate)]);
-        for argument in &mut atom.atom.arguments[..arity] {
-            let number = parameters.partition_point(|other| *other < *argument);
-            *argument = ParameterNumber(number as u16);
-        }
+        atom.atom.arguments[..arity].iter_mut().for_each(renumber);
     }
     Schema {
         parameters: parameters.len() as u16,
+        pairs,
         atoms,
     }
 }
@@ -313,7 +395,7 @@ fn telling_schema(random: &mut Random, arities: &[u16]) -> Schema {
         let atom = lifted_atom(random, arities, predicate, parameters);
         push(&mut atoms, Role::Precondition, *part, atom);
     }
-    finished(random, atoms, arities)
+    finished(random, atoms, Vec::new(), arities)
 }
 
 /// A task with schemas whose ready parts often have equally many preconditions
@@ -343,13 +425,7 @@ fn tying_schema(random: &mut Random, shape: &Shape, arities: &[u16]) -> Schema {
     let parameters = random.within(&shape.parameters);
     let parts = random.within(&shape.parts);
     let in_any_role = arities.len() / 2;
-    let mut atoms = Vec::new();
-    for _ in 0..random.within(&shape.atoms) {
-        let role = random.pick(&Role::ALL);
-        let predicate = random.below(in_any_role);
-        let atom = lifted_atom(random, arities, predicate, parameters);
-        push(&mut atoms, role, PartNumber(0), atom);
-    }
+    let mut atoms = atoms_in_any_role(random, shape, &arities[..in_any_role], parameters);
     part_along_arcs(random, &mut atoms, parts);
     let equally_many = random.within(&(1..=3));
     for part in (0..parts as u16).map(PartNumber) {
@@ -360,5 +436,103 @@ fn tying_schema(random: &mut Random, shape: &Shape, arities: &[u16]) -> Schema {
             push(&mut atoms, Role::Precondition, part, atom);
         }
     }
-    finished(random, atoms, arities)
+    finished(random, atoms, Vec::new(), arities)
+}
+
+/// Atoms of these predicates in any role, all in part 0.
+fn atoms_in_any_role(
+    random: &mut Random,
+    shape: &Shape,
+    arities: &[u16],
+    parameters: usize,
+) -> Vec<SchemaAtom> {
+    let mut atoms = Vec::new();
+    for _ in 0..random.within(&shape.atoms) {
+        let role = random.pick(&Role::ALL);
+        let predicate = random.below(arities.len());
+        let atom = lifted_atom(random, arities, predicate, parameters);
+        push(&mut atoms, role, PartNumber(0), atom);
+    }
+    atoms
+}
+
+/// A task with schemas whose pairs take arcs away, most of which would have
+/// another order with these arcs, or none.
+pub fn differing_task(random: &mut Random, shape: &Shape) -> Task {
+    let mut arities = arities(random, shape);
+    arities.push(2);
+    let schemas = (0..random.within(&shape.schemas))
+        .map(|_| differing_schema(random, shape, &arities))
+        .collect();
+    with_ground_atoms(random, shape, arities, schemas)
+}
+
+/// A task with pairs, most of them small.
+pub fn any_differing_task(random: &mut Random) -> Task {
+    if random.chance(1, 8) {
+        differing_task(random, &Shape::WIDE_DIFFERING)
+    } else {
+        differing_task(random, &Shape::DIFFERING)
+    }
+}
+
+/// A task with pairs that has a split.
+pub fn splittable_differing_task(random: &mut Random) -> Task {
+    loop {
+        let task = any_differing_task(random);
+        if tokens::split(&task).is_ok() {
+            return task;
+        }
+    }
+}
+
+/// The last predicate, of arity 2, is only tested, so that it gives no arc: each
+/// pair without a part that has both its parameters is tested in one, but for
+/// a few, with which the split is refused by 20.
+fn differing_schema(random: &mut Random, shape: &Shape, arities: &[u16]) -> Schema {
+    let parameters = random.within(&shape.parameters);
+    let parts = random.within(&shape.parts);
+    let mut pairs = every_pair(parameters as u16);
+    pairs.retain(|_| random.chance(2, parameters));
+    pairs.truncate(MAX_ATOMS_OF_SCHEMA - shape.atoms.end());
+    let only_tested = arities.len() - 1;
+    let mut atoms = atoms_in_any_role(random, shape, &arities[..only_tested], parameters);
+    part_along_arcs_left(random, &mut atoms, &pairs, parts);
+    for pair in &pairs {
+        if !stand_together(&atoms, arities, pair) && random.chance(31, 32) {
+            let mut arguments = [pair.lower, pair.higher];
+            random.shuffle(&mut arguments);
+            let atom = Atom::new(only_tested as u16, &arguments);
+            let part = PartNumber(random.below(parts) as u16);
+            push(&mut atoms, Role::Precondition, part, atom);
+        }
+    }
+    finished(random, atoms, pairs, arities)
+}
+
+/// Parts the atoms so that an order complies with the arcs that the pairs leave:
+/// each atom stands no earlier than those with an arc to it.
+fn part_along_arcs_left(
+    random: &mut Random,
+    atoms: &mut [SchemaAtom],
+    pairs: &[Pair],
+    parts: usize,
+) {
+    for role in [Role::Precondition, Role::Delete, Role::Add] {
+        for at in 0..atoms.len() {
+            let SchemaAtom {
+                role: own, atom, ..
+            } = atoms[at];
+            if own != role {
+                continue;
+            }
+            let before = atoms.iter().filter(|other| {
+                RULES.contains(&(other.role, role))
+                    && other.atom.predicate == atom.predicate
+                    && !hold_a_pair(pairs, &other.atom, &atom)
+            });
+            let earliest = before.map(|other| other.part.index()).max().unwrap_or(0);
+            atoms[at].part = PartNumber(random.within(&(earliest..=parts - 1)) as u16);
+        }
+    }
 }

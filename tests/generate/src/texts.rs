@@ -7,7 +7,7 @@ use crate::random::Random;
 use crate::tasks::any_task;
 use crate::LIMIT_NUMBERS;
 
-const BYTES: &[u8] = b"0123456789,:=\n\r \0aegpt";
+const BYTES: &[u8] = b"0123456789,:=\n\r \0adefgiprt";
 
 /// The text with one to three damages.
 pub fn damaged(random: &mut Random, text: &[u8]) -> Vec<u8> {
@@ -68,11 +68,12 @@ fn damage_number(random: &mut Random, text: &mut Vec<u8>) {
 fn damage_lines(random: &mut Random, text: &mut Vec<u8>) {
     let mut lines: Vec<&[u8]> = text.split_inclusive(|&byte| byte == b'\n').collect();
     let [at, other] = [(); 2].map(|()| random.below(lines.len()));
-    match random.below(8) {
+    match random.below(9) {
         0 | 1 => lines.insert(at, lines[at]),
         2 | 3 => drop(lines.remove(at)),
         4 | 5 => lines.swap(at, other),
         6 => lines.insert(other, lines[at]),
+        7 => lines.insert(at, b"differ=0,1\n"),
         _ => {
             let times = random.pick(&[64, 65, 101, 201]);
             lines.splice(at..at, vec![lines[at]; times]);
@@ -86,6 +87,9 @@ fn damage_lines(random: &mut Random, text: &mut Vec<u8>) {
 pub fn any_text(random: &mut Random) -> Vec<u8> {
     if random.chance(1, 40) {
         return bytes(random);
+    }
+    if random.chance(1, 40) {
+        return too_many_pairs(random);
     }
     let task = if random.chance(1, 32) {
         limits::any_side(random)
@@ -135,15 +139,16 @@ fn oversized(random: &mut Random, text: &str) -> Vec<u8> {
     lines.concat().into_bytes()
 }
 
-/// The text with one line in form that is wrong by a number from 4 to 8, where
-/// it has a line of the kind chosen.
+/// The text with one line in form that is wrong by a number from 4 to 8 or by
+/// 19, where it has a line of the kind chosen.
 fn with_wrong_line(random: &mut Random, text: &str) -> Vec<u8> {
-    const KINDS: [&[&str]; 5] = [
+    const KINDS: [&[&str]; 6] = [
         &["objects", "arity"],
         &["schema"],
         &["part"],
         &["pre", "add", "del"],
         &["init", "goal"],
+        &["differ"],
     ];
     let kind = random.pick(&KINDS);
     let mut lines: Vec<String> = text.lines().map(|line| format!("{line}\n")).collect();
@@ -171,6 +176,7 @@ fn make_wrong(random: &mut Random, lines: &mut Vec<String>, at: usize) {
         "schema" if random.chance(1, 4) => return remove_atoms(lines, at),
         "schema" => random.pick(&["1", "6", "12", "13", "65536"]).to_string(),
         "part" => wrong_parts(random, body),
+        "differ" => wrong_pair(random, body),
         _ if random.chance(1, 2) => return lines.insert(at, lines[at].clone()),
         _ => wrong_atom(random, body),
     };
@@ -196,6 +202,40 @@ fn wrong_parts(random: &mut Random, body: &str) -> String {
         2 => body.replace('0', "15"),
         _ => body.replace('0', "16"),
     }
+}
+
+/// A pair that is no pair, doesn't ascend or is too high; or no two numbers.
+fn wrong_pair(random: &mut Random, body: &str) -> String {
+    let (lower, higher) = body.split_once(',').expect("a pair");
+    match random.below(8) {
+        0 => format!("{higher},{lower}"),
+        1 => format!("{lower},{lower}"),
+        2 => format!("{lower},{}", random.pick(LIMIT_NUMBERS)),
+        3 => format!("{},{higher}", random.pick(LIMIT_NUMBERS)),
+        4 => "0,1".into(),
+        5 => format!("{body},{higher}"),
+        6 => lower.into(),
+        _ => format!("{body}\ndiffer={body}"),
+    }
+}
+
+/// The text of a task with 201 `differ` lines, the last of which may be wrong
+/// in another way too.
+fn too_many_pairs(random: &mut Random) -> Vec<u8> {
+    let limit = limits::pairs();
+    let text = limit.outside.to_string();
+    let mut lines: Vec<&str> = text.split_inclusive('\n').collect();
+    let bad = [
+        "differ=1,0\n",
+        "differ=0,1\n",
+        "differ=0,12\n",
+        "differ=0\n",
+        "differ=0,1,2\n",
+    ];
+    if random.chance(1, 2) {
+        lines[limit.place as usize - 1] = random.pick(&bad);
+    }
+    lines.concat().into_bytes()
 }
 
 /// Another predicate or number of arguments, or a high argument.

@@ -21,6 +21,9 @@ pub enum Reason {
     PreconditionMissing = 16,
     StateTooLarge = 17,
     PddlTooLong = 18,
+    BadPair = 19,
+    PairInNoPart = 20,
+    TooManyPairs = 21,
 }
 
 /// "Lines count from 1, the others from 0; none is 0."

@@ -1,10 +1,13 @@
 //! Document 01, "Arcs and order of parts", with the choice among ready parts
-//! that document 02's note 2, "Bind early", gives it.
+//! that document 02's note 2, "Bind early", gives it, and without the arcs that
+//! its note 4, "Parameters that must differ", takes away.
 
 use std::cmp::Reverse;
 use std::collections::BTreeSet;
 
-use crate::table::{used_arguments, ParameterNumber, PartNumber, Role, Schema, SchemaAtom};
+use crate::table::{
+    used_arguments, LiftedAtom, Pair, ParameterNumber, PartNumber, Role, Schema, SchemaAtom,
+};
 
 /// "An arc from precondition to add, precondition to delete, delete to add."
 pub const RULES: [(Role, Role); 3] = [
@@ -16,19 +19,31 @@ pub const RULES: [(Role, Role); 3] = [
 pub type Arcs = BTreeSet<(PartNumber, PartNumber)>;
 
 /// "Two atoms of one schema with the same predicate give an arc from the
-/// first's part to the second's. Arcs inside a part don't count."
+/// first's part to the second's. Arcs inside a part don't count." They "give no
+/// arc if at some argument position they hold a declared pair".
 pub fn arcs(schema: &Schema, rules: &[(Role, Role)]) -> Arcs {
     let mut arcs = Arcs::new();
     for &(first_role, second_role) in rules {
         for first in schema.atoms_of(first_role) {
             for second in schema.atoms_of(second_role) {
-                if first.atom.predicate == second.atom.predicate && first.part != second.part {
+                if first.atom.predicate == second.atom.predicate
+                    && first.part != second.part
+                    && !hold_a_pair(&schema.pairs, &first.atom, &second.atom)
+                {
                     arcs.insert((first.part, second.part));
                 }
             }
         }
     }
     arcs
+}
+
+/// Whether at some position one atom has one parameter of a pair and the other
+/// the other, so that no step makes them the same ground atom. Unused words
+/// are equal in both, and the parameters of a pair never are.
+pub fn hold_a_pair(pairs: &[Pair], first: &LiftedAtom, second: &LiftedAtom) -> bool {
+    let mut places = first.arguments.iter().zip(&second.arguments);
+    places.any(|(one, other)| pairs.iter().any(|pair| pair.is_of(*one, *other)))
 }
 
 /// The order taken: among ready parts "the one with most preconditions"; "when

@@ -31,6 +31,10 @@ fn part_step(part: &BlockPart, step: &Step) -> Step {
 /// "Folding takes a list apart into whole blocks; it looks at schemas and
 /// objects, not at states." Refusal 14: "first step that fits no block; the
 /// step count if the last block is unfinished".
+///
+/// The steps are those of the split. So the step of a whole block keeps its pairs
+/// apart, since each of them is carried by some part, and "only the pairs that
+/// its own parts carry must differ" in an unfinished beginning.
 pub fn fold(split: &Split, steps: &[Step]) -> Answer<Vec<Step>> {
     let mut folded = Vec::new();
     let mut begun = 0;

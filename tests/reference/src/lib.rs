@@ -1,7 +1,9 @@
 //! A second implementation of document 01, "Splitting STRIPS action schemas
-//! for station work", and of document 02's notes 1 and 2, with one module for
-//! each section, `pddl` for note 1 and the entry points on lent words and bytes
-//! here. Note 2 changes the choice among ready parts in `arcs`.
+//! for station work", and of document 02's notes 1, 2 and 4, with one module
+//! for each section, `pddl` for note 1 and the entry points on lent words and
+//! bytes here. Note 2 changes the choice among ready parts in `arcs`; note 4
+//! gives schemas pairs of parameters that must differ, in every module. Note 3
+//! changes no answer.
 
 pub mod answer;
 pub mod arcs;
@@ -97,7 +99,7 @@ pub fn fold(table: &[u16], split_steps: &[u16], out: &mut [u16]) -> Answer<Folde
     })
 }
 
-/// Refusal 1: "a lent table is shorter than 13,406 words".
+/// Refusal 1: a lent table is shorter than 14,007 words.
 fn lent_table(table: &mut [u16]) -> Answer<&mut [u16]> {
     table
         .get_mut(..TABLE_WORDS)

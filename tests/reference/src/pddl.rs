@@ -1,10 +1,11 @@
 //! Document 02, note 1: the writer of "a domain and a problem in the STRIPS
-//! fragment" of PDDL, "without partitions".
+//! fragment" of PDDL, "without partitions"; and note 4: it "states each pair as
+//! a `(not (= ..))` precondition after the atoms".
 
 use std::fmt;
 
 use crate::table::{
-    used_arguments, Atom, ObjectNumber, ParameterNumber, Role, Schema, SchemaAtom, Task,
+    used_arguments, Atom, ObjectNumber, Pair, ParameterNumber, Role, Schema, SchemaAtom, Task,
 };
 
 /// Both defines of a task, "and byte 10 follows each".
@@ -21,7 +22,11 @@ impl fmt::Display for Pddl<'_> {
 }
 
 fn write_domain(f: &mut fmt::Formatter, task: &Task) -> fmt::Result {
-    f.write_str("(define (domain d) (:predicates")?;
+    f.write_str("(define (domain d)")?;
+    if task.pairs() > 0 {
+        f.write_str(" (:requirements :strips :equality :negative-preconditions)")?;
+    }
+    f.write_str(" (:predicates")?;
     for (predicate, &arity) in (0..).zip(&task.arities) {
         write_atom(f, predicate, (0..arity).map(ParameterNumber))?;
     }
@@ -38,11 +43,14 @@ fn write_action(f: &mut fmt::Formatter, schema: &Schema, arities: &[u16]) -> fmt
     f.write_str(" :parameters (")?;
     for parameter in 0..schema.parameters {
         let space = if parameter > 0 { " " } else { "" };
-        write!(f, "{space}{}{parameter}", ParameterNumber::LETTERS)?;
+        write!(f, "{space}{VARIABLE}{parameter}")?;
     }
     f.write_str(") :precondition (and")?;
     for SchemaAtom { atom, .. } in schema.atoms_of(Role::Precondition) {
         write_used(f, atom, arities)?;
+    }
+    for Pair { lower, higher } in &schema.pairs {
+        write!(f, " (not (= {VARIABLE}{} {VARIABLE}{}))", lower.0, higher.0)?;
     }
     f.write_str(") :effect (and")?;
     for SchemaAtom { atom, .. } in schema.atoms_of(Role::Add) {
@@ -71,6 +79,9 @@ fn write_problem(f: &mut fmt::Formatter, task: &Task) -> fmt::Result {
     }
     f.write_str(")))")
 }
+
+/// What stands before a parameter's number.
+const VARIABLE: &str = ParameterNumber::LETTERS;
 
 /// "Objects o0, o1 and on, .. parameters ?x0 and on": what stands before an
 /// argument's number.

@@ -1,11 +1,14 @@
-//! A reader of PDDL's STRIPS fragment, from the language's grammar and not from
-//! the writer: names are those of their declarations, whatever they look like.
+//! A reader of PDDL's STRIPS fragment, and of preconditions that two parameters
+//! differ, from the language's grammar and not from the writer: names are those
+//! of their declarations, whatever they look like.
 //! Whether the task read is one of a table is not judged here.
 
 use std::collections::HashMap;
 use std::{mem, slice};
 
-use crate::table::{Atom, GroundAtom, PartNumber, Role, Schema, SchemaAtom, Task, MAX_ARITY};
+use crate::table::{
+    Atom, GroundAtom, Pair, ParameterNumber, PartNumber, Role, Schema, SchemaAtom, Task, MAX_ARITY,
+};
 
 /// Why a text is not read.
 #[derive(Clone, Debug, PartialEq, Eq)]
@@ -19,14 +22,16 @@ pub enum Fault {
     WrongArity(String),
     /// The problem's domain, where it isn't the one before it.
     OtherDomain(String),
+    /// What the text has, though its requirements don't ask for it.
+    NotRequired(&'static str),
     /// More than a task can hold.
     TooLarge,
 }
 
 type Read<Value> = Result<Value, Fault>;
 
-/// The task of a domain and a problem, every schema atom in part 0. Atoms stand
-/// in the order of the text, a schema's adds before its deletes.
+/// The task of a domain and a problem, every schema atom in part 0. Atoms and
+/// pairs stand in the order of the text, a schema's adds before its deletes.
 pub fn read_pddl(text: &str) -> Read<Task> {
     let text = text.to_ascii_lowercase();
     let defines = expressions(&text)?;
@@ -234,7 +239,8 @@ struct Domain<'a> {
 /// `(define (domain NAME) (:requirements ..)? (:predicates ..) (:action ..)*)`
 fn read_domain<'a>(domain: &Expression<'a>) -> Read<Domain<'a>> {
     let (name, sections) = define(domain, "domain")?;
-    let [declared, actions @ ..] = without_requirements(sections)? else {
+    let (required, sections) = requirements(sections)?;
+    let [declared, actions @ ..] = sections else {
         return Err(Fault::OutOfForm);
     };
     let mut predicates = Predicates::default();
@@ -248,7 +254,11 @@ fn read_domain<'a>(domain: &Expression<'a>) -> Read<Domain<'a>> {
             return Err(Fault::OutOfForm);
         };
         names.declare(name.name()?)?;
-        schemas.push(read_schema(fields, &predicates)?);
+        let schema = read_schema(fields, &predicates)?;
+        if !schema.pairs.is_empty() {
+            require(&required, [EQUALITY, NEGATIVE_PRECONDITIONS])?;
+        }
+        schemas.push(schema);
     }
     Ok(Domain {
         name,
@@ -257,19 +267,54 @@ fn read_domain<'a>(domain: &Expression<'a>) -> Read<Domain<'a>> {
     })
 }
 
-/// The sections behind `:requirements`, which may be missing, and may ask for
-/// no more than is read here.
-fn without_requirements<'e, 'a>(sections: &'e [Expression<'a>]) -> Read<&'e [Expression<'a>]> {
-    let [first, rest @ ..] = sections else {
-        return Ok(sections);
+const STRIPS: &str = ":strips";
+const EQUALITY: &str = ":equality";
+const NEGATIVE_PRECONDITIONS: &str = ":negative-preconditions";
+
+/// What `:requirements` asks for, and the sections behind. It may be missing,
+/// and may ask for no more than is read here.
+fn requirements<'e, 'a>(
+    sections: &'e [Expression<'a>],
+) -> Read<(Vec<&'a str>, &'e [Expression<'a>])> {
+    let Some((first, rest)) = sections.split_first() else {
+        return Ok((Vec::new(), sections));
     };
-    match first.behind(":requirements") {
-        Err(_) => Ok(sections),
-        Ok(required) => {
-            let met = required.iter().all(|word| matches!(word, Word(":strips")));
-            met.then_some(rest).ok_or(Fault::OutOfForm)
-        }
+    let Ok(required) = first.behind(":requirements") else {
+        return Ok((Vec::new(), sections));
+    };
+    let required: Vec<&str> = required.iter().map(Expression::word).collect::<Read<_>>()?;
+    let known = [STRIPS, EQUALITY, NEGATIVE_PRECONDITIONS];
+    let met = required.iter().all(|word| known.contains(word));
+    met.then_some((required, rest)).ok_or(Fault::OutOfForm)
+}
+
+fn require<const COUNT: usize>(required: &[&str], needed: [&'static str; COUNT]) -> Read<()> {
+    let missing = needed.into_iter().find(|word| !required.contains(word));
+    missing.map_or(Ok(()), |word| Err(Fault::NotRequired(word)))
+}
+
+/// The arguments of a `(not (= ..))`; `None` where it is none.
+fn unequal<'e, 'a>(literal: &'e Expression<'a>) -> Option<&'e [Expression<'a>]> {
+    match literal.behind("not") {
+        Ok([equal]) => equal.behind("=").ok(),
+        _ => None,
     }
+}
+
+/// The pair of two parameters, which says the same in either order.
+fn pair_of(arguments: &[Expression], parameters: &Names) -> Read<Pair> {
+    let [one, other] = arguments else {
+        return Err(Fault::OutOfForm);
+    };
+    let [one, other] = [
+        parameters.number(one.word()?)?,
+        parameters.number(other.word()?)?,
+    ];
+    let pair = Pair {
+        lower: ParameterNumber(one.min(other)),
+        higher: ParameterNumber(one.max(other)),
+    };
+    (one != other).then_some(pair).ok_or(Fault::OutOfForm)
 }
 
 /// `:parameters (..) :precondition CONDITION :effect EFFECT`
@@ -280,7 +325,11 @@ fn read_schema(fields: &[Expression], predicates: &Predicates) -> Read<Schema> {
         return Err(Fault::OutOfForm);
     };
     let parameters = Names::declared(parameters.list()?.iter().map(Expression::variable))?;
-    let tested = tests.literals()?.iter();
+    let tests = tests.literals()?;
+    let pairs = tests.iter().filter_map(unequal);
+    let pairs = pairs.map(|arguments| pair_of(arguments, &parameters));
+    let pairs = pairs.collect::<Read<Vec<_>>>()?;
+    let tested = tests.iter().filter(|literal| unequal(literal).is_none());
     let tested = tested.map(|atom| Ok((Role::Precondition, atom)));
     let changed = effect.literals()?.iter().map(effect_of);
     let mut atoms = tested
@@ -297,6 +346,7 @@ fn read_schema(fields: &[Expression], predicates: &Predicates) -> Read<Schema> {
     atoms.sort_by_key(|atom| atom.role);
     Ok(Schema {
         parameters: parameters.count(),
+        pairs,
         atoms,
     })
 }

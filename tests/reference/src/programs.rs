@@ -1,7 +1,7 @@
 //! The two programs of document 01, "Text form", and the one that writes PDDL,
 //! as functions of their input.
 
-use crate::answer::{Answer, Refusal};
+use crate::answer::{Answer, Reason, Refusal};
 use crate::blocks;
 use crate::pddl::Pddl;
 use crate::text::{read_plan, read_task, Plan};
@@ -34,6 +34,9 @@ fn unfolding(task: &[u8], plan: &[u8]) -> Answer<String> {
     let task = read_task(task)?;
     let steps = read_plan(plan, &task)?;
     let split = tokens::split(&task)?;
+    if let Some(bad) = steps.iter().position(|step| !step.keeps_pairs_apart(&task)) {
+        return Err(Refusal::at_step(Reason::BadStep, bad));
+    }
     let plan = Plan {
         task: &split.task,
         steps: &blocks::unfold(&split, &steps),

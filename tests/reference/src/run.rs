@@ -1,4 +1,5 @@
-//! Document 01, "Steps, states and running".
+//! Document 01, "Steps, states and running"; "a step with equal objects" at a
+//! declared pair "isn't a step of the task" (document 02's note 4).
 
 use std::collections::BTreeSet;
 
@@ -34,10 +35,16 @@ impl Step {
         let (objects, zeros) = words[1..].split_at(usize::from(schema.parameters));
         let fits = objects.iter().all(|&object| object < task.objects)
             && zeros.iter().all(|&word| word == 0);
-        fits.then(|| Step {
+        let step = Step {
             schema: words[0],
             objects: std::array::from_fn(|i| ObjectNumber(words[1 + i])),
-        })
+        };
+        (fits && step.keeps_pairs_apart(task)).then_some(step)
+    }
+
+    /// Whether the step's objects differ at every pair of its schema.
+    pub fn keeps_pairs_apart(&self, task: &Task) -> bool {
+        task.schemas[usize::from(self.schema)].keeps_apart(&self.objects)
     }
 
     pub fn words(&self) -> [u16; STEP_WORDS] {

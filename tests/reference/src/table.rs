@@ -1,8 +1,9 @@
 //! Document 01, "Task table": the data of a task, its layout in words, and
-//! what makes words such a table.
+//! what makes words such a table; with the block of pairs that document 02's
+//! note 4, "Parameters that must differ", gives it.
 
-/// "A table takes 13,406 words."
-pub const TABLE_WORDS: usize = 13_406;
+/// "A table then takes 14,007 words."
+pub const TABLE_WORDS: usize = 14_007;
 pub const MAX_OBJECTS: usize = 1000;
 pub const MAX_PREDICATES: usize = 400;
 pub const MAX_SCHEMAS: usize = 200;
@@ -13,8 +14,12 @@ pub const MAX_ARITY: usize = 4;
 pub const MAX_PARAMETERS: usize = 12;
 pub const MAX_ATOMS_OF_SCHEMA: usize = 64;
 pub const MAX_PARTS: usize = 16;
+pub const MAX_PAIRS: usize = 200;
 
-const HEADER_WORDS: usize = 6;
+/// The counts that begin a table, that of its pairs last.
+pub const HEADER_WORDS: usize = 7;
+/// "Three words per pair (schema, lower, higher)."
+pub const PAIR_WORDS: usize = 3;
 const ATOM_WORDS: usize = 8;
 
 /// Defines the tuple structs of "a parameter number, an object number and a
@@ -119,14 +124,54 @@ pub struct SchemaAtom {
     pub atom: LiftedAtom,
 }
 
+/// Two parameters that must differ, "the lower first". The derived order is
+/// that in which lines and records of pairs ascend.
+#[derive(Clone, Copy, Debug, PartialEq, Eq, PartialOrd, Ord)]
+pub struct Pair {
+    pub lower: ParameterNumber,
+    pub higher: ParameterNumber,
+}
+
+impl Pair {
+    /// Whether the two are these parameters, "either way round".
+    pub fn is_of(&self, one: ParameterNumber, other: ParameterNumber) -> bool {
+        (self.lower, self.higher) == (one.min(other), one.max(other))
+    }
+
+    /// Whether these objects, one for each parameter, differ at the pair.
+    fn differs_in(&self, objects: &[ObjectNumber]) -> bool {
+        objects[self.lower.index()] != objects[self.higher.index()]
+    }
+
+    /// Whether these parameters have both.
+    pub fn is_within(&self, parameters: &[ParameterNumber]) -> bool {
+        parameters.contains(&self.lower) && parameters.contains(&self.higher)
+    }
+}
+
 #[derive(Clone, Debug, PartialEq, Eq)]
 pub struct Schema {
     pub parameters: u16,
+    /// The declared pairs, strictly ascending.
+    pub pairs: Vec<Pair>,
     /// "Preconditions first, then adds, then deletes."
     pub atoms: Vec<SchemaAtom>,
 }
 
 impl Schema {
+    /// Whether a pair may stand behind the schema's others: its lower parameter
+    /// first, none too high, and behind the last one.
+    pub fn takes_pair(&self, pair: &Pair) -> bool {
+        pair.lower < pair.higher
+            && pair.higher.0 < self.parameters
+            && self.pairs.last().is_none_or(|last| last < pair)
+    }
+
+    /// Whether the objects, one for each parameter, differ at every pair.
+    pub fn keeps_apart(&self, objects: &[ObjectNumber]) -> bool {
+        self.pairs.iter().all(|pair| pair.differs_in(objects))
+    }
+
     pub fn atoms_of(&self, role: Role) -> impl Iterator<Item = &SchemaAtom> {
         self.atoms.iter().filter(move |atom| atom.role == role)
     }
@@ -183,7 +228,7 @@ pub fn used_arguments<'a, Argument>(atom: &'a Atom<Argument>, arities: &[u16]) -
     &atom.arguments[..arity.min(MAX_ARITY)]
 }
 
-/// The six counts that begin a table.
+/// The counts that begin a table.
 struct Counts {
     objects: usize,
     predicates: usize,
@@ -191,6 +236,7 @@ struct Counts {
     schema_atoms: usize,
     initial: usize,
     goal: usize,
+    pairs: usize,
 }
 
 impl Counts {
@@ -203,6 +249,7 @@ impl Counts {
             schema_atoms: count(3),
             initial: count(4),
             goal: count(5),
+            pairs: count(6),
         }
     }
 
@@ -214,6 +261,7 @@ impl Counts {
             schema_atoms: task.schema_atoms(),
             initial: task.initial.len(),
             goal: task.goal.len(),
+            pairs: task.pairs(),
         }
     }
 
@@ -225,6 +273,7 @@ impl Counts {
             self.schema_atoms,
             self.initial,
             self.goal,
+            self.pairs,
         ]
         .map(|count| count as u16)
     }
@@ -236,12 +285,18 @@ impl Counts {
             && self.schema_atoms <= MAX_SCHEMA_ATOMS
             && self.initial <= MAX_INITIAL
             && self.goal <= MAX_GOAL
+            && self.pairs <= MAX_PAIRS
     }
 }
 
 impl Task {
     pub fn schema_atoms(&self) -> usize {
         self.schemas.iter().map(|schema| schema.atoms.len()).sum()
+    }
+
+    /// How many pairs must differ, of all schemas.
+    pub fn pairs(&self) -> usize {
+        self.schemas.iter().map(|schema| schema.pairs.len()).sum()
     }
 
     /// Whether the task passes no limit of a table on how much there is.
@@ -262,6 +317,7 @@ impl Task {
         }
         let (arities, rest) = rest.split_at(counts.predicates);
         let (parameters, rest) = rest.split_at(counts.schemas);
+        let (pairs, rest) = rest.split_at(PAIR_WORDS * counts.pairs);
         let (schema_atoms, rest) = rest.split_at(ATOM_WORDS * counts.schema_atoms);
         let (initial, rest) = rest.split_at(ATOM_WORDS * counts.initial);
         let (goal, zeros) = rest.split_at(ATOM_WORDS * counts.goal);
@@ -272,7 +328,7 @@ impl Task {
         Some(Task {
             objects: header[0],
             arities: arities.to_vec(),
-            schemas: schemas_from_words(parameters, schema_atoms, arities)?,
+            schemas: schemas_from_words(parameters, pairs, schema_atoms, arities)?,
             initial: ground_atoms_from_words(initial, INITIAL_ROLE, arities, header[0])?,
             goal: ground_atoms_from_words(goal, GOAL_ROLE, arities, header[0])?,
         })
@@ -283,6 +339,11 @@ impl Task {
         let mut words = Counts::of(self).words().to_vec();
         words.extend(&self.arities);
         words.extend(self.schemas.iter().map(|schema| schema.parameters));
+        for (number, schema) in (0..).zip(&self.schemas) {
+            for Pair { lower, higher } in &schema.pairs {
+                words.extend([number, lower.0, higher.0]);
+            }
+        }
         for (number, schema) in (0..).zip(&self.schemas) {
             for SchemaAtom { role, part, atom } in &schema.atoms {
                 words.extend(atom_words(number, *role as u16, *part, atom));
@@ -321,11 +382,17 @@ fn plain_words(words: &[u16]) -> [u16; 1 + MAX_ARITY] {
     [words[2], words[4], words[5], words[6], words[7]]
 }
 
-fn schemas_from_words(parameters: &[u16], atoms: &[u16], arities: &[u16]) -> Option<Vec<Schema>> {
+fn schemas_from_words(
+    parameters: &[u16],
+    pairs: &[u16],
+    atoms: &[u16],
+    arities: &[u16],
+) -> Option<Vec<Schema>> {
     let mut schemas: Vec<Schema> = parameters
         .iter()
         .map(|&parameters| Schema {
             parameters,
+            pairs: Vec::new(),
             atoms: Vec::new(),
         })
         .collect();
@@ -335,6 +402,7 @@ fn schemas_from_words(parameters: &[u16], atoms: &[u16], arities: &[u16]) -> Opt
     {
         return None;
     }
+    push_pairs(&mut schemas, pairs)?;
     let mut last = (0, Role::Precondition);
     for words in atoms.chunks_exact(ATOM_WORDS) {
         let (number, role) = (words[0], Role::from_word(words[1])?);
@@ -354,6 +422,25 @@ fn schemas_from_words(parameters: &[u16], atoms: &[u16], arities: &[u16]) -> Opt
         .iter()
         .all(|schema| schema.is_complete(arities))
         .then_some(schemas)
+}
+
+/// Gives each schema its pairs, which stand "in file order"; `None` where one
+/// is such as refusal 19 would turn back.
+fn push_pairs(schemas: &mut [Schema], words: &[u16]) -> Option<()> {
+    let mut last = 0;
+    for words in words.chunks_exact(PAIR_WORDS) {
+        let schema = schemas.get_mut(usize::from(words[0]))?;
+        let pair = Pair {
+            lower: ParameterNumber(words[1]),
+            higher: ParameterNumber(words[2]),
+        };
+        if words[0] < last || !schema.takes_pair(&pair) {
+            return None;
+        }
+        last = words[0];
+        schema.pairs.push(pair);
+    }
+    Some(())
 }
 
 /// "Initial and goal atoms ascend strictly"; their schema and part are 0.

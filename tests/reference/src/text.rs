@@ -1,13 +1,15 @@
-//! Document 01, "Text form": the reader and the writer of tasks and plans.
+//! Document 01, "Text form": the reader and the writer of tasks and plans, with
+//! the `differ` lines of document 02's note 4.
 
 use std::fmt;
 
 use crate::answer::{Answer, Place, Reason, Refusal};
 use crate::run::Step;
 use crate::table::{
-    used_arguments, Atom, GroundAtom, LiftedAtom, ObjectNumber, ParameterNumber, PartNumber, Role,
-    Schema, SchemaAtom, Task, MAX_ARITY, MAX_ATOMS_OF_SCHEMA, MAX_GOAL, MAX_INITIAL, MAX_OBJECTS,
-    MAX_PARAMETERS, MAX_PARTS, MAX_PREDICATES, MAX_SCHEMAS, MAX_SCHEMA_ATOMS,
+    used_arguments, Atom, GroundAtom, LiftedAtom, ObjectNumber, Pair, ParameterNumber, PartNumber,
+    Role, Schema, SchemaAtom, Task, MAX_ARITY, MAX_ATOMS_OF_SCHEMA, MAX_GOAL, MAX_INITIAL,
+    MAX_OBJECTS, MAX_PAIRS, MAX_PARAMETERS, MAX_PARTS, MAX_PREDICATES, MAX_SCHEMAS,
+    MAX_SCHEMA_ATOMS,
 };
 
 /// "At most 100 `step=` lines."
@@ -66,6 +68,11 @@ fn parse_list_or_empty(body: &[u8]) -> Option<Vec<Number>> {
     } else {
         parse_list(body)
     }
+}
+
+/// "Two parameters (3 unless two numbers)."
+fn parse_two(body: &[u8]) -> Option<[Number; 2]> {
+    parse_list(body)?.try_into().ok()
 }
 
 fn parse_headed(body: &[u8]) -> Option<Headed> {
@@ -138,8 +145,8 @@ impl<'a> Cursor<'a> {
     }
 }
 
-/// Reads a task; refusals 3 to 8, "lines in file order, within a line by
-/// number".
+/// Reads a task; refusals 3 to 8, 19 and 21, "lines in file order, within a
+/// line by number", 21 right after 4 and 19 between 5 and 6.
 pub fn read_task(text: &[u8]) -> Answer<Task> {
     let mut cursor = Cursor::new(text);
     cursor.take_mark("task")?;
@@ -151,11 +158,8 @@ pub fn read_task(text: &[u8]) -> Answer<Task> {
         initial: Vec::new(),
         goal: Vec::new(),
     };
-    let mut schema_atoms = 0;
     while cursor.at("schema") {
-        let room = MAX_SCHEMA_ATOMS - schema_atoms;
-        let schema = read_schema(&mut cursor, &task, room)?;
-        schema_atoms += schema.atoms.len();
+        let schema = read_schema(&mut cursor, &task)?;
         task.schemas.push(schema);
     }
     task.initial = read_ground_atoms(&mut cursor, &task, "init", MAX_INITIAL)?;
@@ -181,16 +185,19 @@ fn read_arities(cursor: &mut Cursor) -> Answer<Vec<u16>> {
         .ok_or(cursor.refusal(Reason::OutsideLimits))
 }
 
-/// Reads a schema into a task that has `room` for so many schema atoms more.
-fn read_schema(cursor: &mut Cursor, task: &Task, room: usize) -> Answer<Schema> {
+/// Reads a schema behind those that the task has.
+fn read_schema(cursor: &mut Cursor, task: &Task) -> Answer<Schema> {
     let parameters = cursor.take("schema", parse_number)?;
     let parameters = word_below(parameters, MAX_PARAMETERS as u16 + 1)
         .filter(|_| task.schemas.len() < MAX_SCHEMAS)
         .ok_or(cursor.refusal(Reason::OutsideLimits))?;
     let mut schema = Schema {
         parameters,
+        pairs: Vec::new(),
         atoms: Vec::new(),
     };
+    read_pairs(cursor, task, &mut schema)?;
+    let room = MAX_SCHEMA_ATOMS - task.schema_atoms();
     for (role, key) in ROLE_KEYS {
         while cursor.at(key) {
             let headed = cursor.take(key, parse_headed)?;
@@ -208,6 +215,29 @@ fn read_schema(cursor: &mut Cursor, task: &Task, room: usize) -> Answer<Schema> 
     }
     read_parts(cursor, task, &mut schema)?;
     Ok(schema)
+}
+
+/// Refusals 21, "at the 201st such line" of the file, and 19, "at a `differ`
+/// line that names a parameter too high, or whose pair or place doesn't ascend".
+fn read_pairs(cursor: &mut Cursor, task: &Task, schema: &mut Schema) -> Answer<()> {
+    let room = MAX_PAIRS - task.pairs();
+    while cursor.at("differ") {
+        let numbers = cursor.take("differ", parse_two)?;
+        cursor.require(schema.pairs.len() < room, Reason::TooManyPairs)?;
+        let pair = pair_of(numbers, schema).ok_or(cursor.refusal(Reason::BadPair))?;
+        schema.pairs.push(pair);
+    }
+    Ok(())
+}
+
+/// The pair of two numbers, if the schema takes it behind its others.
+fn pair_of(numbers: [Number; 2], schema: &Schema) -> Option<Pair> {
+    let [lower, higher] = numbers.map(|number| word_below(number, schema.parameters));
+    let pair = Pair {
+        lower: ParameterNumber(lower?),
+        higher: ParameterNumber(higher?),
+    };
+    schema.takes_pair(&pair).then_some(pair)
 }
 
 /// Refusal 5: "predicate unknown, wrong number of arguments, argument too
@@ -257,7 +287,8 @@ fn read_ground_atoms(
 }
 
 /// Reads a plan: "a line out of form is 3, a 101st step 4, a wrong schema,
-/// object or number of objects 5".
+/// object or number of objects 5". Pairs aren't judged here: a step with equal
+/// objects at one is refused by unfolding.
 pub fn read_plan(text: &[u8], task: &Task) -> Answer<Vec<Step>> {
     let mut cursor = Cursor::new(text);
     let mut steps = Vec::new();
@@ -298,6 +329,9 @@ impl fmt::Display for Task {
         writeln!(f, "arity={}", List(&self.arities))?;
         for schema in &self.schemas {
             writeln!(f, "schema={}", schema.parameters)?;
+            for Pair { lower, higher } in &schema.pairs {
+                writeln!(f, "differ={}", List(&[*lower, *higher]))?;
+            }
             for (role, key) in ROLE_KEYS {
                 for SchemaAtom { atom, .. } in schema.atoms_of(role) {
                     let arguments: &[ParameterNumber] = used_arguments(atom, &self.arities);

@@ -1,9 +1,11 @@
-//! Document 01, "Tokens": the split of a task.
+//! Document 01, "Tokens": the split of a task; with the pairs that document 02's
+//! note 4 lets its parts carry.
 
 use crate::answer::{Answer, Place, Reason, Refusal};
 use crate::arcs::{arcs, order, RULES};
 use crate::table::{
-    used_arguments, Atom, LiftedAtom, ParameterNumber, PartNumber, Role, Schema, SchemaAtom, Task,
+    used_arguments, Atom, LiftedAtom, Pair, ParameterNumber, PartNumber, Role, Schema, SchemaAtom,
+    Task,
 };
 
 /// The split task, and for each original schema the parts its blocks have.
@@ -21,8 +23,9 @@ pub struct BlockPart {
     pub parameters: Vec<ParameterNumber>,
 }
 
-/// Splits, refusing by 9 ("no order complies; lowest such schema") and then by
-/// 10 ("the split task passes a table limit").
+/// Splits, refusing by 9 ("no order complies; lowest such schema"), then by 20
+/// ("with the lowest such schema, when no part has both parameters of a pair"),
+/// then by 10 ("the split task passes a table limit").
 pub fn split(task: &Task) -> Answer<Split> {
     let orders = (0..)
         .zip(&task.schemas)
@@ -32,10 +35,30 @@ pub fn split(task: &Task) -> Answer<Split> {
         })
         .collect::<Answer<Vec<_>>>()?;
     let split = decorate(task, &orders);
+    if let Some(number) = split.schema_with_pair_in_no_part(task) {
+        return Err(Refusal::new(Reason::PairInNoPart, Place::Schema(number)));
+    }
     if split.task.is_within_limits() {
         Ok(split)
     } else {
         Err(Refusal::nowhere(Reason::SplitTooLarge))
+    }
+}
+
+impl Split {
+    /// The lowest schema of the task with a pair that no part has both
+    /// parameters of.
+    fn schema_with_pair_in_no_part(&self, task: &Task) -> Option<u64> {
+        let carried = |block: &[BlockPart], pair: &Pair| {
+            let mut parts = block.iter();
+            parts.any(|part| pair.is_within(&part.parameters))
+        };
+        let mut schemas = (0..).zip(task.schemas.iter().zip(&self.blocks));
+        let apart = schemas.find(|(_, (schema, block))| {
+            let mut pairs = schema.pairs.iter();
+            pairs.any(|pair| !carried(block, pair))
+        });
+        apart.map(|(number, _)| number)
     }
 }
 
@@ -191,8 +214,22 @@ impl Decorator<'_> {
         }
         Schema {
             parameters: parameters.len() as u16,
+            pairs: self.carried_pairs(position),
             atoms,
         }
+    }
+
+    /// "A part that has both parameters carries the line, renumbered."
+    fn carried_pairs(&self, position: usize) -> Vec<Pair> {
+        let parameters = &self.block[position].parameters;
+        let pairs = self.schema.pairs.iter();
+        pairs
+            .filter(|pair| pair.is_within(parameters))
+            .map(|pair| Pair {
+                lower: self.renumbered(pair.lower, position),
+                higher: self.renumbered(pair.higher, position),
+            })
+            .collect()
     }
 
     fn old_atoms(&self, role: Role, position: usize) -> impl Iterator<Item = LiftedAtom> + '_ {

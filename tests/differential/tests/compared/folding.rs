@@ -70,5 +70,5 @@ fn parts_that_tie() {
 
 #[test]
 fn vectors() {
-    list_cases("02-fold.txt", fold);
+    list_cases("04-fold.txt", fold);
 }

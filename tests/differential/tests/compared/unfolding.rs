@@ -64,5 +64,5 @@ fn parts_that_tie() {
 
 #[test]
 fn vectors() {
-    list_cases("02-unfold.txt", unfold);
+    list_cases("04-unfold.txt", unfold);
 }
