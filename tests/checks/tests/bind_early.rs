@@ -3,16 +3,12 @@
 //! in a part already placed; only then the lowest number." Where a schema has no
 //! predicate in two roles it has no arc, and all its unplaced parts are ready.
 
-use checks::first_order;
+use checks::{atom_lines, first_order};
 
 /// The order of a schema with these atoms, each with its part behind it.
 fn order_of(arities: &str, parameters: usize, atoms: &[(&str, usize)]) -> Vec<u16> {
-    let lines: String = atoms.iter().map(|(atom, _)| format!("{atom}\n")).collect();
-    let parts: Vec<String> = atoms.iter().map(|(_, part)| part.to_string()).collect();
-    let parts = parts.join(",");
-    let text = format!(
-        "task=1\nobjects=1\narity={arities}\nschema={parameters}\n{lines}part={parts}\nend=1\n"
-    );
+    let lines = atom_lines(atoms);
+    let text = format!("task=1\nobjects=1\narity={arities}\nschema={parameters}\n{lines}end=1\n");
     first_order(&text).expect("an order")
 }
 

@@ -4,34 +4,62 @@
 use checks::report;
 use checks::shared_runs::both_ways;
 use checks::subject::{End, Subject};
-use generate::{cases, Random};
-use reference::arcs::{arcs, order, RULES};
+use generate::{cases, Case, Random};
+use reference::arcs::{arcs, order, Arcs, RULES};
 use reference::run::{goal_met, run, State, Step};
-use reference::table::{Role, Schema, Task};
+use reference::table::{used_arguments, Pair, ParameterNumber, Role, Schema, Task};
 use reference::tokens::{decorate, Split};
 use reference::{blocks, Answer, Reason, Refusal};
 
 const SEED: u64 = 41;
 const CASES: usize = 10_000;
 
+type Cases = fn(&mut Random) -> Case;
+
 /// A change of a split's schema.
 type Edit = dyn Fn(&Tokens, &mut Schema);
 
-/// A system put together from the reference, with a rule of arcs left out,
-/// with the split edited, or with another way to run.
+/// A system put together from the reference, with other arcs, with the split
+/// edited, or with another way to run.
 struct Mutant {
-    rules: Vec<(Role, Role)>,
+    arcs: Box<dyn Fn(&Schema, &[u16]) -> Arcs>,
     edit: Box<Edit>,
     run: fn(&Task, &[Step], &mut State) -> Answer<()>,
+}
+
+/// Runs steps, after refusal 12 has turned back those with equal objects at a
+/// pair.
+fn run_steps(task: &Task, steps: &[Step], state: &mut State) -> Answer<()> {
+    match steps.iter().position(|step| !step.keeps_pairs_apart(task)) {
+        Some(bad) => Err(Refusal::at_step(Reason::BadStep, bad)),
+        None => run(task, steps, state, usize::MAX),
+    }
 }
 
 impl Mutant {
     /// No mutant: the reference itself.
     fn none() -> Mutant {
         Mutant {
-            rules: RULES.to_vec(),
+            arcs: Box::new(|schema, _| arcs(schema, &RULES)),
             edit: Box::new(|_, _| {}),
-            run: |task, steps, state| run(task, steps, state, usize::MAX),
+            run: run_steps,
+        }
+    }
+
+    /// Without one of the rules of arcs.
+    fn without_rule(dropped: (Role, Role)) -> Mutant {
+        let rules: Vec<(Role, Role)> = RULES.into_iter().filter(|rule| *rule != dropped).collect();
+        Mutant {
+            arcs: Box::new(move |schema, _| arcs(schema, &rules)),
+            ..Mutant::none()
+        }
+    }
+
+    /// With another rule for what two atoms must hold to give no arc.
+    fn without_arcs_of(rule: Rule) -> Mutant {
+        Mutant {
+            arcs: Box::new(move |schema, arities| arcs_but(schema, arities, rule)),
+            ..Mutant::none()
         }
     }
 
@@ -55,7 +83,10 @@ impl Mutant {
         let orders = task
             .schemas
             .iter()
-            .map(|schema| order(schema, &task.arities, &arcs(schema, &self.rules)))
+            .map(|schema| {
+                let arcs = (self.arcs)(schema, &task.arities);
+                order(schema, &task.arities, &arcs)
+            })
             .collect::<Option<Vec<_>>>()
             .ok_or(Refusal::nowhere(Reason::NoOrder))?;
         let mut split = decorate(task, &orders);
@@ -66,11 +97,11 @@ impl Mutant {
         Ok(split)
     }
 
-    /// The first case that speaks against it.
-    fn found_out(&self) -> Option<usize> {
+    /// The first of these cases that speaks against it.
+    fn found_out(&self, cases: Cases) -> Option<usize> {
         let mut random = Random::new(SEED);
         (0..CASES).find(|_| {
-            let case = cases::case(&mut random);
+            let case = cases(&mut random);
             both_ways(self, &mut random.clone(), &case).is_err()
         })
     }
@@ -149,25 +180,149 @@ fn run_adds_first(task: &Task, steps: &[Step], state: &mut State) -> Answer<()> 
     Ok(())
 }
 
+/// The arguments that an atom has.
+type Arguments<'a> = &'a [ParameterNumber];
+
+/// Whether two atoms of one predicate give no arc.
+type Rule = fn(&[Pair], Arguments, Arguments) -> bool;
+
+/// The arcs of a schema, but for atoms that a rule says give none.
+fn arcs_but(schema: &Schema, arities: &[u16], rule: Rule) -> Arcs {
+    let mut arcs = Arcs::new();
+    for first in &schema.atoms {
+        for second in &schema.atoms {
+            let [one, other] = [first, second].map(|atom| used_arguments(&atom.atom, arities));
+            if RULES.contains(&(first.role, second.role))
+                && first.atom.predicate == second.atom.predicate
+                && first.part != second.part
+                && !rule(&schema.pairs, one, other)
+            {
+                arcs.insert((first.part, second.part));
+            }
+        }
+    }
+    arcs
+}
+
+fn has_pair(pairs: &[Pair], lower: ParameterNumber, higher: ParameterNumber) -> bool {
+    pairs.contains(&Pair { lower, higher })
+}
+
+/// Note 4's rule, put in the same form.
+fn some_position(pairs: &[Pair], first: Arguments, second: Arguments) -> bool {
+    lower_in_first(pairs, first, second) || lower_in_first(pairs, second, first)
+}
+
+/// The pair is looked for one way round alone.
+fn lower_in_first(pairs: &[Pair], first: Arguments, second: Arguments) -> bool {
+    let mut places = first.iter().zip(second);
+    places.any(|(lower, higher)| has_pair(pairs, *lower, *higher))
+}
+
+fn lower_in_second(pairs: &[Pair], first: Arguments, second: Arguments) -> bool {
+    lower_in_first(pairs, second, first)
+}
+
+/// The two parameters may stand at different positions.
+fn any_two_positions(pairs: &[Pair], first: Arguments, second: Arguments) -> bool {
+    first.iter().any(|one| {
+        let mut others = second.iter();
+        others.any(|other| has_pair(pairs, *one.min(other), *one.max(other)))
+    })
+}
+
+/// Some position has different parameters, and one atom has one of a pair there.
+fn one_of_the_pair(pairs: &[Pair], first: Arguments, second: Arguments) -> bool {
+    let paired = |one| {
+        pairs
+            .iter()
+            .any(|pair| [pair.lower, pair.higher].contains(&one))
+    };
+    let mut places = first.iter().zip(second);
+    places.any(|(one, other)| one != other && (paired(*one) || paired(*other)))
+}
+
+/// Different parameters count as if all of them were declared to differ.
+fn undeclared(_: &[Pair], first: Arguments, second: Arguments) -> bool {
+    first != second
+}
+
+fn never(_: &[Pair], _: Arguments, _: Arguments) -> bool {
+    false
+}
+
 fn must_be_found_out(name: &str, mutant: &Mutant) {
-    let case = mutant.found_out();
+    must_be_found_out_by(cases::case, name, mutant);
+}
+
+fn must_be_found_out_by(cases: Cases, name: &str, mutant: &Mutant) {
+    let case = mutant.found_out(cases);
     let case = case.unwrap_or_else(|| panic!("{name} is not found out"));
     report(&format!("{name}, found out after"), case + 1);
 }
 
 #[test]
 fn the_reference_is_not_found_out() {
-    assert_eq!(Mutant::none().found_out(), None);
-    report("no mutant", CASES);
+    assert_eq!(Mutant::none().found_out(cases::case), None);
+    assert_eq!(Mutant::none().found_out(cases::differing_case), None);
+    let same = Mutant::without_arcs_of(some_position);
+    assert_eq!(same.found_out(cases::differing_case), None);
+    report("no mutant", 3 * CASES);
+}
+
+#[test]
+fn a_wrong_rule_for_pairs_is_found_out() {
+    let rules: [(&str, Rule); 6] = [
+        (
+            "pair with its lower parameter in the first atom",
+            lower_in_first,
+        ),
+        (
+            "pair with its lower parameter in the second atom",
+            lower_in_second,
+        ),
+        ("pair at different positions", any_two_positions),
+        ("one parameter of a pair", one_of_the_pair),
+        ("parameters of no pair", undeclared),
+        ("pairs that take no arc away", never),
+    ];
+    for (name, rule) in rules {
+        let mutant = Mutant::without_arcs_of(rule);
+        must_be_found_out_by(cases::differing_case, name, &mutant);
+    }
+}
+
+/// Without its lines a split has lists that fold to no step of the task.
+#[test]
+fn lines_left_out_of_the_parts_are_found_out() {
+    let mutant = Mutant::editing(|_, schema| schema.pairs.clear());
+    must_be_found_out_by(cases::differing_case, "no pair carried", &mutant);
+    let mutant = Mutant::editing(|_, schema| schema.pairs.truncate(1));
+    must_be_found_out_by(
+        cases::differing_case,
+        "the first pair alone carried",
+        &mutant,
+    );
+}
+
+/// Lines that the parts don't have keep the unfolding of a step from running.
+#[test]
+fn a_line_too_many_is_found_out() {
+    let mutant = Mutant::editing(|_, schema| {
+        if schema.parameters >= 2 && schema.pairs.is_empty() {
+            schema.pairs.push(Pair {
+                lower: ParameterNumber(0),
+                higher: ParameterNumber(1),
+            });
+        }
+    });
+    must_be_found_out_by(cases::differing_case, "a pair of no line", &mutant);
 }
 
 #[test]
 fn a_dropped_arc_rule_is_found_out() {
     for dropped in RULES {
-        let mutant = Mutant {
-            rules: RULES.into_iter().filter(|rule| *rule != dropped).collect(),
-            ..Mutant::none()
-        };
+        let mutant = Mutant::without_rule(dropped);
         must_be_found_out(&format!("no arc {dropped:?}"), &mutant);
     }
 }

@@ -1,6 +1,8 @@
 //! Each refusal with its place and what it leaves.
 
-use checks::{changed_move, read_table, step, MOVE, MOVE_PDDL, MOVE_SPLIT};
+use checks::{
+    answers_to_split, as_found, changed_move, read_table, step, MOVE, MOVE_PDDL, MOVE_SPLIT,
+};
 use reference::table::TABLE_WORDS;
 use reference::{Answer, Place, Reason, Refusal};
 
@@ -12,27 +14,6 @@ fn nowhere<Value>(reason: Reason) -> Answer<Value> {
 
 fn at_step<Value>(reason: Reason, step: usize) -> Answer<Value> {
     Err(Refusal::at_step(reason, step))
-}
-
-/// Lends words or bytes of sevens, gives the answer, and requires them back as
-/// they were.
-fn as_found<Item: Clone + From<u8> + PartialEq, Value>(
-    length: usize,
-    entry: impl FnOnce(&mut [Item]) -> Answer<Value>,
-) -> Answer<()> {
-    let mut lent = vec![Item::from(7); length];
-    let answer = entry(&mut lent);
-    assert!(lent == vec![Item::from(7); length], "not as found");
-    answer.map(drop)
-}
-
-/// The answers of splitting, unfolding and folding, where all leave as found.
-fn answers_to_split(table: &[u16]) -> [Answer<()>; 3] {
-    [
-        as_found(TABLE_WORDS, |out| reference::split(table, out)),
-        as_found(50, |out| reference::unfold(table, &[9], out)),
-        as_found(50, |out| reference::fold(table, &[9], out)),
-    ]
 }
 
 /// The answers of all entry points that read a table, where all leave as found.
@@ -128,6 +109,50 @@ fn refusal_3() {
             ("end=1\n", "end=0\n", 17),
             ("end=1\n", "end=1\n\n", 18),
             ("end=1\n", "end=1\nend=1\n", 18),
+        ],
+    );
+}
+
+/// Reads M with `differ` lines behind its `schema` line, and requires refusal
+/// and line, and a table of zeros.
+fn refused_pairs(number: u32, lines: &[(&str, u64)]) {
+    for (lines, place) in lines {
+        refused_line("schema=3", &format!("schema=3\n{lines}"), number, *place);
+    }
+}
+
+/// "3 unless two numbers", and anywhere but "after its `schema` line".
+#[test]
+fn refusal_3_of_a_pair() {
+    refused_pairs(
+        3,
+        &[
+            ("differ=", 5),
+            ("differ=0", 5),
+            ("differ=0,", 5),
+            ("differ=,1", 5),
+            ("differ=0,1,2", 5),
+            ("differ=0:1", 5),
+            ("differ=0,01", 5),
+            ("differ=0,100000", 5),
+            ("differ=0,1 ", 5),
+            ("differ 0,1", 5),
+            ("Differ=0,1", 5),
+            ("differ=3", 5),
+            ("differ=1,0,0", 5),
+            ("differ=0,1\ndiffer=2", 6),
+            ("differ=0,1\n", 6),
+        ],
+    );
+    refused_lines(
+        3,
+        &[
+            ("schema=3", "differ=0,1\nschema=3", 4),
+            ("pre=0:0,1\n", "pre=0:0,1\ndiffer=0,1\n", 6),
+            ("add=0:0,2\n", "differ=0,1\nadd=0:0,2\n", 8),
+            ("part=", "differ=0,1\npart=", 12),
+            ("init=0:0,1", "differ=0,1\ninit=0:0,1", 13),
+            ("end=1", "differ=0,1\nend=1", 17),
         ],
     );
 }
@@ -361,6 +386,37 @@ fn refusal_18() {
     table[TABLE_WORDS - 1] = 1;
     let written = reference::write_pddl(&table, &mut []);
     assert_eq!(written, nowhere(Reason::NotATable));
+}
+
+/// "At a `differ` line that names a parameter too high, or whose pair or place
+/// doesn't ascend."
+#[test]
+fn refusal_19() {
+    refused_pairs(
+        19,
+        &[
+            ("differ=0,3", 5),
+            ("differ=3,4", 5),
+            ("differ=0,65537", 5),
+            ("differ=65536,1", 5),
+            ("differ=1,0", 5),
+            ("differ=1,1", 5),
+            ("differ=0,1\ndiffer=0,1", 6),
+            ("differ=0,2\ndiffer=0,1", 6),
+            ("differ=1,2\ndiffer=0,1", 6),
+            ("differ=1,2\ndiffer=0,2", 6),
+            ("differ=0,1\ndiffer=1,2\ndiffer=1,3", 7),
+        ],
+    );
+    let all = changed_move("schema=3", "schema=3\ndiffer=0,1\ndiffer=0,2\ndiffer=1,2");
+    assert_eq!(read_table(all.as_bytes())[6], 3);
+}
+
+/// A line is refused before all that stands behind it, 7 of its own schema too.
+#[test]
+fn refusal_19_at_its_line() {
+    refused_line("schema=3", "schema=4\ndiffer=0,4", 19, 5);
+    refused_line("schema=3", "schema=0\ndiffer=0,1\npart=\nschema=3", 19, 5);
 }
 
 #[test]

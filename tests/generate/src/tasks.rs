@@ -112,6 +112,12 @@ impl Shape {
         ..Shape::SMALL_SPLITTABLE
     };
 
+    /// Often circular with pairs too.
+    const FREELY_DIFFERING: Shape = Shape {
+        free: 4,
+        ..Shape::DIFFERING
+    };
+
     /// With up to as many parameters and parts as a schema may have.
     pub const WIDE_DIFFERING: Shape = Shape {
         objects: 3..=12,
@@ -139,7 +145,8 @@ pub fn any_task(random: &mut Random) -> Task {
         1 => return limits::any_table(random),
         2..=7 => task(random, &Shape::USUAL),
         8..=15 => telling_task(random),
-        16..=27 => return any_differing_task(random),
+        16..=25 => return any_differing_task(random),
+        26 | 27 => return differing_task(random, &Shape::FREELY_DIFFERING),
         _ => task(random, &Shape::SMALL),
     };
     if random.chance(1, 4) {
@@ -154,7 +161,7 @@ pub fn any_task(random: &mut Random) -> Task {
 fn with_pairs(random: &mut Random, mut task: Task) -> Task {
     let mut room = MAX_PAIRS;
     for schema in &mut task.schemas {
-        let any = random.chance(1, 8);
+        let any = random.chance(1, 3);
         let mut pairs = every_pair(schema.parameters);
         pairs.retain(|pair| {
             (any || stand_together(&schema.atoms, &task.arities, pair)) && random.chance(1, 3)
@@ -265,9 +272,7 @@ fn schema(random: &mut Random, shape: &Shape, arities: &[u16]) -> Schema {
     }
     let parts = random.within(&shape.parts);
     if random.chance(shape.free, 8) {
-        for atom in &mut atoms {
-            atom.part = PartNumber(random.below(parts) as u16);
-        }
+        part_freely(random, &mut atoms, parts);
     } else {
         part_along_arcs(random, &mut atoms, parts);
     }
@@ -293,6 +298,13 @@ fn push(atoms: &mut Vec<SchemaAtom>, role: Role, part: PartNumber, atom: LiftedA
         .any(|other| (other.role, other.atom) == (role, atom))
     {
         atoms.push(SchemaAtom { role, part, atom });
+    }
+}
+
+/// Parts the atoms without regard to arcs.
+fn part_freely(random: &mut Random, atoms: &mut [SchemaAtom], parts: usize) {
+    for atom in atoms {
+        atom.part = PartNumber(random.below(parts) as u16);
     }
 }
 
@@ -488,7 +500,8 @@ pub fn splittable_differing_task(random: &mut Random) -> Task {
 
 /// The last predicate, of arity 2, is only tested, so that it gives no arc: each
 /// pair without a part that has both its parameters is tested in one, but for
-/// a few, with which the split is refused by 20.
+/// a few, and for more where parts are free of arcs, with which the split is
+/// refused by 20.
 fn differing_schema(random: &mut Random, shape: &Shape, arities: &[u16]) -> Schema {
     let parameters = random.within(&shape.parameters);
     let parts = random.within(&shape.parts);
@@ -497,9 +510,15 @@ fn differing_schema(random: &mut Random, shape: &Shape, arities: &[u16]) -> Sche
     pairs.truncate(MAX_ATOMS_OF_SCHEMA - shape.atoms.end());
     let only_tested = arities.len() - 1;
     let mut atoms = atoms_in_any_role(random, shape, &arities[..only_tested], parameters);
-    part_along_arcs_left(random, &mut atoms, &pairs, parts);
+    let freely = random.chance(shape.free, 8);
+    if freely {
+        part_freely(random, &mut atoms, parts);
+    } else {
+        part_along_arcs_left(random, &mut atoms, &pairs, parts);
+    }
+    let times = if freely { 8 } else { 15 };
     for pair in &pairs {
-        if !stand_together(&atoms, arities, pair) && random.chance(31, 32) {
+        if !stand_together(&atoms, arities, pair) && random.chance(times, 16) {
             let mut arguments = [pair.lower, pair.higher];
             random.shuffle(&mut arguments);
             let atom = Atom::new(only_tested as u16, &arguments);
@@ -511,7 +530,8 @@ fn differing_schema(random: &mut Random, shape: &Shape, arities: &[u16]) -> Sche
 }
 
 /// Parts the atoms so that an order complies with the arcs that the pairs leave:
-/// each atom stands no earlier than those with an arc to it.
+/// each atom stands no earlier than those with an arc to it, and often no later
+/// than it must, so that it stands before others that a pair keeps apart.
 fn part_along_arcs_left(
     random: &mut Random,
     atoms: &mut [SchemaAtom],
@@ -532,7 +552,12 @@ fn part_along_arcs_left(
                     && !hold_a_pair(pairs, &other.atom, &atom)
             });
             let earliest = before.map(|other| other.part.index()).max().unwrap_or(0);
-            atoms[at].part = PartNumber(random.within(&(earliest..=parts - 1)) as u16);
+            let latest = if role != Role::Precondition && random.chance(1, 2) {
+                earliest
+            } else {
+                parts - 1
+            };
+            atoms[at].part = PartNumber(random.within(&(earliest..=latest)) as u16);
         }
     }
 }

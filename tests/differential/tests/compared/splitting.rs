@@ -2,9 +2,9 @@
 
 use checks::answers::each_answer;
 use checks::inputs::task_and_table;
-use checks::{read_table, report};
 use checks::rows::plain_row;
 use checks::vectors::split_program_cases;
+use checks::{atom_lines, read_table, report};
 use differential::beside::{compare, short_or_long, shown, table_to_write};
 use differential::reading::read;
 use differential::splitting::split;
@@ -52,20 +52,9 @@ fn parts_that_tie() {
 /// in part 0, the second's in part 1. A delete and an add of predicate 1 give an
 /// arc back, so that no order complies just when the two roles give an arc.
 fn roles_in_two_parts(first: &str, second: &str) -> Vec<u16> {
-    let placed = [
-        (format!("{first}=0:0\n"), 0),
-        (format!("{second}=0:1\n"), 1),
-        ("del=1:\n".to_string(), 1),
-        ("add=1:\n".to_string(), 0),
-    ];
-    let ordered = ["pre", "add", "del"]
-        .into_iter()
-        .flat_map(|key| placed.iter().filter(move |(line, _)| line.starts_with(key)));
-    let (lines, parts): (Vec<&str>, Vec<String>) = ordered
-        .map(|(line, part)| (line.as_str(), part.to_string()))
-        .unzip();
-    let (lines, parts) = (lines.concat(), parts.join(","));
-    let text = format!("task=1\nobjects=2\narity=1,0\nschema=2\n{lines}part={parts}\nend=1\n");
+    let [first, second] = [format!("{first}=0:0"), format!("{second}=0:1")];
+    let lines = atom_lines(&[(&first, 0), (&second, 1), ("del=1:", 1), ("add=1:", 0)]);
+    let text = format!("task=1\nobjects=2\narity=1,0\nschema=2\n{lines}end=1\n");
     read_table(text.as_bytes())
 }
 
