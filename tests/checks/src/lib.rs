@@ -3,6 +3,7 @@
 
 pub mod answers;
 pub mod inputs;
+pub mod pair_arcs;
 pub mod rows;
 pub mod shared_runs;
 pub mod subject;

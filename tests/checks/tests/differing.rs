@@ -1,5 +1,6 @@
 //! Parameters that must differ, by hand from document 02's note 4.
 
+use checks::pair_arcs::{two_atoms, TwoAtoms};
 use checks::{
     answers_to_split, as_found, atom_lines, changed, changed_move, first_order, read_table, step,
     SWAP, SWAP_PDDL, SWAP_SPLIT,
@@ -105,54 +106,12 @@ fn a_table_with_other_pairs() {
     }
 }
 
-/// A schema of two parts: predicate 0 stands in one atom of each, a delete and an
-/// add of predicate 1 give an arc from the second to the first, and predicate 2,
-/// which gives none, puts both parameters of the pair 0, 1 into the first. So no
-/// order complies just when the two atoms give an arc.
-fn two_atoms(first: &str, second: &str) -> String {
-    let lines = atom_lines(&[
-        (first, 0),
-        (second, 1),
-        ("del=1:", 1),
-        ("add=1:", 0),
-        ("pre=2:0,1", 0),
-        ("pre=2:2,2", 0),
-    ]);
-    let arity = first.matches(',').count() + 1;
-    format!("task=1\nobjects=2\narity={arity},0,2\nschema=3\ndiffer=0,1\n{lines}end=1\n")
-}
-
 /// "Two atoms give no arc if at some argument position they hold a declared
-/// pair": the one has one parameter of it there and the other the other.
+/// pair": no order complies just when they give one.
 #[test]
 fn arcs_that_a_pair_takes_away() {
-    for (one, other, arc) in [
-        ("0:0", "0:1", false),
-        ("0:1", "0:0", false),
-        ("0:0", "0:0", true),
-        ("0:1", "0:1", true),
-        ("0:0", "0:2", true),
-        ("0:2", "0:1", true),
-        ("0:2", "0:2", true),
-        ("0:0,2", "0:1,2", false),
-        ("0:1,2", "0:0,0", false),
-        ("0:2,0", "0:2,1", false),
-        ("0:0,0", "0:0,1", false),
-        ("0:0,1", "0:1,0", false),
-        ("0:0,1", "0:0,1", true),
-        ("0:0,2", "0:2,1", true),
-        ("0:2,0", "0:1,2", true),
-        ("0:0,1", "0:2,2", true),
-        ("0:2,2", "0:0,1", true),
-        ("0:0,2,2,2", "0:1,2,2,2", false),
-        ("0:2,2,2,1", "0:2,2,2,0", false),
-        ("0:2,2,0,1", "0:2,2,2,2", true),
-    ] {
-        for (first, second) in [("pre", "add"), ("pre", "del"), ("del", "add")] {
-            let text = two_atoms(&format!("{first}={one}"), &format!("{second}={other}"));
-            let order = first_order(&text);
-            assert_eq!(order.is_none(), arc, "{first}={one}, {second}={other}");
-        }
+    for TwoAtoms { text, arc } in two_atoms() {
+        assert_eq!(first_order(&text).is_none(), arc, "{text}");
     }
 }
 

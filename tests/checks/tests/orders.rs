@@ -3,7 +3,7 @@
 use std::collections::BTreeMap;
 
 use checks::report;
-use generate::tasks::{task, telling_task, tying_task};
+use generate::tasks::{differing_task, task, telling_task, tying_task};
 use generate::{Random, Shape};
 use reference::arcs::{arcs, order, Arcs, RULES};
 use reference::table::{used_arguments, ParameterNumber, PartNumber, Role, Schema, SchemaAtom};
@@ -192,9 +192,10 @@ fn no_ready_part_beats_the_one_taken() {
     };
     let mut seen = Seen::default();
     for number in 0..8000 {
-        let task = match number % 4 {
+        let task = match number % 5 {
             0 => telling_task(&mut random),
             1 => tying_task(&mut random, &Shape::TYING),
+            2 => differing_task(&mut random, &Shape::DIFFERING),
             _ => task(&mut random, &freely_parted),
         };
         for schema in &task.schemas {

@@ -1,7 +1,7 @@
 //! The reader of PDDL on texts by hand, in other names and forms than the
 //! writer's.
 
-use checks::{changed_move, MOVE, MOVE_PDDL};
+use checks::{changed, changed_move, MOVE, MOVE_PDDL, SWAP, SWAP_PDDL};
 use reference::pddl_reader::{read_pddl, Fault};
 use reference::table::Task;
 use reference::text::read_task;
@@ -37,10 +37,9 @@ fn task_of(text: &str) -> Task {
     read_task(text.as_bytes()).expect("a task")
 }
 
-/// The hand-written text with a piece, which must be there, in another form.
-fn changed(piece: &str, other: &str) -> String {
-    assert!(HAND_WRITTEN.contains(piece), "no {piece:?}");
-    HAND_WRITTEN.replacen(piece, other, 1)
+/// The hand-written text with a piece in another form.
+fn hand_written(piece: &str, other: &str) -> String {
+    changed(HAND_WRITTEN, piece, other)
 }
 
 #[test]
@@ -63,8 +62,8 @@ fn white_space_comments_and_case() {
         ended,
         MOVE_PDDL.to_uppercase(),
         HAND_WRITTEN.to_uppercase(),
-        changed("(:domain piers)", "(:Domain PIERS)"),
-        changed(":parameters (?what", ":parameters (?What"),
+        hand_written("(:domain piers)", "(:Domain PIERS)"),
+        hand_written(":parameters (?what", ":parameters (?What"),
     ] {
         assert_eq!(read_pddl(&text), Ok(move_in_one_part()), "{text}");
     }
@@ -122,8 +121,86 @@ fn conditions_in_each_form() {
 
 /// Requires a fault of the hand-written text with a piece in another form.
 fn refused(piece: &str, other: &str, fault: Fault) {
-    let read = read_pddl(&changed(piece, other));
+    let read = read_pddl(&hand_written(piece, other));
     assert_eq!(read, Err(fault), "{piece} as {other}");
+}
+
+/// The hand-written text with another condition and these requirements.
+fn required(requirements: &str, condition: &str) -> String {
+    let text = hand_written("(free ?what) (free ?to)", condition);
+    changed(&text, "(:requirements :strips)", requirements)
+}
+
+const UNEQUAL: &str = "(:requirements :strips :equality :negative-preconditions)";
+
+#[test]
+fn the_swap_as_written() {
+    let one_part = changed(SWAP, "part=0,1,0,0,1,0,1", "part=0,0,0,0,0,0,0");
+    assert_eq!(read_pddl(SWAP_PDDL), Ok(task_of(&one_part)));
+}
+
+/// Parameters 1 and 2, and then 0 and 2, in whatever order they and the atoms
+/// stand.
+#[test]
+fn parameters_that_differ() {
+    let text = changed_move("schema=3\n", "schema=3\ndiffer=0,2\ndiffer=1,2\n");
+    let one_part = changed(&text, "part=0,0,1,1,2,0,1", "part=0,0,0,0,0,0,0");
+    let task = task_of(&one_part);
+    for requirements in [
+        UNEQUAL,
+        "(:requirements :negative-preconditions :equality)",
+        "(:REQUIREMENTS :EQUALITY :STRIPS :NEGATIVE-PRECONDITIONS)",
+    ] {
+        for condition in [
+            "(free ?what) (free ?to) (not (= ?what ?to)) (not (= ?from ?to))",
+            "(not (= ?to ?what)) (free ?what) (not (= ?to ?from)) (free ?to)",
+        ] {
+            let text = required(requirements, condition);
+            assert_eq!(read_pddl(&text), Ok(task.clone()), "{text}");
+        }
+    }
+    let mut swapped = task;
+    swapped.schemas[0].pairs.reverse();
+    let condition = "(free ?what) (free ?to) (not (= ?from ?to)) (not (= ?what ?to))";
+    assert_eq!(read_pddl(&required(UNEQUAL, condition)), Ok(swapped));
+}
+
+#[test]
+fn refuses_pairs_that_are_none() {
+    for (pair, fault) in [
+        ("(not (= ?from))", Fault::OutOfForm),
+        ("(not (= ?from ?to ?what))", Fault::OutOfForm),
+        ("(not (= ?from ?from))", Fault::OutOfForm),
+        ("(not (= ?from (?to)))", Fault::OutOfForm),
+        (
+            "(not (= ?from ?to) (= ?from ?what))",
+            Fault::Undeclared("not".into()),
+        ),
+        ("(not (= ?from ?there))", Fault::Undeclared("?there".into())),
+        ("(not (= ?from pier2))", Fault::Undeclared("pier2".into())),
+        ("(= ?from ?to)", Fault::OutOfForm),
+        ("(not (not (= ?from ?to)))", Fault::Undeclared("not".into())),
+    ] {
+        let read = read_pddl(&required(UNEQUAL, &format!("(free ?what) {pair}")));
+        assert_eq!(read, Err(fault), "{pair}");
+    }
+    refused("(not (free ?to))", "(not (= ?to ?from))", Fault::OutOfForm);
+}
+
+#[test]
+fn refuses_pairs_that_are_not_required() {
+    for (requirements, missing) in [
+        ("", ":equality"),
+        ("(:requirements :strips)", ":equality"),
+        ("(:requirements :negative-preconditions)", ":equality"),
+        (
+            "(:requirements :strips :equality)",
+            ":negative-preconditions",
+        ),
+    ] {
+        let read = read_pddl(&required(requirements, "(not (= ?from ?to))"));
+        assert_eq!(read, Err(Fault::NotRequired(missing)), "{requirements}");
+    }
 }
 
 #[test]

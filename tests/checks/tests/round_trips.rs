@@ -31,13 +31,14 @@ fn round_trip(table: &[u16]) {
 #[test]
 fn tables_and_texts() {
     let mut random = Random::new(61);
-    let mut splits = 0;
+    let [mut splits, mut with_pairs] = [0; 2];
     let tasks = 8000;
     for _ in 0..tasks {
         let task = any_task(&mut random);
         let table = table(&task);
         assert_eq!(Task::from_words(&table).as_ref(), Some(&task));
         round_trip(&table);
+        with_pairs += usize::from(task.pairs() > 0);
         let mut split = vec![7; table.len()];
         if reference::split(&table, &mut split).is_ok() {
             round_trip(&split);
@@ -45,7 +46,9 @@ fn tables_and_texts() {
         }
     }
     report("round trips of tasks", tasks);
+    report("round trips of tasks with pairs", with_pairs);
     report("round trips of splits", splits);
+    assert!((tasks / 5..tasks - tasks / 5).contains(&with_pairs));
 }
 
 /// The PDDL of a task, which must fit where the longest does and read as that

@@ -138,7 +138,7 @@ pub fn task(random: &mut Random, shape: &Shape) -> Task {
     with_ground_atoms(random, shape, arities, schemas)
 }
 
-/// A task of any size, most of them small; about one in three has pairs.
+/// A task of any size, most of them small; about one in four has pairs.
 pub fn any_task(random: &mut Random) -> Task {
     let task = match random.below(64) {
         0 => task(random, &Shape::LARGE),

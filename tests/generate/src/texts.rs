@@ -88,7 +88,7 @@ pub fn any_text(random: &mut Random) -> Vec<u8> {
     if random.chance(1, 40) {
         return bytes(random);
     }
-    if random.chance(1, 40) {
+    if random.chance(1, 20) {
         return too_many_pairs(random);
     }
     let task = if random.chance(1, 32) {
@@ -174,6 +174,10 @@ fn make_wrong(random: &mut Random, lines: &mut Vec<String>, at: usize) {
             "0,".repeat(random.pick(&[0, 396, 400]))
         ),
         "schema" if random.chance(1, 4) => return remove_atoms(lines, at),
+        "schema" if random.chance(1, 3) => {
+            let line = format!("differ={}\n", wrong_pair(random, "0,1"));
+            return lines.insert(at + 1, line);
+        }
         "schema" => random.pick(&["1", "6", "12", "13", "65536"]).to_string(),
         "part" => wrong_parts(random, body),
         "differ" => wrong_pair(random, body),

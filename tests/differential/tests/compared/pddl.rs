@@ -8,7 +8,7 @@ use checks::{report, without_parts};
 use differential::beside::{compare, short_or_long, shown};
 use differential::pddl::{write_pddl, ENOUGH};
 use generate::limits::{largest, longest_pddl, reading, splitting, Limit, LONGEST_PDDL};
-use generate::tasks::{parted_anew, task_or_split};
+use generate::tasks::{any_differing_task, parted_anew, task_or_split};
 use generate::{tables, Random};
 use reference::pddl::Pddl;
 use reference::pddl_reader::read_pddl;
@@ -35,10 +35,24 @@ fn sound_and_damaged_tables() {
         let task = task_or_split(random);
         let table = table_or_damaged(random, &task);
         let table = short_or_long(random, table);
-        let length = Pddl(&task).to_string().len();
-        let shorter = random.below(length);
-        let lent = random.pick(&[shorter, length - 1, length, length, length + 1, 2 * length]);
-        compared(&table, &vec![b'x'; lent])
+        some_bytes(random, &task, &table)
+    });
+}
+
+/// Compares writing into about as many bytes as the task needs.
+fn some_bytes(random: &mut Random, task: &Task, table: &[u16]) -> u64 {
+    let length = Pddl(task).to_string().len();
+    let shorter = random.below(length);
+    let lent = random.pick(&[shorter, length - 1, length, length, length + 1, 2 * length]);
+    compared(table, &vec![b'x'; lent])
+}
+
+#[test]
+fn parameters_that_differ() {
+    let entry = "PDDL with pairs compared";
+    each_answer(entry, 201, 10_000, &[0, 18], |random| {
+        let task = any_differing_task(random);
+        some_bytes(random, &task, &tables::table(&task))
     });
 }
 
@@ -57,9 +71,10 @@ fn written(task: &Task) -> String {
 fn read_back_and_parted_anew() {
     let mut random = Random::new(190);
     let tasks = 10_000;
-    let mut parted = 0;
+    let [mut parted, mut with_pairs] = [0; 2];
     for _ in 0..tasks {
         let task = task_or_split(&mut random);
+        with_pairs += usize::from(task.pairs() > 0);
         let text = written(&task);
         assert_eq!(read_pddl(&text), Ok(without_parts(&task)), "{text}");
         let other = parted_anew(&mut random, &task);
@@ -67,8 +82,9 @@ fn read_back_and_parted_anew() {
         parted += usize::from(other != task);
     }
     report("PDDL of the proved code read back", tasks);
+    report("PDDL of the proved code with pairs read back", with_pairs);
     report("PDDL of other parts compared", parted);
-    assert!(parted > tasks / 2);
+    assert!(parted > tasks / 2 && with_pairs > tasks / 10);
 }
 
 #[test]

@@ -2,7 +2,7 @@
 
 use checks::answers::each_answer;
 use checks::rows::plain_row;
-use checks::{report, MOVE};
+use checks::{report, MOVE, SWAP};
 use differential::beside::{compare, table_to_write};
 use differential::reading::read;
 use differential::writing::write;
@@ -28,35 +28,47 @@ fn compared(text: &[u8], lent: &[u16]) -> u64 {
 
 #[test]
 fn texts_of_every_kind() {
-    let expected = [0, 1, 3, 4, 5, 6, 7, 8];
+    let expected = [0, 1, 3, 4, 5, 6, 7, 8, 19, 21];
     let given = each_answer("reading compared", 182, 100_000, &expected, |random| {
         let text = any_text(random);
         compared(&text, &table_to_write(random))
     });
-    for refusal in 3..=8 {
+    for refusal in [3, 4, 5, 6, 7, 8, 19, 21] {
         assert!(
-            given[&refusal] >= 3_000,
+            given[&refusal] >= 2_500,
             "few of {refusal}: {}",
             given[&refusal]
         );
     }
 }
 
-/// M cut behind each byte, and with each byte changed to every value.
-#[test]
-fn every_byte_of_m() {
+/// A text cut behind each byte, and with each byte changed to every value.
+fn every_byte(name: &str, text: &[u8]) {
     let lent = [7; TABLE_WORDS];
-    for cut in 0..MOVE.len() {
-        assert_eq!(compared(&MOVE.as_bytes()[..cut], &lent), 3);
+    for cut in 0..text.len() {
+        assert_eq!(compared(&text[..cut], &lent), 3);
     }
-    for at in 0..MOVE.len() {
-        let mut text = MOVE.as_bytes().to_vec();
+    for at in 0..text.len() {
+        let mut text = text.to_vec();
         for byte in 0..=u8::MAX {
             text[at] = byte;
             compared(&text, &lent);
         }
     }
-    report("M with a byte changed, compared", 257 * MOVE.len());
+    report(
+        &format!("{name} with a byte changed, compared"),
+        257 * text.len(),
+    );
+}
+
+#[test]
+fn every_byte_of_m() {
+    every_byte("M", MOVE.as_bytes());
+}
+
+#[test]
+fn every_byte_of_the_swap() {
+    every_byte("the swap", SWAP.as_bytes());
 }
 
 #[test]

@@ -7,6 +7,7 @@ use checks::rows::run_row;
 use checks::vectors::{run_cases, table_cases};
 use differential::beside::{compare, short_or_long, shown};
 use differential::running::run;
+use generate::tasks::any_differing_task;
 use generate::{limits, steps, tables, Random};
 use reference::run::Step;
 use reference::table::{ObjectNumber, Task};
@@ -27,9 +28,8 @@ fn compared(table: &[u16], steps: &[u16], lent: &[u16], records: u64) -> u64 {
     )
 }
 
-/// A task or, often, its split, with its table.
-fn original_or_split(random: &mut Random) -> (Task, Vec<u16>) {
-    let (task, table) = task_and_table(random);
+/// The task with its table or, often, its split with that.
+fn original_or_split(random: &mut Random, task: Task, table: Vec<u16>) -> (Task, Vec<u16>) {
     match tokens::split(&task) {
         Ok(split) if random.chance(1, 2) => {
             let table = tables::table(&split.task);
@@ -43,12 +43,30 @@ fn original_or_split(random: &mut Random) -> (Task, Vec<u16>) {
 fn sound_and_damaged_input() {
     let expected = [0, 1, 2, 12, 15, 16, 17];
     each_answer("running compared", 174, 50_000, &expected, |random| {
-        let (task, table) = original_or_split(random);
+        let (task, table) = task_and_table(random);
+        let (task, table) = original_or_split(random, task, table);
         let table = short_or_long(random, table);
-        let (state, list) = generate::cases::run(random, &task);
-        let steps = step_words(random, &list);
-        let lent = lent_state(random, &state);
-        compared(&table, &steps, &lent.words, lent.records)
+        some_run(random, &task, &table)
+    });
+}
+
+/// Compares a run of some list from some state, sound or damaged.
+fn some_run(random: &mut Random, task: &Task, table: &[u16]) -> u64 {
+    let (state, list) = generate::cases::run(random, task);
+    let steps = step_words(random, task, &list);
+    let lent = lent_state(random, &state);
+    compared(table, &steps, &lent.words, lent.records)
+}
+
+/// Steps with equal objects at a pair among them.
+#[test]
+fn parameters_that_differ() {
+    let entry = "running with pairs compared";
+    each_answer(entry, 199, 30_000, &[0, 12, 15, 16, 17], |random| {
+        let task = any_differing_task(random);
+        let table = tables::table(&task);
+        let (task, table) = original_or_split(random, task, table);
+        some_run(random, &task, &table)
     });
 }
 

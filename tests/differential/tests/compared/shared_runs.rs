@@ -1,6 +1,6 @@
 //! Demand 3 on the proved code.
 
-use checks::shared_runs::{small_tasks, tying_tasks, usual_tasks};
+use checks::shared_runs::{differing_tasks, small_tasks, tying_tasks, usual_tasks};
 use checks::subject::OnWords;
 use differential::shared_runs::Proved;
 
@@ -28,5 +28,14 @@ fn tying_tasks_share_runs() {
         &OnWords(Proved),
         "tying shared runs in the proved code",
         3000,
+    );
+}
+
+#[test]
+fn differing_tasks_share_runs() {
+    differing_tasks(
+        &OnWords(Proved),
+        "differing shared runs in the proved code",
+        8000,
     );
 }

@@ -2,6 +2,7 @@
 
 use checks::answers::each_answer;
 use checks::inputs::task_and_table;
+use checks::pair_arcs::{two_atoms, TwoAtoms};
 use checks::rows::plain_row;
 use checks::vectors::split_program_cases;
 use checks::{atom_lines, read_table, report};
@@ -9,7 +10,7 @@ use differential::beside::{compare, short_or_long, shown, table_to_write};
 use differential::reading::read;
 use differential::splitting::split;
 use differential::writing::write;
-use generate::tasks::any_tying_task;
+use generate::tasks::{any_differing_task, any_tying_task};
 use generate::{limits, tables};
 use reference::programs::INPUT_BYTES;
 use reference::table::{Task, TABLE_WORDS};
@@ -29,7 +30,7 @@ fn sound_and_damaged_tables() {
         "splitting compared",
         184,
         60_000,
-        &[0, 1, 2, 9, 10],
+        &[0, 1, 2, 9, 10, 20],
         |random| {
             let (_, table) = task_and_table(random);
             let table = short_or_long(random, table);
@@ -46,6 +47,20 @@ fn parts_that_tie() {
         let table = tables::table(&any_tying_task(random));
         compared(&table, &[7; TABLE_WORDS])
     });
+}
+
+/// Arcs that pairs take away, and pairs that parts carry or none does.
+#[test]
+fn parameters_that_differ() {
+    let entry = "splitting with pairs compared";
+    each_answer(entry, 196, 20_000, &[0, 20], |random| {
+        let table = tables::table(&any_differing_task(random));
+        compared(&table, &[7; TABLE_WORDS])
+    });
+    for TwoAtoms { text, arc } in two_atoms() {
+        let answer = compared(&read_table(text.as_bytes()), &[7; TABLE_WORDS]);
+        assert_eq!(answer, if arc { 9 } else { 0 }, "{text}");
+    }
 }
 
 /// A schema of two parts, with an atom of each role on predicate 0: the first's

@@ -2,7 +2,7 @@
 
 use super::programs::{long_text, refused};
 use checks::vectors::unfold_program_cases;
-use checks::{changed_move, report, MOVE};
+use checks::{changed_move, report, MOVE, SWAP};
 use differential::programs::Program;
 use generate::tasks::any_task;
 use generate::texts;
@@ -17,10 +17,14 @@ fn unfold(program: &Program, task: Option<&[u8]>, plan: Option<&[u8]>) -> Vec<u8
     program.printed_with(&[("task", task), ("plan", plan)])
 }
 
-/// A plan of the task, sometimes of more steps than a plan takes.
+/// A plan of the task, sometimes of more steps than a plan takes, sometimes with
+/// equal objects at a pair.
 fn plan_text(random: &mut Random, task: &Task) -> Vec<u8> {
     let length = random.pick(&[0, 1, 2, 5, 20, 99, 100, 101]);
-    let steps = steps::list(random, task, length);
+    let mut steps = steps::list(random, task, length);
+    if random.chance(1, 4) {
+        steps = steps::equal_at_a_pair(random, task, &steps);
+    }
     let plan = Plan {
         task,
         steps: &steps,
@@ -64,6 +68,10 @@ fn unfold_files() {
         }
     }
     assert!(compared([None, None]));
+    for (plan, refused) in [("step=0:0,1,2,3\n", false), ("step=0:1,1,2,3\n", true)] {
+        let plan = format!("{plan}end=1\n").into_bytes();
+        assert_eq!(compared([Some(SWAP.into()), Some(plan)]), refused);
+    }
 }
 
 /// "A program takes the first 65,536 bytes of an input", of each of its files.

@@ -6,7 +6,7 @@ use checks::rows::unfold_row;
 use checks::vectors::list_cases;
 use differential::beside::{compare, lent_words, short_or_long, shown};
 use differential::unfolding::unfold;
-use generate::tasks::any_tying_task;
+use generate::tasks::{any_differing_task, any_tying_task};
 use generate::{steps, tables, Random};
 use reference::run::STEP_WORDS;
 use reference::table::Task;
@@ -37,14 +37,14 @@ fn needed(task: &Task, steps: &[u16]) -> usize {
 fn some_list(random: &mut Random, task: &Task, table: &[u16]) -> u64 {
     let length = random.pick(&[0, 1, 2, 3, 4, 5, 6, 7, 40]);
     let list = steps::list(random, task, length);
-    let steps = step_words(random, &list);
+    let steps = step_words(random, task, &list);
     let lent = lent_words(random, needed(task, &steps));
     compared(table, &steps, &lent)
 }
 
 #[test]
 fn sound_and_damaged_lists() {
-    let expected = [0, 1, 2, 9, 10, 12, 13];
+    let expected = [0, 1, 2, 9, 10, 12, 13, 20];
     each_answer("unfolding compared", 185, 50_000, &expected, |random| {
         let (task, table) = task_and_table(random);
         let table = short_or_long(random, table);
@@ -58,6 +58,16 @@ fn parts_that_tie() {
     let entry = "unfolding of parts that tie compared";
     each_answer(entry, 194, 20_000, &[0, 12, 13], |random| {
         let task = any_tying_task(random);
+        some_list(random, &task, &tables::table(&task))
+    });
+}
+
+/// Steps with equal objects at a pair among them.
+#[test]
+fn parameters_that_differ() {
+    let entry = "unfolding with pairs compared";
+    each_answer(entry, 197, 20_000, &[0, 12, 13, 20], |random| {
+        let task = any_differing_task(random);
         some_list(random, &task, &tables::table(&task))
     });
 }

@@ -7,7 +7,8 @@ use checks::rows::write_row;
 use checks::vectors::table_cases;
 use differential::beside::{compare, short_or_long, shown};
 use differential::writing::write;
-use generate::{limits, tables};
+use generate::tasks::any_differing_task;
+use generate::{limits, tables, Random};
 use reference::table::Task;
 
 fn compared(table: &[u16], lent: &[u8]) -> u64 {
@@ -24,10 +25,24 @@ fn sound_and_damaged_tables() {
     each_answer("writing compared", 181, 50_000, &[0, 1, 2, 11], |random| {
         let (task, table) = task_and_table(random);
         let table = short_or_long(random, table);
-        let length = task.to_string().len();
-        let shorter = random.below(length);
-        let lent = random.pick(&[shorter, length - 1, length, length, length + 1, 2 * length]);
-        compared(&table, &vec![b'x'; lent])
+        some_bytes(random, &task, &table)
+    });
+}
+
+/// Compares writing into about as many bytes as the task needs.
+fn some_bytes(random: &mut Random, task: &Task, table: &[u16]) -> u64 {
+    let length = task.to_string().len();
+    let shorter = random.below(length);
+    let lent = random.pick(&[shorter, length - 1, length, length, length + 1, 2 * length]);
+    compared(table, &vec![b'x'; lent])
+}
+
+#[test]
+fn parameters_that_differ() {
+    let entry = "writing with pairs compared";
+    each_answer(entry, 200, 10_000, &[0, 11], |random| {
+        let task = any_differing_task(random);
+        some_bytes(random, &task, &tables::table(&task))
     });
 }
 
