@@ -1,11 +1,9 @@
--- `blocks::folding::is_schema_step` meets its contract: of a whole step of a known schema its two tests are what is left
--- to tell (`split-whole`), by the parameters and the pairs noted, which lie inside (`split-few`, `rows-inside`,
--- `rows-small`).
+-- `blocks::folding::is_schema_step` meets its contract: of a whole step of a known schema its two tests are what is
+-- left to tell (`split-whole`), by the parameters and the pairs noted (`split-few`, `rows-inside`, `rows-small`).
 use Rattle.blocks.proofs.folding.is_schema_step.Tie as tie
 use Prim.Native.Nat.{ℕ, _+_, _*_, _<_}
 use mathlib.Core.Path.{_≡_, sym, _∙_, ap}
-use mathlib.Core.Bool.{Bool, _&&_}
-use mathlib.Core.List.{List}
+use mathlib.Core.Bool.{Bool, true, false, _&&_}
 use native.Mathlib.Omega.{arith}
 use lib.ListN.{length, getD}
 use borrow.Author.Needs.{needs}
@@ -35,15 +33,15 @@ apart s count =
 abbrev start : tie.After-are-within → tie.Start
 start c = c .before .before .before .before
 
-told : (c : tie.After-are-within) (t : Task) → Known (start c) t → Small (start c) t → let s = start c in
-    c .are-within .result && apart s (getD (s .args .pairs .now) 0 0) ≡
-    isStepAt (splitTask t) (s .args .steps .now) (s .args .i)
-told c t S l =
+told : (c : tie.After-are-within) (within : Bool) → c .are-within .result ≡ within → (t : Task) → Known (start c) t →
+    Small (start c) t → let s = start c in
+    within && apart s (getD (s .args .pairs .now) 0 0) ≡ isStepAt (splitTask t) (s .args .steps .now) (s .args .i)
+told c within d t S l =
     let s = start c in
     let a = s .args in
     split-whole S (a .steps .now) (a .i) (a .number) (s .pre .1 .0) (s .pre .0) l
-    (λ o e. c .are-within .ensures o e ∙
-    ap (objectsThenZeros o (a .steps .now) (stepSize * a .i + 1)) (c .before .wide .ensures))
+    (λ o e. sym d ∙ (c .are-within .ensures o e ∙
+    ap (objectsThenZeros o (a .steps .now) (stepSize * a .i + 1)) (c .before .wide .ensures)))
 
 are-within-requires : tie.Need-are-within-requires
 are-within-requires c κs =
@@ -54,11 +52,7 @@ are-within-requires c κs =
     (s .pre .0, omega arith)
 
 returns : tie.Need-returns
-returns c = λ t S l.
-    let w = c .before in
-    let s = start w in
-    sym (ap (λ (b : Bool). b && apart s (getD (s .args .pairs .now) 0 0)) (not-true (w .are-within .result) (c .if1 .taken))) ∙
-    told w t S l
+returns c = told (c .before) false (not-true _ (c .if1 .taken))
 
 keep-apart-requires : tie.Need-keep-apart-requires
 keep-apart-requires c κs =
@@ -71,12 +65,8 @@ keep-apart-requires c κs =
 returns-2 : tie.Need-returns-2
 returns-2 c = λ t S l.
     let e = c .before .before .before .before in
-    let w = e .before in
-    let s = start w in
     c .keep-apart .ensures ∙
-    (ap (apart s) (c .before .wide2 .ensures) ∙
-    (sym (ap (λ (b : Bool). b && apart s (getD (s .args .pairs .now) 0 0)) (not-false (w .are-within .result) (e .if1 .left))) ∙
-    told w t S l))
+    (ap (apart (start (e .before))) (c .before .wide2 .ensures) ∙ told (e .before) true (not-false _ (e .if1 .left)) t S l)
 
 pub is-schema-step-spec : {M : Type 1} → statement M
 is-schema-step-spec =

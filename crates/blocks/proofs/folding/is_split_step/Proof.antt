@@ -1,16 +1,15 @@
 -- `blocks::folding::is_split_step` meets its contract: its tests are those of a step of the split, in their order
 -- (`split-short`, `split-unknown`, then those of a step of its schema).
 use Rattle.blocks.proofs.folding.is_split_step.Tie as tie
-use Prim.Native.Nat.{ℕ, _+_, _*_, _≤_, _<_}
-use mathlib.Core.Path.{_≡_, sym, _∙_, ap}
+use Prim.Native.Nat.{_+_, _*_, _≤_, _<_}
+use mathlib.Core.Path.{_≡_, sym}
 use native.Mathlib.Omega.{arith}
 use lib.ListN.{length, getD}
 use borrow.Author.Needs.{needs}
 use Rattle.task.specs.Limits.{stepSize}
 use Rattle.task.specs.Task.{Task}
-use Rattle.task.specs.StepTests.{objectsThenZeros}
 use Rattle.tokens.specs.Split.{firstOf}
-use Rattle.blocks.proofs.SplitTests.{split-short, split-unknown, split-few, split-whole}
+use Rattle.blocks.proofs.SplitTests.{split-short, split-unknown}
 use Rattle.blocks.proofs.folding.is_split_step.Statement.{statement}
 
 -- past the tests of the length and the schema
@@ -38,14 +37,6 @@ returns-2 c = λ t S f.
     let e = d .schema-at .ensures in
     let l = c .if2 .taken in
     sym (split-unknown S (a .steps .now) (a .i) (omega arith))
-
-few : (c : tie.Else2) → c .before .schema-at .result < 200
-few c =
-    let (t, S, f) = start c .pre .1 in
-    let e = c .before .schema-at .ensures in
-    let l = known c t f in
-    let m = S .few in
-    omega arith
 
 is-schema-step-requires : tie.Need-is-schema-step-requires
 is-schema-step-requires c κs =

@@ -94,7 +94,8 @@ found : (c : tie.After-bad-from) → bad c
 found c =
     let s = from c in
     c .bad-from .ensures (task s) (steps-known (looked (parted c))) (splits s)
-    (subst (GoodBefore (task s) (words s)) (sym (c .before .before .before .before .reached .ensures)) (apart (parted c) .good))
+    (subst (GoodBefore (task s) (words s)) (sym (c .before .before .before .before .reached .ensures))
+    (apart (parted c) .good))
 
 abbrev folding : tie.Start → Folding
 folding s = foldSteps (task s) (stepsIn (splitTask (task s)) (words s))
@@ -150,5 +151,5 @@ pub judge-spec : {M : Type 1} → statement M
 judge-spec =
     tie.close
     (tie.spec (λ c κs. search needs) params-of-requires places-of-requires (λ c κs. search needs) (λ c κs. search needs)
-    (λ c κs. search needs) take-apart-requires (λ c κs. search needs) bad-from-requires (λ c. search needs) returns (λ c. search needs)
-    (λ c. search needs) (λ c. search needs) returns-2 returns-3)
+    (λ c κs. search needs) take-apart-requires (λ c κs. search needs) bad-from-requires (λ c. search needs) returns
+    (λ c. search needs) (λ c. search needs) (λ c. search needs) returns-2 returns-3)

@@ -1,7 +1,7 @@
--- `blocks::folding::part_fits` meets its contract. What isn't whole, or whose objects aren't the task's, is no step of
--- the split (`split-short`, `split-whole`), and so no part (`part-not-step`); nor is one of another schema
--- (`part-other`). One of this schema that is a step of the split is the part if its objects are those that the block
--- gives (`part-same`), as `agree` tells (`part-agrees`). Those stand at or before it (`part-near`), so they are there.
+-- `blocks::folding::part_fits` meets its contract. What isn't whole is no step of the split (`split-short`), nor is
+-- what `is_schema_step` says is none, and so no part (`part-not-step`); nor is one of another schema (`part-other`).
+-- One of this schema that is a step of the split is the part if its objects are those that the block gives
+-- (`part-same`), as `agree` tells (`part-agrees`). Those stand at or before it (`part-near`), so they are there.
 use Rattle.blocks.proofs.folding.part_fits.Tie as tie
 use Prim.Native.Nat.{ℕ, _+_, _*_, _≤_, _<_}
 use mathlib.Core.Path.{_≡_, sym, _∙_, ap}
@@ -13,12 +13,11 @@ use borrow.Author.Tests.{not-true, not-false}
 use Rattle.task.specs.Limits.{stepSize}
 use Rattle.task.specs.Task.{Task}
 use Rattle.task.specs.Run.{isStepAt}
-use Rattle.task.specs.StepTests.{objectsThenZeros}
 use Rattle.tokens.specs.Split.{orders, splitTask, firstOf}
 use Rattle.blocks.specs.FoldCode.{BlocksKnown}
 use Rattle.blocks.proofs.SplitParams.{part-number}
 use Rattle.blocks.proofs.Places.{part-few, part-near, part-agrees}
-use Rattle.blocks.proofs.SplitTests.{split-short, split-few, split-whole}
+use Rattle.blocks.proofs.SplitTests.{split-short}
 use Rattle.blocks.proofs.FoldWords.{part-not-step, part-other, part-same}
 use Rattle.blocks.proofs.folding.part_fits.Statement.{statement}
 
@@ -177,6 +176,7 @@ part-fits-spec =
     (tie.spec (λ c. let l = before (c .before) in omega arith) (λ c. let l = before (c .before) in omega arith)
     (λ c. before (c .before)) returns (λ c κs. let l = within (c .before .before) in omega arith)
     (λ c. let l = number c in omega arith) (λ c κs. let l = whole (c .before) in omega arith) returns-2
-    (λ c. let l = before (start c) in omega arith) is-schema-step-requires returns-3 (λ c. let l = before (begun c) in omega arith)
-    (λ c. let l = number (numbered (tested (c .before))) in omega arith)
-    (λ c. number (numbered (tested (c .before)))) agree-requires returns-4)
+    (λ c. let l = before (start c) in omega arith) is-schema-step-requires returns-3
+    (λ c. let l = before (begun c) in omega arith)
+    (λ c. let l = number (numbered (tested (c .before))) in omega arith) (λ c. number (numbered (tested (c .before))))
+    agree-requires returns-4)
