@@ -11,8 +11,8 @@
 
 #include "splitter.h"
 
-/* No step adds more atoms than a schema has. */
-enum { MOST_ADDED = 64 };
+/* How many counts a table begins with; and no step adds more atoms than a schema has. */
+enum { HEAD = 7, MOST_ADDED = 64 };
 
 static void *lend(size_t bytes) {
     void *lent = calloc(bytes > 0 ? bytes : 1, 1);
@@ -65,9 +65,10 @@ static uint16_t *steps_of(const char *plan, size_t length, size_t *count) {
     return steps;
 }
 
-/* The initial atoms as records; they stand behind the schemas' atoms, 8 words each. */
+/* The initial atoms as records. Before them stand the counts, the arities, the parameter counts, the pairs, 3 words
+ * each, and the schemas' atoms, 8 words each. */
 static void initial_state(const uint16_t *table, uint16_t *state) {
-    const uint16_t *atom = table + 6 + table[1] + table[2] + 8 * table[3];
+    const uint16_t *atom = table + HEAD + table[1] + table[2] + 3 * table[6] + 8 * table[3];
     for (size_t at = 0; at < table[4]; at++, atom += 8, state += SPLITTER_RECORD_WORDS) {
         state[0] = atom[2];
         memcpy(state + 1, atom + 4, 4 * sizeof *state);
@@ -109,7 +110,7 @@ int main(int count, char **arguments) {
                         &left, &goal),
            place);
 
-    const uint16_t *arities = table + 6, *parameters = arities + table[1];
+    const uint16_t *arities = table + HEAD, *parameters = arities + table[1];
     for (const uint16_t *step = steps; step < steps + SPLITTER_STEP_WORDS * moves; step += SPLITTER_STEP_WORDS)
         print("step", step, parameters[step[0]]);
     for (const uint16_t *atom = state; atom < state + SPLITTER_RECORD_WORDS * left; atom += SPLITTER_RECORD_WORDS)

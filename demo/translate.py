@@ -16,6 +16,7 @@ class Atom:
 @dataclass
 class Schema:
     parameters: int
+    differ: list = field(default_factory=list)
     pre: list = field(default_factory=list)
     add: list = field(default_factory=list)
     delete: list = field(default_factory=list)
@@ -65,6 +66,8 @@ def read(text):
             task.arities = list(numbers(body))
         elif key == "schema":
             task.schemas.append(Schema(int(body)))
+        elif key == "differ":
+            task.schemas[-1].differ.append(numbers(body))
         elif key == "pre":
             task.schemas[-1].pre.append(atom)
         elif key == "add":
@@ -93,10 +96,12 @@ def lifted(schema, atom):
     return [variables(schema.parameters)[number] for number in atom.arguments]
 
 
-def unbound(schema):
-    """Parameters that stand in no precondition range over all objects."""
+def choices(schema):
+    """What a step's objects are beyond its preconditions: parameters that stand in none range over all objects, and
+    those of a pair differ."""
     bound = {number for atom in schema.pre for number in atom.arguments}
-    return [f"object(X{number})" for number in range(schema.parameters) if number not in bound]
+    unbound = [f"object(X{number})" for number in range(schema.parameters) if number not in bound]
+    return unbound + [f"X{lower} != X{higher}" for lower, higher in schema.differ]
 
 
 def rule(head, body):
@@ -111,7 +116,7 @@ def reachable(task):
     for number, schema in enumerate(task.schemas):
         step = term(f"s{number}", *variables(schema.parameters))
         pre = [term(f"p{atom.predicate}", *lifted(schema, atom)) for atom in schema.pre]
-        lines.append(rule(step, pre + unbound(schema)))
+        lines.append(rule(step, pre + choices(schema)))
         lines += [rule(term(f"p{atom.predicate}", *lifted(schema, atom)), [step]) for atom in schema.add]
     lines += [f"lacking({number}) :- not {term(f'p{atom.predicate}', *atom.arguments)}."
               for number, atom in enumerate(task.goal)]
@@ -133,7 +138,7 @@ def planning(task):
         step = term(f"s{number}", *variables(schema.parameters), "T")
         steps.append(term("", number, *variables(schema.parameters))[1:-1] + " : " + step)
         pre = [at(atom, lifted(schema, atom), "T-1") for atom in schema.pre]
-        lines.append(rule("{ " + step + " }", ["time(T)"] + pre + unbound(schema)))
+        lines.append(rule("{ " + step + " }", ["time(T)"] + pre + choices(schema)))
         lines += [rule(at(atom, lifted(schema, atom), "T"), [step]) for atom in schema.add]
         lines += [rule(term(f"d{atom.predicate}", *lifted(schema, atom), "T"), [step]) for atom in schema.delete]
         lines.append(f"#show s{number}/{schema.parameters + 1}.")
