@@ -273,7 +273,8 @@ fn agree(
 }
 
 // Whether the whole step at index i, of the split's schema with that number, is one of the split: behind the schema
-// objects of the task, then zeros, and different objects at each pair that the schema carries.
+// objects of the task, then zeros, and different objects at each pair that the schema carries. Where the split has no
+// pair, nothing more is asked of it.
 fn is_schema_step(
     steps: &[u16],
     i: usize,
@@ -293,7 +294,11 @@ fn is_schema_step(
     if !are_within(steps, at, wide(params[number]), limits) {
         return false;
     }
-    keep_apart(pairs, 1, wide(pairs[0]), steps, at, number)
+    let count = wide(pairs[0]);
+    if count == 0 {
+        return true;
+    }
+    keep_apart(pairs, 1, count, steps, at, number)
 }
 
 // Whether what stands at position j of the block that begins at split step i is a step of the split, the part of schema

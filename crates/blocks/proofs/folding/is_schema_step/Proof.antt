@@ -8,7 +8,7 @@ use native.Mathlib.Omega.{arith}
 use lib.ListN.{length, getD}
 use borrow.Author.Needs.{needs}
 use borrow.Author.Tests.{not-true, not-false}
-use Rattle.words.specs.Lists.{all, upTo}
+use Rattle.words.specs.Lists.{all, upFrom, upTo}
 use Rattle.task.specs.Limits.{stepSize}
 use Rattle.task.specs.Task.{Task}
 use Rattle.task.specs.Run.{isStepAt}
@@ -54,22 +54,36 @@ are-within-requires c κs =
 returns : tie.Need-returns
 returns c = told (c .before) false (not-true _ (c .if1 .taken))
 
+-- past the first test, with the count of pairs
+abbrev passed : tie.After-wide2 → tie.Else1
+passed c = c .before .before
+
+rest : (c : tie.After-wide2) (t : Task) → let s = start (passed c .before) in Known s t → Small s t →
+    apart s (c .wide2 .result) ≡ isStepAt (splitTask t) (s .args .steps .now) (s .args .i)
+rest c t S l =
+    ap (apart (start (passed c .before))) (c .wide2 .ensures) ∙
+    told (passed c .before) true (not-false _ (passed c .if1 .left)) t S l
+
+returns-2 : tie.Need-returns-2
+unfolding all upTo upFrom
+returns-2 c = λ t S l.
+    let s = start (passed (c .before) .before) in
+    ap (apart s) (sym (c .if2 .taken)) ∙ rest (c .before) t S l
+
 keep-apart-requires : tie.Need-keep-apart-requires
 keep-apart-requires c κs =
-    let s = c .before .before .before .before .before .before .before .before in
+    let d = c .before .before in
+    let s = start (passed d .before) in
     let (t, S, l) = s .pre .1 .1 in
-    let e = c .wide2 .ensures in
+    let e = d .wide2 .ensures in
     let n = rows-inside S in
     (omega arith, (λ i k. rows-small S i (omega arith), s .pre .0))
 
-returns-2 : tie.Need-returns-2
-returns-2 c = λ t S l.
-    let e = c .before .before .before .before in
-    c .keep-apart .ensures ∙
-    (ap (apart (start (e .before))) (c .before .wide2 .ensures) ∙ told (e .before) true (not-false _ (e .if1 .left)) t S l)
+returns-3 : tie.Need-returns-3
+returns-3 c = λ t S l. c .keep-apart .ensures ∙ rest (c .before .before .before) t S l
 
 pub is-schema-step-spec : {M : Type 1} → statement M
 is-schema-step-spec =
     tie.close
     (tie.spec (λ c. search needs) (λ c. search needs) (λ c. search needs) (λ c κs. search needs) are-within-requires
-    returns (λ c. search needs) (λ c κs. search needs) keep-apart-requires returns-2)
+    returns (λ c. search needs) (λ c κs. search needs) returns-2 keep-apart-requires returns-3)
