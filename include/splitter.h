@@ -1,12 +1,16 @@
 /* The splitter for a C host. Every function is proved, in Rattle, to do what documents 01 and 02 say, for every input.
  *
- * Each returns 0 for a result, else the number of its refusal (1 to 18). Every number lent by pointer is written:
+ * Each returns 0 for a result, else the number of its refusal (1 to 21). Every number lent by pointer is written:
  * `place` is the refusal's line (from 1), schema or step (from 0), and 0 with a result or where there is no place;
  * values that have no meaning are 0. These numbers are distinct variables, and none lies in a slice that is lent. A
  * slice is lent as a pointer and the number of its elements, bytes or words of 16 bits, each two bytes, the low one
- * first; none may overlap another that is written. A pointer is never NULL, also where its length is 0. A table is
- * 13,406 words; words lent behind them are neither judged nor touched. docs/assumptions.md has all that a caller
- * owes. */
+ * first; none may overlap another that is written. A pointer is never NULL, also where its length is 0.
+ * docs/assumptions.md has all that a caller owes.
+ *
+ * A table is 14,007 words; words lent behind them are neither judged nor touched. It begins with seven counts: objects,
+ * predicates, schemas, schema atoms, initial atoms, goal atoms, pairs of parameters that must differ (at most 200).
+ * Then come the predicates' arities, the schemas' parameter counts, the pairs in file order, three words each (schema,
+ * lower, higher parameter), and the atoms in file order, eight words each; then zeros. */
 #ifndef SPLITTER_H
 #define SPLITTER_H
 
@@ -18,18 +22,19 @@ extern "C" {
 #endif
 
 /* The words of a table, of a step and of a state's record. */
-#define SPLITTER_TABLE_WORDS 13406
+#define SPLITTER_TABLE_WORDS 14007
 #define SPLITTER_STEP_WORDS 13
 #define SPLITTER_RECORD_WORDS 5
 
 /* Reads a text into a table. The whole text is read: it ends where its bytes do.
  *
  * Refusals: 1 a short table, which is left as found. Those of a line have the line's number as place and leave the
- * table's 13,406 words 0: 3 not a line that the fixed order allows here, text missing (the line lacking) or left
- * over, 4 a count or an arity outside its limits, 5 a predicate that there is not, a wrong number of arguments or
- * one too high, 6 an atom repeated or not ascending, 7 (at a part line) a schema without atoms or a parameter in
- * none, 8 (at a part line) a wrong number of parts, a part of 16 or more, or a gap. Words behind the table's are
- * never touched. */
+ * table's 14,007 words 0: 3 not a line that the fixed order allows here, text missing (the line lacking) or left
+ * over, 4 a count or an arity outside its limits, 21 the 201st differ line, 5 a predicate that there is not, a wrong
+ * number of arguments or one too high, 19 (at a differ line) a parameter too high, a pair without its lower parameter
+ * first, or one not behind the schema's pair before it, 6 an atom repeated or not ascending, 7 (at a part line) a
+ * schema without atoms or a parameter in none, 8 (at a part line) a wrong number of parts, a part of 16 or more, or a
+ * gap. A line is judged by these in the order in which they stand here. Words behind the table's are never touched. */
 uint32_t splitter_read(const uint8_t *text, size_t text_len, uint16_t *table, size_t table_len, uint64_t *place);
 
 /* Runs a list of steps of the table's task, 13 words each, in a state of `records` ascending 5-word records, which
@@ -37,16 +42,16 @@ uint32_t splitter_read(const uint8_t *text, size_t text_len, uint16_t *table, si
  * hold; then its deletes go out, then its adds come in.
  *
  * `left` is the number of records afterwards, `goal` 1 if all goal atoms hold then. Refusals: 1 a short table, 2
- * no table, 12 no step of the task or an incomplete one (place: its number), 15 the records are not ascending ones
- * of the task, or more than lent, 16 a precondition of a step is missing (place: its number), 17 the next state
- * would outgrow the room (place: the step's number). 16 and 17 leave the state before that step, with `left` its
- * records and `goal` 0. With a result, 16 and 17 the words behind the records are 0, to the end of the words lent;
- * else nothing is changed. */
+ * no table, 12 no step of the task, as where its objects are equal at a pair that must differ, or an incomplete one
+ * (place: its number), 15 the records are not ascending ones of the task, or more than lent, 16 a precondition of a
+ * step is missing (place: its number), 17 the next state would outgrow the room (place: the step's number). 16 and 17
+ * leave the state before that step, with `left` its records and `goal` 0. With a result, 16 and 17 the words behind the
+ * records are 0, to the end of the words lent; else nothing is changed. */
 uint32_t splitter_run(const uint16_t *table, size_t table_len, const uint16_t *steps, size_t steps_len,
                       uint16_t *state, size_t state_len, uint64_t records,
                       uint64_t *place, uint64_t *left, uint64_t *goal);
 
-/* Writes the text of the table's task over the front of the bytes lent; `bytes` is how many it has. 41,832 bytes are
+/* Writes the text of the table's task over the front of the bytes lent; `bytes` is how many it has. 44,432 bytes are
  * enough for every task.
  *
  * Refusals: 1 a short table, 2 no table, 11 the text is longer than the bytes lent. None has a place, and each
@@ -56,28 +61,32 @@ uint32_t splitter_write(const uint16_t *table, size_t table_len, uint8_t *text, 
 
 /* Writes the table's task as planners that read PDDL take it, over the front of the bytes lent: the domain and byte 10,
  * then the problem and byte 10; `bytes` is how many they have. Objects are o0, o1 and on, predicates p0 and on, actions
- * a0 and on, parameters ?x0 and on, in the table's order; the partition is not written. 88,100 bytes are enough for
- * every task.
+ * a0 and on, parameters ?x0 and on, in the table's order; the partition is not written. A pair that must differ is a
+ * precondition (not (= ..)) behind the atoms, and with any pair the domain states its requirements. 88,100 bytes are
+ * enough for every task.
  *
  * Refusals: 1 a short table, 2 no table, 18 the text is longer than the bytes lent. None has a place, and each
  * leaves the bytes as found, with `bytes` 0. Bytes behind a text are left as found too. */
 uint32_t splitter_write_pddl(const uint16_t *table, size_t table_len, uint8_t *text, size_t text_len,
                              uint64_t *place, uint64_t *bytes);
 
-/* Splits the table's task along its parts and writes the split as a table: 13,406 words, zeros behind its last atom.
+/* Splits the table's task along its parts and writes the split as a table: 14,007 words, zeros behind its last atom. A
+ * part that has both parameters of a pair that must differ carries it.
  *
  * Refusals: 1 either table is short, 2 the one to be read is no table, 9 no order of parts complies with the arcs
- * of a schema (place: the lowest such schema), 10 the split would pass a limit of a table. Each leaves the split as
- * found. Words behind the split's are never touched. */
+ * of a schema (place: the lowest such schema), 20 no part has both parameters of a pair (place: the lowest such
+ * schema), 10 the split would pass a limit of a table; in this order. Each leaves the split as found. Words behind the
+ * split's are never touched. */
 uint32_t splitter_split(const uint16_t *table, size_t table_len, uint16_t *split, size_t split_len, uint64_t *place);
 
 /* Unfolds a list of steps of the table's task, 13 words each, into steps of its split: each step's block, which is its
  * parts in order with its objects, one after another over the front of the words lent. The table is that of the task,
  * not of its split.
  *
- * `split_steps` is how many split steps are written, 13 words each. Refusals: 1, 2, 9 and 10 as in splitting, 12 no
- * step of the task or an incomplete one (place: its number), 13 the unfolding is longer than the words lent. Each
- * leaves the words as found, with `split_steps` 0. Words behind an unfolding are left as found too. */
+ * `split_steps` is how many split steps are written, 13 words each. Refusals: 1, 2, 9, 20 and 10 as in splitting, 12
+ * no step of the task, as where its objects are equal at a pair that must differ, or an incomplete one (place: its
+ * number), 13 the unfolding is longer than the words lent. Each leaves the words as found, with `split_steps` 0. Words
+ * behind an unfolding are left as found too. */
 uint32_t splitter_unfold(const uint16_t *table, size_t table_len, const uint16_t *steps, size_t steps_len,
                          uint16_t *out, size_t out_len, uint64_t *place, uint64_t *split_steps);
 
@@ -85,11 +94,12 @@ uint32_t splitter_unfold(const uint16_t *table, size_t table_len, const uint16_t
  * the step of each, 13 words each, over the front of the words lent. It looks at schemas and objects, not at states.
  * The table is that of the task, not of its split.
  *
- * `split_steps` is how many split steps were lent, `steps` how many steps are written. Refusals: 1, 2, 9 and 10 as in
- * splitting, 12 no step of the split or an incomplete one (place: its number), 14 the first step that fits no block, or
- * the step count where the last block is unfinished (place: that number), 13 the steps are longer than the words lent;
- * 14 comes before 13. Each leaves the words as found, with both counts 0. Words behind the steps are left as found
- * too. */
+ * `split_steps` is how many split steps were lent, `steps` how many steps are written. Refusals: 1, 2, 9, 20 and 10 as
+ * in splitting, 12 no step of the split, as where its objects are equal at a pair that its part carries, or an
+ * incomplete one (place: its number), 14 the first step that fits no block, or the step count where the last block is
+ * unfinished (place: that number), 13 the steps are longer than the words lent; 14 comes before 13. An unfinished block
+ * may have equal objects at a pair that none of its parts so far carries. Each leaves the words as found, with both
+ * counts 0. Words behind the steps are left as found too. */
 uint32_t splitter_fold(const uint16_t *table, size_t table_len, const uint16_t *split, size_t split_len, uint16_t *out,
                        size_t out_len, uint64_t *place, uint64_t *split_steps, uint64_t *steps);
 

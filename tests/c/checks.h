@@ -81,10 +81,14 @@ struct atom {
     uint16_t words[8];
 };
 
+/* The counts that begin a table. */
+enum { HEAD = 7 };
+
 struct task {
-    uint16_t counts[6];
+    uint16_t counts[HEAD];
     uint16_t arities[8];
     uint16_t parameters[4];
+    uint16_t pairs[2][3];
     struct atom atoms[32];
 };
 
@@ -94,20 +98,23 @@ static inline uint16_t *table_of(const struct task *task) {
     size_t atoms = (size_t)task->counts[3] + task->counts[4] + task->counts[5];
     memset(table, 0, SPLITTER_TABLE_WORDS * sizeof *table);
     memcpy(end, task->counts, sizeof task->counts);
-    end += 6;
+    end += HEAD;
     memcpy(end, task->arities, task->counts[1] * sizeof *end);
     end += task->counts[1];
     memcpy(end, task->parameters, task->counts[2] * sizeof *end);
     end += task->counts[2];
+    memcpy(end, task->pairs, task->counts[6] * sizeof *task->pairs);
+    end += 3 * task->counts[6];
     memcpy(end, task->atoms, atoms * sizeof *task->atoms);
     return table;
 }
 
 /* M, "a logger's move x, y, z". */
 static const struct task move = {
-    {3, 2, 1, 7, 3, 1},
+    {3, 2, 1, 7, 3, 1, 0},
     {2, 1},
     {3},
+    {{0}},
     {
         {{0, 0, 0, 0, 0, 1}}, {{0, 0, 1, 0, 0}}, {{0, 0, 1, 1, 2}}, {{0, 1, 0, 1, 0, 2}},
         {{0, 1, 1, 2, 1}}, {{0, 2, 0, 0, 0, 1}}, {{0, 2, 1, 1, 2}},
@@ -117,9 +124,10 @@ static const struct task move = {
 
 /* Its split, by E1. */
 static const struct task move_split = {
-    {3, 7, 3, 22, 4, 2},
+    {3, 7, 3, 22, 4, 2, 0},
     {2, 1, 0, 0, 0, 1, 1},
     {2, 2, 1},
+    {{0}},
     {
         {{0, 0, 0, 0, 0, 1}}, {{0, 0, 1, 0, 0}}, {{0, 0, 2}}, {{0, 1, 3}}, {{0, 1, 5, 0, 0}},
         {{0, 1, 6, 0, 1}}, {{0, 2, 0, 0, 0, 1}}, {{0, 2, 2}},
@@ -130,6 +138,45 @@ static const struct task move_split = {
         {{0, 4, 0, 0, 0, 2}}, {{0, 4, 2}},
     },
 };
+
+/* A swap: two linked piers, which must differ, exchange their boats. */
+static const struct task swap = {
+    {4, 2, 1, 7, 3, 2, 1},
+    {2, 2},
+    {4},
+    {{0, 0, 1}},
+    {
+        {{0, 0, 0, 0, 0, 2}}, {{0, 0, 0, 1, 1, 3}}, {{0, 0, 1, 0, 0, 1}}, {{0, 1, 0, 0, 0, 3}},
+        {{0, 1, 0, 1, 1, 2}}, {{0, 2, 0, 0, 0, 2}}, {{0, 2, 0, 1, 1, 3}},
+        {{0, 3, 0, 0, 0, 2}}, {{0, 3, 0, 0, 1, 3}}, {{0, 3, 1, 0, 0, 1}},
+        {{0, 4, 0, 0, 0, 3}}, {{0, 4, 0, 0, 1, 2}},
+    },
+};
+
+/* Its split: the first part has both piers and carries the pair. */
+static const struct task swap_split = {
+    {4, 8, 2, 22, 4, 3, 1},
+    {2, 2, 0, 0, 1, 1, 1, 1},
+    {4, 3},
+    {{0, 0, 1}},
+    {
+        {{0, 0, 0, 0, 0, 2}}, {{0, 0, 1, 0, 0, 1}}, {{0, 0, 2}}, {{0, 1, 0, 0, 0, 3}}, {{0, 1, 3}},
+        {{0, 1, 5, 0, 1}}, {{0, 1, 6, 0, 2}}, {{0, 1, 7, 0, 3}}, {{0, 2, 0, 0, 0, 2}}, {{0, 2, 2}},
+        {{1, 0, 0, 0, 0, 2}}, {{1, 0, 3}}, {{1, 0, 5, 0, 0}}, {{1, 0, 6, 0, 1}}, {{1, 0, 7, 0, 2}},
+        {{1, 1, 0, 0, 0, 1}}, {{1, 1, 2}},
+        {{1, 2, 0, 0, 0, 2}}, {{1, 2, 3}}, {{1, 2, 5, 0, 0}}, {{1, 2, 6, 0, 1}}, {{1, 2, 7, 0, 2}},
+        {{0, 3, 0, 0, 0, 2}}, {{0, 3, 0, 0, 1, 3}}, {{0, 3, 1, 0, 0, 1}}, {{0, 3, 2}},
+        {{0, 4, 0, 0, 0, 3}}, {{0, 4, 0, 0, 1, 2}}, {{0, 4, 2}},
+    },
+};
+
+/* M with a pair of y and z, which no part has both of. */
+static inline uint16_t *apart_table(void) {
+    struct task task = move;
+    task.counts[6] = 1;
+    memcpy(task.pairs[0], (uint16_t[]){0, 1, 2}, sizeof task.pairs[0]);
+    return table_of(&task);
+}
 
 /* E2: M with its add 1:1 in part 0, so that no order complies. */
 static inline uint16_t *circular_table(void) {
@@ -161,5 +208,8 @@ static inline uint8_t *file(const char *path, size_t *length) {
 #define MOVE_FILE "checks/src/move.txt"
 #define MOVE_SPLIT_FILE "checks/src/move_split.txt"
 #define MOVE_PDDL_FILE "checks/src/move_pddl.txt"
+#define SWAP_FILE "checks/src/swap.txt"
+#define SWAP_SPLIT_FILE "checks/src/swap_split.txt"
+#define SWAP_PDDL_FILE "checks/src/swap_pddl.txt"
 
 #endif

@@ -1,4 +1,4 @@
-/* Folding: E5 back, E6 and E7, each refusal, and the words lent afterwards. */
+/* Folding: E5 back, E6 and E7, pairs that must differ, each refusal, and the words lent afterwards. */
 #include "lists.h"
 
 static struct answer fold(const struct list *list, uint16_t *out) {
@@ -48,11 +48,40 @@ static void refuses_steps(const uint16_t *table) {
     refuse_as_splitting(fold, table, bad[0]);
 }
 
+static void folds_swaps(void) {
+    uint16_t *table = table_of(&swap);
+    static const uint16_t swapping[13] = {0, 0, 1, 2, 3}, of_swap[26] = {0, 0, 1, 2, 3, [13] = 1, 1, 2, 3};
+    FOLDS(LIST(table, of_swap, 26, 13), 2, 1, swapping, "a swap");
+    static const uint16_t equal[26] = {1, 1, 1, 1, [13] = 0, 2, 2, 0, 1};
+    REFUSED(LIST(table, equal, 26, 13), 12, 1, "equal piers where the part carries the pair, before 14");
+    free(table);
+}
+
+/* Parts 0 and 1 have a parameter each, part 2 has both and carries the pair. */
+static void unfinished_with_equal_objects(void) {
+    static const struct task task = {
+        {2, 2, 1, 4, 0, 0, 1},
+        {1, 1},
+        {2},
+        {{0, 0, 1}},
+        {{{0, 0, 0, 0, 0}}, {{0, 0, 1, 1, 1}}, {{0, 2, 0, 2, 0}}, {{0, 2, 1, 2, 1}}},
+    };
+    uint16_t *table = table_of(&task);
+    static const uint16_t differing[13] = {0, 0, 1}, whole[39] = {0, 0, [13] = 1, 1, [26] = 2, 0, 1};
+    FOLDS(LIST(table, whole, 39, 13), 3, 1, differing, "a block");
+    static const uint16_t equal[39] = {0, 1, [13] = 1, 1, [26] = 2, 1, 1};
+    REFUSED(LIST(table, equal, 26, 13), 14, 2, "a beginning that doesn't carry the pair");
+    REFUSED(LIST(table, equal, 39, 13), 12, 2, "the part that carries it");
+    free(table);
+}
+
 int main(void) {
     uint16_t *table = table_of(&move);
     folds(table);
     fits_no_block(table);
     refuses_steps(table);
+    folds_swaps();
+    unfinished_with_equal_objects();
     free(table);
     return end("fold");
 }

@@ -1,4 +1,5 @@
-/* Reading and writing, as text and as PDDL: M both ways, every refusal, and what is left in each buffer. */
+/* Reading and writing, as text and as PDDL: M and the swap both ways, every refusal, and what is left in each
+ * buffer. */
 #include "checks.h"
 
 /* Reads a text into words that hold FOUND; requires the answer, and gives the words. */
@@ -26,13 +27,14 @@ static void expect_refused(const char *text, uint32_t number, uint64_t line_read
 
 #define REFUSED(text, number, line_read) expect_refused((text), (number), (line_read), __LINE__)
 
-static void reads_move(const uint8_t *text, size_t bytes, const uint16_t *table) {
-    uint16_t *read = expect_read(text, bytes, SPLITTER_TABLE_WORDS, 0, 0, "M", __LINE__);
-    CHECK_WORDS(read, table, SPLITTER_TABLE_WORDS, "the table of M");
+/* A text of so many lines, whose table is given. */
+static void reads(const uint8_t *text, size_t bytes, uint64_t lines, const uint16_t *table) {
+    uint16_t *read = expect_read(text, bytes, SPLITTER_TABLE_WORDS, 0, 0, "a task", __LINE__);
+    CHECK_WORDS(read, table, SPLITTER_TABLE_WORDS, "the task's table");
     free(read);
 
-    read = expect_read(text, bytes, SPLITTER_TABLE_WORDS + 2, 0, 0, "M into more words", __LINE__);
-    CHECK_WORDS(read, table, SPLITTER_TABLE_WORDS, "the table of M");
+    read = expect_read(text, bytes, SPLITTER_TABLE_WORDS + 2, 0, 0, "a task into more words", __LINE__);
+    CHECK_WORDS(read, table, SPLITTER_TABLE_WORDS, "the task's table");
     CHECK(read[SPLITTER_TABLE_WORDS] == FOUND && read[SPLITTER_TABLE_WORDS + 1] == FOUND, "words behind the table");
     free(read);
 
@@ -42,7 +44,7 @@ static void reads_move(const uint8_t *text, size_t bytes, const uint16_t *table)
     free(read);
     free(found);
 
-    read = expect_read(text, bytes - 1, SPLITTER_TABLE_WORDS, 3, 17, "M without its last byte", __LINE__);
+    read = expect_read(text, bytes - 1, SPLITTER_TABLE_WORDS, 3, lines, "a task without its last byte", __LINE__);
     CHECK(read[0] == 0, "a refused table is 0");
     free(read);
 }
@@ -67,6 +69,32 @@ static void refuses_texts(void) {
     REFUSED("task=1\nobjects=1\narity=0\nschema=0\npre=0:\npart=\n", 8, 6);
     REFUSED("task=1\nobjects=1\narity=0\nschema=0\npre=0:\npart=1\n", 8, 6);
     REFUSED("task=1\nobjects=1\narity=0\nschema=0\npre=0:\npart=16\n", 8, 6);
+    REFUSED("task=1\nobjects=1\narity=0\ndiffer=0,1\n", 3, 4);
+    REFUSED("task=1\nobjects=1\narity=0\nschema=2\ndiffer=2\n", 3, 5);
+    REFUSED("task=1\nobjects=1\narity=0\nschema=2\ndiffer=0,1,2\n", 3, 5);
+    REFUSED("task=1\nobjects=1\narity=0\nschema=2\npre=0:\ndiffer=0,1\n", 3, 6);
+    REFUSED("task=1\nobjects=1\narity=0\nschema=2\ndiffer=0,2\n", 19, 5);
+    REFUSED("task=1\nobjects=1\narity=0\nschema=2\ndiffer=1,0\n", 19, 5);
+    REFUSED("task=1\nobjects=1\narity=0\nschema=2\ndiffer=1,1\n", 19, 5);
+    REFUSED("task=1\nobjects=1\narity=0\nschema=2\ndiffer=0,1\ndiffer=0,1\n", 19, 6);
+}
+
+/* Three schemas with all 66 pairs of 12 parameters, then a fourth: the 201st line is its third, at line 220, and is
+ * refused by 21 though its pair doesn't ascend. */
+static void refuses_too_many_pairs(void) {
+    char *text = lend(1 << 14), *end = text + sprintf(text, "task=1\nobjects=1\narity=4\n");
+    for (int schema = 0; schema < 3; schema++) {
+        end += sprintf(end, "schema=12\n");
+        for (int lower = 0; lower < 12; lower++)
+            for (int higher = lower + 1; higher < 12; higher++)
+                end += sprintf(end, "differ=%d,%d\n", lower, higher);
+        end += sprintf(end, "pre=0:0,1,2,3\npre=0:4,5,6,7\npre=0:8,9,10,11\npart=0,0,0\n");
+    }
+    end += sprintf(end, "schema=12\ndiffer=0,1\ndiffer=0,2\n");
+    REFUSED(text, 3, 220);
+    sprintf(end, "differ=0,2\n");
+    REFUSED(text, 21, 220);
+    free(text);
 }
 
 /* An arity line that ends behind byte 65,536: the programs cut there, the reader reads on to its end. */
@@ -110,12 +138,12 @@ static void expect_written(const struct writer *writer, const uint16_t *table, s
 #define WRITTEN(writer, table, words, lent, number, text, bytes, claim) \
     expect_written((writer), (table), (words), (lent), (number), (text), (bytes), (claim), __LINE__)
 
-static void writes_move(const struct writer *writer, const uint8_t *text, size_t bytes, const uint16_t *table) {
+static void writes(const struct writer *writer, const uint8_t *text, size_t bytes, const uint16_t *table) {
     const size_t words = SPLITTER_TABLE_WORDS;
-    WRITTEN(writer, table, words, bytes, 0, text, bytes, "M into just enough");
-    WRITTEN(writer, table, words, bytes + 9, 0, text, bytes, "M into more");
-    WRITTEN(writer, table, words, bytes - 1, writer->too_long, text, 0, "M into one byte too few");
-    WRITTEN(writer, table, words, 0, writer->too_long, text, 0, "M into nothing");
+    WRITTEN(writer, table, words, bytes, 0, text, bytes, "a task into just enough");
+    WRITTEN(writer, table, words, bytes + 9, 0, text, bytes, "a task into more");
+    WRITTEN(writer, table, words, bytes - 1, writer->too_long, text, 0, "a task into one byte too few");
+    WRITTEN(writer, table, words, 0, writer->too_long, text, 0, "a task into nothing");
     WRITTEN(writer, table, words - 1, bytes, 1, text, 0, "a short table");
     uint16_t *damaged = damaged_table();
     WRITTEN(writer, damaged, words, bytes, 2, text, 0, "no table");
@@ -124,24 +152,34 @@ static void writes_move(const struct writer *writer, const uint8_t *text, size_t
 }
 
 /* Parts are not written, so no order needs to comply. */
-static void writes_circular_move_as_pddl(const uint8_t *pddl, size_t bytes) {
+static void writes_circular_move_as_pddl(void) {
+    size_t bytes;
+    uint8_t *pddl = file(MOVE_PDDL_FILE, &bytes);
     uint16_t *circular = circular_table();
     WRITTEN(&as_pddl, circular, SPLITTER_TABLE_WORDS, bytes, 0, pddl, bytes, "M with other parts");
+    free(pddl);
     free(circular);
 }
 
-int main(void) {
+/* A task of so many lines, with its table, its text and its PDDL. */
+static void both_ways(const struct task *task, uint64_t lines, const char *text_file, const char *pddl_file) {
     size_t bytes, pddl_bytes;
-    uint8_t *text = file(MOVE_FILE, &bytes), *pddl = file(MOVE_PDDL_FILE, &pddl_bytes);
-    uint16_t *table = table_of(&move);
-    reads_move(text, bytes, table);
-    refuses_texts();
-    reads_long_texts();
-    writes_move(&as_text, text, bytes, table);
-    writes_move(&as_pddl, pddl, pddl_bytes, table);
-    writes_circular_move_as_pddl(pddl, pddl_bytes);
+    uint8_t *text = file(text_file, &bytes), *pddl = file(pddl_file, &pddl_bytes);
+    uint16_t *table = table_of(task);
+    reads(text, bytes, lines, table);
+    writes(&as_text, text, bytes, table);
+    writes(&as_pddl, pddl, pddl_bytes, table);
     free(text);
     free(pddl);
     free(table);
+}
+
+int main(void) {
+    both_ways(&move, 17, MOVE_FILE, MOVE_PDDL_FILE);
+    both_ways(&swap, 19, SWAP_FILE, SWAP_PDDL_FILE);
+    refuses_texts();
+    refuses_too_many_pairs();
+    reads_long_texts();
+    writes_circular_move_as_pddl();
     return end("read_write");
 }

@@ -1,4 +1,4 @@
-/* Running: E8, E9 and each refusal, with every word of the state afterwards. */
+/* Running: E8, E9, a swap and each refusal, with every word of the state afterwards. */
 #include "checks.h"
 
 /* M's initial state: three records, then a word behind them that no record fills. */
@@ -84,7 +84,7 @@ static void stops(const uint16_t *table, const uint16_t *split) {
 
 /* One schema that adds 0:x. */
 static void outgrows(void) {
-    static const struct task notes = {{2, 1, 1, 1, 0, 0}, {1}, {1}, {{{0, 1, 0, 0, 0}}}};
+    static const struct task notes = {{2, 1, 1, 1, 0, 0, 0}, {1}, {1}, {{0}}, {{{0, 1, 0, 0, 0}}}};
     static const uint16_t steps[26] = {0, 0, [13] = 0, 1};
     static const uint16_t empty[9] = {7, 7, 7, 7, 7, 7, 7, 7, 7};
     static const uint16_t one[9] = {0}, two[10] = {0, 0, 0, 0, 0, 0, 1};
@@ -132,6 +132,20 @@ static void bad_steps(const uint16_t *table) {
     EXPECT(run, initial, "12 comes before 15", 12, 0, 0, 0);
 }
 
+static void swaps(void) {
+    static const uint16_t steps[26] = {0, 0, 1, 2, 3, [13] = 0, 1, 1, 3, 3};
+    static const uint16_t before[WORDS] = {
+        0, 0, 2, 0, 0, 0, 1, 3, 0, 0, 1, 0, 1, 0, 0, 7, 7, 7, 7, 7, 7, 7, 7, 7, 7, 7,
+    };
+    static const uint16_t after[WORDS] = {0, 0, 3, 0, 0, 0, 1, 2, 0, 0, 1, 0, 1};
+    uint16_t *table = table_of(&swap);
+    struct run run = {table, SPLITTER_TABLE_WORDS, steps, 13, before, WORDS, 3};
+    EXPECT(run, after, "a swap", 0, 0, 3, 1);
+    run.steps_len = 26;
+    EXPECT(run, before, "equal piers, before any step runs", 12, 1, 0, 0);
+    free(table);
+}
+
 static void bad_states(const uint16_t *table) {
     static const uint16_t e9[13] = {0, 0, 1, 1};
     static const uint16_t states[][10] = {
@@ -157,6 +171,7 @@ int main(void) {
     outgrows();
     bad_tables(table);
     bad_steps(table);
+    swaps();
     bad_states(table);
     free(table);
     free(split);

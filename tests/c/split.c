@@ -1,4 +1,4 @@
-/* Splitting: E1 and E2, each refusal, and the words of both tables afterwards. */
+/* Splitting: E1 and E2, a swap, each refusal, and the words of both tables afterwards. */
 #include "checks.h"
 
 /* Splits into words that hold FOUND; requires the answer, and this split or, without one, the words as found. */
@@ -25,7 +25,7 @@ enum { WORDS = SPLITTER_TABLE_WORDS };
 
 /* A task of so many predicates of arity 0, and nothing else. */
 static uint16_t *bare(uint16_t predicates) {
-    static const struct task least = {{1, 1}, {0}, {0}, {{{0}}}};
+    static const struct task least = {{1, 1}, {0}, {0}, {{0}}, {{{0}}}};
     uint16_t *table = table_of(&least);
     table[1] = predicates;
     return table;
@@ -34,7 +34,7 @@ static uint16_t *bare(uint16_t predicates) {
 /* The split of a bare task only gains procnone, which holds at first and is a goal. */
 static uint16_t *bare_split(uint16_t predicates) {
     uint16_t *table = bare(predicates + 1);
-    uint16_t *atoms = table + 6 + predicates + 1;
+    uint16_t *atoms = table + HEAD + predicates + 1;
     table[4] = table[5] = 1;
     atoms[1] = 3;
     atoms[8 + 1] = 4;
@@ -58,9 +58,10 @@ static void circular(void) {
     free(table);
 
     static const struct task task = {
-        {1, 2, 3, 9, 0, 0},
+        {1, 2, 3, 9, 0, 0, 0},
         {0, 0},
         {0, 0, 0},
+        {{0}},
         {
             {{0, 0, 0, 0}},
             {{1, 0, 0, 0}}, {{1, 0, 1, 1}}, {{1, 1, 0, 1}}, {{1, 1, 1, 0}},
@@ -69,6 +70,34 @@ static void circular(void) {
     };
     table = table_of(&task);
     EXPECT(table, WORDS, WORDS, 9, 1, NULL, "the lowest schema without an order");
+    free(table);
+}
+
+/* With its pair the swap has no arc between its parts, without it arcs both ways. */
+static void swaps(void) {
+    struct task without = swap;
+    without.counts[6] = 0;
+    uint16_t *table = table_of(&swap), *split = table_of(&swap_split), *circular = table_of(&without);
+    EXPECT(table, WORDS, WORDS, 0, 0, split, "a swap");
+    EXPECT(circular, WORDS, WORDS, 9, 0, NULL, "a swap without its pair");
+    free(table);
+    free(split);
+    free(circular);
+}
+
+/* Of three schemas the second and the third have a pair that no part has both parameters of. */
+static void apart(void) {
+    static const struct task task = {
+        {1, 1, 3, 5, 0, 0, 2},
+        {1},
+        {1, 2, 2},
+        {{1, 0, 1}, {2, 0, 1}},
+        {{{0, 0, 0}}, {{1, 0, 0, 0, 0}}, {{1, 0, 0, 1, 1}}, {{2, 0, 0, 0, 0}}, {{2, 0, 0, 1, 1}}},
+    };
+    uint16_t *table = table_of(&task);
+    EXPECT(table, WORDS, WORDS, 20, 1, NULL, "the lowest schema with a pair in no part");
+    table[HEAD + 1 + 3] = 0;
+    EXPECT(table, WORDS, WORDS, 2, 0, NULL, "a pair of a parameter that there is not");
     free(table);
 }
 
@@ -81,6 +110,8 @@ int main(void) {
     EXPECT(damaged, WORDS, WORDS - 1, 1, 0, NULL, "1 comes before 2");
     EXPECT(damaged, WORDS, WORDS, 2, 0, NULL, "no table");
     circular();
+    swaps();
+    apart();
     at_the_limit();
     free(table);
     free(split);

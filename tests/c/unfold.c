@@ -1,4 +1,4 @@
-/* Unfolding: E5, each refusal, and the words lent afterwards. */
+/* Unfolding: E5, a swap, each refusal, and the words lent afterwards. */
 #include "lists.h"
 
 static struct answer unfold(const struct list *list, uint16_t *out) {
@@ -36,10 +36,20 @@ static void refuses_steps(const uint16_t *table) {
     refuse_as_splitting(unfold, table, bad[0]);
 }
 
+static void unfolds_swaps(void) {
+    uint16_t *table = table_of(&swap);
+    static const uint16_t swapping[26] = {0, 0, 1, 2, 3, [13] = 0, 1, 1, 2, 3};
+    static const uint16_t of_swap[26] = {0, 0, 1, 2, 3, [13] = 1, 1, 2, 3};
+    UNFOLDS(LIST(table, swapping, 13, 26), 2, of_swap, "a swap");
+    REFUSED(LIST(table, swapping, 26, 0), 12, 1, "equal piers, before 13");
+    free(table);
+}
+
 int main(void) {
     uint16_t *table = table_of(&move);
     unfolds(table);
     refuses_steps(table);
+    unfolds_swaps();
     free(table);
     return end("unfold");
 }

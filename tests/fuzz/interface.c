@@ -216,7 +216,7 @@ static void run_from(struct input *in) {
     size_t words = in->state < in->left / 2 ? in->state : in->left / 2;
     uint64_t count = in->records;
     if (in->initial) {
-        const uint16_t *atom = task + 6 + task[1] + task[2] + 8 * task[3];
+        const uint16_t *atom = task + 7 + task[1] + task[2] + 3 * task[6] + 8 * task[3];
         count = task[4] <= 500 && atom + 8 * task[4] <= task + TABLE ? task[4] : 0;
         words = SPLITTER_RECORD_WORDS * count + in->state % 512;
         memset(records, FOUND, 2 * words);
