@@ -3,7 +3,8 @@
 use std::collections::BTreeMap;
 
 use checks::report;
-use generate::tasks::{differing_task, task, telling_task, tying_task};
+use generate::differing::differing_task;
+use generate::tasks::{task, telling_task, tying_task};
 use generate::{Random, Shape};
 use reference::arcs::{arcs, order, Arcs, RULES};
 use reference::table::{used_arguments, ParameterNumber, PartNumber, Role, Schema, SchemaAtom};

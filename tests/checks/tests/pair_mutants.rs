@@ -3,16 +3,20 @@
 //! same form, for none.
 
 use checks::report;
+use generate::differing::{any_differing_task, splittable_differing_task};
 use generate::split_lists::split_list;
 use generate::tables::table;
-use generate::tasks::{any_differing_task, any_task, splittable_differing_task};
+use generate::tasks::any_task;
 use generate::texts::any_text;
 use generate::{steps, Random};
 use reference::arcs::{arcs, order, RULES};
-use reference::run::STEP_WORDS;
-use reference::table::{used_arguments, Pair, ParameterNumber, PartNumber, Schema, Task};
-use reference::tokens::{self, BlockPart};
-use reference::{blocks, Reason, Refusal};
+use reference::run::{Step, STEP_WORDS};
+use reference::table::{
+    used_arguments, ObjectNumber, Pair, ParameterNumber, PartNumber, Schema, Task, MAX_PARAMETERS,
+    MAX_PARTS,
+};
+use reference::tokens::{self, BlockPart, Split};
+use reference::{blocks, Answer, Reason, Refusal};
 
 const SEED: u64 = 43;
 
@@ -138,9 +142,9 @@ fn refusal_20_and_its_place() {
     for (name, variant, least) in [
         ("20 never said", never_20 as fn(&Faults) -> Refused, 200),
         ("20 with the highest schema", highest_20, 20),
-        ("20 before 9", before_9, 20),
+        ("20 before 9", before_9, 10),
         ("20 after 10", after_10, 3),
-        ("the lowest schema of 9 or 20", lowest_schema_of_either, 5),
+        ("the lowest schema of 9 or 20", lowest_schema_of_either, 3),
     ] {
         answers_otherwise(name, refused_otherwise(variant), least);
     }
@@ -287,46 +291,131 @@ fn refusal_21_before_19() {
     answers_otherwise("19 before 21", other, 50);
 }
 
-/// The numbers of answers, of which these are refused by 12 and not without
-/// pairs.
-fn let_through(reference: Option<Refusal>, without_pairs: Option<Refusal>) -> usize {
-    let is_bad_step =
-        |refusal: Option<Refusal>| refusal.map(|it| it.reason) == Some(Reason::BadStep);
-    usize::from(is_bad_step(reference) && !is_bad_step(without_pairs))
+/// Whether the reference refuses by 12 what a variant doesn't.
+fn let_through<Value, Other>(reference: Answer<Value>, variant: Answer<Other>) -> bool {
+    fn is_bad_step<Value>(answer: Answer<Value>) -> bool {
+        answer.is_err_and(|refusal| refusal.reason == Reason::BadStep)
+    }
+    is_bad_step(reference) && !is_bad_step(variant)
 }
 
-/// Running, unfolding and folding that let equal objects through at a pair.
+/// For how many lists this holds; it is given a task with pairs and its split.
+fn lists_where(holds: impl Fn(&mut Random, &Task, &Split) -> bool) -> usize {
+    let mut random = Random::new(SEED);
+    (0..4000)
+        .filter(|_| {
+            let task = splittable_differing_task(&mut random);
+            let split = tokens::split(&task).expect("a split");
+            holds(&mut random, &task, &split)
+        })
+        .count()
+}
+
+/// Steps of the task, one with equal objects at a pair where it has any.
+fn equal_steps(random: &mut Random, task: &Task) -> Vec<Step> {
+    let list = steps::list(random, task, 3);
+    steps::equal_at_a_pair(random, task, &list)
+}
+
+fn running(random: &mut Random, task: &Task, _: &Split) -> bool {
+    let mut without_pairs = task.clone();
+    for schema in &mut without_pairs.schemas {
+        schema.pairs.clear();
+    }
+    let list = steps::words(&equal_steps(random, task));
+    let run = |task: &Task| reference::run(&table(task), &list, &mut [], 0);
+    let_through(run(task), run(&without_pairs))
+}
+
+fn unfolding(random: &mut Random, task: &Task, split: &Split) -> bool {
+    let list = equal_steps(random, task);
+    let mut out = vec![0; STEP_WORDS * MAX_PARTS * list.len()];
+    let unfolded = reference::unfold(&table(task), &steps::words(&list), &mut out);
+    let_through(unfolded, Ok(blocks::unfold(split, &list)))
+}
+
+fn folding(random: &mut Random, task: &Task, split: &Split) -> bool {
+    let list = split_list(random, task, split);
+    let list = steps::equal_at_a_pair(random, &split.task, &list);
+    let mut out = vec![0; STEP_WORDS * list.len()];
+    let folded = reference::fold(&table(task), &steps::words(&list), &mut out);
+    let_through(folded, blocks::fold(split, &list))
+}
+
 #[test]
 fn equal_objects_let_through() {
-    let mut random = Random::new(SEED);
-    let [mut run, mut unfolded, mut folded] = [0; 3];
-    for _ in 0..4000 {
-        let task = splittable_differing_task(&mut random);
-        let mut without_pairs = task.clone();
-        without_pairs
-            .schemas
-            .iter_mut()
-            .for_each(|schema| schema.pairs.clear());
-        let split = tokens::split(&task).expect("a split");
-        let table = table(&task);
-        let list = steps::list(&mut random, &task, 3);
-        let list = steps::words(&steps::equal_at_a_pair(&mut random, &task, &list));
-        let found = reference::run(&table, &list, &mut [], 0).err();
-        let other = reference::run(&generate::tables::table(&without_pairs), &list, &mut [], 0);
-        run += let_through(found, other.err());
+    answers_otherwise("running of equal objects", lists_where(running), 1000);
+    answers_otherwise("unfolding of equal objects", lists_where(unfolding), 1000);
+    answers_otherwise("folding of equal objects", lists_where(folding), 1000);
+}
 
-        let mut out = vec![0; 16 * list.len()];
-        unfolded += let_through(reference::unfold(&table, &list, &mut out).err(), None);
+/// What is judged when a step is to fit the block that is open: the pairs of the
+/// block's schema, and the objects known by then.
+type Judged = fn(&[Pair], &[Option<ObjectNumber>]) -> bool;
 
-        let list = split_list(&mut random, &task, &split);
-        let list = steps::equal_at_a_pair(&mut random, &split.task, &list);
-        let mut out = vec![0; STEP_WORDS * list.len()];
-        let found = reference::fold(&table, &steps::words(&list), &mut out);
-        folded += let_through(found.err(), blocks::fold(&split, &list).err());
+/// An unfinished beginning fits whatever its objects are at pairs; a part's own
+/// pairs are judged by 12.
+fn no_pair(_: &[Pair], _: &[Option<ObjectNumber>]) -> bool {
+    true
+}
+
+fn every_pair_known(pairs: &[Pair], known: &[Option<ObjectNumber>]) -> bool {
+    pairs.iter().all(|pair| {
+        let [lower, higher] = [pair.lower, pair.higher].map(|parameter| known[parameter.index()]);
+        lower.is_none() || lower != higher
+    })
+}
+
+/// The place of 14 in a list of split steps, `None` where it is whole blocks.
+fn first_misfit(task: &Task, split: &Split, list: &[Step], judged: Judged) -> Option<usize> {
+    let mut open: Option<(usize, usize)> = None;
+    let mut known = [None; MAX_PARAMETERS];
+    for (number, step) in list.iter().enumerate() {
+        let begins = |block: &Vec<BlockPart>| block[0].schema == step.schema;
+        let Some((schema, position)) =
+            open.or_else(|| Some((split.blocks.iter().position(begins)?, 0)))
+        else {
+            return Some(number);
+        };
+        if position == 0 {
+            known = [None; MAX_PARAMETERS];
+        }
+        let part = &split.blocks[schema][position];
+        let agrees = part.schema == step.schema
+            && part
+                .parameters
+                .iter()
+                .zip(step.objects)
+                .all(|(parameter, object)| {
+                    *known[parameter.index()].get_or_insert(object) == object
+                });
+        if !agrees || !judged(&task.schemas[schema].pairs, &known) {
+            return Some(number);
+        }
+        let finished = position + 1 == split.blocks[schema].len();
+        open = (!finished).then_some((schema, position + 1));
     }
-    answers_otherwise("running of equal objects", run, 1000);
-    answers_otherwise("unfolding of equal objects", unfolded, 1000);
-    answers_otherwise("folding of equal objects", folded, 1000);
+    open.map(|_| list.len())
+}
+
+/// For how many lists that 12 doesn't refuse folding finds another place.
+fn folded_otherwise(judged: Judged) -> usize {
+    lists_where(|random, task, split| {
+        let list = split_list(random, task, split);
+        let mut out = vec![0; STEP_WORDS * list.len()];
+        let folded = reference::fold(&table(task), &steps::words(&list), &mut out);
+        let refused = folded.err();
+        let place = refused.map(|refusal| refusal.place.number() as usize);
+        !refused.is_some_and(|refusal| refusal.reason == Reason::BadStep)
+            && first_misfit(task, split, &list, judged) != place
+    })
+}
+
+#[test]
+fn only_the_pairs_that_parts_carry() {
+    assert_eq!(folded_otherwise(no_pair), 0);
+    let other = folded_otherwise(every_pair_known);
+    answers_otherwise("every pair of a beginning", other, 20);
 }
 
 /// How many schemas of a task with pairs have another order, and how many none,

@@ -77,6 +77,13 @@ pub fn table_to_write(random: &mut Random) -> Vec<u16> {
     }
 }
 
+/// So many bytes as the text needs, one more or fewer, or other numbers.
+pub fn lent_bytes(random: &mut Random, needed: usize) -> Vec<u8> {
+    let shorter = random.below(needed);
+    let length = random.pick(&[shorter, needed - 1, needed, needed, needed + 1, 2 * needed]);
+    vec![b'x'; length]
+}
+
 /// So many words as the result needs, one more or fewer, or any number.
 pub fn lent_words(random: &mut Random, needed: usize) -> Vec<u16> {
     let length = match random.below(6) {

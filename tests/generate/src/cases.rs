@@ -4,8 +4,10 @@
 use reference::run::{State, Step};
 use reference::table::Task;
 
+use crate::differing::splittable_differing_task;
 use crate::random::Random;
-use crate::tasks::{splittable_differing_task, task, telling_task, Shape};
+use crate::shape::Shape;
+use crate::tasks::{task, telling_task};
 use crate::{states, steps};
 
 #[derive(Clone, Debug)]

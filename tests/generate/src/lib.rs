@@ -3,8 +3,10 @@
 //! parameters, one atom in several roles.
 
 pub mod cases;
+pub mod differing;
 pub mod limits;
 pub mod random;
+pub mod shape;
 pub mod split_lists;
 pub mod states;
 pub mod steps;
@@ -14,8 +16,8 @@ pub mod texts;
 
 pub use cases::Case;
 pub use random::Random;
+pub use shape::Shape;
 pub use states::LentState;
-pub use tasks::Shape;
 
 /// Numbers at, next to and far beyond the limits of document 01.
 pub const LIMIT_NUMBERS: &[u32] = &[

@@ -5,8 +5,8 @@ use reference::table::{
     MAX_PAIRS, MAX_PARAMETERS, MAX_PREDICATES, MAX_SCHEMAS,
 };
 
+use crate::differing::every_pair;
 use crate::random::Random;
-use crate::tasks::every_pair;
 
 /// A task that still passes and one that is turned back.
 #[derive(Clone, Debug)]

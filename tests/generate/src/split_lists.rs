@@ -41,10 +41,18 @@ fn unfolding(random: &mut Random, task: &Task, split: &Split) -> Vec<Step> {
 }
 
 /// The first parts of the block of some choice of objects, which need be no
-/// step: they may be equal at a pair.
+/// step: they may be equal at a pair, most often at none that these parts carry.
 fn beginning(random: &mut Random, task: &Task, split: &Split) -> Vec<Step> {
-    let mut block = unfold(split, &Vec::from_iter(steps::choice(random, task)));
-    block.truncate(random.below(block.len() + 1));
+    let choice = Vec::from_iter(steps::choice(random, task));
+    let mut block = unfold(split, &steps::equal_at_a_pair(random, task, &choice));
+    let carries = |step: &Step| !step.keeps_pairs_apart(&split.task);
+    let bad = block.iter().position(carries).unwrap_or(block.len());
+    let most = if random.chance(3, 4) {
+        bad
+    } else {
+        block.len()
+    };
+    block.truncate(random.within(&(most / 2..=most)));
     block
 }
 

@@ -1,137 +1,31 @@
 //! Random tasks. Each is a table; its split may be refused.
 
 use std::collections::{BTreeMap, BTreeSet};
-use std::ops::RangeInclusive;
 
-use reference::arcs::{hold_a_pair, RULES};
+use reference::arcs::RULES;
 use reference::table::{
     used_arguments, Atom, GroundAtom, LiftedAtom, ObjectNumber, Pair, ParameterNumber, PartNumber,
-    Role, Schema, SchemaAtom, Task, MAX_ATOMS_OF_SCHEMA, MAX_PAIRS, MAX_PARTS,
+    Role, Schema, SchemaAtom, Task, MAX_PARTS,
 };
 use reference::tokens;
 
+use crate::differing::{any_differing_task, differing_task, with_pairs};
 use crate::limits;
 use crate::random::Random;
-
-type Range = RangeInclusive<usize>;
-
-/// How much a random task has of each thing.
-#[derive(Clone, Debug)]
-pub struct Shape {
-    pub objects: Range,
-    pub predicates: Range,
-    pub arity: Range,
-    pub schemas: Range,
-    pub parameters: Range,
-    /// Atoms of one schema.
-    pub atoms: Range,
-    pub parts: Range,
-    pub initial: Range,
-    pub goal: Range,
-    /// Of 8 schemas so many are parted without regard to arcs, and are often
-    /// circular.
-    pub free: usize,
-}
-
-impl Shape {
-    pub const SMALL: Shape = Shape {
-        objects: 1..=3,
-        predicates: 1..=4,
-        arity: 0..=2,
-        schemas: 0..=3,
-        parameters: 0..=3,
-        atoms: 1..=12,
-        parts: 1..=5,
-        initial: 0..=8,
-        goal: 0..=3,
-        free: 3,
-    };
-
-    pub const SMALL_SPLITTABLE: Shape = Shape {
-        schemas: 1..=3,
-        free: 0,
-        ..Shape::SMALL
-    };
-
-    pub const USUAL: Shape = Shape {
-        objects: 5..=40,
-        predicates: 5..=20,
-        arity: 0..=4,
-        schemas: 3..=12,
-        parameters: 0..=6,
-        atoms: 4..=16,
-        parts: 1..=6,
-        initial: 10..=80,
-        goal: 1..=10,
-        free: 1,
-    };
-
-    /// Splits of these pass some limit about as often as not.
-    pub const LARGE: Shape = Shape {
-        objects: 500..=1000,
-        predicates: 100..=300,
-        arity: 0..=4,
-        schemas: 20..=40,
-        parameters: 0..=12,
-        atoms: 4..=20,
-        parts: 1..=16,
-        initial: 300..=500,
-        goal: 50..=100,
-        free: 0,
-    };
-
-    /// For tasks whose parts tie; the atoms are those before they are filled up.
-    pub const TYING: Shape = Shape {
-        predicates: 6..=9,
-        arity: 0..=3,
-        schemas: 1..=2,
-        parameters: 2..=6,
-        atoms: 2..=8,
-        parts: 2..=5,
-        ..Shape::SMALL_SPLITTABLE
-    };
-
-    /// With up to as many parameters and parts as a schema may have.
-    pub const WIDE_TYING: Shape = Shape {
-        arity: 0..=4,
-        parameters: 6..=12,
-        atoms: 4..=16,
-        parts: 6..=16,
-        ..Shape::TYING
-    };
-
-    /// For tasks with pairs; the atoms are those before each pair is tested.
-    pub const DIFFERING: Shape = Shape {
-        objects: 2..=4,
-        predicates: 1..=3,
-        arity: 1..=2,
-        schemas: 1..=2,
-        parameters: 2..=4,
-        atoms: 3..=9,
-        parts: 2..=4,
-        ..Shape::SMALL_SPLITTABLE
-    };
-
-    /// Often circular with pairs too.
-    const FREELY_DIFFERING: Shape = Shape {
-        free: 4,
-        ..Shape::DIFFERING
-    };
-
-    /// With up to as many parameters and parts as a schema may have.
-    pub const WIDE_DIFFERING: Shape = Shape {
-        objects: 3..=12,
-        predicates: 3..=8,
-        arity: 1..=4,
-        parameters: 4..=12,
-        atoms: 8..=24,
-        parts: 4..=16,
-        ..Shape::DIFFERING
-    };
-}
+use crate::shape::{Range, Shape};
 
 pub fn task(random: &mut Random, shape: &Shape) -> Task {
     let arities = arities(random, shape);
+    task_of(random, shape, arities, schema)
+}
+
+/// A task whose schemas are made so.
+pub(crate) fn task_of(
+    random: &mut Random,
+    shape: &Shape,
+    arities: Vec<u16>,
+    schema: fn(&mut Random, &Shape, &[u16]) -> Schema,
+) -> Task {
     let schemas = (0..random.within(&shape.schemas))
         .map(|_| schema(random, shape, &arities))
         .collect();
@@ -145,8 +39,8 @@ pub fn any_task(random: &mut Random) -> Task {
         1 => return limits::any_table(random),
         2..=7 => task(random, &Shape::USUAL),
         8..=15 => telling_task(random),
-        16..=25 => return any_differing_task(random),
-        26 | 27 => return differing_task(random, &Shape::FREELY_DIFFERING),
+        16..=23 => return any_differing_task(random),
+        24..=27 => return differing_task(random, &Shape::FREELY_DIFFERING),
         _ => task(random, &Shape::SMALL),
     };
     if random.chance(1, 4) {
@@ -154,46 +48,6 @@ pub fn any_task(random: &mut Random) -> Task {
     } else {
         task
     }
-}
-
-/// The task with random pairs, in most schemas only such as stand together in
-/// some part; with another one its split is refused by 20.
-fn with_pairs(random: &mut Random, mut task: Task) -> Task {
-    let mut room = MAX_PAIRS;
-    for schema in &mut task.schemas {
-        let any = random.chance(1, 3);
-        let mut pairs = every_pair(schema.parameters);
-        pairs.retain(|pair| {
-            (any || stand_together(&schema.atoms, &task.arities, pair)) && random.chance(1, 3)
-        });
-        pairs.truncate(room);
-        room -= pairs.len();
-        schema.pairs = pairs;
-    }
-    task
-}
-
-/// All pairs of so many parameters, ascending.
-pub(crate) fn every_pair(parameters: u16) -> Vec<Pair> {
-    (0..parameters)
-        .flat_map(|lower| {
-            (lower + 1..parameters).map(move |higher| Pair {
-                lower: ParameterNumber(lower),
-                higher: ParameterNumber(higher),
-            })
-        })
-        .collect()
-}
-
-/// Whether some part of these atoms has both parameters.
-fn stand_together(atoms: &[SchemaAtom], arities: &[u16], pair: &Pair) -> bool {
-    let parts_of = |parameter: ParameterNumber| -> BTreeSet<PartNumber> {
-        let stands_in =
-            |atom: &&SchemaAtom| used_arguments(&atom.atom, arities).contains(&parameter);
-        let atoms = atoms.iter().filter(stands_in);
-        atoms.map(|atom| atom.part).collect()
-    };
-    !parts_of(pair.lower).is_disjoint(&parts_of(pair.higher))
 }
 
 /// A task of any size, or the split of one where it has a split.
@@ -218,7 +72,7 @@ pub fn parted_anew(random: &mut Random, task: &Task) -> Task {
     task
 }
 
-fn arities(random: &mut Random, shape: &Shape) -> Vec<u16> {
+pub(crate) fn arities(random: &mut Random, shape: &Shape) -> Vec<u16> {
     (0..random.within(&shape.predicates))
         .map(|_| random.within(&shape.arity) as u16)
         .collect()
@@ -292,7 +146,7 @@ fn lifted_atom(
 }
 
 /// Adds the atom unless its role has it.
-fn push(atoms: &mut Vec<SchemaAtom>, role: Role, part: PartNumber, atom: LiftedAtom) {
+pub(crate) fn push(atoms: &mut Vec<SchemaAtom>, role: Role, part: PartNumber, atom: LiftedAtom) {
     if !atoms
         .iter()
         .any(|other| (other.role, other.atom) == (role, atom))
@@ -302,7 +156,7 @@ fn push(atoms: &mut Vec<SchemaAtom>, role: Role, part: PartNumber, atom: LiftedA
 }
 
 /// Parts the atoms without regard to arcs.
-fn part_freely(random: &mut Random, atoms: &mut [SchemaAtom], parts: usize) {
+pub(crate) fn part_freely(random: &mut Random, atoms: &mut [SchemaAtom], parts: usize) {
     for atom in atoms {
         atom.part = PartNumber(random.below(parts) as u16);
     }
@@ -329,7 +183,7 @@ fn part_along_arcs(random: &mut Random, atoms: &mut [SchemaAtom], parts: usize) 
 /// The schema of these atoms: sorted by role, its parameters without an unused
 /// one and its parts without a gap, numbered at random. Pairs with an unused
 /// parameter are left out.
-fn finished(
+pub(crate) fn finished(
     random: &mut Random,
     mut atoms: Vec<SchemaAtom>,
     mut pairs: Vec<Pair>,
@@ -414,18 +268,21 @@ fn telling_schema(random: &mut Random, arities: &[u16]) -> Schema {
 /// and name different numbers of parameters in them.
 pub fn tying_task(random: &mut Random, shape: &Shape) -> Task {
     let arities = arities(random, shape);
-    let schemas = (0..random.within(&shape.schemas))
-        .map(|_| tying_schema(random, shape, &arities))
-        .collect();
-    with_ground_atoms(random, shape, arities, schemas)
+    task_of(random, shape, arities, tying_schema)
 }
 
 /// A task whose parts tie, most of them small.
 pub fn any_tying_task(random: &mut Random) -> Task {
+    let shape = mostly(random, &Shape::TYING, &Shape::WIDE_TYING);
+    tying_task(random, shape)
+}
+
+/// The usual shape, now and then the other.
+pub(crate) fn mostly<'a>(random: &mut Random, usual: &'a Shape, other: &'a Shape) -> &'a Shape {
     if random.chance(1, 8) {
-        tying_task(random, &Shape::WIDE_TYING)
+        other
     } else {
-        tying_task(random, &Shape::TYING)
+        usual
     }
 }
 
@@ -452,7 +309,7 @@ fn tying_schema(random: &mut Random, shape: &Shape, arities: &[u16]) -> Schema {
 }
 
 /// Atoms of these predicates in any role, all in part 0.
-fn atoms_in_any_role(
+pub(crate) fn atoms_in_any_role(
     random: &mut Random,
     shape: &Shape,
     arities: &[u16],
@@ -466,98 +323,4 @@ fn atoms_in_any_role(
         push(&mut atoms, role, PartNumber(0), atom);
     }
     atoms
-}
-
-/// A task with schemas whose pairs take arcs away, most of which would have
-/// another order with these arcs, or none.
-pub fn differing_task(random: &mut Random, shape: &Shape) -> Task {
-    let mut arities = arities(random, shape);
-    arities.push(2);
-    let schemas = (0..random.within(&shape.schemas))
-        .map(|_| differing_schema(random, shape, &arities))
-        .collect();
-    with_ground_atoms(random, shape, arities, schemas)
-}
-
-/// A task with pairs, most of them small.
-pub fn any_differing_task(random: &mut Random) -> Task {
-    if random.chance(1, 8) {
-        differing_task(random, &Shape::WIDE_DIFFERING)
-    } else {
-        differing_task(random, &Shape::DIFFERING)
-    }
-}
-
-/// A task with pairs that has a split.
-pub fn splittable_differing_task(random: &mut Random) -> Task {
-    loop {
-        let task = any_differing_task(random);
-        if tokens::split(&task).is_ok() {
-            return task;
-        }
-    }
-}
-
-/// The last predicate, of arity 2, is only tested, so that it gives no arc: each
-/// pair without a part that has both its parameters is tested in one, but for
-/// a few, and for more where parts are free of arcs, with which the split is
-/// refused by 20.
-fn differing_schema(random: &mut Random, shape: &Shape, arities: &[u16]) -> Schema {
-    let parameters = random.within(&shape.parameters);
-    let parts = random.within(&shape.parts);
-    let mut pairs = every_pair(parameters as u16);
-    pairs.retain(|_| random.chance(2, parameters));
-    pairs.truncate(MAX_ATOMS_OF_SCHEMA - shape.atoms.end());
-    let only_tested = arities.len() - 1;
-    let mut atoms = atoms_in_any_role(random, shape, &arities[..only_tested], parameters);
-    let freely = random.chance(shape.free, 8);
-    if freely {
-        part_freely(random, &mut atoms, parts);
-    } else {
-        part_along_arcs_left(random, &mut atoms, &pairs, parts);
-    }
-    let times = if freely { 8 } else { 15 };
-    for pair in &pairs {
-        if !stand_together(&atoms, arities, pair) && random.chance(times, 16) {
-            let mut arguments = [pair.lower, pair.higher];
-            random.shuffle(&mut arguments);
-            let atom = Atom::new(only_tested as u16, &arguments);
-            let part = PartNumber(random.below(parts) as u16);
-            push(&mut atoms, Role::Precondition, part, atom);
-        }
-    }
-    finished(random, atoms, pairs, arities)
-}
-
-/// Parts the atoms so that an order complies with the arcs that the pairs leave:
-/// each atom stands no earlier than those with an arc to it, and often no later
-/// than it must, so that it stands before others that a pair keeps apart.
-fn part_along_arcs_left(
-    random: &mut Random,
-    atoms: &mut [SchemaAtom],
-    pairs: &[Pair],
-    parts: usize,
-) {
-    for role in [Role::Precondition, Role::Delete, Role::Add] {
-        for at in 0..atoms.len() {
-            let SchemaAtom {
-                role: own, atom, ..
-            } = atoms[at];
-            if own != role {
-                continue;
-            }
-            let before = atoms.iter().filter(|other| {
-                RULES.contains(&(other.role, role))
-                    && other.atom.predicate == atom.predicate
-                    && !hold_a_pair(pairs, &other.atom, &atom)
-            });
-            let earliest = before.map(|other| other.part.index()).max().unwrap_or(0);
-            let latest = if role != Role::Precondition && random.chance(1, 2) {
-                earliest
-            } else {
-                parts - 1
-            };
-            atoms[at].part = PartNumber(random.within(&(earliest..=latest)) as u16);
-        }
-    }
 }

@@ -5,10 +5,11 @@ use checks::inputs::table_or_damaged;
 use checks::rows::write_row;
 use checks::vectors::pddl_cases;
 use checks::{report, without_parts};
-use differential::beside::{compare, short_or_long, shown};
+use differential::beside::{compare, lent_bytes, short_or_long, shown};
 use differential::pddl::{write_pddl, ENOUGH};
+use generate::differing::any_differing_task;
 use generate::limits::{largest, longest_pddl, reading, splitting, Limit, LONGEST_PDDL};
-use generate::tasks::{any_differing_task, parted_anew, task_or_split};
+use generate::tasks::{parted_anew, task_or_split};
 use generate::{tables, Random};
 use reference::pddl::Pddl;
 use reference::pddl_reader::read_pddl;
@@ -41,10 +42,7 @@ fn sound_and_damaged_tables() {
 
 /// Compares writing into about as many bytes as the task needs.
 fn some_bytes(random: &mut Random, task: &Task, table: &[u16]) -> u64 {
-    let length = Pddl(task).to_string().len();
-    let shorter = random.below(length);
-    let lent = random.pick(&[shorter, length - 1, length, length, length + 1, 2 * length]);
-    compared(table, &vec![b'x'; lent])
+    compared(table, &lent_bytes(random, Pddl(task).to_string().len()))
 }
 
 #[test]

@@ -7,7 +7,7 @@ use checks::rows::run_row;
 use checks::vectors::{run_cases, table_cases};
 use differential::beside::{compare, short_or_long, shown};
 use differential::running::run;
-use generate::tasks::any_differing_task;
+use generate::differing::any_differing_task;
 use generate::{limits, steps, tables, Random};
 use reference::run::Step;
 use reference::table::{ObjectNumber, Task};

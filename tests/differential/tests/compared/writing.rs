@@ -5,9 +5,9 @@ use checks::inputs::task_and_table;
 use checks::report;
 use checks::rows::write_row;
 use checks::vectors::table_cases;
-use differential::beside::{compare, short_or_long, shown};
+use differential::beside::{compare, lent_bytes, short_or_long, shown};
 use differential::writing::write;
-use generate::tasks::any_differing_task;
+use generate::differing::any_differing_task;
 use generate::{limits, tables, Random};
 use reference::table::Task;
 
@@ -31,10 +31,7 @@ fn sound_and_damaged_tables() {
 
 /// Compares writing into about as many bytes as the task needs.
 fn some_bytes(random: &mut Random, task: &Task, table: &[u16]) -> u64 {
-    let length = task.to_string().len();
-    let shorter = random.below(length);
-    let lent = random.pick(&[shorter, length - 1, length, length, length + 1, 2 * length]);
-    compared(table, &vec![b'x'; lent])
+    compared(table, &lent_bytes(random, task.to_string().len()))
 }
 
 #[test]
