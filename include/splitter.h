@@ -62,7 +62,7 @@ uint32_t splitter_write(const uint16_t *table, size_t table_len, uint8_t *text, 
 /* Writes the table's task as planners that read PDDL take it, over the front of the bytes lent: the domain and byte 10,
  * then the problem and byte 10; `bytes` is how many they have. Objects are o0, o1 and on, predicates p0 and on, actions
  * a0 and on, parameters ?x0 and on, in the table's order; the partition is not written. A pair that must differ is a
- * precondition (not (= ..)) behind the atoms, and with any pair the domain states its requirements. 88,100 bytes are
+ * precondition (not (= ..)) behind the atoms, and with any pair the domain states its requirements. 92,158 bytes are
  * enough for every task.
  *
  * Refusals: 1 a short table, 2 no table, 18 the text is longer than the bytes lent. None has a place, and each
