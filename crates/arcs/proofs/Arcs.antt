@@ -126,7 +126,8 @@ module _ (pairs : List Pair) where
   hold-pair xs ys = (hold-found xs ys, found-hold xs ys)
 
   -- arguments that they make the same hold no pair
-  pub same-holds-none : (v : ℕ → ℕ) → KeepsApart pairs v → (xs ys : List ℕ) → map v xs ≡ map v ys → holdPair pairs xs ys ≡ false
+  pub same-holds-none : (v : ℕ → ℕ) → KeepsApart pairs v → (xs ys : List ℕ) → map v xs ≡ map v ys →
+      holdPair pairs xs ys ≡ false
   same-holds-none v apart xs ys e =
       false-if (holdPair pairs xs ys) (λ h. let (i, a, b, p) = hold-found xs ys h in go i a b p)
     where

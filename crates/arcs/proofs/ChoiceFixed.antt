@@ -29,8 +29,8 @@ Ready pairs atoms Unplaced p = Unplaced p × ((q : ℕ) → Unplaced q → arc p
 
 -- "the one with most preconditions"; of "equally many", "the one whose preconditions name more parameters not in a part
 -- already placed; only then the lowest number"
-pub record Chosen (pairs : List Pair) (atoms : List Atom) (placed : List ℕ) (Unplaced : ℕ → Type 0) (p : ℕ) : Type 0
-    where
+pub record Chosen (pairs : List Pair) (atoms : List Atom) (placed : List ℕ) (Unplaced : ℕ → Type 0)
+    (p : ℕ) : Type 0 where
   pub is-ready : Ready pairs atoms Unplaced p
   pub most : (q : ℕ) → Ready pairs atoms Unplaced q → preconditions atoms q ≤ preconditions atoms p
   pub newest : (q : ℕ) → Ready pairs atoms Unplaced q → preconditions atoms q ≡ preconditions atoms p →

@@ -149,7 +149,16 @@ pub fn arcs_of(table: &[u16], from: usize, to: usize, pair: usize, end: usize) -
     let mut i = from;
     while i < to {
         let reach = reaches[role_of(table, i)];
-        add_from(table, i, first, reach.end, reach.after, paired, &partners, &mut before);
+        add_from(
+            table,
+            i,
+            first,
+            reach.end,
+            reach.after,
+            paired,
+            &partners,
+            &mut before,
+        );
         i += 1;
     }
     before

@@ -5,8 +5,8 @@ use mathlib.Core.Bool.{Bool, true, false, _&&_, _||_}
 use mathlib.Core.List.{List}
 use native.Mathlib.Omega.{arith}
 use lib.ListN.{length, getD}
-use lib.Dec.{eqb, ltb, leb}
-use borrow.Author.Tests.{ltb-true, eqb-true, lt-ltb, le-ltb, le-leb, lt-leb, eq-eqb, ne-eqb}
+use lib.Dec.{eqb, ltb}
+use borrow.Author.Tests.{ltb-true, eqb-true, lt-ltb, le-ltb, eq-eqb, ne-eqb}
 use Rattle.words.specs.Lists.{all, upFrom, eqList, lessList}
 use Rattle.task.specs.Limits.{headWords}
 use Rattle.task.specs.Layout.{headIn, arityIn, atomBase}
@@ -14,7 +14,7 @@ use Rattle.task.specs.Task.{argsFit, sameAtom, factLess, ascending}
 use Rattle.words.specs.Words.{wordsAt, zerosAt}
 use Rattle.task.specs.Table.{atomIn, schemaNumberIn, factIn, aritiesIn}
 use Rattle.task.specs.WordTests.{unusedZero, argWordsFit, factWordsFit, factsWordsFit, factsIn}
-use Rattle.words.proofs.Lists.{and-left, and-right, and-both, both-ft, false-if}
+use Rattle.words.proofs.Lists.{and-left, and-right, false-if}
 use Rattle.words.proofs.Ranges.{or-false, all-map, all-from}
 use Rattle.words.proofs.Words.{length-wordsAt, at-wordsAt}
 use Rattle.task.proofs.WordTables.{args-known}

@@ -1,20 +1,20 @@
 -- Atoms in words: how many words they take, and what is read where they stand.
-use Prim.Native.Nat.{ℕ, zero, suc, _+_, _-_, _*_, _≤_, _<_}
-use mathlib.Core.Path.{_≡_, refl, sym, _∙_, ap, subst}
+use Prim.Native.Nat.{ℕ, _+_, _-_, _*_, _≤_, _<_}
+use mathlib.Core.Path.{_≡_, refl, sym, _∙_, ap}
 use mathlib.Core.Bool.{true}
-use mathlib.Core.List.{List, [], _∷_, _++_, map}
+use mathlib.Core.List.{List, [], _∷_, _++_}
 use native.Mathlib.Omega.{arith}
-use lib.ListN.{length, getD, take, replicate, length-append}
+use lib.ListN.{length, getD, replicate}
 use lib.Dec.{leb}
 use borrow.Author.Tests.{leb-true}
-use Rattle.words.specs.Lists.{all, concatMap, sum, padded}
+use Rattle.words.specs.Lists.{all, padded}
 use Rattle.words.specs.Words.{wordsAt}
 use Rattle.task.specs.Layout.{arityIn, atomBase}
 use Rattle.task.specs.Limits.{headWords, atomSize}
-use Rattle.task.specs.Task.{Atom, Fact, Schema, Task, argsFit, schemaFits, noSchema}
+use Rattle.task.specs.Task.{Atom, Fact, Schema, Task, argsFit, schemaFits}
 use Rattle.task.specs.Table.{atomIn, schemaNumberIn, factIn, atomWords, factWords}
-use Rattle.words.proofs.Lists.{In, here, there, in-getD, all-in, length-padded}
-use Rattle.words.proofs.Words.{At, at-left, at-move, at-right, wordsAt-at, length-rows}
+use Rattle.words.proofs.Lists.{In, in-getD, all-in, length-padded}
+use Rattle.words.proofs.Words.{At, at-left, at-right, wordsAt-at}
 use Rattle.task.proofs.States.{argsFit-fitting}
 use Rattle.task.proofs.Tests.{schema-tests, fits, fact-tests, TaskTests}
 use Rattle.task.proofs.SchemaRows.{rowCounts, Even}

@@ -1,4 +1,4 @@
--- Refusal 1 as code tests it: the length of a lent table against the numeral of its 13,406 words.
+-- Refusal 1 as code tests it: the length of a lent table against the numeral of its 14,007 words.
 use Prim.Native.Nat.{ℕ, _≤_, _<_}
 use mathlib.Core.Path.{_≡_}
 use mathlib.Core.Bool.{true, false}

@@ -3,7 +3,7 @@
 -- the rows schema by schema.
 use Prim.Native.Nat.{ℕ, zero, suc, _+_, _-_, _*_, _≤_, _<_}
 use mathlib.Core.Path.{_≡_, refl, sym, _∙_, ap, ap₂, subst}
-use mathlib.Core.List.{List, [], _∷_, _++_, map}
+use mathlib.Core.List.{List, [], _∷_, map}
 use native.Mathlib.Omega.{arith}
 use native.Mathlib.Decide.{decLt}
 use lib.ListN.{length, getD, take, length-append, length-map}
@@ -81,8 +81,8 @@ module _ {Row : Type 0} (words : ℕ → Row → List ℕ) (rows : Schema → Li
       (at-row (words m) size w from (rows s) none (λ r i. h s (in-getD ss m noSchema l) r i m) all k x)
 
 -- ---- which rows name a schema
-module _ {Row : Type 0} (rows : Schema → List Row) (none : Row) (number : ℕ → ℕ) (row : ℕ → Row) (ss : List Schema)
-    where
+module _ {Row : Type 0} (rows : Schema → List Row) (none : Row) (number : ℕ → ℕ) (row : ℕ → Row)
+    (ss : List Schema) where
   -- row k of schema m is read at its place, and its number is m
   abbrev pub Reads : Type 0
   Reads = (m k : ℕ) → m < length ss → k < length (rows (getD ss m noSchema)) →

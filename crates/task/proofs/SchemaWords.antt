@@ -1,5 +1,5 @@
--- A schema in words: the tests of its atoms and pairs in the order of the code, and which indices its rows have where the
--- schema numbers ascend.
+-- A schema in words: the tests of its atoms and pairs in the order of the code, and which indices its rows have where
+-- the schema numbers ascend.
 use Prim.Native.Nat.{ℕ, _+_, _-_, _≤_, _<_}
 use mathlib.Core.Path.{_≡_, sym, _∙_, ap, ap₂, subst}
 use mathlib.Core.Bool.{Bool, true, false, _&&_}

@@ -1,6 +1,6 @@
--- The pairs of a step's schema among rows of pairs: they are the rows that name it, so that each row is tested by itself;
--- and in a table both parameters of a row are its schema's.
-use Prim.Native.Nat.{ℕ, _+_, _*_, _≤_, _<_}
+-- The pairs of a step's schema among rows of pairs: they are the rows that name it, so that each row is tested by
+-- itself; and in a table both parameters of a row are its schema's.
+use Prim.Native.Nat.{ℕ, _+_, _*_, _<_}
 use mathlib.Core.Path.{_≡_, refl, sym, _∙_, ap, ap₂}
 use mathlib.Core.Bool.{Bool, true, false, not, _&&_, _||_}
 use mathlib.Core.List.{List, [], _∷_, map}
@@ -87,8 +87,9 @@ module _ (rows : List ℕ) (base : ℕ) (ss : List Schema) (stand : At rows base
       PairsFew rows base (sum (pairCounts ss))
   rows-few fit i l =
       let s = rowSchema rows base i in
-      let known = row-lies (λ s. s .pairs) noPair (rowSchema rows base) (rowPair rows base) ss rows-read (length ss) refl
-      i l .known in
+      let known =
+      row-lies (λ s. s .pairs) noPair (rowSchema rows base) (rowPair rows base) ss rows-read (length ss) refl i l
+      .known in
       let here : In (rowPair rows base i)
       (map (rowPair rows base) (naming (rowSchema rows base) (sum (pairCounts ss)) s)) =
       in-map (rowPair rows base)

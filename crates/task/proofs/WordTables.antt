@@ -1,6 +1,6 @@
 -- The tests of words together say that the words are a table: a table passes each, by `table-words` and the tests of
 -- its task; words that pass them all fit (`WordsFit`) and are those of a well-formed task, so `words-table` applies.
-use Prim.Native.Nat.{ℕ, zero, suc, _+_, _-_, _≤_, _<_}
+use Prim.Native.Nat.{ℕ, _+_, _-_, _≤_, _<_}
 use mathlib.Core.Path.{_≡_, refl, sym, _∙_, subst}
 use mathlib.Core.Bool.{Bool, true, false, _&&_}
 use mathlib.Core.List.{List}
@@ -8,7 +8,7 @@ use native.Mathlib.Omega.{arith}
 use native.Mathlib.Decide.{decLt}
 use lib.ListN.{length, getD}
 use lib.Dec.{eqb, ltb, leb}
-use borrow.Author.Tests.{ltb-true, leb-true, eqb-true, lt-ltb, le-leb, eq-eqb}
+use borrow.Author.Tests.{ltb-true, eqb-true, le-leb, eq-eqb}
 use Rattle.words.specs.Lists.{all, every, upTo, upFrom}
 use Rattle.task.specs.Layout.{headIn, goalsFrom, atomTotal, paramsBase, wordsUsed, arityIn, atomBase}
 use Rattle.task.specs.Limits.{tableWords, headWords, mostPairs}

@@ -5,8 +5,8 @@ use mathlib.Core.List.{List, [], _∷_}
 use lib.ListN.{getD}
 use Rattle.task.specs.Limits.{headWords, pairSize, atomSize}
 
--- "objects N .., predicates P .., schemas .., schema atoms .., initial atoms .., goal atoms ..", and the pairs' "count in
--- a seventh head word" (document 02, note 4): the head of a table
+-- "objects N .., predicates P .., schemas .., schema atoms .., initial atoms .., goal atoms ..", and the pairs' "count
+-- in a seventh head word" (document 02, note 4): the head of a table
 pub record Head : Type 0 where
   pub objects : ℕ
   pub predicates : ℕ

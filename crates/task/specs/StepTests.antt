@@ -1,5 +1,5 @@
--- A step's words behind its schema, as the inner functions test them: all at once, each against its limit; then those of
--- each pair that must differ, by rows of pairs as a table has them.
+-- A step's words behind its schema, as the inner functions test them: all at once, each against its limit; then those
+-- of each pair that must differ, by rows of pairs as a table has them.
 -- No promise of an entry point cites these.
 use Prim.Native.Nat.{ℕ, _+_, _-_, _*_, _<_}
 use mathlib.Core.Bool.{Bool, not, _&&_, _||_}

@@ -69,7 +69,8 @@ pub const GOAL_ATOMS: usize = 5;
 
 pub const PAIRS: usize = 6;
 
-// "three words per pair (schema, lower, higher)": the places of a pair's words in its row, the schema's being the first.
+// "three words per pair (schema, lower, higher)": the places of a pair's words in its row, the schema's being the
+// first.
 pub const LOWER: usize = 1;
 
 pub const HIGHER: usize = 2;

@@ -105,9 +105,16 @@ fn differ_at(rows: &[u16], row: usize, steps: &[u16], at: usize) -> bool
     word(steps, at + 1 + lower) != word(steps, at + 1 + higher)
 }
 
-// "A step with equal objects there isn't a step of the task": whether the step of a schema at `at` has different objects
-// at each pair of the schema, of `count` rows of pairs that begin at `base`.
-pub fn keep_apart(rows: &[u16], base: usize, count: usize, steps: &[u16], at: usize, schema: usize) -> bool
+// "A step with equal objects there isn't a step of the task": whether the step of a schema at `at` has different
+// objects at each pair of the schema, of `count` rows of pairs that begin at `base`.
+pub fn keep_apart(
+    rows: &[u16],
+    base: usize,
+    count: usize,
+    steps: &[u16],
+    at: usize,
+    schema: usize,
+) -> bool
     requires { ⌜ base + pairSize * count ≤ length (now rows) ⌝ }
     requires { ⌜ PairsFew (now rows) base count ⌝ }
     requires { ⌜ at + stepSize ≤ length (now steps) ⌝ }

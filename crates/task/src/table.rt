@@ -68,8 +68,8 @@ fn arities_fit(table: &[u16]) -> bool
     true
 }
 
-// Whether the rows of one kind, `count` rows of `size` words from `base` on, name schemas, the rows of each behind those
-// of the one before it.
+// Whether the rows of one kind, `count` rows of `size` words from `base` on, name schemas, the rows of each behind
+// those of the one before it.
 fn numbers_fit(table: &[u16], base: usize, size: usize, count: usize) -> bool
     requires { ⌜ headWords ≤ length (now table) ⌝ }
     requires { ⌜ (1 ≤ size) × (base + size * count ≤ length (now table)) ⌝ }

@@ -270,7 +270,8 @@ fn run_end(table: &[u16], base: usize, size: usize, count: usize, s: usize, star
 // Whether each schema, with the pairs and the atoms that name it, is one; they follow one another.
 pub(crate) fn schemas_fit(table: &[u16]) -> bool
     requires { ⌜ Roomy (now table) ⌝ }
-    requires { ⌜ inFileOrder (pairNumberIn (now table)) (headIn (now table) .schemas) (headIn (now table) .pairs) ≡ true ⌝ }
+    requires { ⌜ inFileOrder (pairNumberIn (now table)) (headIn (now table) .schemas)
+        (headIn (now table) .pairs) ≡ true ⌝ }
     requires { ⌜ inFileOrder (schemaNumberIn (now table)) (headIn (now table) .schemas)
         (headIn (now table) .schemaAtoms) ≡ true ⌝ }
     ensures { λ r. ⌜ r ≡ schemasFit (now (table .entry)) ⌝ }

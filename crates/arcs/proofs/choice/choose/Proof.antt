@@ -13,8 +13,8 @@ use Rattle.arcs.proofs.choice.choose.Statement.{statement}
 use Rattle.arcs.proofs.choice.choose.Tie as tie
 
 -- what the promise takes for granted of the pairs and the atoms
-record Known (before counts tested : List ℕ) (bound unplaced count : ℕ) (pairs : List Pair) (atoms : List Atom) : Type 0
-    where
+record Known (before counts tested : List ℕ) (bound unplaced count : ℕ) (pairs : List Pair)
+    (atoms : List Atom) : Type 0 where
   arcs : AreArcs pairs atoms before
   tests : AreTests atoms counts tested
   placed : IsBound atoms (placedParts atoms (members unplaced count)) bound

@@ -52,7 +52,8 @@ small : (c : tie.After-higher Inv-loop μ-loop) →
 small c =
     let t = c .before .before in
     let f = pair-small (words t) (start t .pre .table) (t .before .loop .i) (known t .1) in
-    (omega (arith, c .before .lower .ensures, c .higher .ensures, f .ascends), omega (arith, c .higher .ensures, f .known))
+    let high = c .higher .ensures in
+    (omega (arith, c .before .lower .ensures, high, f .ascends), omega (arith, high, f .known))
 
 loop-again : tie.Need-loop-again Inv-loop μ-loop
 loop-again c =

@@ -68,8 +68,8 @@ are-within-requires c κs =
 
 -- what is left behind these tests: the words behind the schema, then the pairs
 rest : (c : tie.After-are-within) → let start = start₂ (c .before .before) in
-    isStepAt (T start) (W start) (start .args .i) ≡
-    c .are-within .result && pairsDiffer (T start) (well start) (W start) (start .args .i) (c .before .param-count .result)
+    isStepAt (T start) (W start) (start .args .i) ≡ c .are-within .result &&
+    pairsDiffer (T start) (well start) (W start) (start .args .i) (c .before .param-count .result)
 rest c =
     let known₂ = c .before .before in
     let start = start₂ known₂ in
@@ -82,7 +82,8 @@ rest c =
 returns-3 : tie.Need-returns-3
 returns-3 c =
     let start = start₂ (c .before .before .before) in
-    let pairs = pairsDiffer (T start) (well start) (W start) (start .args .i) (c .before .before .param-count .result) in
+    let n = c .before .before .param-count .result in
+    let pairs = pairsDiffer (T start) (well start) (W start) (start .args .i) n in
     sym (rest (c .before) ∙ ap (λ (b : Bool). b && pairs) (not-true (c .before .are-within .result) (c .if3 .taken)))
 
 -- past the test of the objects
@@ -105,7 +106,8 @@ keep-apart-requires c κs =
     let base = c .before .before .pairs-base .ensures .0 in
     let count = c .before .word .ensures .0 in
     let room = table-roomy w (start .pre .0) .inside in
-    (omega (arith, base, count), (rw (base, count) (pairs-few w (start .pre .0)), whole (passed .before .before .before)))
+    let few = pairs-few w (start .pre .0) in
+    (omega (arith, base, count), (rw (base, count) few, whole (passed .before .before .before)))
 
 returns-4 : tie.Need-returns-4
 returns-4 c =
@@ -119,8 +121,11 @@ returns-4 c =
     let pairs = pairsDiffer (T start) (well start) steps (start .args .i) in
     let schemas = schemas-word w (table-frame w (start .pre .0)) in
     let rows : c .keep-apart .result ≡ all (apartAt w (pairsBase w) steps (at + 1) schema) (upTo (headIn w .pairs)) =
-    rw (← c .before .before .before .pairs-base .ensures .0, ← c .before .before .word .ensures .0,
-    ← c .before .wide .ensures) (c .keep-apart .ensures) in
+    rw (
+      ← c .before .before .before .pairs-base .ensures .0,
+      ← c .before .before .word .ensures .0,
+      ← c .before .wide .ensures,
+    ) (c .keep-apart .ensures) in
     rows ∙
     (sym (pairs-apart w (start .pre .0) schema (omega (arith, known (tested .before .before))) steps (at + 1)) ∙
     (ap pairs (sym (tested .before .param-count .ensures)) ∙
