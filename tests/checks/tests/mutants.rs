@@ -19,10 +19,13 @@ type Cases = fn(&mut Random) -> Case;
 /// A change of a split's schema.
 type Edit = dyn Fn(&Tokens, &mut Schema);
 
+/// The arcs of a schema, by it and the predicates' arities.
+type FindArcs = dyn Fn(&Schema, &[u16]) -> Arcs;
+
 /// A system put together from the reference, with other arcs, with the split
 /// edited, or with another way to run.
 struct Mutant {
-    arcs: Box<dyn Fn(&Schema, &[u16]) -> Arcs>,
+    arcs: Box<FindArcs>,
     edit: Box<Edit>,
     run: fn(&Task, &[Step], &mut State) -> Answer<()>,
 }

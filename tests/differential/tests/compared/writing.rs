@@ -1,7 +1,7 @@
 //! Writing.
 
 use checks::answers::each_answer;
-use checks::inputs::task_and_table;
+use checks::inputs::{table_or_damaged, task_and_table};
 use checks::report;
 use checks::rows::write_row;
 use checks::vectors::table_cases;
@@ -34,12 +34,14 @@ fn some_bytes(random: &mut Random, task: &Task, table: &[u16]) -> u64 {
     compared(table, &lent_bytes(random, task.to_string().len()))
 }
 
+/// Tables with damaged blocks of pairs among them.
 #[test]
 fn parameters_that_differ() {
     let entry = "writing with pairs compared";
-    each_answer(entry, 200, 10_000, &[0, 11], |random| {
+    each_answer(entry, 200, 30_000, &[0, 1, 2, 11], |random| {
         let task = any_differing_task(random);
-        some_bytes(random, &task, &tables::table(&task))
+        let table = table_or_damaged(random, &task);
+        some_bytes(random, &task, &table)
     });
 }
 
