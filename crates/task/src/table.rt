@@ -2,7 +2,7 @@
 mod atoms;
 mod facts;
 mod pairs;
-mod schemas;
+pub mod schemas;
 
 ghost use mathlib.Core.Path.{_≡_};
 ghost use Prim.Native.Nat.{ℕ, _+_, _*_, _≤_};

@@ -42,8 +42,8 @@ use Rattle.tokens.proofs.KeptParts.{part-is}
 use Rattle.task.specs.Limits.{mostParts, mostSchemas, mostSchemaAtoms, mostPairs}
 use Rattle.task.specs.Turns.{firstAtom, firstPair}
 use Rattle.tokens.specs.Kept.{startPlace, firstPlace, countPlace, pairPlace, orderPlace, ownPlace, keptRow}
-use Rattle.tokens.specs.Kept.{keptWords, withField, ownWord, wordIn, keptStart, keptFirst, keptCount, keptPair}
-use Rattle.tokens.specs.Kept.{keptPart, keptOwn, PartsKept}
+use Rattle.tokens.specs.Kept.{keptWords, field, withField, ownWord, wordIn, keptStart, keptFirst, keptCount}
+use Rattle.tokens.specs.Kept.{keptPair, keptPart, keptOwn, PartsKept}
 use Rattle.tokens.proofs.KeptRows.{word-inside, field-long, field-put, behind-stays, rowBegun, begun-before}
 use Rattle.tokens.proofs.KeptRows.{begun-behind, begun-long, begun-start, begun-first, begun-pair}
 
@@ -261,34 +261,28 @@ module _ (w : List ℕ) (h : isTable w ≡ true) where
         ap (λ (bs : List Atom). inPart bs x (partAt (f .parts) j)) (sym atoms) ∙
         ap (inPart (schemaAt t s .atoms) x) (here-part j k)
 
-    starts-more : (r : ℕ) → r ≤ s + 1 → keptStart after r ≡ firstAtom t r
-    starts-more r k = elim (decLt r (s + 1)) [
-      | yes m ↦ stays (keptRow * r + startPlace) (omega arith) (λ e. omega arith) ∙ old .start r (omega arith)
-      | no m ↦
-          let e : s + 1 ≡ r = omega arith in
-          subst (λ (n : ℕ). keptStart after n ≡ firstAtom t n) e
-          (begun-start ordered (s + 1) to next pair ordered-long (omega (arith, few)) ∙
-          ends ∙ ap (firstAtom t) (sym (add-one s)))
+    -- a word of the rows, but for the count: in the rows before it still stands, and the next row has it as begun
+    field-more : (place : ℕ) → place < keptRow → (place ≡ countPlace → ⊥) → (value : ℕ → ℕ) →
+        ((r : ℕ) → r ≤ s → field kept r place ≡ value r) → field after (s + 1) place ≡ value (s + 1) →
+        (r : ℕ) → r ≤ s + 1 → field after r place ≡ value r
+    field-more place a n value before begun r k = elim (decLt r (s + 1)) [
+      | yes m ↦ stays (keptRow * r + place) (omega arith) (λ e. n (omega arith)) ∙ before r (omega arith)
+      | no m ↦ let e : s + 1 ≡ r = omega arith in subst (λ (q : ℕ). field after q place ≡ value q) e begun
     ]
+
+    starts-more : (r : ℕ) → r ≤ s + 1 → keptStart after r ≡ firstAtom t r
+    starts-more = field-more startPlace (omega arith) (λ e. omega arith) (firstAtom t) (old .start)
+        (begun-start ordered (s + 1) to next pair ordered-long (omega (arith, few)) ∙ ends ∙
+        ap (firstAtom t) (sym (add-one s)))
 
     firsts-more : (r : ℕ) → r ≤ s + 1 → keptFirst after r ≡ firstOf t r
-    firsts-more r k = elim (decLt r (s + 1)) [
-      | yes m ↦ stays (keptRow * r + firstPlace) (omega arith) (λ e. omega arith) ∙ old .first r (omega arith)
-      | no m ↦
-          let e : s + 1 ≡ r = omega arith in
-          subst (λ (n : ℕ). keptFirst after n ≡ firstOf t n) e
-          (begun-first ordered (s + 1) to next pair ordered-long (omega (arith, few)) ∙ goes-on)
-    ]
+    firsts-more = field-more firstPlace (omega arith) (λ e. omega arith) (firstOf t) (old .first)
+        (begun-first ordered (s + 1) to next pair ordered-long (omega (arith, few)) ∙ goes-on)
 
     pairs-more : (r : ℕ) → r ≤ s + 1 → keptPair after r ≡ firstPair t r
-    pairs-more r k = elim (decLt r (s + 1)) [
-      | yes m ↦ stays (keptRow * r + pairPlace) (omega arith) (λ e. omega arith) ∙ old .pair r (omega arith)
-      | no m ↦
-          let e : s + 1 ≡ r = omega arith in
-          subst (λ (n : ℕ). keptPair after n ≡ firstPair t n) e
-          (begun-pair ordered (s + 1) to next pair ordered-long (omega (arith, few)) ∙
-          pairs-end ∙ ap (firstPair t) (sym (add-one s)))
-    ]
+    pairs-more = field-more pairPlace (omega arith) (λ e. omega arith) (firstPair t) (old .pair)
+        (begun-pair ordered (s + 1) to next pair ordered-long (omega (arith, few)) ∙ pairs-end ∙
+        ap (firstPair t) (sym (add-one s)))
 
     counts-more : (r : ℕ) → r < s + 1 → keptCount after r ≡ length (orders t r)
     counts-more = up-to (λ r. keptCount after r ≡ length (orders t r))

@@ -15,7 +15,8 @@ use Rattle.task.specs.Task.{Atom, Pair, Task, precondition, addition, deletion}
 use Rattle.task.specs.Run.{schemaAt, ofRole}
 use Rattle.tokens.specs.Split.{has, paramsOf, firstPosition, parts, procnone, token, own, oldAtoms, required}
 use Rattle.tokens.specs.Split.{hasBoth, ownPairs, lone, laterHere, pars, splitSchema}
-use Rattle.words.proofs.Lists.{and-both, In, in-getD, filter-in, upTo-in, length-upTo, filter-all, filter-none, map-keeps}
+use Rattle.words.proofs.Lists.{and-both, In, in-getD, filter-in, upTo-in, length-upTo, filter-all, filter-none}
+use Rattle.words.proofs.Lists.{map-keeps}
 use Rattle.task.proofs.SchemaWords.{part-small}
 use Rattle.tokens.proofs.Places.{atom-has}
 use Rattle.tokens.proofs.RoleAtoms.{renumber, atomsHere, parAtom, here-atom}

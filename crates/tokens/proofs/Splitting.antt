@@ -1,7 +1,7 @@
 -- What holds where a split is written: the split is well formed, its counts are small, and what is kept of a part is
 -- the part's place.
 use Prim.Native.Nat.{ℕ, zero, suc, _+_, _-_, _≤_, _<_}
-use mathlib.Core.Path.{_≡_, refl, sym, _∙_, ap}
+use mathlib.Core.Path.{_≡_, refl, sym, _∙_, ap, subst}
 use mathlib.Core.Bool.{true, cond}
 use mathlib.Core.List.{List, [], _∷_, _++_}
 use native.Mathlib.Omega.{arith}
@@ -10,6 +10,7 @@ use lib.Seq.{take-length}
 use lib.Dec.{eqb}
 use borrow.Author.Tests.{leb-true}
 use Rattle.words.specs.Lists.{concatMap, sum, upTo, upFrom}
+use Rattle.words.specs.Putting.{Puts}
 use Rattle.task.specs.Layout.{headIn, paramsBase, paramsIn}
 use Rattle.task.specs.Task.{Atom, Schema, Task, partCount, schemaFits, wellFormed, noSchema}
 use Rattle.task.specs.Run.{schemaAt}
@@ -203,9 +204,13 @@ module _ {w : List ℕ} {sizes : Sizes} {kept : List ℕ} (S : AcceptedKept w si
         all-fewer (partSchemas t) s (length (t .schemas)) (omega arith),
       )
 
-pub split-schemas : (t : Task) → splitTask t .schemas ≡ schemasUpTo (partSchemas t) (length (t .schemas))
+-- words of the split's schemas, put schema by schema, are all there behind the last
+pub split-put : (f : List Schema → List ℕ) (t : Task) (n : ℕ) {found out : List ℕ} {at next : ℕ} →
+    n ≡ length (t .schemas) → Puts found at (f (schemasUpTo (partSchemas t) n)) out next →
+    Puts found at (f (splitTask t .schemas)) out next
 unfolding splitTask
-split-schemas t = refl
+split-put f t n {found} {out} {at} {next} e =
+    subst (λ (k : ℕ). Puts found at (f (schemasUpTo (partSchemas t) k)) out next) e
 
 -- the token before a position, as it is computed
 pub token-is : (t : Task) (s : ℕ) (o : List ℕ) (p b n i : ℕ) → p ≡ procnone t → b ≡ laterParts (take s (t .schemas)) →

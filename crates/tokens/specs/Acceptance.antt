@@ -68,8 +68,8 @@ areFew ss = all (λ s. leb (length (s .atoms)) mostAtoms) ss
 abbrev pub mostPartAtoms : ℕ
 mostPartAtoms = mostAtoms + 3 + 3 * wordBits
 
--- what is counted of schema s: the atoms of its parts, and that none has too many; its shared parameters; the pairs that
--- its parts carry
+-- what is counted of schema s: the atoms of its parts, and that none has too many; its shared parameters; the pairs
+-- that its parts carry
 pub record SchemaSized (t : Task) (s : ℕ) (r : Measured) : Type 0 where
   pub atoms : r .atoms ≡ schemaAtoms (partSchemas t s)
   pub few : r .few ≡ areFew (partSchemas t s)

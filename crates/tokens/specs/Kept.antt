@@ -1,5 +1,6 @@
 -- What is kept of a table's parts, all in one array: a row for each schema, and one row more, for where the last one's
--- atoms end; behind the rows the parts, and behind these their parameters. No promise of an entry point cites these.
+-- atoms and pairs end; behind the rows the parts, and behind these their parameters. No promise of an entry point cites
+-- these.
 use Prim.Native.Nat.{ℕ, _+_, _*_, _≤_, _<_}
 use mathlib.Core.Path.{_≡_}
 use mathlib.Core.Bool.{true, cond}
@@ -17,8 +18,8 @@ use Rattle.words.specs.Sets.{member}
 use Rattle.tokens.specs.Split.{has, orders, firstOf}
 
 -- ---- the words
--- where in a row each thing stands: the index of the schema's first atom, the split's number of its first part, how many
--- parts it has, and the index of its first pair
+-- where in a row each thing stands: the index of the schema's first atom, the split's number of its first part, how
+-- many parts it has, and the index of its first pair
 abbrev pub startPlace : ℕ
 startPlace = 0
 

@@ -35,7 +35,8 @@ ghost use Rattle.words.specs.Lists.{filter};
 ghost use Rattle.task.specs.Table.{taskOf, isTable};
 ghost use Rattle.arcs.specs.Stretches.{IsStretch, stretchIn};
 ghost use Rattle.tokens.specs.Split.{orders, splitSchema};
-ghost use Rattle.tokens.specs.Acceptance.{SchemaSized, SizesTold, sizesFit, mostPartAtoms, areWithin, partSchemas};
+ghost use Rattle.tokens.specs.Acceptance.{SchemaSized, SizesTold, sizesFit, mostPartAtoms, areWithin};
+ghost use Rattle.tokens.specs.Acceptance.{partSchemas};
 ghost use Rattle.task.specs.Task.{schemaPairs};
 ghost use Rattle.task.specs.Limits.{mostParts, mostSchemas, mostPairs};
 ghost use Rattle.words.specs.Sets.{wordBits};
@@ -99,7 +100,7 @@ fn part_size(table: &[u16], kept: &Kept, s: usize, j: usize) -> usize
     required + (1 + size(pars.first) + (1 + size(pars.last)))
 }
 
-// How many pairs the parts of schema s carry; each may be carried by several.
+// How many pairs the parts of schema s carry; several may carry one. Where it has none, no part is asked.
 fn pairs_carried(table: &[u16], kept: &Kept, s: usize) -> usize
     requires { ⌜ SchemaKept (now table) s (now kept) ⌝ }
     ensures { λ r. ⌜ r ≡ schemaPairs (partSchemas (taskOf (now (table .entry))) s) ⌝ }

@@ -14,20 +14,20 @@ use task::limits::PAIR_SIZE;
 use task::limits::SCHEMAS;
 use words::runs::word;
 use words::sets::has;
-ghost use Prim.Native.Nat.{_+_, _-_, _*_, _≤_, _<_};
+ghost use Prim.Native.Nat.{_+_, _-_, _≤_, _<_};
 ghost use mathlib.Core.Path.{_≡_};
 ghost use mathlib.Core.Bool.{true, not};
 ghost use lib.ListN.{length};
-ghost use Rattle.words.specs.Lists.{any, all, filter, first, upTo};
+ghost use Rattle.words.specs.Lists.{any, filter, first, upTo};
 ghost use Rattle.words.specs.Putting.{Puts};
 ghost use Rattle.words.specs.Words.{wordBound};
 ghost use Rattle.task.specs.Layout.{headIn};
-ghost use Rattle.task.specs.Limits.{mostParts, mostSchemas, pairSize};
+ghost use Rattle.task.specs.Limits.{pairSize};
 ghost use Rattle.task.specs.Run.{schemaAt};
 ghost use Rattle.task.specs.Table.{taskOf, isTable, pairIn, pairWords, pairsFrom};
 ghost use Rattle.arcs.specs.Stretches.{IsPairStretch, pairStretchIn};
 ghost use Rattle.tokens.specs.Split.{hasBoth, pairsKept, parts, splitTask};
-ghost use Rattle.tokens.specs.Kept.{keptFirst, keptCount, keptOwn, PartsKept, SchemaKept};
+ghost use Rattle.tokens.specs.Kept.{keptFirst, keptCount, PartsKept, SchemaKept};
 ghost use Rattle.tokens.specs.Acceptance.{partedTold, partSchemas, AcceptedParts};
 ghost use Rattle.tokens.specs.Writing.{carries, renumberedPair, carriedWords};
 
@@ -161,7 +161,7 @@ fn put_carried(
     next
 }
 
-// The pairs of all parts of schema s.
+// The pairs of all parts of schema s; where it has none, as most have, no part is asked.
 fn schema_pairs(table: &[u16], kept: &Kept, s: usize, out: &mut [u16], at: usize) -> usize
     requires { ⌜ SchemaKept (now table) s (now kept) ⌝ }
     requires { ⌜ keptFirst (now kept) s + keptCount (now kept) s < wordBound ⌝ }

@@ -6,11 +6,14 @@ use crate::kept::keep_count;
 use crate::kept::keep_part;
 use arcs::Order;
 use arcs::orders::order_of;
-use task::layout::pair_number;
-use task::layout::schema_number;
+use task::layout::pairs_base;
+use task::layout::rows_base;
+use task::limits::ATOM_SIZE;
+use task::limits::PAIR_SIZE;
 use task::limits::PAIRS;
 use task::limits::SCHEMA_ATOMS;
 use task::limits::SCHEMAS;
+use task::table::schemas::run_end;
 use words::runs::word;
 ghost use Prim.Native.Nat.{ℕ, suc, _+_, _≤_, _<_};
 ghost use mathlib.Core.Path.{_≡_};
@@ -32,21 +35,20 @@ pub enum Circular {
 }
 
 // Where the atoms of schema s, which begin at `from`, end.
-pub fn schema_end(table: &[u16], s: usize, from: usize) -> usize
+fn schema_end(table: &[u16], s: usize, from: usize) -> usize
     requires { ⌜ isTable (now table) ≡ true ⌝ }
     requires { ⌜ s < length (taskOf (now table) .schemas) ⌝ }
     requires { ⌜ from ≡ firstAtom (taskOf (now table)) s ⌝ }
     ensures { λ r. ⌜ r ≡ firstAtom (taskOf (now (table .entry))) (suc s) ⌝ }
 {
-    let atoms = word(table, SCHEMA_ATOMS);
-    let mut i = from;
-    while i < atoms {
-        if schema_number(table, i) != s {
-            return i;
-        }
-        i += 1;
-    }
-    i
+    run_end(
+        table,
+        rows_base(table),
+        ATOM_SIZE,
+        word(table, SCHEMA_ATOMS),
+        s,
+        from,
+    )
 }
 
 // Where the pairs of schema s, which begin at `from`, end.
@@ -56,15 +58,14 @@ fn pairs_end(table: &[u16], s: usize, from: usize) -> usize
     requires { ⌜ from ≡ firstPair (taskOf (now table)) s ⌝ }
     ensures { λ r. ⌜ r ≡ firstPair (taskOf (now (table .entry))) (suc s) ⌝ }
 {
-    let pairs = word(table, PAIRS);
-    let mut i = from;
-    while i < pairs {
-        if pair_number(table, i) != s {
-            return i;
-        }
-        i += 1;
-    }
-    i
+    run_end(
+        table,
+        pairs_base(table),
+        PAIR_SIZE,
+        word(table, PAIRS),
+        s,
+        from,
+    )
 }
 
 // Keeps the order found of the parts of the atoms from `from` on, and the parameters of the part at each position.

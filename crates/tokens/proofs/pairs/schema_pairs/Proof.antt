@@ -117,7 +117,8 @@ more c =
     let j = c .before .before .loop .j in
     let k = known f in
     kept-words (k .kept) (k .begins) (k .stops) j (c .own-at .result)
-    (omega (arith, k .count, c .before .loop-test .taken)) (c .own-at .ensures) (number f) (f .before .first-of .result + j) (omega (arith, k .first))
+    (omega (arith, k .count, c .before .loop-test .taken)) (c .own-at .ensures) (number f)
+    (f .before .first-of .result + j) (omega (arith, k .first))
 
 put-carried-requires : tie.Need-put-carried-requires Inv-loop μ-loop
 put-carried-requires c κs =

@@ -2,7 +2,7 @@
 -- at atom `from` and at pair `pair`, and its parts at `first` of the split. The measure is the schemas left.
 use Rattle.tokens.proofs.parts.keep_parts.Tie as tie
 use Prim.Native.Nat.{ℕ, suc, _+_, _-_, _≤_, _<_, _*_}
-use mathlib.Core.Path.{_≡_, refl, sym, _∙_, ap, ap₂, subst}
+use mathlib.Core.Path.{_≡_, refl, sym, _∙_, ap, ap₂, subst, subst₂}
 use mathlib.Core.Bool.{true}
 use mathlib.Core.List.{List}
 use native.Mathlib.Omega.{arith}
@@ -20,8 +20,8 @@ use Rattle.words.proofs.Ascending.{no-none}
 use Rattle.arcs.proofs.Stretches.{schema-atoms, schema-stretch, schema-pairs, schema-pair-stretch}
 use Rattle.tokens.specs.Acceptance.{circularTold, OrderKept}
 use Rattle.tokens.proofs.KeptSchemas.{schemas-few, atoms-few, parts-none, parts-more, told-none, circular-here}
-use Rattle.tokens.proofs.KeptSchemas.{circular-nowhere, found-small, found-inside, parts-few, first-more}
-use Rattle.tokens.proofs.KeptSchemas.{pairs-few}
+use Rattle.tokens.proofs.KeptSchemas.{circular-nowhere, found-small, found-inside, parts-few, pairs-few}
+use Rattle.tokens.proofs.KeptSchemas.{first-more}
 use Rattle.tokens.proofs.parts.keep_parts.Statement.{statement}
 use Rattle.task.specs.Limits.{mostParts, mostSchemas}
 use Rattle.task.specs.Task.{Task}
@@ -86,35 +86,39 @@ said i =
     let k = known i in
     omega (arith, schemas-word w (table-frame w (is-table (i .before))))
 
-module _ (i : Turn) (to : ℕ) (e : to ≡ firstAtom (task (i .before)) (suc (i .before .loop .s))) where
-  abbrev l : Loop
-  l = i .before
+-- from where the invariant has them begin, to where they were found to end
+abbrev AtomsEnd : Turn → ℕ → Type 0
+AtomsEnd i to = to ≡ firstAtom (task (i .before)) (suc (i .before .loop .s))
 
-  stretch : IsStretch (words l) (l .loop .from) to
-  stretch =
-      subst (λ (n : ℕ). IsStretch (words l) n to) (sym (l .loop .inv .1))
-      (subst (λ (n : ℕ). IsStretch (words l) (firstAtom (task l) (l .loop .s)) n) (sym e)
-      (schema-stretch (words l) (is-table l) (l .loop .s) (said i)))
+abbrev PairsEnd : Turn → ℕ → Type 0
+PairsEnd i end = end ≡ firstPair (task (i .before)) (suc (i .before .loop .s))
 
-  atoms-are : schemaAt (task l) (l .loop .s) .atoms ≡ stretchIn (words l) (l .loop .from) to
-  atoms-are =
-      schema-atoms (words l) (is-table l) (l .loop .s) (said i) ∙
-      ap₂ (stretchIn (words l)) (sym (l .loop .inv .1)) (sym e)
+stretch : (i : Turn) (to : ℕ) → AtomsEnd i to → IsStretch (words (i .before)) (i .before .loop .from) to
+stretch i to e =
+    let l = i .before in
+    subst₂ (IsStretch (words l)) (sym (l .loop .inv .1)) (sym e)
+    (schema-stretch (words l) (is-table l) (l .loop .s) (said i))
 
-module _ (i : Turn) (end : ℕ) (e : end ≡ firstPair (task (i .before)) (suc (i .before .loop .s))) where
-  abbrev at : Loop
-  at = i .before
+pair-stretch : (i : Turn) (end : ℕ) → PairsEnd i end → IsPairStretch (words (i .before)) (i .before .loop .pair) end
+pair-stretch i end e =
+    let l = i .before in
+    subst₂ (IsPairStretch (words l)) (sym (l .loop .inv .5)) (sym e)
+    (schema-pair-stretch (words l) (is-table l) (l .loop .s) (said i))
 
-  pair-stretch : IsPairStretch (words at) (at .loop .pair) end
-  pair-stretch =
-      subst (λ (n : ℕ). IsPairStretch (words at) n end) (sym (at .loop .inv .5))
-      (subst (λ (n : ℕ). IsPairStretch (words at) (firstPair (task at) (at .loop .s)) n) (sym e)
-      (schema-pair-stretch (words at) (is-table at) (at .loop .s) (said i)))
+atoms-are : (i : Turn) (to : ℕ) → AtomsEnd i to →
+    schemaAt (task (i .before)) (i .before .loop .s) .atoms ≡ stretchIn (words (i .before)) (i .before .loop .from) to
+atoms-are i to e =
+    let l = i .before in
+    schema-atoms (words l) (is-table l) (l .loop .s) (said i) ∙
+    ap₂ (stretchIn (words l)) (sym (l .loop .inv .1)) (sym e)
 
-  pairs-are : schemaAt (task at) (at .loop .s) .pairs ≡ pairStretchIn (words at) (at .loop .pair) end
-  pairs-are =
-      schema-pairs (words at) (is-table at) (at .loop .s) (said i) ∙
-      ap₂ (pairStretchIn (words at)) (sym (at .loop .inv .5)) (sym e)
+pairs-are : (i : Turn) (end : ℕ) → PairsEnd i end →
+    schemaAt (task (i .before)) (i .before .loop .s) .pairs ≡
+    pairStretchIn (words (i .before)) (i .before .loop .pair) end
+pairs-are i end e =
+    let l = i .before in
+    schema-pairs (words l) (is-table l) (l .loop .s) (said i) ∙
+    ap₂ (pairStretchIn (words l)) (sym (l .loop .inv .5)) (sym e)
 
 -- what is found of its order
 told : (c : tie.After-order-of Inv-loop μ-loop) →

@@ -1,8 +1,8 @@
 -- `tokens::schemas::all_parts` meets its contract. The invariant: the parts of the first s schemas were put. The
 -- measure is the schemas left.
 use Rattle.tokens.proofs.schemas.all_parts.Tie as tie
-use Prim.Native.Nat.{ℕ, _-_, _≤_, _<_}
-use mathlib.Core.Path.{_≡_, refl, sym, _∙_, subst}
+use Prim.Native.Nat.{_-_, _≤_, _<_}
+use mathlib.Core.Path.{_≡_, refl, sym, _∙_}
 use native.Mathlib.Omega.{arith}
 use lib.ListN.{length}
 use Rattle.words.specs.Lists.{concatMap, upFrom, upTo}
@@ -13,7 +13,7 @@ use Rattle.task.proofs.TablesByIndex.{table-frame, schemas-word}
 use Rattle.words.specs.Putting.{Puts}
 use Rattle.words.proofs.Puts.{puts-none, puts-then, puts-length}
 use Rattle.tokens.proofs.SchemaRuns.{schemasUpTo}
-use Rattle.tokens.proofs.Splitting.{few-schemas, split-schemas, rows-behind, rows-within}
+use Rattle.tokens.proofs.Splitting.{few-schemas, split-put, rows-behind, rows-within}
 use Rattle.tokens.proofs.schemas.all_parts.Statement.{statement}
 use Rattle.tokens.specs.Acceptance.{partSchemas}
 
@@ -90,14 +90,8 @@ same-length c = c .before .loop .inv .1
 returns : tie.Need-returns Inv-loop μ-loop
 returns c =
     let l = c .before in
-    let a = start l .args in
-    let t = task l in
-    let h = l .loop in
     let n = schemas-are l in
-    let e : h .s ≡ length (t .schemas) = omega (arith, c .loop-test .left) in
-    subst (λ ss. Puts (a .out .now) (a .at) (schemasFrom 0 ss) (h .out) (h .next)) (sym (split-schemas t))
-    (subst (λ (k : ℕ). Puts (a .out .now) (a .at) (schemasFrom 0 (schemasUpTo (partSchemas t) k)) (h .out) (h .next)) e
-    (h .inv .2))
+    split-put (schemasFrom 0) (task l) (l .loop .s) (omega (arith, c .loop-test .left)) (l .loop .inv .2)
 
 pub all-parts-spec : {M : Type 1} → statement M
 all-parts-spec =
