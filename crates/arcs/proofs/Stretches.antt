@@ -5,23 +5,23 @@ use mathlib.Core.Path.{_≡_, sym, _∙_, ap}
 use mathlib.Core.Bool.{true}
 use mathlib.Core.List.{List, [], _∷_, _++_, map}
 use native.Mathlib.Omega.{arith}
-use lib.ListN.{length, getD}
+use lib.ListN.{length}
 use borrow.Author.Tests.{leb-true}
 use Rattle.words.specs.Lists.{upFrom}
 use Rattle.task.specs.Layout.{headIn, atomTotal}
-use Rattle.task.specs.Task.{Atom, Task, partCount, schemaFits, noSchema}
+use Rattle.task.specs.Task.{Atom, Schema, Task, partCount, schemaFits, noSchema}
 use Rattle.task.specs.Run.{schemaAt}
-use Rattle.task.specs.Table.{pairIn, atomIn, schemaNumberIn, taskOf, isTable}
+use Rattle.task.specs.Table.{atomIn, schemaNumberIn, taskOf, isTable}
 use Rattle.task.specs.WordTests.{Roomy}
 use Rattle.words.proofs.Lists.{In, all-in, in-getD, map-in, map-append, upFrom-in, upFrom-append, tabulate}
 use Rattle.words.proofs.Lists.{sum-take-rises}
 use Rattle.task.proofs.Tests.{schema-tests, task-tests}
-use Rattle.task.proofs.AtomsStand.{noAtom, counts}
-use Rattle.task.proofs.PairsStand.{noPair, pairCounts}
+use Rattle.task.proofs.AtomsStand.{noAtom}
 use Rattle.task.proofs.Tables.{startOf, pairStart, of-table}
 use Rattle.task.proofs.TableReads.{table-roomy}
-use Rattle.task.proofs.TablesByIndex.{Frame, table-frame, schemas-word, atom-at, atom-lies, start-suc, start-end}
-use Rattle.task.proofs.TablesByIndex.{pair-at, pair-start-suc, pair-start-end}
+use Rattle.task.proofs.SchemaRows.{rowCounts, firstRow, ByIndex}
+use Rattle.task.proofs.TablesByIndex.{Frame, table-frame, schemas-word, atom-rows, pair-rows, atom-at, atom-lies}
+use Rattle.task.proofs.TablesByIndex.{start-suc}
 use Rattle.task.proofs.SchemaWords.{part-small}
 use Rattle.arcs.specs.Stretches.{IsSchemaAtom, IsStretch, IsPairStretch, stretch, stretchIn, pairStretchIn}
 
@@ -97,13 +97,27 @@ module _ {Row : Type 0} (row : ℕ → Row) where
       rows-append from i (i + 1) l (omega arith) ∙ ap (λ (more : List Row). stretch row from i ++ more) (rows-one i)
 
 -- ---- the stretches of a schema's atoms and of its pairs
--- a list whose elements are rows, from a start on
-rows-are : {Row : Type 0} (row : ℕ → Row) (none : Row) (xs : List Row) (start end : ℕ) → end ≡ start + length xs →
-    ((k : ℕ) → k < length xs → row (start + k) ≡ getD xs k none) → xs ≡ stretch row start end
-unfolding stretch
-rows-are row none xs start end e h =
-    let n : length xs ≡ end - start = omega arith in
-    sym (tabulate row start xs none h) ∙ ap (λ (n : ℕ). map row (upFrom start n)) n
+-- a schema's rows of one kind, from its first to the next schema's first
+module _ {Row : Type 0} (rows : Schema → List Row) {none : Row} {number : ℕ → ℕ} {row : ℕ → Row} (t : Task)
+    {schemas total : ℕ} (by : ByIndex rows none number row (t .schemas) schemas total) (s : ℕ) (l : s < schemas) where
+  abbrev first : ℕ → ℕ
+  first m = firstRow rows (t .schemas) m
+
+  rows-are : rows (schemaAt t s) ≡ stretch row (first s) (first (suc s))
+  unfolding schemaAt stretch
+  rows-are =
+      let own = rows (schemaAt t s) in
+      let e = by .next s l in
+      let n : length own ≡ first (suc s) - first s = omega arith in
+      sym (tabulate row (first s) own none (λ k x. by .reads s k l x .1)) ∙
+      ap (λ (n : ℕ). map row (upFrom (first s) n)) n
+
+  rows-within : (first s ≤ first (suc s)) × (first (suc s) ≤ total)
+  rows-within =
+      let e = by .next s l in
+      let all = by .last in
+      let m = sum-take-rises (rowCounts rows (t .schemas)) (suc s) schemas l in
+      (omega arith, omega arith)
 
 module _ (w : List ℕ) (h : isTable w ≡ true) (s : ℕ) (l : s < headIn w .schemas) where
   abbrev t : Task
@@ -113,26 +127,18 @@ module _ (w : List ℕ) (h : isTable w ≡ true) (s : ℕ) (l : s < headIn w .sc
   fr = table-frame w h
 
   pub schema-atoms : schemaAt (taskOf w) s .atoms ≡ stretchIn w (startOf (taskOf w) s) (startOf (taskOf w) (suc s))
-  schema-atoms =
-      rows-are (atomIn w) noAtom (schemaAt t s .atoms) (startOf t s) (startOf t (suc s)) (start-suc w fr s l)
-      (λ k b. atom-at w fr s k l b)
+  schema-atoms = rows-are (λ s. s .atoms) t (atom-rows w fr) s l
 
   pub schema-stretch : IsStretch w (startOf (taskOf w) s) (startOf (taskOf w) (suc s))
   schema-stretch =
-      let g = start-suc w fr s l in
-      let e = start-end w fr in
-      let m = sum-take-rises (counts (t .schemas)) (suc s) (headIn w .schemas) l in
-      record { table = h; forward = omega arith; known = omega arith }
+      let (forward, known) = rows-within (λ s. s .atoms) t (atom-rows w fr) s l in
+      record { table = h; forward = forward; known = known }
 
   pub schema-pairs :
       schemaAt (taskOf w) s .pairs ≡ pairStretchIn w (pairStart (taskOf w) s) (pairStart (taskOf w) (suc s))
-  schema-pairs =
-      rows-are (pairIn w) noPair (schemaAt t s .pairs) (pairStart t s) (pairStart t (suc s)) (pair-start-suc w fr s l)
-      (λ k b. pair-at w fr s k l b)
+  schema-pairs = rows-are (λ s. s .pairs) t (pair-rows w fr) s l
 
   pub schema-pair-stretch : IsPairStretch w (pairStart (taskOf w) s) (pairStart (taskOf w) (suc s))
   schema-pair-stretch =
-      let g = pair-start-suc w fr s l in
-      let e = pair-start-end w fr in
-      let m = sum-take-rises (pairCounts (t .schemas)) (suc s) (headIn w .schemas) l in
-      record { table = h; forward = omega arith; known = omega arith }
+      let (forward, known) = rows-within (λ s. s .pairs) t (pair-rows w fr) s l in
+      record { table = h; forward = forward; known = known }

@@ -5,7 +5,7 @@ use mathlib.Core.Bool.{Bool, true, false, _&&_}
 use mathlib.Core.List.{List}
 use native.Mathlib.Omega.{arith}
 use native.Mathlib.Nat.{mul-suc, mul-le-mul-left}
-use lib.ListN.{getD}
+use lib.ListN.{length, getD}
 use lib.Dec.{ltb, leb}
 use borrow.Author.Tests.{ltb-true, leb-true, lt-ltb, le-ltb, le-leb, lt-leb}
 use Rattle.task.specs.Layout.{pairsBase, rowsBase, pairBase, atomBase}
@@ -89,9 +89,10 @@ number-next number i before e =
     let z : i ≡ i + 1 - 1 = omega arith in
     ap (λ (n : ℕ). leb n (number (i + 1))) (e ∙ ap number z)
 
--- the first word of row i lies before the end of n rows
-pub row-below : (size i n : ℕ) → 1 ≤ size → i < n → size * i < size * n
-row-below size i n h l =
+-- the first word of row i lies in words that hold n rows from a base on
+pub row-inside : (w : List ℕ) (base size i n : ℕ) → (1 ≤ size) × (base + size * n ≤ length w) → i < n →
+    base + size * i < length w
+row-inside w base size i n (some, fits) l =
     let a : size * suc i ≤ size * n = mul-le-mul-left size l in
     let b = mul-suc size i in
     omega arith

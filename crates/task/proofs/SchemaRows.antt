@@ -2,7 +2,7 @@
 -- many words they take and where each stands; which of them name a schema; and that words whose numbers never fall hold
 -- the rows schema by schema.
 use Prim.Native.Nat.{ℕ, zero, suc, _+_, _-_, _*_, _≤_, _<_}
-use mathlib.Core.Path.{_≡_, refl, sym, _∙_, ap, ap₂, subst}
+use mathlib.Core.Path.{_≡_, refl, sym, _∙_, ap, ap₂, subst, subst₂}
 use mathlib.Core.List.{List, [], _∷_, map}
 use native.Mathlib.Omega.{arith}
 use native.Mathlib.Decide.{decLt}
@@ -83,10 +83,22 @@ module _ {Row : Type 0} (words : ℕ → Row → List ℕ) (rows : Schema → Li
 -- ---- which rows name a schema
 module _ {Row : Type 0} (rows : Schema → List Row) (none : Row) (number : ℕ → ℕ) (row : ℕ → Row)
     (ss : List Schema) where
-  -- row k of schema m is read at its place, and its number is m
-  abbrev pub Reads : Type 0
-  Reads = (m k : ℕ) → m < length ss → k < length (rows (getD ss m noSchema)) →
+  -- of so many schemas, row k of schema m is read at its place, and its number is m
+  abbrev ReadsOf : ℕ → Type 0
+  ReadsOf schemas = (m k : ℕ) → m < schemas → k < length (rows (getD ss m noSchema)) →
       (number (firstRow rows ss m + k) ≡ m) × (row (firstRow rows ss m + k) ≡ getD (rows (getD ss m noSchema)) k none)
+
+  abbrev pub Reads : Type 0
+  Reads = ReadsOf (length ss)
+
+  -- the rows of so many schemas by index: those of a schema are read from its first on, as many as it has, and each row
+  -- lies in the schema that it names
+  pub record ByIndex (schemas total : ℕ) : Type 0 where
+    pub next : (m : ℕ) → m < schemas →
+        firstRow rows ss (suc m) ≡ firstRow rows ss m + length (rows (getD ss m noSchema))
+    pub last : firstRow rows ss schemas ≡ total
+    pub reads : ReadsOf schemas
+    pub lies : (i : ℕ) → i < total → Lies (firstRow rows ss) number schemas i
 
   count-is : (m : ℕ) → m < length ss → getD (rowCounts rows ss) m 0 ≡ length (rows (getD ss m noSchema))
   count-is m l = getD-map (λ (s : Schema). length (rows s)) ss m noSchema 0 l
@@ -94,7 +106,7 @@ module _ {Row : Type 0} (rows : Schema → List Row) (none : Row) (number : ℕ 
   counted : length (rowCounts rows ss) ≡ length ss
   counted = length-map ss (λ (s : Schema). length (rows s))
 
-  pub first-suc : (m : ℕ) → m < length ss →
+  first-suc : (m : ℕ) → m < length ss →
       firstRow rows ss (suc m) ≡ firstRow rows ss m + length (rows (getD ss m noSchema))
   first-suc m l =
       let n = counted in
@@ -102,7 +114,7 @@ module _ {Row : Type 0} (rows : Schema → List Row) (none : Row) (number : ℕ 
       let r = count-is m l in
       omega arith
 
-  pub first-end : firstRow rows ss (length ss) ≡ sum (rowCounts rows ss)
+  first-end : firstRow rows ss (length ss) ≡ sum (rowCounts rows ss)
   first-end = let n = counted in ap sum (take-all (length ss) (rowCounts rows ss) (omega arith))
 
   module _ (reads : Reads) where
@@ -127,9 +139,8 @@ module _ {Row : Type 0} (rows : Schema → List Row) (none : Row) (number : ℕ 
         map row (upFrom (firstRow rows ss m) (length (rows (getD ss m noSchema)))) ≡ rows (getD ss m noSchema)
     rows-are m l = tabulate row (firstRow rows ss m) (rows (getD ss m noSchema)) none (λ k x. reads m k l x .1)
 
-    pub row-lies : (schemas : ℕ) → length ss ≡ schemas → (i : ℕ) → i < sum (rowCounts rows ss) →
-        Lies (firstRow rows ss) number schemas i
-    row-lies schemas are i l =
+    pub row-lies : (i : ℕ) → i < sum (rowCounts rows ss) → Lies (firstRow rows ss) number (length ss) i
+    row-lies i l =
         let n = counted in
         let (m, a, b, d) = locate (rowCounts rows ss) i l in
         let q = sum-take-suc (rowCounts rows ss) m a in
@@ -148,11 +159,17 @@ module _ {Row : Type 0} (rows : Schema → List Row) (none : Row) (number : ℕ 
     numbers-rise i l = elim (decLt (number (suc i)) (number i)) [
       | no m ↦ omega arith
       | yes m ↦
-          let x = row-lies (length ss) refl (suc i) l .before-next in
-          let y = row-lies (length ss) refl i (omega arith) .from-start in
+          let x = row-lies (suc i) l .before-next in
+          let y = row-lies i (omega arith) .from-start in
           let z = sum-take-rises (rowCounts rows ss) (suc (number (suc i))) (number i) (omega arith) in
           absurd (omega arith)
     ]
+
+    -- by counts of the schemas and of all rows
+    pub by-index : {schemas total : ℕ} → length ss ≡ schemas → sum (rowCounts rows ss) ≡ total → ByIndex schemas total
+    by-index are all =
+        subst₂ (λ (n m : ℕ). ByIndex n m) are all
+        (record { next = first-suc; last = first-end; reads = reads; lies = row-lies })
 
 -- ---- words whose rows are in file order
 module _ {Row : Type 0} (words : ℕ → Row → List ℕ) (rows : Schema → List Row) (size : ℕ) (none : Row) (w : List ℕ)

@@ -87,9 +87,7 @@ module _ (rows : List ℕ) (base : ℕ) (ss : List Schema) (stand : At rows base
       PairsFew rows base (sum (pairCounts ss))
   rows-few fit i l =
       let s = rowSchema rows base i in
-      let known =
-      row-lies (λ s. s .pairs) noPair (rowSchema rows base) (rowPair rows base) ss rows-read (length ss) refl i l
-      .known in
+      let known = row-lies (λ s. s .pairs) noPair (rowSchema rows base) (rowPair rows base) ss rows-read i l .known in
       let here : In (rowPair rows base i)
       (map (rowPair rows base) (naming (rowSchema rows base) (sum (pairCounts ss)) s)) =
       in-map (rowPair rows base)

@@ -2,13 +2,13 @@
 -- its task; words that pass them all fit (`WordsFit`) and are those of a well-formed task, so `words-table` applies.
 use Prim.Native.Nat.{ℕ, _+_, _-_, _≤_, _<_}
 use mathlib.Core.Path.{_≡_, refl, sym, _∙_, subst}
-use mathlib.Core.Bool.{Bool, true, false, _&&_}
+use mathlib.Core.Bool.{Bool, true, false, not, _&&_}
 use mathlib.Core.List.{List}
 use native.Mathlib.Omega.{arith}
 use native.Mathlib.Decide.{decLt}
 use lib.ListN.{length, getD}
 use lib.Dec.{eqb, ltb, leb}
-use borrow.Author.Tests.{ltb-true, eqb-true, le-leb, eq-eqb}
+use borrow.Author.Tests.{ltb-true, eqb-true, le-leb, eq-eqb, not-true}
 use Rattle.words.specs.Lists.{all, every, upTo, upFrom}
 use Rattle.task.specs.Layout.{headIn, goalsFrom, atomTotal, paramsBase, wordsUsed, arityIn, atomBase}
 use Rattle.task.specs.Limits.{tableWords, headWords, mostPairs}
@@ -18,8 +18,9 @@ use Rattle.task.specs.WordTests.{countTests, aritiesFit, unusedZero, arg
 use Rattle.task.specs.WordTests.{pairIndicesOf, indicesOf, schemasFit, factWordsFit, factsWordsFit, factsIn}
 use Rattle.task.specs.WordTests.{Roomy}
 use Rattle.words.specs.Words.{zerosAt}
-use Rattle.words.proofs.Lists.{and-left, and-right, and-both, bool-ext, false-if, met-none, met-more, met-every, all-in}
-use Rattle.words.proofs.Lists.{in-all, In, filter-in, in-filter, in-upTo, upTo-in, upFrom-in, in-map, map-in}
+use Rattle.words.proofs.Lists.{and-left, and-right, and-both, both-ft, bool-ext, false-if, met-none, met-more}
+use Rattle.words.proofs.Lists.{met-every, all-in, in-all, In, filter-in, in-filter, in-upTo, upTo-in, upFrom-in, in-map}
+use Rattle.words.proofs.Lists.{map-in}
 use Rattle.words.proofs.Ranges.{all-from, from-all, all-below, below-all, all-map}
 use Rattle.task.proofs.Counts.{Counted, counted, roomy}
 use Rattle.task.proofs.Tests.{TaskTests, schema-tests, fact-tests, tests-fact, task-tests, tests-task}
@@ -297,8 +298,11 @@ module _ (w : List ℕ) (long : tableWords ≤ length w) (c : Passed w) where
 pub passed-table : (w : List ℕ) → tableWords ≤ length w → Passed w → isTable w ≡ true
 passed-table w long c = words-table w (words-fit w long c) (tests-task (taskOf w) (task-fits w long c))
 
-pub not-passed : (w : List ℕ) → (Passed w → ⊥) → false ≡ isTable w
-not-passed w bad = sym (false-if (isTable w) (λ h. bad (table-passes w h)))
+-- words that fail one of the tests are no table
+pub not-passed : (w : List ℕ) (test answer : Bool) → (Passed w → test ≡ true) → answer ≡ test → not answer ≡ true →
+    false ≡ isTable w
+not-passed w test answer asked e failed =
+    sym (false-if (isTable w) (λ h. both-ft (asked (table-passes w h)) (sym e ∙ not-true answer failed)))
 
 -- where the other tests are passed, the rest decides
 pub rest-decides : (w : List ℕ) → tableWords ≤ length w →

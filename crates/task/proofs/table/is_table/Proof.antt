@@ -7,14 +7,13 @@ use mathlib.Core.Bool.{Bool, true}
 use mathlib.Core.List.{List}
 use native.Mathlib.Omega.{arith}
 use borrow.Author.Needs.{needs}
-use borrow.Author.Tests.{not-true, not-false}
+use borrow.Author.Tests.{not-false}
 use Rattle.words.specs.Lists.{every}
 use Rattle.task.specs.Layout.{headIn, goalsFrom, atomTotal, wordsUsed, atomBase}
 use Rattle.task.specs.Limits.{tableWords}
 use Rattle.task.specs.Table.{pairNumberIn, schemaNumberIn}
 use Rattle.task.specs.WordTests.{countTests, aritiesFit, inFileOrder, factsWordsFit, Roomy}
 use Rattle.words.specs.Words.{zerosAt}
-use Rattle.words.proofs.Lists.{both-ft}
 use Rattle.task.proofs.Counts.{counted, roomy}
 use Rattle.task.proofs.FileOrder.{pair-numbers, atom-numbers}
 use Rattle.task.proofs.WordTables.{not-passed, rest-decides}
@@ -137,8 +136,7 @@ counts-fit-requires c κs = omega arith
 
 returns : tie.Need-returns
 returns c =
-    not-passed (words (start₁ (c .before)))
-    (λ p. both-ft (p .counts) (sym (c .before .counts-fit .ensures) ∙ not-true _ (c .if1 .taken)))
+    not-passed (words (start₁ (c .before))) _ _ (λ p. p .counts) (c .before .counts-fit .ensures) (c .if1 .taken)
 
 arities-fit-requires : tie.Need-arities-fit-requires
 unfolding tableWords
@@ -146,8 +144,7 @@ arities-fit-requires c κs = let k = counted (words (start₁ (c .before))) (cou
 
 returns-2 : tie.Need-returns-2
 returns-2 c =
-    not-passed (words (start₂ (c .before)))
-    (λ p. both-ft (p .arities) (sym (c .before .arities-fit .ensures) ∙ not-true _ (c .if2 .taken)))
+    not-passed (words (start₂ (c .before))) _ _ (λ p. p .arities) (c .before .arities-fit .ensures) (c .if2 .taken)
 
 word-requires : tie.Need-word-requires
 word-requires c κs = let r = room c in omega arith
@@ -162,8 +159,7 @@ numbers-fit-requires c κs =
 
 returns-3 : tie.Need-returns-3
 returns-3 c =
-    not-passed (words (start₃ (c .before)))
-    (λ p. both-ft (p .pair-numbers) (sym (pairs-are (c .before)) ∙ not-true _ (c .if3 .taken)))
+    not-passed (words (start₃ (c .before))) _ _ (λ p. p .pair-numbers) (pairs-are (c .before)) (c .if3 .taken)
 
 word-requires-2 : tie.Need-word-requires-2
 word-requires-2 c κs = let r = room₃ c in omega arith
@@ -178,8 +174,7 @@ numbers-fit-requires-2 c κs =
 
 returns-4 : tie.Need-returns-4
 returns-4 c =
-    not-passed (words (start₄ (c .before)))
-    (λ p. both-ft (p .numbers) (sym (atoms-are (c .before)) ∙ not-true _ (c .if4 .taken)))
+    not-passed (words (start₄ (c .before))) _ _ (λ p. p .numbers) (atoms-are (c .before)) (c .if4 .taken)
 
 schemas-fit-requires : tie.Need-schemas-fit-requires
 schemas-fit-requires c κs =
@@ -188,8 +183,7 @@ schemas-fit-requires c κs =
 
 returns-5 : tie.Need-returns-5
 returns-5 c =
-    not-passed (words (start₅ (c .before)))
-    (λ p. both-ft (p .schemas) (sym (c .before .schemas-fit .ensures) ∙ not-true _ (c .if5 .taken)))
+    not-passed (words (start₅ (c .before))) _ _ (λ p. p .schemas) (c .before .schemas-fit .ensures) (c .if5 .taken)
 
 word-requires-3 : tie.Need-word-requires-3
 word-requires-3 c κs = let r = room₅ c in omega arith
@@ -204,8 +198,7 @@ facts-fit-requires c κs =
 
 returns-6 : tie.Need-returns-6
 returns-6 c =
-    not-passed (words (start₆ (c .before)))
-    (λ p. both-ft (p .init) (sym (initial-is (c .before)) ∙ not-true _ (c .if6 .taken)))
+    not-passed (words (start₆ (c .before))) _ _ (λ p. p .init) (initial-is (c .before)) (c .if6 .taken)
 
 word-requires-4 : tie.Need-word-requires-4
 word-requires-4 c κs = let r = room₅ (c .before .before .before) in omega arith
@@ -223,8 +216,7 @@ facts-fit-requires-2 c κs =
 
 returns-7 : tie.Need-returns-7
 returns-7 c =
-    not-passed (words (start₇ (c .before)))
-    (λ p. both-ft (p .goal) (sym (goal-is (c .before)) ∙ not-true _ (c .if7 .taken)))
+    not-passed (words (start₇ (c .before))) _ _ (λ p. p .goal) (goal-is (c .before)) (c .if7 .taken)
 
 atom-base-requires : tie.Need-atom-base-requires
 atom-base-requires c κs =

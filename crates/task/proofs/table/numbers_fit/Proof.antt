@@ -11,7 +11,7 @@ use Rattle.task.specs.Layout.{headIn}
 use Rattle.task.specs.WordTests.{inFileOrder}
 use Rattle.words.proofs.Loops.{AllLeft, all-up-to, all-more, all-fails, all-ends}
 use Rattle.task.proofs.FileOrder.{rowFits, number-low, number-high, number-right, number-first, number-next}
-use Rattle.task.proofs.FileOrder.{row-below}
+use Rattle.task.proofs.FileOrder.{row-inside}
 use Rattle.task.proofs.table.numbers_fit.Statement.{statement}
 use Rattle.task.proofs.table.numbers_fit.Tie as tie
 
@@ -45,18 +45,8 @@ inside : (c : tie.In-loop Inv-loop μ-loop) → let given = start c .args in
     given .base + given .size * c .before .loop .i < length (given .table .now)
 inside c =
     let given = start c .args in
-    let (some, fits) = start c .pre .1 in
-    let below = row-below (given .size) (c .before .loop .i) (given .count) some (c .loop-test .taken) in
-    omega arith
-
-mul-word : tie.Need-mul-word Inv-loop μ-loop
-mul-word c = let r = inside c in omega arith
-
-add-word : tie.Need-add-word Inv-loop μ-loop
-add-word c = let r = inside c in omega arith
-
-word-requires-2 : tie.Need-word-requires-2 Inv-loop μ-loop
-word-requires-2 c κs = inside c
+    row-inside (given .table .now) (given .base) (given .size) (c .before .loop .i) (given .count) (start c .pre .1)
+    (c .loop-test .taken)
 
 returns : tie.Need-returns Inv-loop μ-loop
 returns c =
@@ -97,5 +87,6 @@ returns-3 c = all-ends (c .before .loop .inv .0) (c .loop-test .left)
 pub numbers-fit-spec : {M : Type 1} → statement M
 numbers-fit-spec =
     tie.close
-    (tie.spec Inv-loop μ-loop word-requires loop-holds mul-word add-word word-requires-2 returns returns-2
-    (λ c. omega arith) (λ c. omega arith) loop-again returns-3)
+    (tie.spec Inv-loop μ-loop word-requires loop-holds (λ c. let r = inside c in omega arith)
+    (λ c. let r = inside c in omega arith) (λ c κs. inside c) returns returns-2 (λ c. omega arith) (λ c. omega arith)
+    loop-again returns-3)

@@ -5,7 +5,7 @@ use mathlib.Core.Path.{_≡_, sym, _∙_}
 use native.Mathlib.Omega.{arith}
 use lib.ListN.{length, getD}
 use Rattle.words.proofs.Loops.{run-more}
-use Rattle.task.proofs.FileOrder.{row-below}
+use Rattle.task.proofs.FileOrder.{row-inside}
 use Rattle.task.proofs.table.schemas.run_end.Statement.{statement}
 use Rattle.task.proofs.table.schemas.run_end.Tie as tie
 
@@ -27,18 +27,8 @@ inside : (c : tie.In-loop Inv-loop μ-loop) → let given = begin c .args in
     given .base + given .size * c .before .loop .i < length (given .table .now)
 inside c =
     let given = begin c .args in
-    let (some, fits) = begin c .pre .0 in
-    let below = row-below (given .size) (c .before .loop .i) (given .count) some (c .loop-test .taken) in
-    omega arith
-
-mul-word : tie.Need-mul-word Inv-loop μ-loop
-mul-word c = let r = inside c in omega arith
-
-add-word : tie.Need-add-word Inv-loop μ-loop
-add-word c = let r = inside c in omega arith
-
-word-requires : tie.Need-word-requires Inv-loop μ-loop
-word-requires c κs = inside c
+    row-inside (given .table .now) (given .base) (given .size) (c .before .loop .i) (given .count) (begin c .pre .0)
+    (c .loop-test .taken)
 
 returns : tie.Need-returns Inv-loop μ-loop
 returns c =
@@ -73,5 +63,5 @@ returns-2 c =
 pub run-end-spec : {M : Type 1} → statement M
 run-end-spec =
     tie.close
-    (tie.spec Inv-loop μ-loop loop-holds mul-word add-word word-requires returns (λ c. omega arith) (λ c. omega arith)
-    loop-again returns-2)
+    (tie.spec Inv-loop μ-loop loop-holds (λ c. let r = inside c in omega arith) (λ c. let r = inside c in omega arith)
+    (λ c κs. inside c) returns (λ c. omega arith) (λ c. omega arith) loop-again returns-2)
