@@ -151,14 +151,11 @@ pub fn is_step(table: &[u16], steps: &[u16], i: usize, limits: &Limits) -> bool
     if !are_within(steps, at, param_count(table, schema), limits) {
         return false;
     }
-    keep_apart(
-        table,
-        pairs_base(table),
-        word(table, PAIRS),
-        steps,
-        at,
-        wide(schema),
-    )
+    let pairs = word(table, PAIRS);
+    if pairs == 0 {
+        return true;
+    }
+    keep_apart(table, pairs_base(table), pairs, steps, at, wide(schema))
 }
 
 // The first step that is none of this task, or incomplete: words left over begin one.

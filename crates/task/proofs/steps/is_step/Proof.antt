@@ -1,6 +1,6 @@
 -- `task::steps::is_step` meets its contract: its tests are those of a row, in their order (`step-short`,
 -- `step-unknown`, `step-whole`), and the numbers of parameters and objects are the task's. A schema has at most 12
--- parameters, so that the words tested have their limits.
+-- parameters, so that the words tested have their limits. Where there is no pair, none is asked.
 use Prim.Native.Nat.{ℕ, _+_, _*_, _≤_, _<_}
 use mathlib.Core.Path.{_≡_, sym, _∙_, ap}
 use mathlib.Core.Bool.{Bool, true, _&&_}
@@ -12,7 +12,7 @@ use borrow.Author.Needs.{needs}
 use Rattle.task.specs.Limits.{stepSize}
 use Rattle.task.specs.Task.{Task, wellFormed}
 use Rattle.task.specs.Table.{taskOf}
-use Rattle.words.specs.Lists.{all, upTo}
+use Rattle.words.specs.Lists.{all, upFrom, upTo}
 use Rattle.task.specs.Layout.{headIn, pairsBase, pairBase}
 use Rattle.task.specs.Run.{isStepAt}
 use Rattle.task.specs.StepTests.{apartAt}
@@ -90,51 +90,73 @@ returns-3 c =
 abbrev start₃ : tie.Else3 → tie.Start
 start₃ c = start₂ (c .before .before .before)
 
-pairs-base-requires : tie.Need-pairs-base-requires
-pairs-base-requires c κs = counts-inside (start₃ c .args .table .now) (start₃ c .pre .0)
-
 word-requires : tie.Need-word-requires
-word-requires c κs = let l = counts-inside (start₃ (c .before) .args .table .now) (start₃ (c .before) .pre .0) in
-    omega arith
+word-requires c κs = let l = counts-inside (start₃ c .args .table .now) (start₃ c .pre .0) in omega arith
+
+-- the test of each row of pairs, for the step's schema
+abbrev rowApart : tie.Else3 → ℕ → Bool
+rowApart c i =
+    let start = start₃ c in
+    let at : ℕ = stepSize * start .args .i in
+    apartAt (start .args .table .now) (pairsBase (start .args .table .now)) (W start) (at + 1) (getD (W start) at 0) i
+
+-- what the rows of all pairs say is then the answer
+by-rows : (c : tie.Else3) {r : Bool} → r ≡ all (rowApart c) (upTo (headIn (start₃ c .args .table .now) .pairs)) →
+    r ≡ isStepAt (T (start₃ c)) (W (start₃ c)) (start₃ c .args .i)
+by-rows c rows =
+    let tested = c .before in
+    let start = start₃ c in
+    let w = start .args .table .now in
+    let at : ℕ = stepSize * start .args .i in
+    let pairs = pairsDiffer (T start) (well start) (W start) (start .args .i) in
+    let schemas = schemas-word w (table-frame w (start .pre .0)) in
+    let known = known (tested .before .before) in
+    rows ∙
+    (sym (pairs-apart w (start .pre .0) (getD (W start) at 0) (omega (arith, known)) (W start) (at + 1)) ∙
+    (ap pairs (sym (tested .before .param-count .ensures)) ∙
+    sym (rest tested ∙ ap (λ (b : Bool). b && pairs (tested .before .param-count .result))
+    (not-false (tested .are-within .result) (c .if3 .left)))))
+
+returns-4 : tie.Need-returns-4
+unfolding all upTo upFrom
+returns-4 c =
+    let passed = c .before .before in
+    by-rows passed (sym (ap (λ (n : ℕ). all (rowApart passed) (upTo n)) (sym (c .before .word .ensures .0) ∙ c .if4 .taken)))
+
+pairs-base-requires : tie.Need-pairs-base-requires
+pairs-base-requires c κs =
+    let start = start₃ (c .before .before) in counts-inside (start .args .table .now) (start .pre .0)
 
 keep-apart-requires : tie.Need-keep-apart-requires
 unfolding pairBase
 keep-apart-requires c κs =
-    let passed = c .before .before .before in
+    let passed = c .before .before .before .before in
     let start = start₃ passed in
     let w = start .args .table .now in
-    let base = c .before .before .pairs-base .ensures .0 in
-    let count = c .before .word .ensures .0 in
+    let base = c .before .pairs-base .ensures .0 in
+    let count = c .before .before .before .word .ensures .0 in
     let room = table-roomy w (start .pre .0) .inside in
     let few = pairs-few w (start .pre .0) in
     (omega (arith, base, count), (rw (base, count) few, whole (passed .before .before .before)))
 
-returns-4 : tie.Need-returns-4
-returns-4 c =
-    let passed = c .before .before .before .before in
-    let tested = passed .before in
+returns-5 : tie.Need-returns-5
+returns-5 c =
+    let passed = c .before .before .before .before .before in
     let start = start₃ passed in
     let w = start .args .table .now in
-    let steps = W start in
     let at : ℕ = stepSize * start .args .i in
-    let schema = getD steps at 0 in
-    let pairs = pairsDiffer (T start) (well start) steps (start .args .i) in
-    let schemas = schemas-word w (table-frame w (start .pre .0)) in
-    let rows : c .keep-apart .result ≡ all (apartAt w (pairsBase w) steps (at + 1) schema) (upTo (headIn w .pairs)) =
+    let schema = getD (W start) at 0 in
+    let rows : c .keep-apart .result ≡ all (apartAt w (pairsBase w) (W start) (at + 1) schema) (upTo (headIn w .pairs)) =
     rw (
-      ← c .before .before .before .pairs-base .ensures .0,
-      ← c .before .before .word .ensures .0,
+      ← c .before .before .pairs-base .ensures .0,
+      ← c .before .before .before .before .word .ensures .0,
       ← c .before .wide .ensures,
     ) (c .keep-apart .ensures) in
-    rows ∙
-    (sym (pairs-apart w (start .pre .0) schema (omega (arith, known (tested .before .before))) steps (at + 1)) ∙
-    (ap pairs (sym (tested .before .param-count .ensures)) ∙
-    sym (rest tested ∙ ap (λ (b : Bool). b && pairs (tested .before .param-count .result))
-    (not-false (tested .are-within .result) (passed .if3 .left)))))
+    by-rows passed rows
 
 pub is-step-spec : {M : Type 1} → statement M
 is-step-spec =
     tie.close
     (tie.spec (λ c. search needs) (λ c. search needs) returns (λ c. search needs) (λ c. search needs)
-    (λ c κs. search needs) returns-2 param-count-requires are-within-requires returns-3 pairs-base-requires
-    word-requires (λ c κs. search needs) keep-apart-requires returns-4)
+    (λ c κs. search needs) returns-2 param-count-requires are-within-requires returns-3 word-requires returns-4
+    pairs-base-requires (λ c κs. search needs) keep-apart-requires returns-5)
