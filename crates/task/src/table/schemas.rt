@@ -252,7 +252,14 @@ fn schema_fits(table: &[u16], s: usize, pair: usize, stop: usize, first: usize, 
 }
 
 // Of `count` rows of `size` words from `base` on, where those of schema s end, which begin at `start`.
-pub fn run_end(table: &[u16], base: usize, size: usize, count: usize, s: usize, start: usize) -> usize
+pub fn run_end(
+    table: &[u16],
+    base: usize,
+    size: usize,
+    count: usize,
+    s: usize,
+    start: usize,
+) -> usize
     requires { ⌜ (1 ≤ size) × (base + size * count ≤ length (now table)) ⌝ }
     requires { ⌜ start ≤ count ⌝ }
     ensures { λ r. ⌜ RunOf (λ (i : ℕ). getD (now (table .entry)) (base + size * i) 0) count s start r ⌝ }

@@ -121,7 +121,8 @@ returns-4 : tie.Need-returns-4
 unfolding all upTo upFrom
 returns-4 c =
     let passed = c .before .before in
-    by-rows passed (sym (ap (λ (n : ℕ). all (rowApart passed) (upTo n)) (sym (c .before .word .ensures .0) ∙ c .if4 .taken)))
+    let none = sym (c .before .word .ensures .0) ∙ c .if4 .taken in
+    by-rows passed (sym (ap (λ (n : ℕ). all (rowApart passed) (upTo n)) none))
 
 pairs-base-requires : tie.Need-pairs-base-requires
 pairs-base-requires c κs =
@@ -145,9 +146,8 @@ returns-5 c =
     let start = start₃ passed in
     let w = start .args .table .now in
     let at : ℕ = stepSize * start .args .i in
-    let schema = getD (W start) at 0 in
-    let rows : c .keep-apart .result ≡ all (apartAt w (pairsBase w) (W start) (at + 1) schema) (upTo (headIn w .pairs)) =
-    rw (
+    let test = apartAt w (pairsBase w) (W start) (at + 1) (getD (W start) at 0) in
+    let rows : c .keep-apart .result ≡ all test (upTo (headIn w .pairs)) = rw (
       ← c .before .before .pairs-base .ensures .0,
       ← c .before .before .before .before .word .ensures .0,
       ← c .before .wide .ensures,
