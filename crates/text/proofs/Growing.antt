@@ -139,31 +139,33 @@ snoc-distinct (x ∷ bs) a h =
 
 -- ---- in order
 -- a list that ascends, each element beside the next, and whether one more comes behind its last
-module _ {A : Type 0} (less : A → A → Bool) (ascends : List A → Bool) (behind : List A → A → Bool)
-    (empty : ascends [] ≡ true) (one : (x : A) → ascends (x ∷ []) ≡ true)
-    (more : (x y : A) (xs : List A) → ascends (x ∷ y ∷ xs) ≡ less x y && ascends (y ∷ xs))
-    (free : (x : A) → behind [] x ≡ true)
-    (last : (y : A) (xs : List A) (x : A) → behind (y ∷ xs) x ≡ less (lastOr xs y) x) where
-  ascends-snoc : (xs : List A) (x : A) → ascends xs ≡ true → behind xs x ≡ true → ascends (xs ++ (x ∷ [])) ≡ true
-  unfolding lastOr
-  ascends-snoc [] x h k = one x
-  ascends-snoc (y ∷ []) x h k = more y x [] ∙ and-both _ _ (sym (last y [] x) ∙ k) (one x)
-  ascends-snoc (y ∷ z ∷ xs) x h k =
-      let g = sym (more y z xs) ∙ h in
-      more y z (xs ++ (x ∷ [])) ∙ and-both _ _ (and-left (less y z) (ascends (z ∷ xs)) g)
-      (ascends-snoc (z ∷ xs) x (and-right (less y z) (ascends (z ∷ xs)) g)
-      (last z xs x ∙ (sym (last y (z ∷ xs) x) ∙ k)))
+pub record Order {A : Type 0} (less : A → A → Bool) (ascends : List A → Bool) (behind : List A → A → Bool) : Type 0 where
+  pub empty : ascends [] ≡ true
+  pub one : (x : A) → ascends (x ∷ []) ≡ true
+  pub more : (x y : A) (xs : List A) → ascends (x ∷ y ∷ xs) ≡ less x y && ascends (y ∷ xs)
+  pub free : (x : A) → behind [] x ≡ true
+  pub last : (y : A) (xs : List A) (x : A) → behind (y ∷ xs) x ≡ less (lastOr xs y) x
 
-  snoc-ascends : (xs : List A) (x : A) → ascends (xs ++ (x ∷ [])) ≡ true → (ascends xs ≡ true) × (behind xs x ≡ true)
-  unfolding lastOr
-  snoc-ascends [] x h = (empty, free x)
-  snoc-ascends (y ∷ []) x h =
-      (one y, last y [] x ∙ and-left (less y x) (ascends (x ∷ [])) (sym (more y x []) ∙ h))
-  snoc-ascends (y ∷ z ∷ xs) x h =
-      let g = sym (more y z (xs ++ (x ∷ []))) ∙ h in
-      let rest = ascends (z ∷ (xs ++ (x ∷ []))) in
-      let (a, b) = snoc-ascends (z ∷ xs) x (and-right (less y z) rest g) in
-      (more y z xs ∙ and-both _ _ (and-left (less y z) rest g) a, last y (z ∷ xs) x ∙ (sym (last z xs x) ∙ b))
+-- facts, by predicate and then arguments; pairs, by the lower parameter and then the higher
+pub facts-order : Order factLess ascending follows
+unfolding ascending follows
+facts-order = record {
+  empty = refl;
+  one = λ x. refl;
+  more = λ x y xs. refl;
+  free = λ x. refl;
+  last = λ y xs x. refl;
+}
+
+pub pairs-order : Order pairLess pairsAscend pairFollows
+unfolding pairsAscend pairFollows
+pairs-order = record {
+  empty = refl;
+  one = λ x. refl;
+  more = λ x y xs. refl;
+  free = λ x. refl;
+  last = λ y xs x. refl;
+}
 
 -- the last of a list that isn't empty, by index
 last-at : {A : Type 0} (x : A) (xs : List A) (d : A) → lastOr xs x ≡ getD (x ∷ xs) (length xs) d
@@ -171,66 +173,46 @@ unfolding lastOr
 last-at x [] d = refl
 last-at x (y ∷ xs) d = last-at y xs d
 
--- whether one comes behind the last, by index
-module _ {A : Type 0} (less : A → A → Bool) (behind : List A → A → Bool) (free : (x : A) → behind [] x ≡ true)
-    (last : (y : A) (xs : List A) (x : A) → behind (y ∷ xs) x ≡ less (lastOr xs y) x) where
-  first-behind : (xs : List A) (x : A) → length xs ≡ 0 → behind xs x ≡ true
-  first-behind [] x e = free x
+module _ {A : Type 0} {less : A → A → Bool} {ascends : List A → Bool} {behind : List A → A → Bool}
+    (order : Order less ascends behind) where
+  pub ascends-snoc : (xs : List A) (x : A) → ascends xs ≡ true → behind xs x ≡ true → ascends (xs ++ (x ∷ [])) ≡ true
+  unfolding lastOr
+  ascends-snoc [] x h k = order .one x
+  ascends-snoc (y ∷ []) x h k = order .more y x [] ∙ and-both _ _ (sym (order .last y [] x) ∙ k) (order .one x)
+  ascends-snoc (y ∷ z ∷ xs) x h k =
+      let g = sym (order .more y z xs) ∙ h in
+      order .more y z (xs ++ (x ∷ [])) ∙ and-both _ _ (and-left (less y z) (ascends (z ∷ xs)) g)
+      (ascends-snoc (z ∷ xs) x (and-right (less y z) (ascends (z ∷ xs)) g)
+      (order .last z xs x ∙ (sym (order .last y (z ∷ xs) x) ∙ k)))
+
+  pub snoc-ascends : (xs : List A) (x : A) → ascends (xs ++ (x ∷ [])) ≡ true →
+      (ascends xs ≡ true) × (behind xs x ≡ true)
+  unfolding lastOr
+  snoc-ascends [] x h = (order .empty, order .free x)
+  snoc-ascends (y ∷ []) x h =
+      (order .one y, order .last y [] x ∙ and-left (less y x) (ascends (x ∷ [])) (sym (order .more y x []) ∙ h))
+  snoc-ascends (y ∷ z ∷ xs) x h =
+      let g = sym (order .more y z (xs ++ (x ∷ []))) ∙ h in
+      let rest = ascends (z ∷ (xs ++ (x ∷ []))) in
+      let (a, b) = snoc-ascends (z ∷ xs) x (and-right (less y z) rest g) in (
+        order .more y z xs ∙ and-both _ _ (and-left (less y z) rest g) a,
+        order .last y (z ∷ xs) x ∙ (sym (order .last z xs x) ∙ b),
+      )
+
+  -- whether one comes behind the last, by index
+  pub first-behind : (xs : List A) (x : A) → length xs ≡ 0 → behind xs x ≡ true
+  first-behind [] x e = order .free x
   first-behind (y ∷ xs) x e = absurd (omega arith)
 
-  later-behind : (xs : List A) (x : A) (k : ℕ) (d : A) → length xs ≡ suc k → behind xs x ≡ less (getD xs k d) x
+  pub later-behind : (xs : List A) (x : A) (k : ℕ) (d : A) → length xs ≡ suc k → behind xs x ≡ less (getD xs k d) x
   later-behind [] x k d e = absurd (omega arith)
   later-behind (y ∷ xs) x k d e =
       let z : length xs ≡ k = omega arith in
-      last y xs x ∙ ap (λ (y : A). less y x) (last-at y xs d ∙ ap (λ (i : ℕ). getD (y ∷ xs) i d) z)
-
--- facts, by predicate and then arguments
-pub ascending-snoc : (fs : List Fact) (f : Fact) → ascending fs ≡ true → follows fs f ≡ true →
-    ascending (fs ++ (f ∷ [])) ≡ true
-unfolding ascending follows
-ascending-snoc =
-    ascends-snoc factLess ascending follows refl (λ x. refl) (λ x y xs. refl) (λ x. refl) (λ y xs x. refl)
-
-pub snoc-ascending : (fs : List Fact) (f : Fact) → ascending (fs ++ (f ∷ [])) ≡ true →
-    (ascending fs ≡ true) × (follows fs f ≡ true)
-unfolding ascending follows
-snoc-ascending =
-    snoc-ascends factLess ascending follows refl (λ x. refl) (λ x y xs. refl) (λ x. refl) (λ y xs x. refl)
-
-pub first-follows : (fs : List Fact) (f : Fact) → length fs ≡ 0 → follows fs f ≡ true
-unfolding follows
-first-follows = first-behind factLess follows (λ x. refl) (λ y xs x. refl)
-
-pub later-follows : (fs : List Fact) (f : Fact) (k : ℕ) (d : Fact) → length fs ≡ suc k →
-    follows fs f ≡ factLess (getD fs k d) f
-unfolding follows
-later-follows = later-behind factLess follows (λ x. refl) (λ y xs x. refl)
-
--- pairs, by the lower parameter and then the higher
-pub pairs-snoc : (qs : List Pair) (q : Pair) → pairsAscend qs ≡ true → pairFollows qs q ≡ true →
-    pairsAscend (qs ++ (q ∷ [])) ≡ true
-unfolding pairsAscend pairFollows
-pairs-snoc =
-    ascends-snoc pairLess pairsAscend pairFollows refl (λ x. refl) (λ x y xs. refl) (λ x. refl) (λ y xs x. refl)
-
-pub snoc-pairs : (qs : List Pair) (q : Pair) → pairsAscend (qs ++ (q ∷ [])) ≡ true →
-    (pairsAscend qs ≡ true) × (pairFollows qs q ≡ true)
-unfolding pairsAscend pairFollows
-snoc-pairs =
-    snoc-ascends pairLess pairsAscend pairFollows refl (λ x. refl) (λ x y xs. refl) (λ x. refl) (λ y xs x. refl)
-
-pub first-pair : (qs : List Pair) (q : Pair) → length qs ≡ 0 → pairFollows qs q ≡ true
-unfolding pairFollows
-first-pair = first-behind pairLess pairFollows (λ x. refl) (λ y xs x. refl)
-
-pub later-pair : (qs : List Pair) (q : Pair) (k : ℕ) (d : Pair) → length qs ≡ suc k →
-    pairFollows qs q ≡ pairLess (getD qs k d) q
-unfolding pairFollows
-later-pair = later-behind pairLess pairFollows (λ x. refl) (λ y xs x. refl)
+      order .last y xs x ∙ ap (λ (y : A). less y x) (last-at y xs d ∙ ap (λ (i : ℕ). getD (y ∷ xs) i d) z)
 
 pub more-facts : (n : ℕ) (ns : List ℕ) (fs : List Fact) (f : Fact) → factsFit n ns fs ≡ true → fits n ns f ≡ true →
     follows fs f ≡ true → factsFit n ns (fs ++ (f ∷ [])) ≡ true
 more-facts n ns fs f h k l =
     let c = fact-tests n ns fs h in
     tests-fact n ns (fs ++ (f ∷ []))
-    (record { fit = all-snoc (fits n ns) fs f (c .fit) k; order = ascending-snoc fs f (c .order) l })
+    (record { fit = all-snoc (fits n ns) fs f (c .fit) k; order = ascends-snoc facts-order fs f (c .order) l })

@@ -24,7 +24,7 @@ use Rattle.text.specs.ReadCode.{Standing, Wrote, Listed, Fitting, bareAt
 use Rattle.text.specs.Holding.{Few, rowAt, rowBlocks, rowsOf, Holds, Allows, factKey, factLine, factsOf}
 use Rattle.text.specs.Holding.{withFacts, soFar, withCounted, oneFactMore, Grows, entryOf, rowsAt}
 use Rattle.text.proofs.Reading.{need-met}
-use Rattle.text.proofs.Growing.{all-snoc, first-follows, later-follows}
+use Rattle.text.proofs.Growing.{all-snoc, facts-order, first-behind, later-behind}
 use Rattle.text.proofs.LineTurns.{need-fails}
 use Rattle.text.proofs.WroteWords.{stands, stays-before}
 use Rattle.text.proofs.RowCompare.{less-rows}
@@ -149,7 +149,7 @@ module _ {d : Draft} {w after : List ℕ} {c : Counts} (h : Holds d w c) (facts 
       (fits .short)
       (size .count) (fits .count)
       (stays-before wrote (rowAt c - atomSize) (factWords (facts .role) g) (omega arith) old)
-      (stands wrote (factWords (facts .role) f) new-size (λ k m. refl)) ∙ sym (later-follows fs f k f e))
+      (stands wrote (factWords (facts .role) f) new-size (λ k m. refl)) ∙ sym (later-behind facts-order fs f k f e))
     where
       fs-sized : (f : Fact) → In f fs → Sized (d .task .arities) (f .pred) (f .args)
       fs-sized f i = sized (d .task .objects) (d .task .arities) (f .pred) (f .args) (h .low)
@@ -375,7 +375,7 @@ fact-put k {f} {d} {w} {kept} {ns} {after} {c} {row} {p} {count} h allowed e bel
         let size = sized (d .task .objects) (d .task .arities) p ns (h .low) fits in
         let wrote = fact-row (soFar c k .role) p at (listed-take s (fitting .enough told)) put in
         record {
-          first = λ q. first-follows (factsOf k (d .task)) (factOf p ns) (sym n ∙ q);
+          first = λ q. first-behind facts-order (factsOf k (d .task)) (factOf p ns) (sym n ∙ q);
           later = λ q. follows-is h (soFar c k) (factsOf k (d .task)) facts p ns q (fact-place k (h .few) refl .counted)
               size wrote;
           unordered = fact-unordered k c d p ns few fits;

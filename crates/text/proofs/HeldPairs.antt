@@ -27,7 +27,7 @@ use Rattle.text.specs.ReadCode.{Standing, Wrote, Listed, Words}
 use Rattle.text.specs.Holding.{Holds, Allows, PairTurn, rowBlocks, rowsOf, pairsOf, pairsAt, rowsAt, pairAt}
 use Rattle.text.specs.Holding.{pairOf, withPair, onePairMore}
 use Rattle.text.proofs.Reading.{need-met, need-went}
-use Rattle.text.proofs.Growing.{later-pair}
+use Rattle.text.proofs.Growing.{pairs-order, later-behind}
 use Rattle.text.proofs.LineTurns.{need-fails}
 use Rattle.text.proofs.WroteWords.{stands, stays-before, stays-behind}
 use Rattle.text.proofs.Dispatch.{differ-place}
@@ -102,7 +102,7 @@ module _ {d : Draft} {w : List ℕ} {c : Counts} (h : Holds d w c) where
       let lower : getD w (at + 1) 0 ≡ getD (d .current .pairs) k noPair .lower = stand 1 (omega arith) in
       let higher : getD w (at + 2) 0 ≡ getD (d .current .pairs) k noPair .higher = stand 2 (omega arith) in
       ap₂ (λ (x y : ℕ). pairLess (record { lower = x; higher = y }) q) lower higher ∙
-      sym (later-pair (d .current .pairs) q k noPair (omega arith))
+      sym (later-behind pairs-order (d .current .pairs) q k noPair (omega arith))
 
 -- ---- the tests of a pair
 module _ (d : Draft) (ns : List ℕ) where

@@ -11,8 +11,10 @@ use Rattle.task.specs.Task.{Task}
 use Rattle.text.specs.Lines.{newline, Taken, taken, andThen, after, ended, Entry, entry}
 use Rattle.text.specs.Reading.{Turn, goOn, finish, refuse, need, Reading, atEnd, turnAt, lineAt, refusedAt}
 use Rattle.text.specs.Text.{Line, Draft, takeLine}
-use Rattle.text.specs.ReadCode.{whole, rest, EntryLine}
+use Rattle.text.specs.ReadCode.{whole, rest, Listed, ListLine, ListLineAt, EntryLine}
 use Rattle.text.specs.Holding.{Next, Refuses, Holds, GoesOn, Checked, entryOf}
+use Rattle.text.specs.declared.lists.List.{List as Listing}
+use Rattle.text.specs.declared.lists.List.the-variants as list
 use Rattle.text.specs.declared.cursor.Cursor.{Cursor}
 use Rattle.text.specs.declared.draft.Check.{Check}
 use Rattle.text.specs.declared.draft.Counts.{Counts}
@@ -103,6 +105,25 @@ module _ {A : Type 0} (says : A → Line) (d : Draft) (o : Option (Taken A)) whe
     pub line-ends : (t : Task) → takeLine d (says a) ≡ finish t → (n : ℕ) (next : Next) →
         lineAt n (takeLine d) (ended says o) next ≡ atEnd t (suc n) left
     line-ends t q n next = turn-ends says o (takeLine d) a left h n next t q
+
+-- ---- lines that have a list
+-- there is none
+pub no-list : (says : List ℕ → Line) (d : Draft) (text : List ℕ) (from : Cursor) (body : Option (Taken (List ℕ)))
+    (kept : List ℕ) {found : Listing} → found ≡ list.Missing → ListLineAt text from body kept found →
+    Refuses d (ended says body) 3
+no-list says d text from body kept e read = no-line says d body (subst (ListLineAt text from body kept) e read)
+
+-- or its check refuses
+module _ (says : List ℕ → Line) {text kept : List ℕ} {from : Cursor} {body : Option (Taken (List ℕ))} where
+  pub list-refused : {count : ℕ} {next : Cursor} (read : ListLine text from body count kept next)
+      (Told : Draft → List ℕ → Check → Type 0) {told : Check} {k : ℕ} → told ≡ check.Refuses k →
+      ((d : Draft) → Told d (read .ns) (check.Refuses k) → takeLine d (says (read .ns)) ≡ refuse k) →
+      {w : List ℕ} {c : Counts} →
+      ((d : Draft) (ns : List ℕ) → Holds d w c → Listed ns count kept → Told d ns told) →
+      (d : Draft) → Holds d w c → Refuses d (ended says body) k
+  list-refused read Told {k = k} e refuses checked d h =
+      line-refused says d body _ _ (read .is) k
+      (refuses d (subst (Told d (read .ns)) e (checked d (read .ns) h (read .listed))))
 
 -- ---- lines that have an atom
 module _ (says : Entry → Line) (d : Draft) {text kept : List ℕ} {from next : Cursor} {p count : ℕ}

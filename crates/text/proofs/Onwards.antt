@@ -6,6 +6,8 @@ use mathlib.Core.List.{List, [], _∷_, _++_, map, append-nil}
 use native.Mathlib.Omega.{arith}
 use lib.ListN.{length, getD, length-append}
 use Rattle.words.specs.Lists.{upTo, upFrom, concatMap}
+use Rattle.words.specs.Putting.{Puts}
+use Rattle.words.proofs.Puts.{Going, going-left, going-room, going-on, going-end}
 use Rattle.text.specs.Lines.{comma, digits, commaed}
 use Rattle.text.specs.TableLines.{spaced}
 
@@ -36,6 +38,21 @@ onwards-longer piece k n h =
 
 pub onwards-short : (piece : ℕ → List ℕ) (k n : ℕ) → n ≤ k → length (onwards piece k n) ≡ 0
 onwards-short piece k n h = ap length (onwards-none piece k n h)
+
+-- ---- pieces put by a counter
+module _ {w whole v : List ℕ} {at next : ℕ} (piece : ℕ → List ℕ) (k n : ℕ)
+    (going : Going w at whole (onwards piece k n) v next) where
+  -- piece k comes next, so it has room; once it is put, those from k + 1 on are to come
+  pub piece-room : k < n → next + length (piece k) ≤ length v
+  piece-room h = going-room (piece k) (onwards piece (k + 1) n) (going-left (onwards-next piece k n h) going)
+
+  pub piece-put : {u : List ℕ} {end : ℕ} → k < n → Puts v next (piece k) u end →
+      Going w at whole (onwards piece (k + 1) n) u end
+  piece-put h p = going-on (going-left (onwards-next piece k n h) going) p
+
+  -- behind the last piece the whole is put
+  pub pieces-end : n ≤ k → Puts w at whole v next
+  pieces-end h = going-end (going-left (onwards-none piece k n h) going)
 
 -- ---- lists of numbers
 -- number k of a spaced list, behind its comma

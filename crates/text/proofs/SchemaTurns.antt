@@ -26,6 +26,10 @@ pub record Turn (w : List ℕ) (schemas pair pairs-left atom atoms-left s : ℕ)
   pub pairs : RowsLeft pairSize (pairsBase w) (headIn w .pairs) (pairStart (taskOf w)) s pair pairs-left
   pub atoms : RowsLeft atomSize (rowsBase w) (headIn w .schemaAtoms) (startOf (taskOf w)) s atom atoms-left
 
+-- a turn's rows: its pairs and its atoms, where they begin and how many there are
+abbrev pub rowsFrom : ℕ → ℕ → ℕ → ℕ → Rows
+rowsFrom pair pairs atom atoms = record { pair = pair; pairs = pairs; atom = atom; atoms = atoms }
+
 -- what such a turn finds: rows in the table whose lines are those of its schema, and where the next turn stands
 pub record Found (w : List ℕ) (schemas pairs-left atoms-left s : ℕ) (rows : Rows) : Type 0 where
   pub inside : RowsInside w rows
@@ -61,9 +65,6 @@ module _ {w : List ℕ} (table : isTable w ≡ true) where
 
     module _ {m n : ℕ} (h : s < schemas) (pairs-run : SchemaRun w pairSize pair pairs-left s m)
         (atoms-run : SchemaRun w atomSize atom atoms-left s n) where
-      abbrev rowsOf : Rows
-      rowsOf = record { pair = pair; pairs = m; atom = atom; atoms = n }
-
       known : s < headIn w .schemas
       known = let e = turn .schemas-are in omega arith
 
@@ -78,7 +79,7 @@ module _ {w : List ℕ} (table : isTable w ≡ true) where
           subst (AtomInside w) (row-begin (atom-block w table) (turn .atoms) k)
           (each-inside w table (startOf (taskOf w) s + k) (omega arith))
 
-      turn-lines : schemaLinesIn w s ≡ schemaTextOf w (paramsIn w s) rowsOf
+      turn-lines : schemaLinesIn w s ≡ schemaTextOf w (paramsIn w s) (rowsFrom pair m atom n)
       unfolding pairBase atomBase
       turn-lines =
           let pairs = run-long (pair-block w table) (turn .pairs) known pairs-run in
@@ -86,12 +87,12 @@ module _ {w : List ℕ} (table : isTable w ≡ true) where
           let there : ℕ = atomBase w (startOf (taskOf w) s) in
           let many : ℕ = length (schemaAt (taskOf w) s .atoms) in
           schema-lines w table s known ∙
-          (ap₂ (λ (p k : ℕ). schemaTextOf w (paramsIn w s) (record { pair = p; pairs = k; atom = there; atoms = many }))
+          (ap₂ (λ (p k : ℕ). schemaTextOf w (paramsIn w s) (rowsFrom p k there many))
           (sym (turn .pairs .begin)) (sym pairs) ∙
-          ap₂ (λ (b k : ℕ). schemaTextOf w (paramsIn w s) (record { pair = pair; pairs = m; atom = b; atoms = k }))
+          ap₂ (λ (b k : ℕ). schemaTextOf w (paramsIn w s) (rowsFrom pair m b k))
           (sym (turn .atoms .begin)) (sym atoms))
 
-      pub turn-found : Found w schemas pairs-left atoms-left s rowsOf
+      pub turn-found : Found w schemas pairs-left atoms-left s (rowsFrom pair m atom n)
       turn-found = record {
         inside =
             let e = atoms-end in

@@ -23,7 +23,7 @@ use Rattle.text.specs.Text.{closeSchema, pairFollows, follows, addFact}
 use Rattle.text.specs.Holding.{pairOf}
 use Rattle.text.proofs.Reading.{need-went}
 use Rattle.text.proofs.Growing.{all-snoc, more-room, more-facts, lastRole-snoc, roles-snoc, distinct-snoc}
-use Rattle.text.proofs.Growing.{pairs-snoc}
+use Rattle.text.proofs.Growing.{ascends-snoc, pairs-order}
 use Rattle.text.proofs.Parts.{bare, all-map, roles-bare, distinct-bare, allNamedIn, named-bare, parts-are}
 use Rattle.text.proofs.Parts.{parts-same, below-count}
 use Rattle.text.proofs.TaskWritten.{draft, atomLines, pairLines, schemaAtoms-part, schemaPairs-part}
@@ -128,7 +128,7 @@ pair-next t c ns e o none h =
       apart = o .apart;
       pairs-total = omega arith;
       pairs-fit = all-snoc (pairFits (c .params)) (c .pairs) q (o .pairs-fit) k₃;
-      pairs-order = pairs-snoc (c .pairs) q (o .pairs-order) k₄;
+      pairs-order = ascends-snoc pairs-order (c .pairs) q (o .pairs-order) k₄;
     } in
     let lines : opened s ≡ opened c ++ (differLine ns ∷ []) =
     opened-pair c q none ∙

@@ -29,7 +29,7 @@ use Rattle.text.proofs.Reading.{need-met, Leads, comes-last, goes-on, l
 use Rattle.text.proofs.TaskLines.{says-task, says-objects, says-arity, says-schema, says-differ, says-pre}
 use Rattle.text.proofs.TaskLines.{says-add, says-del, says-part, says-init, says-goal, says-end, May, task-exact}
 use Rattle.text.proofs.Growing.{prefix, room-for, lastRole, lastRole-snoc, snoc-roles, snoc-distinct}
-use Rattle.text.proofs.Growing.{snoc-ascending, snoc-pairs}
+use Rattle.text.proofs.Growing.{snoc-ascends, facts-order, pairs-order}
 use Rattle.text.proofs.Parts.{bare, partOf, all-map, roles-bare, distinct-bare, named-bare, parts-back}
 use Rattle.text.proofs.Parts.{count-below}
 
@@ -52,10 +52,10 @@ pub next-fact : (n : ℕ) (ns : List ℕ) (whole fs : List Fact) (f : Fact) (mor
     factsFit n ns whole ≡ true → whole ≡ fs ++ (f ∷ more) → NextFact n ns fs f
 next-fact n ns whole fs f more h e =
     let c = fact-tests n ns whole h in
-    let upto = prefix (λ xs. ascending xs ≡ true) (λ xs x k. snoc-ascending xs x k .0) (fs ++ (f ∷ [])) more in
+    let upto = prefix (λ xs. ascending xs ≡ true) (λ xs x k. snoc-ascends facts-order xs x k .0) (fs ++ (f ∷ [])) more in
     record {
       fit = all-in (fits n ns) (rw e at (c .fit)) (in-right fs (here refl));
-      after = snoc-ascending fs f (upto (rw (append-eq fs f more e) at (c .order))) .1;
+      after = snoc-ascends facts-order fs f (upto (rw (append-eq fs f more e) at (c .order))) .1;
     }
 
 -- the numbers of an atom that fits have at most 5 digits
@@ -235,8 +235,8 @@ module _ (u t : Task) (n : ℕ) (whole : List Pair) (c : PairTests t n whole) (f
   pairs-lead xs [] e = let z : xs ≡ whole = sym (append-nil xs) ∙ sym e in rw z r
   pairs-lead xs (q ∷ ys) e =
       let g : whole ≡ (xs ++ (q ∷ [])) ++ ys = append-eq xs q ys e in
-      let after : pairFollows xs q ≡ true = snoc-pairs xs q
-      (prefix (λ xs. pairsAscend xs ≡ true) (λ xs x h. snoc-pairs xs x h .0) (xs ++ (q ∷ [])) ys
+      let after : pairFollows xs q ≡ true = snoc-ascends pairs-order xs q
+      (prefix (λ xs. pairsAscend xs ≡ true) (λ xs x h. snoc-ascends pairs-order xs x h .0) (xs ++ (q ∷ [])) ys
       (rw g at (c .order))) .1 in
       let fit : pairFits n q ≡ true = all-in (pairFits n) (rw e at (c .fit)) (in-right xs (here refl)) in
       let room : schemaPairs (t .schemas) + length xs < mostPairs =

@@ -4,10 +4,9 @@ use Rattle.task.specs.Limits.{atomSize}
 use native.Mathlib.Omega.{arith}
 use Prim.Native.Nat.{_+_, _-_, _*_, _≤_}
 use mathlib.Core.Path.{sym}
-use mathlib.Core.List.{_++_}
 use Rattle.text.specs.TableLines.{AtomInside, atomsText}
-use Rattle.words.proofs.Puts.{Going, going-start, going-long, going-left, going-room, going-on, going-end}
-use Rattle.text.proofs.Onwards.{onwards, onwards-next, onwards-none}
+use Rattle.words.proofs.Puts.{Going, going-start, going-long, going-left}
+use Rattle.text.proofs.Onwards.{onwards, piece-room, piece-put, pieces-end}
 use Rattle.text.proofs.AtomLines.{atomLine, atoms-onwards}
 use Rattle.text.proofs.writer.put_atoms.Statement.{statement}
 use Rattle.text.proofs.writer.put_atoms.Tie as tie
@@ -36,19 +35,6 @@ atom-inside : (c : tie.In-loop Inv-loop μ-loop) →
     AtomInside (args .table .now) (args .base + atomSize * c .before .loop .k)
 atom-inside c = start (c .before) .pre .0 (c .before .loop .k) (c .loop-test .taken)
 
--- what is to come is the line of atom k, and then those from k + 1 on
-to-come : (c : tie.In-loop Inv-loop μ-loop) →
-    let args = start (c .before) .args in
-    let lines = atomLine (args .table .now) (args .base) in
-    let k = c .before .loop .k in
-    Going (args .text .now) (args .at) (atomsText (args .table .now) (args .base) (args .n))
-    (lines k ++ onwards lines (k + 1) (args .n)) (c .before .loop .text) (c .before .loop .next)
-to-come c =
-    let args = start (c .before) .args in
-    going-left (onwards-next (atomLine (args .table .now) (args .base)) (c .before .loop .k) (args .n)
-    (c .loop-test .taken))
-    (c .before .loop .inv .1)
-
 mul-put-atom : tie.Need-mul-put-atom Inv-loop μ-loop
 mul-put-atom c = let h = atom-inside (c .before) in omega arith
 
@@ -58,15 +44,20 @@ add-put-atom c = let h = atom-inside (c .before) in omega arith
 put-atom-requires : tie.Need-put-atom-requires Inv-loop μ-loop
 put-atom-requires c κs =
     let at-loop = c .before .before in
-    let args = start at-loop .args in
-    let lines = atomLine (args .table .now) (args .base) in (
+    let args = start at-loop .args in (
       atom-inside (c .before),
-      going-room (lines (at-loop .loop .k)) (onwards lines (at-loop .loop .k + 1) (args .n)) (to-come (c .before)),
+      piece-room (atomLine (args .table .now) (args .base)) (at-loop .loop .k) (args .n) (at-loop .loop .inv .1)
+          (c .before .loop-test .taken),
     )
 
 loop-again : tie.Need-loop-again Inv-loop μ-loop
 loop-again c =
-    (omega arith, going-on (to-come (c .before .before .before .before)) (c .before .before .put-atom .ensures))
+    let turn = c .before .before .before .before in
+    let args = start (turn .before) .args in (
+      omega arith,
+      piece-put (atomLine (args .table .now) (args .base)) (turn .before .loop .k) (args .n)
+          (turn .before .loop .inv .1) (turn .loop-test .taken) (c .before .before .put-atom .ensures),
+    )
 
 same-length : tie.Need-same-length Inv-loop μ-loop
 same-length c = going-long (c .before .loop .inv .1)
@@ -74,8 +65,8 @@ same-length c = going-long (c .before .loop .inv .1)
 returns : tie.Need-returns Inv-loop μ-loop
 returns c =
     let args = start (c .before) .args in
-    let none = onwards-none (atomLine (args .table .now) (args .base)) (c .before .loop .k) (args .n) (omega arith) in
-    going-end (going-left none (c .before .loop .inv .1))
+    pieces-end (atomLine (args .table .now) (args .base)) (c .before .loop .k) (args .n) (c .before .loop .inv .1)
+    (omega arith)
 
 pub put-atoms-spec : {M : Type 1} → statement M
 put-atoms-spec =

@@ -3,12 +3,11 @@
 use native.Mathlib.Omega.{arith}
 use Prim.Native.Nat.{_+_, _-_, _≤_}
 use mathlib.Core.Path.{sym}
-use mathlib.Core.List.{_++_}
 use Rattle.text.specs.Lines.{bytes, line}
 use Rattle.text.specs.TableLines.{pairsText}
 use borrow.Author.Needs.{needs}
-use Rattle.words.proofs.Puts.{Going, going-start, going-long, going-left, going-room, going-on, going-end}
-use Rattle.text.proofs.Onwards.{onwards, onwards-next, onwards-none}
+use Rattle.words.proofs.Puts.{Going, going-start, going-long, going-left}
+use Rattle.text.proofs.Onwards.{onwards, piece-room, piece-put, pieces-end}
 use Rattle.text.proofs.SchemaLines.{pairLine, pairs-onwards, pair-inside}
 use Rattle.text.proofs.writer.put_pairs.Statement.{statement}
 use Rattle.text.proofs.writer.put_pairs.Tie as tie
@@ -32,19 +31,6 @@ loop-holds c =
 abbrev start : tie.At-loop Inv-loop μ-loop → tie.Start Inv-loop μ-loop
 start c = c .before .before .before
 
--- what is to come is the line of pair k, and then those from k + 1 on
-to-come : (c : tie.In-loop Inv-loop μ-loop) →
-    let args = start (c .before) .args in
-    let lines = pairLine (args .table .now) (args .base) in
-    let k = c .before .loop .k in
-    Going (args .text .now) (args .at) (pairsText (args .table .now) (args .base) (args .m))
-    (lines k ++ onwards lines (k + 1) (args .m)) (c .before .loop .text) (c .before .loop .next)
-to-come c =
-    let args = start (c .before) .args in
-    going-left (onwards-next (pairLine (args .table .now) (args .base)) (c .before .loop .k) (args .m)
-    (c .loop-test .taken))
-    (c .before .loop .inv .1)
-
 mul-put-list-line : tie.Need-mul-put-list-line Inv-loop μ-loop
 mul-put-list-line c = omega (arith, start (c .before .before .before) .pre .0)
 
@@ -58,12 +44,11 @@ put-list-line-requires : tie.Need-put-list-line-requires Inv-loop μ-loop
 unfolding line bytes
 put-list-line-requires c κs =
     let at-loop = c .before .before .before in
-    let args = start at-loop .args in
-    let lines = pairLine (args .table .now) (args .base) in (
+    let args = start at-loop .args in (
       pair-inside (args .table .now) (args .base) (start at-loop .pre .0) (at-loop .loop .k)
           (c .before .before .loop-test .taken),
-      going-room (lines (at-loop .loop .k)) (onwards lines (at-loop .loop .k + 1) (args .m))
-          (to-come (c .before .before)),
+      piece-room (pairLine (args .table .now) (args .base)) (at-loop .loop .k) (args .m) (at-loop .loop .inv .1)
+          (c .before .before .loop-test .taken),
     )
 
 loop-again : tie.Need-loop-again Inv-loop μ-loop
@@ -72,8 +57,8 @@ loop-again c =
     let turn = c .before .before .before .before .before in
     let args = start (turn .before) .args in (
       omega arith,
-      going-on {ys = pairLine (args .table .now) (args .base) (turn .before .loop .k)} (to-come turn)
-          (c .before .before .put-list-line .ensures),
+      piece-put (pairLine (args .table .now) (args .base)) (turn .before .loop .k) (args .m)
+          (turn .before .loop .inv .1) (turn .loop-test .taken) (c .before .before .put-list-line .ensures),
     )
 
 same-length : tie.Need-same-length Inv-loop μ-loop
@@ -82,8 +67,8 @@ same-length c = going-long (c .before .loop .inv .1)
 returns : tie.Need-returns Inv-loop μ-loop
 returns c =
     let args = start (c .before) .args in
-    let none = onwards-none (pairLine (args .table .now) (args .base)) (c .before .loop .k) (args .m) (omega arith) in
-    going-end (going-left none (c .before .loop .inv .1))
+    pieces-end (pairLine (args .table .now) (args .base)) (c .before .loop .k) (args .m) (c .before .loop .inv .1)
+    (omega arith)
 
 pub put-pairs-spec : {M : Type 1} → statement M
 put-pairs-spec =

@@ -10,7 +10,8 @@ use lib.ListN.{length}
 use Rattle.text.specs.declared.writer.Rows.{Rows}
 use Rattle.text.specs.TableLines.{schemaTextOf, schemasText}
 use Rattle.text.proofs.TableText.{schemaLinesIn, schemas-onwards}
-use Rattle.text.proofs.SchemaTurns.{Turn, turn-first, pairs-read, atoms-read, count-inside, Found, turn-found}
+use Rattle.text.proofs.SchemaTurns.{Turn, rowsFrom, turn-first, pairs-read, atoms-read, count-inside, Found}
+use Rattle.text.proofs.SchemaTurns.{turn-found}
 use Rattle.words.proofs.Puts.{puts-same, Going, going-start, going-long, going-left, going-room, going-on, going-end}
 use Rattle.text.proofs.Onwards.{onwards, onwards-next, onwards-none}
 use Rattle.text.proofs.writer.put_schemas.Statement.{statement}
@@ -83,12 +84,7 @@ abbrev turn : tie.After-rows-of2 Inv-loop μ-loop → tie.At-loop Inv-loop μ-lo
 turn c = c .before .before .before
 
 abbrev rows : tie.After-rows-of2 Inv-loop μ-loop → Rows
-rows c = record {
-  pair = turn c .loop .pair;
-  pairs = c .before .rows-of .result;
-  atom = turn c .loop .atom;
-  atoms = c .rows-of2 .result;
-}
+rows c = rowsFrom (turn c .loop .pair) (c .before .rows-of .result) (turn c .loop .atom) (c .rows-of2 .result)
 
 found : (c : tie.After-rows-of2 Inv-loop μ-loop) →
     Found (words (turn c)) (schemas (turn c)) (turn c .loop .pairs-left) (turn c .loop .atoms-left) (turn c .loop .s)

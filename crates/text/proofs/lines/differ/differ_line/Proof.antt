@@ -12,7 +12,7 @@ use Rattle.text.proofs.HeldAtoms.{untouched, inside-touched}
 use Rattle.text.proofs.HeldPairs.{pair-inside, pair-numbers, pair-put}
 use Rattle.text.proofs.TableRoom.{in-table}
 use Rattle.text.proofs.WholeLines.{list-placed}
-use Rattle.text.proofs.LineTurns.{no-line, line-refused, line-goes-on}
+use Rattle.text.proofs.LineTurns.{no-list, list-refused, line-goes-on}
 use Rattle.text.proofs.lines.differ.differ_line.Statement.{statement}
 
 -- ---- the list that was read
@@ -41,33 +41,29 @@ passes k d h =
     subst (PairTurn d (read (lists k) .ns)) (k .enum-told2 .given .1)
     (k .before .before .check-pair .ensures d (read (lists k) .ns) h (read (lists k) .listed))
 
--- and it is put
+-- ---- the answers
+list-line-requires : tie.Need-list-line-requires
+list-line-requires c κs = search list-placed
+
+returns : tie.Need-returns
+returns c =
+    let none = c .before .before .list-line .ensures _ _ _ (c .before .before .before .before .numbers .ensures) in
+    (untouched _, λ d h. no-list differLine d _ _ _ _ (c .enum-told .given .1) none)
+
+returns-2 : tie.Need-returns-2
+unfolding takeLine
+returns-2 c =
+    let list = read (c .before .before .before .before .before .before .before) in
+    let checked = c .before .before .before .check-pair .ensures in
+    (untouched _, list-refused differLine list PairTurn (c .before .check .given .1) (λ d q. q) checked)
+
+-- once the check has passed, the pair's words are put
 abbrev checked : tie.After-row → tie.After-enum-told2
 checked c = c .before .before .before .before
 
 held : (c : tie.After-row) →
     Drafted (begun (lists (checked c)) .args .table .now) (begun (lists (checked c)) .args .counts)
 held c = begun (lists (checked c)) .pre .1 .0
-
--- ---- the answers
-list-line-requires : tie.Need-list-line-requires
-list-line-requires c κs =
-    list-placed (c .before .before .before .before .before .pre .0) _ _ (c .before .numbers .ensures)
-
-returns : tie.Need-returns
-returns c =
-    let none = c .before .before .list-line .ensures _ _ _ (c .before .before .before .before .numbers .ensures) in
-    (untouched _, λ d h. no-line differLine d _ (subst (ListLineAt _ _ _ _) (c .enum-told .given .1) none))
-
-returns-2 : tie.Need-returns-2
-unfolding takeLine
-returns-2 c =
-    let list = read (c .before .before .before .before .before .before .before) in (
-      untouched _,
-      λ d h. line-refused differLine d _ _ _ (list .is) _
-          (subst (PairTurn d (list .ns)) (c .before .check .given .1)
-          (c .before .before .before .check-pair .ensures d (list .ns) h (list .listed))),
-    )
 
 put-words-requires : tie.Need-put-words-requires
 put-words-requires c κs =

@@ -11,7 +11,7 @@ use Rattle.task.specs.Task.{Pair, pairLess}
 use Rattle.task.proofs.PairOrder.{less-lower, less-higher}
 use Rattle.text.specs.Text.{Draft, pairFollows}
 use Rattle.text.specs.Holding.{Holds, pairAt}
-use Rattle.text.proofs.Growing.{first-pair}
+use Rattle.text.proofs.Growing.{pairs-order, first-behind}
 use Rattle.text.proofs.HeldPairs.{last-inside, follows-last}
 use Rattle.text.proofs.lines.differ.follows.Statement.{statement}
 
@@ -42,7 +42,7 @@ compared p d h =
 
 -- ---- the answers
 returns : tie.Need-returns
-returns c = λ d h. let e = h .apart in let z = c .if1 .taken in sym (first-pair (d .current .pairs) _ (omega arith))
+returns c = λ d h. let e = h .apart in let z = c .if1 .taken in sym (first-behind pairs-order (d .current .pairs) _ (omega arith))
 
 shared-slice-read-before : tie.Need-shared-slice-read-before
 shared-slice-read-before c =

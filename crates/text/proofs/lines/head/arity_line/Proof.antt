@@ -15,7 +15,7 @@ use Rattle.words.proofs.Words.{each-first}
 use Rattle.text.proofs.RowTests.{listed-take}
 use Rattle.text.proofs.HeldAtoms.{untouched, inside-touched}
 use Rattle.text.proofs.WholeLines.{list-placed}
-use Rattle.text.proofs.LineTurns.{no-line, line-refused, line-goes-on}
+use Rattle.text.proofs.LineTurns.{no-list, line-refused, line-goes-on}
 use Rattle.text.proofs.HeldArities.{low-arities, too-many-predicates, arity-too-high, arities-taken}
 use Rattle.text.proofs.HeldArities.{arities-held}
 use Rattle.text.proofs.lines.head.arity_line.Statement.{statement}
@@ -50,13 +50,12 @@ low b =
 
 -- ---- the answers
 list-line-requires : tie.Need-list-line-requires
-list-line-requires c κs =
-    list-placed (c .before .before .before .before .before .pre .0) _ _ (c .before .numbers .ensures)
+list-line-requires c κs = search list-placed
 
 returns : tie.Need-returns
 returns c =
     let none = c .before .before .list-line .ensures _ _ _ (c .before .before .before .before .numbers .ensures) in
-    (untouched _, λ d h. no-line arityLine d _ (subst (ListLineAt _ _ _ _) (c .enum-told .given .1) none))
+    (untouched _, λ d h. no-list arityLine d _ _ _ _ (c .enum-told .given .1) none)
 
 returns-2 : tie.Need-returns-2
 returns-2 c =

@@ -20,7 +20,7 @@ use Rattle.text.proofs.HeldAtoms.{untouched}
 use Rattle.text.proofs.HeldSchemas.{schema-closed, closing-touched, schema-room}
 use Rattle.text.proofs.TableRoom.{params-inside}
 use Rattle.text.proofs.WholeLines.{list-placed}
-use Rattle.text.proofs.LineTurns.{no-line, line-refused, line-goes-on}
+use Rattle.text.proofs.LineTurns.{no-list, list-refused, line-goes-on}
 use Rattle.text.proofs.lines.part.part_line.Statement.{statement}
 use Prim.Native.Nat.{ℕ}
 use mathlib.Core.List.{List}
@@ -67,23 +67,19 @@ held c = start c .pre .1 .0
 
 -- ---- the answers
 list-line-requires : tie.Need-list-line-requires
-list-line-requires c κs =
-    list-placed (c .before .before .before .before .before .pre .0) _ _ (c .before .listing .ensures)
+list-line-requires c κs = search list-placed
 
 returns : tie.Need-returns
 returns c =
     let none = c .before .before .list-line .ensures _ _ _ (c .before .before .before .before .listing .ensures) in
-    (untouched _, λ d h. no-line partLine d _ (subst (ListLineAt _ _ _ _) (c .enum-told .given .1) none))
+    (untouched _, λ d h. no-list partLine d _ _ _ _ (c .enum-told .given .1) none)
 
 returns-2 : tie.Need-returns-2
 unfolding takeLine
 returns-2 c =
-    let list = read (c .before .before .before .before .before .before .before) in (
-      untouched _,
-      λ d h. line-refused partLine d _ _ _ (list .is) _
-          (subst (PartsTurn d (list .ns)) (c .before .check .given .1)
-          (c .before .before .before .check-parts .ensures d (list .ns) h (list .listed))),
-    )
+    let list = read (c .before .before .before .before .before .before .before) in
+    let checked = c .before .before .before .check-parts .ensures in
+    (untouched _, list-refused partLine list PartsTurn (c .before .check .given .1) (λ d q. q) checked)
 
 put-parts-requires : tie.Need-put-parts-requires
 put-parts-requires c κs =
