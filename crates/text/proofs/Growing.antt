@@ -10,7 +10,7 @@ use lib.ListN.{length, getD, length-append}
 use lib.Dec.{eqb, ltb, leb}
 use borrow.Author.Tests.{ltb-true, leb-true, eqb-true, not-true, lt-ltb, le-leb, eq-eqb}
 use Rattle.words.specs.Lists.{all, any, eqList, lastOr}
-use Rattle.task.specs.Task.{Atom, Fact, Pair, sameAtom, distinct, rolesAscend, ascending, factLess, factsFit, pairLess}
+use Rattle.task.specs.Task.{Atom, Fact, sameAtom, distinct, rolesAscend, ascending, factLess, factsFit, pairLess}
 use Rattle.task.specs.Task.{pairsAscend}
 use Rattle.words.proofs.Lists.{both-ft, and-left, and-right, and-both, false-if, In, here, there, in-empty, in-left}
 use Rattle.words.proofs.Lists.{in-right, in-append, any-in, in-any, eqList-refl, eqList-eq}
@@ -139,7 +139,8 @@ snoc-distinct (x ∷ bs) a h =
 
 -- ---- in order
 -- a list that ascends, each element beside the next, and whether one more comes behind its last
-pub record Order {A : Type 0} (less : A → A → Bool) (ascends : List A → Bool) (behind : List A → A → Bool) : Type 0 where
+pub record Order {A : Type 0} (less : A → A → Bool) (ascends : List A → Bool) (behind : List A → A → Bool) :
+    Type 0 where
   pub empty : ascends [] ≡ true
   pub one : (x : A) → ascends (x ∷ []) ≡ true
   pub more : (x y : A) (xs : List A) → ascends (x ∷ y ∷ xs) ≡ less x y && ascends (y ∷ xs)

@@ -139,7 +139,13 @@ module _ (t : Task) where
       let x : Step = record { schema = a .head; objects = a .list } in
       let (k₁, h₁) = need-went (ltb (length xs) mostPlanSteps) 4 _ ys h in
       let (k₂, h₂) = need-went (isChoice t x) 5 (goOn (xs ++ (x ∷ []))) ys h₁ in
-      record { taken-step = x; line-is = refl; room = ltb-true (length xs) mostPlanSteps k₁; is-choice = k₂; grown = cc }
+      record {
+        taken-step = x;
+        line-is = refl;
+        room = ltb-true (length xs) mostPlanSteps k₁;
+        is-choice = k₂;
+        grown = cc;
+      }
   step-line xs (endLine n) ys h =
       let (k, h₁) = need-went (eqb n 1) 3 (finish xs) ys h in
       absurd (let z : _≡_ {A = ℕ} 0 1 = cc in omega arith)
@@ -154,7 +160,8 @@ module _ (t : Task) where
   plan-found (goes-on {d = xs} {e = zs} {l = l} {ls = ls} m h w) all-choices few =
       let s = step-line xs l zs h in
       let x = s .taken-step in
-      let choices : all (isChoice t) zs ≡ true = rw (← (s .grown)) (all-snoc (isChoice t) xs x all-choices (s .is-choice)) in
+      let choices : all (isChoice t) zs ≡ true =
+      rw (← (s .grown)) (all-snoc (isChoice t) xs x all-choices (s .is-choice)) in
       let count : length zs ≤ mostPlanSteps =
       let room = s .room in let g = ap length (s .grown) in omega (arith, length-append xs (x ∷ [])) in
       let f = plan-found w choices count in

@@ -1,7 +1,7 @@
 -- The schemas of a table, one turn of a loop each: where a turn stands, that all it reads lies in the table, that
 -- what it writes is the lines of its schema, and where the next one stands.
 use Prim.Native.Nat.{ℕ, _+_, _-_, _*_, _≤_, _<_}
-use mathlib.Core.Path.{_≡_, sym, _∙_, ap₂, subst}
+use mathlib.Core.Path.{_≡_, sym, _∙_, ap, ap₂, subst}
 use mathlib.Core.Bool.{true}
 use mathlib.Core.List.{List}
 use native.Mathlib.Omega.{arith}
@@ -37,6 +37,12 @@ pub record Found (w : List ℕ) (schemas pairs-left atoms-left s : ℕ) (rows : 
   pub lines : schemaLinesIn w s ≡ schemaTextOf w (paramsIn w s) rows
   pub next : Turn w schemas (rows .pair + pairSize * rows .pairs) (pairs-left - rows .pairs)
       (rows .atom + atomSize * rows .atoms) (atoms-left - rows .atoms) (s + 1)
+
+-- its lines, by the parameter count that was read
+pub lines-read : {w : List ℕ} {schemas pairs-left atoms-left s params : ℕ} {rows : Rows} →
+    Found w schemas pairs-left atoms-left s rows → params ≡ paramsIn w s →
+    schemaTextOf w params rows ≡ schemaLinesIn w s
+lines-read {w} {rows = rows} found e = ap (λ (p : ℕ). schemaTextOf w p rows) e ∙ sym (found .lines)
 
 module _ {w : List ℕ} (table : isTable w ≡ true) where
   pub turn-first : {schemas pair pairs-left atom atoms-left : ℕ} → schemas ≡ headIn w .schemas →

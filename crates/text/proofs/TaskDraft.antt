@@ -15,10 +15,10 @@ use Rattle.words.proofs.Lists.{In, here, there, append-concatMap, map-append}
 use Rattle.task.proofs.Tests.{TaskTests}
 use Rattle.text.specs.Reading.{goOn}
 use Rattle.text.specs.Text.{differLine, atomLine, atomEntry, pairList, Key, task, objects, arity, schema, differ}
-use Rattle.text.specs.Text.{pre, add, del, part, init, goal, end, Line, taskLine, objectsLine, schemaLine, endLine}
-use Rattle.text.specs.Text.{arityLine, initLine, goalLine, factEntry, schemaLines, taskLines, Phase, atTask}
-use Rattle.text.specs.Text.{atObjects, atArity, between, inDiffer, inPre, inAdd, inDel, inInit, inGoal, keysAt}
-use Rattle.text.specs.Text.{rolePhase, Draft, TaskTurn, withSchemas, withInit, withGoal}
+use Rattle.text.specs.Text.{pre, add, del, part, init, goal, end, Line, taskLine, objectsLine, schemaLine}
+use Rattle.text.specs.Text.{endLine, arityLine, initLine, goalLine, factEntry, schemaLines, taskLines, Phase}
+use Rattle.text.specs.Text.{atTask, atObjects, atArity, between, inDiffer, inPre, inAdd, inDel, inInit, inGoal}
+use Rattle.text.specs.Text.{keysAt, rolePhase, Draft, TaskTurn, withSchemas, withInit, withGoal}
 use Rattle.text.proofs.Growing.{lastRole}
 use Rattle.text.proofs.TaskWritten.{initLines, goalLines, atomLines, pairLines}
 

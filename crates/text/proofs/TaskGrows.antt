@@ -11,15 +11,16 @@ use lib.Dec.{eqb, ltb, leb}
 use borrow.Author.Tests.{ltb-true, eqb-true, lt-ltb, le-leb}
 use Rattle.words.specs.Lists.{all, any, sum}
 use Rattle.task.specs.Limits.{mostPairs}
-use Rattle.task.specs.Task.{factsFit, Atom, Fact, Pair, Schema, Task, argsFit, sameAtom, distinct, rolesAscend}
-use Rattle.task.specs.Task.{schemaFits, allNamed, noGap, schemaAtoms, schemaPairs, pairFits, noSchema, withPairs, withAtoms}
+use Rattle.task.specs.Task.{factsFit, Atom, Fact, Schema, Task, argsFit, sameAtom, distinct, rolesAscend}
+use Rattle.task.specs.Task.{schemaFits, allNamed, noGap, schemaAtoms, schemaPairs, pairFits, noSchema, withPairs}
+use Rattle.task.specs.Task.{withAtoms}
 use Rattle.task.proofs.Tests.{SchemaTests, tests-schema, TaskTests}
 use Rattle.text.specs.Lines.{Entry}
 use Rattle.text.specs.Reading.{goOn}
 use Rattle.text.specs.Text.{TaskTurn, Line, schemaLine, differLine, partLine, atomLine, initLine, goalLine}
 use Rattle.text.specs.Text.{factEntry, atomEntry, pairList, schemaLines, Phase, between, inDiffer, inInit, inGoal}
-use Rattle.text.specs.Text.{rolePhase, Draft, atPhase, withSchemas, withInit, withGoal, addPair, addAtom, withParts}
-use Rattle.text.specs.Text.{closeSchema, pairFollows, follows, addFact}
+use Rattle.text.specs.Text.{rolePhase, Draft, atPhase, withSchemas, withInit, withGoal, addPair, addAtom}
+use Rattle.text.specs.Text.{withParts, closeSchema, pairFollows, follows, addFact}
 use Rattle.text.specs.Holding.{pairOf}
 use Rattle.text.proofs.Reading.{need-went}
 use Rattle.text.proofs.Growing.{all-snoc, more-room, more-facts, lastRole-snoc, roles-snoc, distinct-snoc}

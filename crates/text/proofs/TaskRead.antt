@@ -18,11 +18,11 @@ use Rattle.task.proofs.Tests.{TaskTests, tests-task}
 use Rattle.text.specs.Lines.{Entry}
 use Rattle.text.specs.Reading.{goOn, finish, need, read}
 use Rattle.text.specs.Text.{Key, end, keyOf, keysAt, Line, taskLine, objectsLine, schemaLine, endLine, arityLine}
-use Rattle.text.specs.Text.{differLine, partLine, atomLine, initLine, goalLine, writeLine, taskLines, write, Phase}
-use Rattle.text.specs.Text.{atObjects, atArity, between, inDiffer, inPre, inAdd, inDel, inInit, inGoal, Draft}
-use Rattle.text.specs.Text.{TaskTurn, started, atPhase, withObjects, withArities, withInit, withGoal, addPair}
-use Rattle.text.specs.Text.{addAtom, withParts, closeSchema, pairFollows, follows, addFact, takeLine, nextLine}
-use Rattle.text.specs.Text.{readText}
+use Rattle.text.specs.Text.{differLine, partLine, atomLine, initLine, goalLine, writeLine, taskLines, write}
+use Rattle.text.specs.Text.{Phase, atObjects, atArity, between, inDiffer, inPre, inAdd, inDel, inInit, inGoal}
+use Rattle.text.specs.Text.{Draft, TaskTurn, started, atPhase, withObjects, withArities, withInit, withGoal}
+use Rattle.text.specs.Text.{addPair, addAtom, withParts, closeSchema, pairFollows, follows, addFact, takeLine}
+use Rattle.text.specs.Text.{nextLine, readText}
 use Rattle.text.specs.Holding.{pairOf}
 use Rattle.text.proofs.Reading.{need-went, need-finished, comes-last, goes-on, read-lines}
 use Rattle.text.proofs.TaskLines.{Says, says-task, says-objects, says-arity, says-schema, says-differ, says-pre}
@@ -33,9 +33,9 @@ use Rattle.text.proofs.TaskWritten.{draft, LeadsTo, read-written}
 use Rattle.text.proofs.TaskDraft.{header, soFar, taskLines-whole, Empty, Known, Next, next, Allowed, atTask-task}
 use Rattle.text.proofs.TaskDraft.{atObjects-objects, atArity-arity, between-schema, between-init, between-goal}
 use Rattle.text.proofs.TaskDraft.{between-end, inDiffer-differ, inDiffer-pre, inDiffer-add, inDiffer-del}
-use Rattle.text.proofs.TaskDraft.{inDiffer-part, inPre-pre, inPre-add, inPre-del, inPre-part, inAdd-add, inAdd-del}
-use Rattle.text.proofs.TaskDraft.{inAdd-part, inDel-del, inDel-part, inInit-init, inInit-goal, inInit-end}
-use Rattle.text.proofs.TaskDraft.{inGoal-goal, inGoal-end, allowed}
+use Rattle.text.proofs.TaskDraft.{inDiffer-part, inPre-pre, inPre-add, inPre-del, inPre-part, inAdd-add}
+use Rattle.text.proofs.TaskDraft.{inAdd-del, inAdd-part, inDel-del, inDel-part, inInit-init, inInit-goal}
+use Rattle.text.proofs.TaskDraft.{inInit-end, inGoal-goal, inGoal-end, allowed}
 use Rattle.text.proofs.TaskGrows.{init-next, goal-next, pair-next, atom-next, part-next}
 
 -- ---- lines that reading goes on behind

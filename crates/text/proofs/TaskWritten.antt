@@ -21,9 +21,9 @@ use Rattle.text.specs.Lines.{Entry}
 use Rattle.text.specs.Reading.{goOn, finish, read}
 use Rattle.text.specs.Text.{task, objects, arity, schema, differ, pre, add, del, part, init, goal, end, Line}
 use Rattle.text.specs.Text.{schemaLine, endLine, differLine, partLine, atomLine, initLine, goalLine, writeLine}
-use Rattle.text.specs.Text.{factEntry, atomEntry, pairList, schemaLines, taskLines, write, Phase, between, inDiffer}
-use Rattle.text.specs.Text.{inInit, inGoal, keysAt, rolePhase, Draft, started, withParts, closeSchema, pairFollows}
-use Rattle.text.specs.Text.{follows, takeLine, nextLine, readText}
+use Rattle.text.specs.Text.{factEntry, atomEntry, pairList, schemaLines, taskLines, write, Phase, between}
+use Rattle.text.specs.Text.{inDiffer, inInit, inGoal, keysAt, rolePhase, Draft, started, withParts, closeSchema}
+use Rattle.text.specs.Text.{pairFollows, follows, takeLine, nextLine, readText}
 use Rattle.text.proofs.NumberLists.{Small, SmallEntry}
 use Rattle.text.proofs.Reading.{need-met, Leads, comes-last, goes-on, lines-read}
 use Rattle.text.proofs.TaskLines.{says-task, says-objects, says-arity, says-schema, says-differ, says-pre}
@@ -52,7 +52,8 @@ pub next-fact : (n : ℕ) (ns : List ℕ) (whole fs : List Fact) (f : Fact) (mor
     factsFit n ns whole ≡ true → whole ≡ fs ++ (f ∷ more) → NextFact n ns fs f
 next-fact n ns whole fs f more h e =
     let c = fact-tests n ns whole h in
-    let upto = prefix (λ xs. ascending xs ≡ true) (λ xs x k. snoc-ascends facts-order xs x k .0) (fs ++ (f ∷ [])) more in
+    let upto = prefix (λ xs. ascending xs ≡ true) (λ xs x k. snoc-ascends facts-order xs x k .0) (fs ++ (f ∷ []))
+    more in
     record {
       fit = all-in (fits n ns) (rw e at (c .fit)) (in-right fs (here refl));
       after = snoc-ascends facts-order fs f (upto (rw (append-eq fs f more e) at (c .order))) .1;

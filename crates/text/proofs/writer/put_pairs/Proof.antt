@@ -1,7 +1,7 @@
 -- `text::writer::put_pairs` meets its contract. The invariant of its loop: what is still to come is the lines from pair
 -- k on. The measure is m less k.
 use native.Mathlib.Omega.{arith}
-use Prim.Native.Nat.{_+_, _-_, _≤_}
+use Prim.Native.Nat.{_-_, _≤_}
 use mathlib.Core.Path.{sym}
 use Rattle.text.specs.Lines.{bytes, line}
 use Rattle.text.specs.TableLines.{pairsText}

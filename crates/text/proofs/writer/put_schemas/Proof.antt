@@ -1,19 +1,18 @@
 -- `text::writer::put_schemas` meets its contract. The invariant of its loop: a turn stands at schema s, and what is
 -- still to come is the lines from schema s on. The measure is the number of schemas less s.
-use Rattle.task.specs.Layout.{paramsIn}
 use Rattle.task.proofs.TableReads.{counts-inside}
 use native.Mathlib.Omega.{arith}
-use Prim.Native.Nat.{ℕ, _+_, _-_, _≤_}
-use mathlib.Core.Path.{_≡_, sym, _∙_, ap}
-use mathlib.Core.List.{List, _++_}
+use Prim.Native.Nat.{ℕ, _-_, _≤_}
+use mathlib.Core.Path.{sym, _∙_, ap}
+use mathlib.Core.List.{List}
 use lib.ListN.{length}
 use Rattle.text.specs.declared.writer.Rows.{Rows}
-use Rattle.text.specs.TableLines.{schemaTextOf, schemasText}
+use Rattle.text.specs.TableLines.{schemasText}
 use Rattle.text.proofs.TableText.{schemaLinesIn, schemas-onwards}
 use Rattle.text.proofs.SchemaTurns.{Turn, rowsFrom, turn-first, pairs-read, atoms-read, count-inside, Found}
-use Rattle.text.proofs.SchemaTurns.{turn-found}
-use Rattle.words.proofs.Puts.{puts-same, Going, going-start, going-long, going-left, going-room, going-on, going-end}
-use Rattle.text.proofs.Onwards.{onwards, onwards-next, onwards-none}
+use Rattle.text.proofs.SchemaTurns.{turn-found, lines-read}
+use Rattle.words.proofs.Puts.{puts-same, Going, going-start, going-long, going-left}
+use Rattle.text.proofs.Onwards.{onwards, piece-room, piece-put, pieces-end}
 use Rattle.text.proofs.writer.put_schemas.Statement.{statement}
 use Rattle.text.proofs.writer.put_schemas.Tie as tie
 
@@ -80,35 +79,19 @@ abbrev schemas : tie.At-loop Inv-loop μ-loop → ℕ
 schemas c = c .before .before .before .before .before .word .result
 
 -- the rows that a turn finds, and what they are
-abbrev turn : tie.After-rows-of2 Inv-loop μ-loop → tie.At-loop Inv-loop μ-loop
-turn c = c .before .before .before
+abbrev turn : tie.After-params-of Inv-loop μ-loop → tie.At-loop Inv-loop μ-loop
+turn c = c .before .before .before .before .before
 
-abbrev rows : tie.After-rows-of2 Inv-loop μ-loop → Rows
-rows c = rowsFrom (turn c .loop .pair) (c .before .rows-of .result) (turn c .loop .atom) (c .rows-of2 .result)
+abbrev rows : tie.After-params-of Inv-loop μ-loop → Rows
+rows c = rowsFrom (turn c .loop .pair) (c .before .before .before .rows-of .result) (turn c .loop .atom)
+    (c .before .before .rows-of2 .result)
 
-found : (c : tie.After-rows-of2 Inv-loop μ-loop) →
+found : (c : tie.After-params-of Inv-loop μ-loop) →
     Found (words (turn c)) (schemas (turn c)) (turn c .loop .pairs-left) (turn c .loop .atoms-left) (turn c .loop .s)
     (rows c)
 found c =
-    turn-found (start (turn c) .pre .0) (turn c .loop .inv .1 .0) (c .before .before .loop-test .taken)
-    (c .before .rows-of .ensures) (c .rows-of2 .ensures)
-
--- what is to come is the lines of the turn's schema, and then those of the schemas behind it
-abbrev lines : tie.After-rows-of2 Inv-loop μ-loop → List ℕ
-lines c = schemaTextOf (words (turn c)) (paramsIn (words (turn c)) (turn c .loop .s)) (rows c)
-
-abbrev behind : tie.After-rows-of2 Inv-loop μ-loop → List ℕ
-behind c = onwards (schemaLinesIn (words (turn c))) (turn c .loop .s + 1) (schemas (turn c))
-
-to-come : (c : tie.After-rows-of2 Inv-loop μ-loop) →
-    Going (start (turn c) .args .text .now) (start (turn c) .args .at) (schemasText (words (turn c)))
-    (lines c ++ behind c) (turn c .loop .text) (turn c .loop .next)
-to-come c =
-    going-left
-    (onwards-next (schemaLinesIn (words (turn c))) (turn c .loop .s) (schemas (turn c))
-    (c .before .before .loop-test .taken) ∙
-    ap (λ (bs : List ℕ). bs ++ behind c) (found c .lines))
-    (turn c .loop .inv .1 .1)
+    turn-found (start (turn c) .pre .0) (turn c .loop .inv .1 .0) (c .before .before .before .before .loop-test .taken)
+    (c .before .before .before .rows-of .ensures) (c .before .before .rows-of2 .ensures)
 
 rows-of-requires : tie.Need-rows-of-requires Inv-loop μ-loop
 rows-of-requires c κs = pairs-read (start (c .before) .pre .0) (c .before .loop .inv .1 .0)
@@ -118,30 +101,22 @@ rows-of-requires-2 c κs = atoms-read (start (c .before .before) .pre .0) (c .be
 
 params-of-requires : tie.Need-params-of-requires Inv-loop μ-loop
 params-of-requires c κs =
-    let at-loop = turn (c .before) in
+    let at-loop = c .before .before .before .before in
     count-inside (start at-loop .pre .0) (at-loop .loop .inv .1 .0) (c .before .before .before .loop-test .taken)
 
 cast-put-schema : tie.Need-cast-put-schema Inv-loop μ-loop
 cast-put-schema c = omega (arith, c .params-of .ensures .1)
 
--- the parameter count that was read is the schema's
-lines-read : (c : tie.After-params-of Inv-loop μ-loop) →
-    let done = c .before .before in
-    schemaTextOf (words (turn done)) (c .params-of .result) (rows done) ≡ lines done
-lines-read c =
-    let done = c .before .before in
-    ap (λ (p : ℕ). schemaTextOf (words (turn done)) p (rows done)) (c .params-of .ensures .0)
-
 put-schema-requires : tie.Need-put-schema-requires Inv-loop μ-loop
 put-schema-requires c κs =
-    let done = c .before .before in
-    let e = ap length (lines-read c) in
-    let r = going-room (lines done) (behind done) (to-come done) in
-    (found done .inside, omega arith)
+    let e = ap length (lines-read (found c) (c .params-of .ensures .0)) in
+    let r = piece-room (schemaLinesIn (words (turn c))) (turn c .loop .s) (schemas (turn c)) (turn c .loop .inv .1 .1)
+    (c .before .before .before .before .loop-test .taken) in
+    (found c .inside, omega arith)
 
--- the rows that the turn found, from its end
-abbrev ended : tie.After-slice-known2 Inv-loop μ-loop → tie.After-rows-of2 Inv-loop μ-loop
-ended c = c .before .before .before .before .before
+-- what the turn found, from its end
+abbrev ended : tie.After-slice-known2 Inv-loop μ-loop → tie.After-params-of Inv-loop μ-loop
+ended c = c .before .before .before
 
 mul-pair : tie.Need-mul-pair Inv-loop μ-loop
 mul-pair c = omega (arith, found (ended c) .inside .pairs)
@@ -150,7 +125,7 @@ add-pair : tie.Need-add-pair Inv-loop μ-loop
 add-pair c = omega (arith, found (ended c) .inside .pairs)
 
 sub-pairs-left : tie.Need-sub-pairs-left Inv-loop μ-loop
-sub-pairs-left c = ended c .before .rows-of .ensures .within
+sub-pairs-left c = ended c .before .before .before .rows-of .ensures .within
 
 mul-atom : tie.Need-mul-atom Inv-loop μ-loop
 mul-atom c = omega (arith, found (ended c) .atoms-end)
@@ -159,26 +134,28 @@ add-atom : tie.Need-add-atom Inv-loop μ-loop
 add-atom c = omega (arith, found (ended c) .atoms-end)
 
 sub-atoms-left : tie.Need-sub-atoms-left Inv-loop μ-loop
-sub-atoms-left c = ended c .rows-of2 .ensures .within
+sub-atoms-left c = ended c .before .before .rows-of2 .ensures .within
 
 loop-again : tie.Need-loop-again Inv-loop μ-loop
-loop-again c = (
-  omega arith,
-  (
-    found (ended c) .next,
-    going-on (to-come (ended c))
-        (puts-same (lines-read (c .before .before .before)) (c .before .before .put-schema .ensures)),
-  ),
-)
+loop-again c =
+    let at-loop = turn (ended c) in (
+      omega arith,
+      (
+        found (ended c) .next,
+        piece-put (schemaLinesIn (words at-loop)) (at-loop .loop .s) (schemas at-loop) (at-loop .loop .inv .1 .1)
+            (ended c .before .before .before .before .loop-test .taken)
+            (puts-same (lines-read (found (ended c)) (ended c .params-of .ensures .0))
+            (c .before .before .put-schema .ensures)),
+      ),
+    )
 
 same-length : tie.Need-same-length Inv-loop μ-loop
 same-length c = going-long (c .before .loop .inv .1 .1)
 
 returns : tie.Need-returns Inv-loop μ-loop
 returns c =
-    let none = onwards-none (schemaLinesIn (words (c .before))) (c .before .loop .s) (schemas (c .before))
-    (omega arith) in
-    going-end (going-left none (c .before .loop .inv .1 .1))
+    pieces-end (schemaLinesIn (words (c .before))) (c .before .loop .s) (schemas (c .before))
+    (c .before .loop .inv .1 .1) (omega arith)
 
 pub put-schemas-spec : {M : Type 1} → statement M
 put-schemas-spec =

@@ -1,6 +1,5 @@
 -- `text::writer::schemas_size` meets its contract. The invariant of its loop: a turn stands at schema s, and the size
 -- so far and that of the lines from schema s on make the whole. The measure is the number of schemas less s.
-use Rattle.task.specs.Layout.{paramsIn}
 use Rattle.task.proofs.TableReads.{counts-inside}
 use native.Mathlib.Omega.{arith}
 use Prim.Native.Nat.{ℕ, _+_, _-_, _≤_}
@@ -11,7 +10,7 @@ use Rattle.text.specs.declared.writer.Rows.{Rows}
 use Rattle.text.specs.TableLines.{schemaTextOf, schemasText}
 use Rattle.text.proofs.TableText.{schemaLinesIn, schemas-onwards}
 use Rattle.text.proofs.SchemaTurns.{Turn, rowsFrom, turn-first, pairs-read, atoms-read, count-inside, Found}
-use Rattle.text.proofs.SchemaTurns.{turn-found}
+use Rattle.text.proofs.SchemaTurns.{turn-found, lines-read}
 use Rattle.text.proofs.Onwards.{onwards, onwards-longer, onwards-short}
 use Rattle.text.proofs.writer.schemas_size.Statement.{statement}
 use Rattle.text.proofs.writer.schemas_size.Tie as tie
@@ -72,32 +71,30 @@ words c = start c .args .table .now
 abbrev schemas : tie.At-loop Inv-loop μ-loop → ℕ
 schemas c = c .before .before .before .before .before .word .result
 
--- the rows that a turn finds, and what they are
-abbrev turn : tie.After-rows-of2 Inv-loop μ-loop → tie.At-loop Inv-loop μ-loop
-turn c = c .before .before .before
+-- the rows that a turn finds, what they are, and that the text is longer by their lines
+abbrev turn : tie.After-params-of Inv-loop μ-loop → tie.At-loop Inv-loop μ-loop
+turn c = c .before .before .before .before
 
-abbrev rows : tie.After-rows-of2 Inv-loop μ-loop → Rows
-rows c = rowsFrom (turn c .loop .pair) (c .before .rows-of .result) (turn c .loop .atom) (c .rows-of2 .result)
+abbrev rows : tie.After-params-of Inv-loop μ-loop → Rows
+rows c = rowsFrom (turn c .loop .pair) (c .before .before .rows-of .result) (turn c .loop .atom)
+    (c .before .rows-of2 .result)
 
-found : (c : tie.After-rows-of2 Inv-loop μ-loop) →
+found : (c : tie.After-params-of Inv-loop μ-loop) →
     Found (words (turn c)) (schemas (turn c)) (turn c .loop .pairs-left) (turn c .loop .atoms-left) (turn c .loop .s)
     (rows c)
 found c =
-    turn-found (start (turn c) .pre .0) (turn c .loop .inv .1 .0) (c .before .before .loop-test .taken)
-    (c .before .rows-of .ensures) (c .rows-of2 .ensures)
+    turn-found (start (turn c) .pre .0) (turn c .loop .inv .1 .0) (c .before .before .before .loop-test .taken)
+    (c .before .before .rows-of .ensures) (c .before .rows-of2 .ensures)
 
--- the lines of the turn's schema are part of what is to come
-abbrev lines : tie.After-rows-of2 Inv-loop μ-loop → List ℕ
-lines c = schemaTextOf (words (turn c)) (paramsIn (words (turn c)) (turn c .loop .s)) (rows c)
-
-longer : (c : tie.After-rows-of2 Inv-loop μ-loop) →
+longer : (c : tie.After-params-of Inv-loop μ-loop) →
     let pieces = schemaLinesIn (words (turn c)) in
     length (onwards pieces (turn c .loop .s) (schemas (turn c))) ≡
-    length (lines c) + length (onwards pieces (turn c .loop .s + 1) (schemas (turn c)))
+    length (schemaTextOf (words (turn c)) (c .params-of .result) (rows c)) +
+    length (onwards pieces (turn c .loop .s + 1) (schemas (turn c)))
 longer c =
     let l = onwards-longer (schemaLinesIn (words (turn c))) (turn c .loop .s) (schemas (turn c))
-    (c .before .before .loop-test .taken) in
-    let e = ap length (found c .lines) in
+    (c .before .before .before .loop-test .taken) in
+    let e = ap length (lines-read (found c) (c .params-of .ensures .0)) in
     omega arith
 
 rows-of-requires : tie.Need-rows-of-requires Inv-loop μ-loop
@@ -108,55 +105,44 @@ rows-of-requires-2 c κs = atoms-read (start (c .before .before) .pre .0) (c .be
 
 params-of-requires : tie.Need-params-of-requires Inv-loop μ-loop
 params-of-requires c κs =
-    count-inside (start (turn c) .pre .0) (turn c .loop .inv .1 .0) (c .before .before .loop-test .taken)
+    let at-loop = c .before .before .before in
+    count-inside (start at-loop .pre .0) (at-loop .loop .inv .1 .0) (c .before .before .loop-test .taken)
 
 cast-schema-size : tie.Need-cast-schema-size Inv-loop μ-loop
 cast-schema-size c = omega (arith, c .params-of .ensures .1)
 
--- the parameter count that was read is the schema's
-lines-read : (c : tie.After-params-of Inv-loop μ-loop) →
-    length (schemaTextOf (words (turn (c .before))) (c .params-of .result) (rows (c .before))) ≡
-    length (lines (c .before))
-lines-read c =
-    ap (λ (p : ℕ). length (schemaTextOf (words (turn (c .before))) p (rows (c .before)))) (c .params-of .ensures .0)
-
 schema-size-requires : tie.Need-schema-size-requires Inv-loop μ-loop
-schema-size-requires c κs =
-    let l = longer (c .before) in
-    let e = lines-read c in
-    (found (c .before) .inside, omega arith)
+schema-size-requires c κs = let l = longer c in (found c .inside, omega arith)
 
 add-size : tie.Need-add-size Inv-loop μ-loop
 add-size c =
-    let l = longer (c .before .before) in
-    let r = lines-read (c .before) in
+    let l = longer (c .before) in
     let e = c .schema-size .ensures in
     omega arith
 
 mul-pair : tie.Need-mul-pair Inv-loop μ-loop
-mul-pair c = omega (arith, found (c .before .before) .inside .pairs)
+mul-pair c = omega (arith, found (c .before) .inside .pairs)
 
 add-pair : tie.Need-add-pair Inv-loop μ-loop
-add-pair c = omega (arith, found (c .before .before) .inside .pairs)
+add-pair c = omega (arith, found (c .before) .inside .pairs)
 
 sub-pairs-left : tie.Need-sub-pairs-left Inv-loop μ-loop
 sub-pairs-left c = c .before .before .before .rows-of .ensures .within
 
 mul-atom : tie.Need-mul-atom Inv-loop μ-loop
-mul-atom c = omega (arith, found (c .before .before) .atoms-end)
+mul-atom c = omega (arith, found (c .before) .atoms-end)
 
 add-atom : tie.Need-add-atom Inv-loop μ-loop
-add-atom c = omega (arith, found (c .before .before) .atoms-end)
+add-atom c = omega (arith, found (c .before) .atoms-end)
 
 sub-atoms-left : tie.Need-sub-atoms-left Inv-loop μ-loop
 sub-atoms-left c = c .before .before .rows-of2 .ensures .within
 
 loop-again : tie.Need-loop-again Inv-loop μ-loop
 loop-again c =
-    let l = longer (c .before .before) in
-    let r = lines-read (c .before) in
+    let l = longer (c .before) in
     let e = c .schema-size .ensures in
-    (omega arith, (found (c .before .before) .next, omega arith))
+    (omega arith, (found (c .before) .next, omega arith))
 
 returns : tie.Need-returns Inv-loop μ-loop
 returns c =

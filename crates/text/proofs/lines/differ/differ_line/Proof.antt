@@ -42,9 +42,6 @@ passes k d h =
     (k .before .before .check-pair .ensures d (read (lists k) .ns) h (read (lists k) .listed))
 
 -- ---- the answers
-list-line-requires : tie.Need-list-line-requires
-list-line-requires c κs = search list-placed
-
 returns : tie.Need-returns
 returns c =
     let none = c .before .before .list-line .ensures _ _ _ (c .before .before .before .before .numbers .ensures) in
@@ -98,7 +95,7 @@ returns-3 c =
 pub differ-line-spec : {M : Type 1} → statement M
 differ-line-spec =
     tie.close
-    (tie.spec (λ c. search needs) (λ c κs. search needs) list-line-requires (λ c. search needs) (λ c. search needs)
-    returns (λ c. search needs) (λ c κs. search needs) (λ c. search needs) (λ c. search needs) returns-2
-    (λ c. search needs) (λ c. search needs) (λ c. search needs) (λ c. search needs) (λ c κs. search needs)
+    (tie.spec (λ c. search needs) (λ c κs. search needs) (λ c κs. search list-placed) (λ c. search needs)
+    (λ c. search needs) returns (λ c. search needs) (λ c κs. search needs) (λ c. search needs) (λ c. search needs)
+    returns-2 (λ c. search needs) (λ c. search needs) (λ c. search needs) (λ c. search needs) (λ c κs. search needs)
     (λ c. search needs) put-words-requires (λ c. search needs) (λ c. search needs) returns-3)

@@ -42,7 +42,10 @@ compared p d h =
 
 -- ---- the answers
 returns : tie.Need-returns
-returns c = λ d h. let e = h .apart in let z = c .if1 .taken in sym (first-behind pairs-order (d .current .pairs) _ (omega arith))
+returns c = λ d h.
+    let e = h .apart in
+    let z = c .if1 .taken in
+    sym (first-behind pairs-order (d .current .pairs) _ (omega arith))
 
 shared-slice-read-before : tie.Need-shared-slice-read-before
 shared-slice-read-before c =

@@ -49,9 +49,6 @@ low b =
     (ap (all (λ n. ltb n 5)) (sym (listed-take (read (lists b) .listed) (omega arith))) ∙ sym (b .all-below .ensures))
 
 -- ---- the answers
-list-line-requires : tie.Need-list-line-requires
-list-line-requires c κs = search list-placed
-
 returns : tie.Need-returns
 returns c =
     let none = c .before .before .list-line .ensures _ _ _ (c .before .before .before .before .numbers .ensures) in
@@ -111,6 +108,6 @@ returns-4 c =
 pub arity-line-spec : {M : Type 1} → statement M
 arity-line-spec =
     tie.close
-    (tie.spec (λ c. search needs) (λ c κs. search needs) list-line-requires (λ c. search needs) (λ c. search needs)
-    returns returns-2 (λ c. search needs) (λ c κs. search needs) returns-3 (λ c. search needs) put-words-requires
-    (λ c. search needs) returns-4)
+    (tie.spec (λ c. search needs) (λ c κs. search needs) (λ c κs. search list-placed) (λ c. search needs)
+    (λ c. search needs) returns returns-2 (λ c. search needs) (λ c κs. search needs) returns-3 (λ c. search needs)
+    put-words-requires (λ c. search needs) returns-4)

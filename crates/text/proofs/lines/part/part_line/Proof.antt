@@ -66,9 +66,6 @@ held : (c : tie.After-put-parts) → Drafted (start c .args .table .now) (start 
 held c = start c .pre .1 .0
 
 -- ---- the answers
-list-line-requires : tie.Need-list-line-requires
-list-line-requires c κs = search list-placed
-
 returns : tie.Need-returns
 returns c =
     let none = c .before .before .list-line .ensures _ _ _ (c .before .before .before .before .listing .ensures) in
@@ -172,7 +169,7 @@ returns-3 c =
 pub part-line-spec : {M : Type 1} → statement M
 part-line-spec =
     tie.close
-    (tie.spec (λ c. search needs) (λ c κs. search needs) list-line-requires (λ c. search needs) (λ c. search needs)
-    returns (λ c. search needs) (λ c κs. search needs) (λ c. search needs) (λ c. search needs) returns-2
-    (λ c. search needs) (λ c κs. search needs) (λ c. search needs) put-parts-requires (λ c. search needs) add-at-2
-    mul-table slice-write-table add-read add-read-2 add-read-3 (λ c. search needs) returns-3)
+    (tie.spec (λ c. search needs) (λ c κs. search needs) (λ c κs. search list-placed) (λ c. search needs)
+    (λ c. search needs) returns (λ c. search needs) (λ c κs. search needs) (λ c. search needs) (λ c. search needs)
+    returns-2 (λ c. search needs) (λ c κs. search needs) (λ c. search needs) put-parts-requires (λ c. search needs)
+    add-at-2 mul-table slice-write-table add-read add-read-2 add-read-3 (λ c. search needs) returns-3)
