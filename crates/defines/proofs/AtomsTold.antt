@@ -1,5 +1,5 @@
--- Atoms in brackets are items, and tell their predicate and their arguments, as far as five digits hold the numbers; and
--- so do pairs.
+-- Atoms in brackets are items, and tell their predicate and their arguments, as far as five digits hold the numbers;
+-- and so do pairs.
 use Prim.Native.Nat.{ℕ, _<_}
 use Prim.Native.Char.{code}
 use Prim.Native.String.{String}

@@ -5,7 +5,6 @@ use mathlib.Core.Path.{_≡_, refl, sym, _∙_, ap, subst}
 use mathlib.Core.Bool.{Bool, true, false, cond}
 use mathlib.Core.List.{List, [], _∷_, _++_, map, append-assoc}
 use native.Mathlib.Omega.{arith}
-use native.Mathlib.Decide.{decLt}
 use lib.ListN.{length, getD, length-append}
 use lib.Dec.{eqb}
 use borrow.Author.Tests.{ne-eqb}
@@ -76,7 +75,8 @@ pair-said w i =
 abbrev pub readOf : List ℕ → ℕ → List ℕ
 readOf w i = wordsAt w (pairBase w i + 1) 2
 
-pub pair-pieces : (w : List ℕ) (i : ℕ) → apartIn w i ≡ bytes " (not (=" ++ (marked (bytes " ?x") (readOf w i) ++ bytes "))")
+pub pair-pieces : (w : List ℕ) (i : ℕ) →
+    apartIn w i ≡ bytes " (not (=" ++ (marked (bytes " ?x") (readOf w i) ++ bytes "))")
 unfolding apartIn apart
 pair-pieces w i = refl
 

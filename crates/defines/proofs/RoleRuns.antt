@@ -8,9 +8,9 @@ use mathlib.Core.List.{List, _∷_, _++_, map, append-assoc}
 use native.Mathlib.Omega.{arith}
 use native.Mathlib.Decide.{decLt}
 use lib.ListN.{length, length-append, length-map}
-use Rattle.words.specs.Lists.{upFrom, concatMap}
-use Rattle.words.proofs.Lists.{In, all-in, in-getD, in-map, in-upFrom, upFrom-in, length-upFrom, upFrom-append}
-use Rattle.words.proofs.Lists.{map-append, append-same-length, concatMap-same}
+use Rattle.words.specs.Lists.{upFrom}
+use Rattle.words.proofs.Lists.{In, all-in, in-getD, in-map, in-upFrom, length-upFrom, upFrom-append}
+use Rattle.words.proofs.Lists.{map-append, append-same-length}
 use Rattle.task.specs.Layout.{headIn, goalsFrom, atomTotal, paramsIn}
 use Rattle.task.specs.Task.{Atom, Task, precondition, addition, deletion, initial, goalRole, schemaFits, noSchema}
 use Rattle.task.specs.Table.{atomIn, schemaNumberIn, factIn, taskOf, isTable}

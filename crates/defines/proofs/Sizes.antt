@@ -2,9 +2,9 @@
 -- atoms and pairs, the objects, the items of all atoms, since those of the schemas stand one schema behind another and
 -- the initial and the goal atoms follow, the pairs likewise, and what pairs require.
 use Prim.Native.Nat.{ℕ, zero, suc, _+_, _-_, _^_, _≤_, _<_}
-use mathlib.Core.Path.{_≡_, _∙_, ap}
+use mathlib.Core.Path.{_≡_, ap}
 use mathlib.Core.Bool.{true}
-use mathlib.Core.List.{List, _++_}
+use mathlib.Core.List.{List}
 use native.Mathlib.Omega.{arith}
 use lib.ListN.{length, length-append}
 use Rattle.words.specs.Lists.{sum, upTo, upFrom, concatMap}

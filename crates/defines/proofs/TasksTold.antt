@@ -89,7 +89,8 @@ needs-items pairs = go (eqb pairs 0)
     go false = more needs-item none
 
 -- the predicates are no requirements: their key begins with another letter
-predicates-no-needs : (arities : List ℕ) → bracket (bytes ":predicates" ∷ numbered predicateText 0 arities) ≡ needsText → ⊥
+predicates-no-needs : (arities : List ℕ) →
+    bracket (bytes ":predicates" ∷ numbered predicateText 0 arities) ≡ needsText → ⊥
 unfolding needsText isWord bytes
 predicates-no-needs arities e =
     let same = bracket-same (behind-word ":predicates" refl (predicates-items arities))
@@ -133,8 +134,8 @@ domain-told t u h k e =
     let (named, actions) = behind-needs (schemaPairs (t .schemas)) (schemaPairs (u .schemas))
     {xs = numbered actionText 0 (t .schemas)} {ys = numbered actionText 0 (u .schemas)}
     (predicates-no-needs (t .arities)) (predicates-no-needs (u .arities)) (cc) in
-    let predicates = headed-same ":predicates" refl (predicates-items (t .arities)) (predicates-items (u .arities)) named
-    in (
+    let predicates = headed-same ":predicates" refl (predicates-items (t .arities)) (predicates-items (u .arities))
+    named in (
       list-told (numbered-tells predicateText (λ (n : ℕ). n) 0 (t .arities) (u .arities)
           (λ p x y i j. predicate-same p x y) predicates),
       numbered-tells actionText undivided 0 (t .schemas) (u .schemas)

@@ -96,8 +96,8 @@ unfolding actionText schemaAt taskOf
 actionIn w s = space ∷ actionText s (schemaAt (taskOf w) s)
 
 -- no text is longer: of the domain 34 bytes, 58 for what pairs require, 23 for each of 400 predicates, 123 for each of
--- 200 schemas with 12 parameters, 20 for each of 200 pairs, 33 for each of 1,000 atoms, all deletes; of the problem 66, 5
--- for each of 1,000 objects, 27 for each of 600 initial and goal atoms; shut, since a list function would count a numeral
--- down
+-- 200 schemas with 12 parameters, 20 for each of 200 pairs, 33 for each of 1,000 atoms, all deletes; of the problem 66,
+-- 5 for each of 1,000 objects, 27 for each of 600 initial and goal atoms; shut, since a list function would count a
+-- numeral down
 unfoldable pub longestPddl : ℕ
 longestPddl = 92158

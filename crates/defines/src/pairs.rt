@@ -1,5 +1,5 @@
-// The pairs of a table, each a precondition `(not (= ..))` behind a space, and what any pair requires of a planner. They
-// are put in the table's order, schema by schema, as the atoms are.
+// The pairs of a table, each a precondition `(not (= ..))` behind a space, and what any pair requires of a planner.
+// They are put in the table's order, schema by schema, as the atoms are.
 use crate::names::PARAMETER;
 use crate::names::put_words;
 use crate::names::words_size;

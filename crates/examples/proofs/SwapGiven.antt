@@ -1,5 +1,5 @@
--- The definitions give each result of the swap, computed: those of the list; and of its steps, where the link comes last
--- and its part alone carries the pair.
+-- The definitions give each result of the swap, computed: those of the list; and of its steps, where the link comes
+-- last and its part alone carries the pair.
 use Rattle.task.specs.declared.Place.the-variants as place
 use mathlib.Core.Path.{_≡_, refl}
 use mathlib.Core.List.{[], _∷_, _++_}
@@ -46,8 +46,8 @@ pub equal-part : foldedSwap ((0 ∷ 1 ∷ 2 ∷ 3 ∷ []) ∷ (1 ∷ 1 ∷ 2 ∷
 unfolding foldedSwap lent
 equal-part = refl
 
--- "An unfinished beginning needs to fit the block of some choice of objects, and only the pairs that its own parts carry
--- must differ in it": of equal piers, so that no step completes it
+-- "An unfinished beginning needs to fit the block of some choice of objects, and only the pairs that its own parts
+-- carry must differ in it": of equal piers, so that no step completes it
 pub equal-unfinished : foldedSwap ((0 ∷ 1 ∷ 2 ∷ 3 ∷ []) ∷ (1 ∷ 1 ∷ 2 ∷ 3 ∷ []) ∷ []) 14 ≡
     record { told = refused 14 (place.Step 2) []; buffer = lent 14 }
 unfolding foldedSwap lent

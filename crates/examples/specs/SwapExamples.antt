@@ -7,8 +7,8 @@ use mathlib.Core.Option.{some}
 use Rattle.task.specs.Answers.{refused, Outcome}
 use Rattle.blocks.specs.Blocks.{unfoldOutcome, foldOutcome}
 use Rattle.text.specs.Lines.{bytes}
-use Rattle.examples.specs.Examples.{tableOf, steps, lent, runIn, Example, _is_, printed, orderTaken, split, prints}
-use Rattle.examples.specs.Examples.{order, tells}
+use Rattle.examples.specs.Examples.{tableOf, steps, lent, runIn, Example, _is_, printed, orderTaken, split}
+use Rattle.examples.specs.Examples.{prints, order, tells}
 
 -- two piers, parameters 0 and 1, swap what lies there, 2 and 3, where they are linked; with `differ` lines and a
 -- partition: predicate 0 is what lies where, predicate 1 says which piers are linked

@@ -51,8 +51,8 @@ fn put_blocks(table: &[u16], kept: &Kept, sizes: Sizes, steps: &[u16], out: &mut
     write_plan(&split_table, &words[..end], out)
 }
 
-// "A step with equal objects there isn't a step of the task (12)": of a split that is accepted and kept the unfolding is
-// printed, or the number of the first step that is none.
+// "A step with equal objects there isn't a step of the task (12)": of a split that is accepted and kept the unfolding
+// is printed, or the number of the first step that is none.
 fn put_steps(table: &[u16], kept: &Kept, sizes: Sizes, steps: &[u16], out: &mut [u8]) -> usize
     requires { ⌜ AcceptedKept (now table) sizes (now kept) ⌝ }
     requires { ⌜ PlanChoices (now table) (now steps) ⌝ }

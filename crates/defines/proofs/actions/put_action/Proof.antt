@@ -1,6 +1,6 @@
--- `defines::actions::put_action` meets its contract: the head, the run of preconditions, the pairs, the runs of adds and
--- deletes, and the fixed bytes around them are put one behind another (`action-in`). A lemma for each says what is still
--- to come behind it. Each run begins where the one before it ended.
+-- `defines::actions::put_action` meets its contract: the head, the run of preconditions, the pairs, the runs of adds
+-- and deletes, and the fixed bytes around them are put one behind another (`action-in`). A lemma for each says what is
+-- still to come behind it. Each run begins where the one before it ended.
 use native.Mathlib.Omega.{arith}
 use Prim.Native.Nat.{ℕ, suc, _<_}
 use mathlib.Core.Path.{_≡_, sym, _∙_, ap, ap₂}
@@ -271,7 +271,8 @@ returns c =
     let opened = opened (added ended) in
     let schema = number (headed (told opened)) in
     let t = taskOf (words (started opened)) in (
-      run-ends (third-run (started opened)) schema (deletes-found (added ended)) (ended .before .before .put-run3 .ensures),
+      run-ends (third-run (started opened)) schema (deletes-found (added ended))
+          (ended .before .before .put-run3 .ensures),
       (
         paired opened .before .before .put-pairs .ensures .0 ∙ ap (λ (s : ℕ). firstPair t (suc s)) schema,
         going-last (behind-deletes ended) (c .before .before .put-bytes2 .ensures),

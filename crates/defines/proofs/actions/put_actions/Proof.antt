@@ -1,5 +1,5 @@
--- `defines::actions::put_actions` meets its contract. The invariant of its loop: the atoms and the pairs of schema s come
--- next, and what is still to come is the actions from s on. The measure is the number of schemas less s.
+-- `defines::actions::put_actions` meets its contract. The invariant of its loop: the atoms and the pairs of schema s
+-- come next, and what is still to come is the actions from s on. The measure is the number of schemas less s.
 use native.Mathlib.Omega.{arith}
 use Prim.Native.Nat.{ℕ, suc, _+_, _-_, _≤_}
 use mathlib.Core.Path.{_≡_, refl, sym, _∙_, ap}

@@ -1,8 +1,8 @@
--- `defines::pairs::pairs_size` meets its contract. The invariant of its loop: the size so far is that of the pairs before
--- pair i. The measure is the number of pairs less i. No sum wraps, as the whole text is short (`sizes-fit`).
+-- `defines::pairs::pairs_size` meets its contract. The invariant of its loop: the size so far is that of the pairs
+-- before pair i. The measure is the number of pairs less i. No sum wraps, as the whole text is short (`sizes-fit`).
 use native.Mathlib.Omega.{arith}
 use Prim.Native.Nat.{ℕ, _+_, _-_, _<_}
-use mathlib.Core.Path.{_≡_, sym, _∙_, ap}
+use mathlib.Core.Path.{_≡_, _∙_, ap}
 use mathlib.Core.List.{List}
 use lib.ListN.{length}
 use Rattle.words.specs.Lists.{concatMap}

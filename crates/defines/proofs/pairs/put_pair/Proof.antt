@@ -1,5 +1,5 @@
--- `defines::pairs::put_pair` meets its contract: ` (not (=`, both parameters and `))` are put one behind another. A lemma
--- for each says what is still to come behind it.
+-- `defines::pairs::put_pair` meets its contract: ` (not (=`, both parameters and `))` are put one behind another. A
+-- lemma for each says what is still to come behind it.
 use native.Mathlib.Omega.{arith}
 use Prim.Native.Nat.{ℕ, _+_}
 use mathlib.Core.Path.{_≡_, ap}
@@ -24,7 +24,8 @@ parameters c = names (readOf (c .args .table .now) (c .args .i))
 
 -- what is still to come of the pair, in a text and from a place on
 abbrev Left : tie.Start → List ℕ → List ℕ → ℕ → Type 0
-Left c left text next = Going (c .args .text .now) (c .args .at) (apartIn (c .args .table .now) (c .args .i)) left text next
+Left c left text next =
+    Going (c .args .text .now) (c .args .at) (apartIn (c .args .table .now) (c .args .i)) left text next
 
 begin : (c : tie.Start) →
     Left c (bytes " (not (=" ++ (parameters c ++ bytes "))")) (c .args .text .now) (c .args .at)

@@ -1,10 +1,10 @@
 -- `defines::pairs::put_pairs` meets its contract. The invariant of its loop: what is still to come is the pairs from
--- `pair` on, up to the schema's last. The measure is the number of pairs less `pair`. A pair that names the schema is one
--- of the schema's (`pair-before-end`), and where none is left or the next names another, the schema's have ended.
+-- `pair` on, up to the schema's last. The measure is the number of pairs less `pair`. A pair that names the schema is
+-- one of the schema's (`pair-before-end`), and where none is left or the next names another, the schema's have ended.
 use native.Mathlib.Omega.{arith}
 use native.Mathlib.Decide.{decLt}
 use Prim.Native.Nat.{ℕ, suc, _+_, _-_, _≤_, _<_}
-use mathlib.Core.Path.{_≡_, sym, _∙_, ap}
+use mathlib.Core.Path.{_≡_, sym, _∙_}
 use mathlib.Core.List.{List, _++_}
 use Rattle.words.specs.Putting.{Puts}
 use Rattle.words.proofs.Puts.{Going, going-start, going-left, going-room, going-on, going-end, going-long}
@@ -89,8 +89,8 @@ loop-again c =
 
 -- ---- the ways out
 ended : (c : tie.At-loop Inv-loop μ-loop) → end c ≤ c .loop .pair → (c .loop .pair ≡ end c) ×
-    Puts (start c .args .text .now) (start c .args .at) (pairsIn (words c) (start c .args .from) (end c)) (c .loop .text)
-    (c .loop .next)
+    Puts (start c .args .text .now) (start c .args .at) (pairsIn (words c) (start c .args .from) (end c))
+    (c .loop .text) (c .loop .next)
 ended c l =
     let within = c .loop .inv .1 .0 in (
       omega arith,

@@ -1,5 +1,5 @@
--- `defines::writer::put_domain` meets its contract: between fixed bytes it puts what pairs require, the predicates and the
--- actions, one behind another. A lemma for each says what is still to come behind it.
+-- `defines::writer::put_domain` meets its contract: between fixed bytes it puts what pairs require, the predicates and
+-- the actions, one behind another. A lemma for each says what is still to come behind it.
 use native.Mathlib.Omega.{arith}
 use Prim.Native.Nat.{ℕ}
 use mathlib.Core.List.{List, [], _∷_, _++_}
