@@ -34,38 +34,27 @@ pub enum Circular {
     Nowhere,
 }
 
-// Where the atoms of schema s, which begin at `from`, end.
-fn schema_end(table: &[u16], s: usize, from: usize) -> usize
+// Where the atoms of a schema end, and where its pairs do.
+pub struct Ends {
+    pub atoms: usize,
+    pub pairs: usize,
+}
+
+// Those of schema s, whose atoms begin at `from` and whose pairs begin at `pair`.
+fn schema_ends(table: &[u16], s: usize, from: usize, pair: usize) -> Ends
     requires { ⌜ isTable (now table) ≡ true ⌝ }
     requires { ⌜ s < length (taskOf (now table) .schemas) ⌝ }
     requires { ⌜ from ≡ firstAtom (taskOf (now table)) s ⌝ }
-    ensures { λ r. ⌜ r ≡ firstAtom (taskOf (now (table .entry))) (suc s) ⌝ }
+    requires { ⌜ pair ≡ firstPair (taskOf (now table)) s ⌝ }
+    ensures { λ r. ⌜ r .atoms ≡ firstAtom (taskOf (now (table .entry))) (suc s) ⌝ }
+    ensures { λ r. ⌜ r .pairs ≡ firstPair (taskOf (now (table .entry))) (suc s) ⌝ }
 {
-    run_end(
-        table,
-        rows_base(table),
-        ATOM_SIZE,
-        word(table, SCHEMA_ATOMS),
-        s,
-        from,
-    )
-}
-
-// Where the pairs of schema s, which begin at `from`, end.
-fn pairs_end(table: &[u16], s: usize, from: usize) -> usize
-    requires { ⌜ isTable (now table) ≡ true ⌝ }
-    requires { ⌜ s < length (taskOf (now table) .schemas) ⌝ }
-    requires { ⌜ from ≡ firstPair (taskOf (now table)) s ⌝ }
-    ensures { λ r. ⌜ r ≡ firstPair (taskOf (now (table .entry))) (suc s) ⌝ }
-{
-    run_end(
-        table,
-        pairs_base(table),
-        PAIR_SIZE,
-        word(table, PAIRS),
-        s,
-        from,
-    )
+    let atoms = word(table, SCHEMA_ATOMS);
+    let pairs = word(table, PAIRS);
+    Ends {
+        atoms: run_end(table, rows_base(table), ATOM_SIZE, atoms, s, from),
+        pairs: run_end(table, pairs_base(table), PAIR_SIZE, pairs, s, pair),
+    }
 }
 
 // Keeps the order found of the parts of the atoms from `from` on, and the parameters of the part at each position.
@@ -104,16 +93,15 @@ pub fn keep_parts(table: &[u16], kept: &mut Kept) -> Circular
     let mut s = 0;
     keep_begin(kept, 0, 0, 0, 0);
     while s < schemas {
-        let to = schema_end(table, s, from);
-        let end = pairs_end(table, s, pair);
-        let found = order_of(table, from, to, pair, end);
+        let ends = schema_ends(table, s, from, pair);
+        let found = order_of(table, from, ends.atoms, pair, ends.pairs);
         if !found.found {
             return Circular::At(s as u64);
         }
         keep_count(kept, s, found.count);
         keep_order(from, found, kept);
-        from = to;
-        pair = end;
+        from = ends.atoms;
+        pair = ends.pairs;
         first += found.count;
         s += 1;
         keep_begin(kept, s, from, first, pair);

@@ -47,7 +47,7 @@ abbrev start : tie.At-loop Inv-loop μ-loop → tie.Start Inv-loop μ-loop
 start c = c .before .before .before .before .before
 
 abbrev turn : tie.After-order-of Inv-loop μ-loop → tie.In-loop Inv-loop μ-loop
-turn c = c .before .before .before
+turn c = c .before .before
 
 abbrev ordered : tie.After-keep-count Inv-loop μ-loop → tie.After-order-of Inv-loop μ-loop
 ordered c = c .before .before .before .before
@@ -124,10 +124,10 @@ pairs-are i end e =
 told : (c : tie.After-order-of Inv-loop μ-loop) →
     orderTold (c .order-of .result) ≡ orderOf (schemaAt (task (turn c .before)) (turn c .before .loop .s))
 told c =
-    let end = c .before .pairs-end in
-    let to = c .before .before .schema-end in
+    let ends = c .before .schema-ends in
     c .order-of .ensures .0 (schemaAt (task (turn c .before)) (turn c .before .loop .s))
-    (pairs-are (turn c) (end .result) (end .ensures)) (atoms-are (turn c) (to .result) (to .ensures))
+    (pairs-are (turn c) (ends .result .pairs) (ends .ensures .1))
+    (atoms-are (turn c) (ends .result .atoms) (ends .ensures .0))
 
 -- the array with the count, before its order is kept
 count-kept : (c : tie.After-keep-count Inv-loop μ-loop) →
@@ -161,17 +161,16 @@ loop-holds c =
       refl,
     )
 
-schema-end-requires : tie.Need-schema-end-requires Inv-loop μ-loop
-schema-end-requires c κs = (is-table (c .before), (known c, c .before .loop .inv .1))
-
-pairs-end-requires : tie.Need-pairs-end-requires Inv-loop μ-loop
-pairs-end-requires c κs = let i = c .before in (is-table (i .before), (known i, i .before .loop .inv .5))
+schema-ends-requires : tie.Need-schema-ends-requires Inv-loop μ-loop
+schema-ends-requires c κs =
+    let h = c .before .loop .inv in
+    (is-table (c .before), (known c, (h .1, h .5)))
 
 order-of-requires : tie.Need-order-of-requires Inv-loop μ-loop
 order-of-requires c κs =
-    let to = c .before .schema-end in
-    let i = c .before .before in
-    (stretch i (to .result) (to .ensures), pair-stretch i (c .pairs-end .result) (c .pairs-end .ensures))
+    let ends = c .schema-ends in
+    let i = c .before in
+    (stretch i (ends .result .atoms) (ends .ensures .0), pair-stretch i (ends .result .pairs) (ends .ensures .1))
 
 returns : tie.Need-returns Inv-loop μ-loop
 unfolding circularTold
@@ -221,12 +220,11 @@ keep-begin-requires-2 : tie.Need-keep-begin-requires-2 Inv-loop μ-loop
 keep-begin-requires-2 c κs =
     let d = ordered (c .before .before .before .before) in
     let l = turn d .before in
-    let to = d .before .before .schema-end in
-    let end = d .before .pairs-end in
+    let ends = d .before .schema-ends in
     let h = l .loop .inv .3 in
     let k = few (turn d) in
-    let e = stretch (turn d) (to .result) (to .ensures) .known in
-    let p = pair-stretch (turn d) (end .result) (end .ensures) .known in (
+    let e = stretch (turn d) (ends .result .atoms) (ends .ensures .0) .known in
+    let p = pair-stretch (turn d) (ends .result .pairs) (ends .ensures .1) .known in (
       omega arith,
       (
         omega (arith, atoms-few (words l) (is-table l)),
@@ -244,11 +242,10 @@ loop-again c =
     let l = turn d .before in
     let w = words l in
     let h = l .loop in
-    let to = d .before .before .schema-end in
-    let end = d .before .pairs-end in
+    let ends = d .before .schema-ends in
     let f = d .order-of .result in
     let n = d .order-of .ensures .1 .0 in
-    let atoms = atoms-are (turn d) (to .result) (to .ensures) in
+    let atoms = atoms-are (turn d) (ends .result .atoms) (ends .ensures .0) in
     let yes = not-false (f .found) (counting c .before .before .if1 .left) in
     let order = c .before .before .before .keep-order in
     let kept = order .last .1 .1 .0 in
@@ -256,15 +253,15 @@ loop-again c =
     (counting c .keep-count .ensures) (order .ensures) in
     let fits : f .count ≤ length (f .parts) = omega (arith, n .0, n .1) in
     let next = first-more (task l) (h .s) f (told d) yes fits (h .first) (h .inv .2) in
-    let more = parts-more w (is-table l) (h .s) (h .from) (to .result) (h .first + f .count) (end .result)
-    (known (turn d)) (h .inv .1) (to .ensures) (end .ensures) atoms f fits yes (told d) next
-    (d .order-of .ensures .1 .1) (h .kept) kept new (h .inv .4) in (
+    let more = parts-more w (is-table l) (h .s) (h .from) (ends .result .atoms) (h .first + f .count)
+    (ends .result .pairs) (known (turn d)) (h .inv .1) (ends .ensures .0) (ends .ensures .1) atoms f fits yes (told d)
+    next (d .order-of .ensures .1 .1) (h .kept) kept new (h .inv .4) in (
       omega (arith, turn d .loop-test .taken),
-      to .ensures ∙ ap (firstAtom (task l)) (sym (add-one (h .s))),
+      ends .ensures .0 ∙ ap (firstAtom (task l)) (sym (add-one (h .s))),
       next,
       omega (arith, h .inv .3, n .0),
       subst (PartsKept (task l) (h .s + 1)) (sym (c .keep-begin2 .ensures)) more,
-      end .ensures ∙ ap (firstPair (task l)) (sym (add-one (h .s))),
+      ends .ensures .1 ∙ ap (firstPair (task l)) (sym (add-one (h .s))),
     )
 
 returns-2 : tie.Need-returns-2 Inv-loop μ-loop
@@ -280,6 +277,6 @@ returns-2 c =
 pub keep-parts-spec : {M : Type 1} → statement M
 keep-parts-spec =
     tie.close
-    (tie.spec Inv-loop μ-loop word-requires keep-begin-requires loop-holds schema-end-requires pairs-end-requires
+    (tie.spec Inv-loop μ-loop word-requires keep-begin-requires loop-holds schema-ends-requires
     order-of-requires returns keep-count-requires keep-order-requires add-first add-s keep-begin-requires-2 loop-less
     loop-again returns-2)
