@@ -125,7 +125,7 @@ module _ (pairs : List Pair) where
   pub hold-pair : (xs ys : List ℕ) → (holdPair pairs xs ys ≡ true) ↔ HoldPair xs ys
   hold-pair xs ys = (hold-found xs ys, found-hold xs ys)
 
-  -- arguments that they make the same hold no pair
+  -- arguments hold no pair where objects that keep the pairs apart make them the same
   pub same-holds-none : (v : ℕ → ℕ) → KeepsApart pairs v → (xs ys : List ℕ) → map v xs ≡ map v ys →
       holdPair pairs xs ys ≡ false
   same-holds-none v apart xs ys e =

@@ -94,10 +94,10 @@ fn differ_at(rows: &[u16], row: usize, steps: &[u16], at: usize) -> bool
     requires { ⌜ (getD (now rows) (row + 1) 0 < mostParameters) × (getD (now rows) (row + 2) 0 < mostParameters) ⌝ }
     requires { ⌜ at + stepSize ≤ length (now steps) ⌝ }
     ensures { λ r. do
-      let pair = now (rows .entry)
+      let words = now (rows .entry)
       ⌜ r ≡ wordsDiffer (now (steps .entry)) (at + 1) (record {
-        lower = getD pair (row + 1) 0;
-        higher = getD pair (row + 2) 0;
+        lower = getD words (row + 1) 0;
+        higher = getD words (row + 2) 0;
       }) ⌝ }
 {
     let lower = word(rows, row + LOWER);
