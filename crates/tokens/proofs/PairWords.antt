@@ -6,17 +6,14 @@ use mathlib.Core.Bool.{Bool, true, false, _&&_}
 use mathlib.Core.List.{List, [], _++_, map}
 use native.Mathlib.Omega.{arith}
 use lib.ListN.{length, getD, length-map}
-use borrow.Author.Tests.{leb-true}
 use Rattle.words.specs.Lists.{filter, keepIf, concatMap}
 use Rattle.words.specs.Sets.{member}
 use Rattle.words.proofs.Lists.{In, map-same, filter-same}
 use Rattle.task.specs.Limits.{mostPairs}
-use Rattle.task.specs.Task.{Pair, Schema, Task, schemaPairs}
+use Rattle.task.specs.Task.{Pair, Schema, Task}
 use Rattle.task.specs.Run.{schemaAt}
 use Rattle.task.specs.Table.{taskOf, pairIn, pairWords}
-use Rattle.task.proofs.Tests.{task-tests}
 use Rattle.task.proofs.Tables.{of-table}
-use Rattle.task.proofs.TablesByIndex.{table-frame, pairs-word}
 use Rattle.arcs.specs.Stretches.{pairStretchIn}
 use Rattle.arcs.proofs.Stretches.{rows-none, rows-one, rows-append}
 use Rattle.tokens.specs.Split.{has, hasBoth, orders, ownPairs, splitSchema}
@@ -27,6 +24,7 @@ use Rattle.tokens.proofs.PartRoles.{PartOf, facts}
 use Rattle.tokens.proofs.PartSplit.{new-index}
 use Rattle.tokens.proofs.WellSplit.{part-of}
 use Rattle.tokens.proofs.KeptSchema.{counted, kept-pairs, kept-pair-stretch}
+use Rattle.tokens.proofs.KeptSchemas.{pairs-few}
 use Rattle.tokens.proofs.SchemaRuns.{partsUpTo, parts-more}
 
 -- ---- the pairs that a part carries
@@ -81,14 +79,8 @@ module _ {w : List ℕ} {s : ℕ} {kept : List ℕ} (K : SchemaKept w s kept) {f
         (sym kept-carried)
 
   -- there are no more than a table has
-  pub pairs-few : to ≤ mostPairs
-  pairs-few =
-      omega (
-        arith,
-        kept-pair-stretch K begins stops .known,
-        pairs-word w (table-frame w (K .table)),
-        leb-true (schemaPairs (t .schemas)) mostPairs (task-tests t (of-table w (K .table) .0) .pairs),
-      )
+  pub stretch-few : to ≤ mostPairs
+  stretch-few = omega (arith, kept-pair-stretch K begins stops .known, pairs-few w (K .table))
 
   -- a schema without pairs: no part carries one
   pub none-carried : from ≡ to → (j : ℕ) → splitSchema t s o j .pairs ≡ []

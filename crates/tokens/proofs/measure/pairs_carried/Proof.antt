@@ -13,7 +13,7 @@ use Rattle.tokens.specs.Split.{orders}
 use Rattle.tokens.specs.Kept.{keptPair, keptPairEnd, keptCount, SchemaKept}
 use Rattle.tokens.proofs.KeptSchema.{schema-small, count-small, counted, kept-pair-stretch}
 use Rattle.tokens.proofs.SplitSizes.{partsUpTo, part-sum-none, part-sum-more, part-sum-nothing}
-use Rattle.tokens.proofs.PairWords.{carried-count, pairs-few, none-carried}
+use Rattle.tokens.proofs.PairWords.{carried-count, stretch-few, none-carried}
 use Rattle.tokens.proofs.measure.pairs_carried.Statement.{statement}
 
 abbrev Inv-loop : tie.InvT-loop
@@ -80,7 +80,7 @@ carried-requires c κs =
 one-few : (c : tie.After-carried Inv-loop μ-loop) → c .carried .result ≤ mostPairs
 one-few c =
     let k = known (found (c .before .before .before)) in
-    omega (arith, c .carried .ensures .1, pairs-few (k .kept) (k .begins) (k .stops))
+    omega (arith, c .carried .ensures .1, stretch-few (k .kept) (k .begins) (k .stops))
 
 add-n : tie.Need-add-n Inv-loop μ-loop
 add-n c = omega (arith, one-few c, known (found (c .before .before .before)) .few, c .before .before .loop-test .taken)
