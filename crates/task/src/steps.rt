@@ -21,6 +21,7 @@ ghost use Prim.Native.Nat.{ℕ, _*_, _≤_, _+_, _-_, _<_};
 ghost use lib.ListN.{length, getD};
 ghost use lib.Dec.{eqb};
 ghost use Rattle.words.specs.Lists.{all, upFrom, upTo};
+ghost use Rattle.task.specs.Layout.{headIn};
 ghost use Rattle.task.specs.Limits.{mostParameters, stepSize, pairSize};
 ghost use Rattle.task.specs.Table.{taskOf, isTable};
 ghost use Rattle.task.specs.Run.{isStepAt, badStep, badStepFound};
@@ -133,11 +134,13 @@ pub fn keep_apart(
     true
 }
 
-// Whether the list's words have a whole step of the task at index i.
-pub fn is_step(table: &[u16], steps: &[u16], i: usize, limits: &Limits) -> bool
+// Whether the list's words have a whole step of the task at index i. How many pairs the table has is handed over, so that
+// a loop over steps knows once whether any is asked.
+fn is_step(table: &[u16], steps: &[u16], i: usize, limits: &Limits, pairs: usize) -> bool
     requires { ⌜ isTable (now table) ≡ true ⌝ }
     requires { ⌜ stepSize * i ≤ length (now steps) ⌝ }
     requires { ⌜ now limits ≡ limitsFor (taskOf (now table) .objects) ⌝ }
+    requires { ⌜ pairs ≡ headIn (now table) .pairs ⌝ }
     ensures { λ r. ⌜ r ≡ isStepAt (taskOf (now (table .entry))) (now (steps .entry)) i ⌝ }
 {
     let at = STEP_SIZE * i;
@@ -151,7 +154,6 @@ pub fn is_step(table: &[u16], steps: &[u16], i: usize, limits: &Limits) -> bool
     if !are_within(steps, at, param_count(table, schema), limits) {
         return false;
     }
-    let pairs = word(table, PAIRS);
     if pairs == 0 {
         return true;
     }
@@ -165,8 +167,9 @@ pub fn bad_step(table: &[u16], steps: &[u16]) -> BadStep
 {
     let begun = (steps.len() + STEP_SIZE - 1) / STEP_SIZE;
     let limits = limits_of(object_count(table));
+    let pairs = word(table, PAIRS);
     for i in 0..begun {
-        if !is_step(table, steps, i, &limits) {
+        if !is_step(table, steps, i, &limits, pairs) {
             return BadStep::At(i as u64);
         }
     }

@@ -10,27 +10,29 @@ use Rattle.task.specs.Table.{taskOf}
 use Rattle.task.specs.Run.{isStepAt, badStepFound}
 use Rattle.task.specs.StepTests.{limitsFor}
 use Rattle.task.proofs.BadSteps.{bad-step-at, no-bad-step}
+use Rattle.task.proofs.TableReads.{counts-inside}
 use Rattle.task.proofs.steps.bad_step.Statement.{statement}
 use Rattle.task.proofs.steps.bad_step.Tie as tie
 
 abbrev Inv-loop : tie.InvT-loop
-Inv-loop table steps begun limits i₀ i = (i ≤ begun) × ((k : ℕ) → k < i → isStepAt (taskOf table) steps k ≡ true)
+Inv-loop table steps begun limits pairs i₀ i = (i ≤ begun) × ((k : ℕ) → k < i → isStepAt (taskOf table) steps k ≡ true)
 
 abbrev μ-loop : tie.MeasureT-loop
-μ-loop table steps begun limits i₀ i = begun - i
+μ-loop table steps begun limits pairs i₀ i = begun - i
 
 loop-holds : tie.Need-loop-holds Inv-loop μ-loop
 loop-holds c = (omega arith, λ k l. absurd (omega arith))
 
 -- what was lent
 abbrev start : tie.At-loop Inv-loop μ-loop → tie.Start Inv-loop μ-loop
-start c = c .before .before .before .before .before
+start c = c .before .before .before .before .before .before
 
 is-step-requires : tie.Need-is-step-requires Inv-loop μ-loop
 is-step-requires c κs =
     let at-loop = c .before .before in
-    let made = at-loop .before in
-    (start at-loop .pre, (omega arith, made .limits-of .ensures ∙ ap limitsFor (made .before .object-count .ensures)))
+    let made = at-loop .before .before in
+    let limits = made .limits-of .ensures ∙ ap limitsFor (made .before .object-count .ensures) in
+    (start at-loop .pre, (omega arith, (limits, at-loop .before .word .ensures .0)))
 
 returns : tie.Need-returns Inv-loop μ-loop
 unfolding badStepFound
@@ -59,4 +61,5 @@ pub bad-step-spec : {M : Type 1} → statement M
 bad-step-spec =
     tie.close
     (tie.spec Inv-loop μ-loop (λ c. omega arith) (λ c. omega arith) (λ c κs. c .before .before .pre) (λ c κs. tt)
-    loop-holds is-step-requires returns (λ c. omega arith) (λ c. omega arith) loop-again returns-2)
+    (λ c κs. omega (arith, counts-inside _ (c .before .before .before .before .pre))) loop-holds is-step-requires returns
+    (λ c. omega arith) (λ c. omega arith) loop-again returns-2)

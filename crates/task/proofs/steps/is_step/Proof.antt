@@ -77,7 +77,7 @@ rest c =
     step-whole (T start) (well start) (W start) (start .args .i) n (c .before .param-count .ensures) (whole known₂)
     (known known₂) ∙
     ap (λ (b : Bool). b && pairsDiffer (T start) (well start) (W start) (start .args .i) n)
-    (sym (c .are-within .ensures (T start .objects) (start .pre .1 .1)))
+    (sym (c .are-within .ensures (T start .objects) (start .pre .1 .1 .0)))
 
 returns-3 : tie.Need-returns-3
 returns-3 c =
@@ -89,9 +89,6 @@ returns-3 c =
 -- past the test of the objects
 abbrev start₃ : tie.Else3 → tie.Start
 start₃ c = start₂ (c .before .before .before)
-
-word-requires : tie.Need-word-requires
-word-requires c κs = let l = counts-inside (start₃ c .args .table .now) (start₃ c .pre .0) in omega arith
 
 -- the test of each row of pairs, for the step's schema
 abbrev rowApart : tie.Else3 → ℕ → Bool
@@ -120,36 +117,36 @@ by-rows c rows =
 returns-4 : tie.Need-returns-4
 unfolding all upTo upFrom
 returns-4 c =
-    let passed = c .before .before in
-    let none = sym (c .before .word .ensures .0) ∙ c .if4 .taken in
+    let passed = c .before in
+    let none = sym (start₃ passed .pre .1 .1 .1) ∙ c .if4 .taken in
     by-rows passed (sym (ap (λ (n : ℕ). all (rowApart passed) (upTo n)) none))
 
 pairs-base-requires : tie.Need-pairs-base-requires
 pairs-base-requires c κs =
-    let start = start₃ (c .before .before) in counts-inside (start .args .table .now) (start .pre .0)
+    let start = start₃ (c .before) in counts-inside (start .args .table .now) (start .pre .0)
 
 keep-apart-requires : tie.Need-keep-apart-requires
 unfolding pairBase
 keep-apart-requires c κs =
-    let passed = c .before .before .before .before in
+    let passed = c .before .before .before in
     let start = start₃ passed in
     let w = start .args .table .now in
     let base = c .before .pairs-base .ensures .0 in
-    let count = c .before .before .before .word .ensures .0 in
+    let count = start .pre .1 .1 .1 in
     let room = table-roomy w (start .pre .0) .inside in
     let few = pairs-few w (start .pre .0) in
     (omega (arith, base, count), (rw (base, count) few, whole (passed .before .before .before)))
 
 returns-5 : tie.Need-returns-5
 returns-5 c =
-    let passed = c .before .before .before .before .before in
+    let passed = c .before .before .before .before in
     let start = start₃ passed in
     let w = start .args .table .now in
     let at : ℕ = stepSize * start .args .i in
     let test = apartAt w (pairsBase w) (W start) (at + 1) (getD (W start) at 0) in
     let rows : c .keep-apart .result ≡ all test (upTo (headIn w .pairs)) = rw (
       ← c .before .before .pairs-base .ensures .0,
-      ← c .before .before .before .before .word .ensures .0,
+      ← start .pre .1 .1 .1,
       ← c .before .wide .ensures,
     ) (c .keep-apart .ensures) in
     by-rows passed rows
@@ -158,5 +155,5 @@ pub is-step-spec : {M : Type 1} → statement M
 is-step-spec =
     tie.close
     (tie.spec (λ c. search needs) (λ c. search needs) returns (λ c. search needs) (λ c. search needs)
-    (λ c κs. search needs) returns-2 param-count-requires are-within-requires returns-3 word-requires returns-4
+    (λ c κs. search needs) returns-2 param-count-requires are-within-requires returns-3 returns-4
     pairs-base-requires (λ c κs. search needs) keep-apart-requires returns-5)
