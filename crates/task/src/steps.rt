@@ -134,8 +134,8 @@ pub fn keep_apart(
     true
 }
 
-// Whether the list's words have a whole step of the task at index i. How many pairs the table has is handed over, so that
-// a loop over steps knows once whether any is asked.
+// Whether the list's words have a whole step of the task at index i. How many pairs the table has is handed over, so
+// that a loop over steps knows once whether any is asked.
 fn is_step(table: &[u16], steps: &[u16], i: usize, limits: &Limits, pairs: usize) -> bool
     requires { ⌜ isTable (now table) ≡ true ⌝ }
     requires { ⌜ stepSize * i ≤ length (now steps) ⌝ }

@@ -61,5 +61,5 @@ pub bad-step-spec : {M : Type 1} → statement M
 bad-step-spec =
     tie.close
     (tie.spec Inv-loop μ-loop (λ c. omega arith) (λ c. omega arith) (λ c κs. c .before .before .pre) (λ c κs. tt)
-    (λ c κs. omega (arith, counts-inside _ (c .before .before .before .before .pre))) loop-holds is-step-requires returns
-    (λ c. omega arith) (λ c. omega arith) loop-again returns-2)
+    (λ c κs. omega (arith, counts-inside _ (c .before .before .before .before .pre))) loop-holds is-step-requires
+    returns (λ c. omega arith) (λ c. omega arith) loop-again returns-2)
