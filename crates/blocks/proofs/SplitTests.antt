@@ -1,32 +1,36 @@
 -- What code finds of a step of the split, one test after another, from what is noted of each schema: it is whole, its
 -- schema is known, behind that are objects of the task and zeros, as many as the schema's parameters say, and at each
 -- pair that the schema carries, of the rows of all, the objects differ.
+use Rattle.task.specs.declared.BadStep.the-variants as bad
 use Prim.Native.Nat.{ℕ, _+_, _*_, _≤_, _<_}
 use mathlib.Core.Path.{_≡_, refl, sym, _∙_, ap, ap₂, subst}
-use mathlib.Core.Bool.{Bool, true, false, _&&_}
+use mathlib.Core.Bool.{Bool, true, false, _&&_, and-true}
 use mathlib.Core.List.{List, [], _∷_}
+use mathlib.Core.Option.{none}
 use native.Mathlib.Omega.{arith}
 use lib.ListN.{length, getD, set, take}
 use borrow.Author.Tests.{leb-true}
-use Rattle.words.specs.Lists.{all, upTo}
+use Rattle.words.specs.Lists.{all, upFrom, upTo}
 use Rattle.words.specs.Words.{wordsAt}
 use Rattle.words.specs.Putting.{Puts}
 use Rattle.words.proofs.Puts.{put-over, puts-then, puts-length, take-over}
-use Rattle.words.proofs.Lists.{In}
+use Rattle.words.proofs.Lists.{and-right, In}
 use Rattle.words.proofs.Words.{At, at-right, at-wordsAt, wordsAt-take}
 use Rattle.task.specs.Limits.{mostPairs, pairSize, stepSize}
 use Rattle.task.specs.Task.{Pair, Schema, Task, noSchema, schemaPairs, wellFormed}
 use Rattle.task.specs.Table.{pairWords, pairsFrom}
-use Rattle.task.specs.Run.{differ, schemaAt, paramCount, isStepAt}
+use Rattle.task.specs.declared.BadStep.{BadStep}
+use Rattle.task.specs.Run.{differ, schemaAt, paramCount, isStepAt, badStep, badStepFound}
 use Rattle.task.specs.StepTests.{limitsFor, objectsThenZeros, apartAt, PairsFew}
 use Rattle.task.proofs.Tests.{task-tests}
+use Rattle.task.proofs.BadSteps.{good-steps}
 use Rattle.task.proofs.States.{PairFits, wellFormed-is}
 use Rattle.task.proofs.SchemaRows.{length-rowsFrom}
 use Rattle.task.proofs.PairsStand.{pairs-even}
 use Rattle.task.proofs.StepPairs.{rows-apart, rows-few}
 use Rattle.task.proofs.StepWords.{params-few, step-short, step-unknown, step-whole}
 use Rattle.tokens.specs.Split.{splitTask, firstOf}
-use Rattle.blocks.specs.FoldCode.{carriedRows, carriedRoom, PairsNoted, StepsKnown}
+use Rattle.blocks.specs.FoldCode.{carriedRows, carriedRoom, PairsNoted, StepsKnown, KeepApart, EqualTold}
 use Rattle.blocks.proofs.Numbers.{split-count}
 
 -- ---- the rows of the split's pairs
@@ -131,3 +135,45 @@ module _ {t : Task} {params limits pairs : List ℕ} (S : StepsKnown t params li
         (ap (λ (m : ℕ). all (apartAt pairs 1 steps at n) (upTo m)) pair-count ∙
         (sym rows ∙ ap (λ (m : ℕ). all (differ (wordsAt steps at few)) (schemaAt (splitTask t) m .pairs)) d)) ∙
         sym (step-whole (splitTask t) (S .well) steps i few (e ∙ ap (paramCount (splitTask t)) d) w (omega arith))
+
+    -- where no pair is left to tell, the objects and zeros decide
+    pub split-apart : KeepApart t steps → (n : ℕ) → n ≡ number → stepSize * i + stepSize ≤ length steps → n < splits →
+        {within : Bool} → ((objects : ℕ) → limits ≡ limitsFor objects →
+        within ≡ objectsThenZeros objects steps (stepSize * i + 1) (getD params n 0)) →
+        within ≡ isStepAt (splitTask t) steps i
+    unfolding splitTask
+    split-apart apart n d w k {within} h =
+        let few = getD params n 0 in
+        let e = S .counts .count n k ∙ ap (paramCount (splitTask t)) d in
+        let at : ℕ = stepSize * i + 1 in
+        let test : ℕ → Bool = λ m. all (differ (wordsAt steps at m)) (schemaAt (splitTask t) number .pairs) in
+        let differs : test few ≡ true = ap test e ∙ apart i w (omega arith) in
+        let whole = step-whole (splitTask t) (S .well) steps i few e w (let c = split-count t in omega arith) in
+        h (t .objects) (S .bounds) ∙
+        sym (whole ∙ (ap (λ (b : Bool). objectsThenZeros (t .objects) steps at few && b) differs ∙ and-true _))
+
+  -- ---- where no pair is left to tell
+  -- a split without pairs
+  pub none-equal : getD pairs 0 0 ≡ 0 → (steps : List ℕ) → KeepApart t steps
+  unfolding all upTo upFrom schemaAt splitTask
+  none-equal zero steps i w k =
+      let n = getD steps (stepSize * i) 0 in
+      let at : ℕ = stepSize * i + 1 in
+      let l : n < length ss = let c = split-count t in omega arith in
+      rows-apart pairs 1 ss stand-rows n (paramCount (splitTask t) n) l (pair-fits n l) steps at ∙
+      ap (λ (m : ℕ). all (apartAt pairs 1 steps at n) (upTo m)) (sym pair-count ∙ zero)
+
+  -- a list without a bad step
+  pub good-apart : (steps : List ℕ) → badStep (splitTask t) steps ≡ none → KeepApart t steps
+  good-apart steps h i w k =
+      let n = getD steps (stepSize * i) 0 in
+      let few = paramCount (splitTask t) n in
+      let whole = step-whole (splitTask t) (S .well) steps i few refl w (let c = split-count t in omega arith) in
+      and-right (objectsThenZeros (splitTask t .objects) steps (stepSize * i + 1) few) _
+      (sym whole ∙ good-steps (splitTask t) steps h i (omega arith))
+
+  -- so where a list's first bad step is found, either it is told or no pair is left to tell
+  pub equal-told : (steps : List ℕ) (r : BadStep) → badStepFound r ≡ badStep (splitTask t) steps → EqualTold t steps r
+  unfolding EqualTold badStepFound
+  equal-told steps (bad.At i) e = sym e
+  equal-told steps bad.Nowhere e = good-apart steps (sym e)

@@ -2,6 +2,7 @@
 -- functions promise, by the words that they read. No promise of an entry point cites these.
 use Rattle.blocks.specs.declared.folding.Taken.the-variants as taken
 use Rattle.blocks.specs.declared.folding.Judged.the-variants as judged
+use Rattle.task.specs.declared.BadStep.the-variants as bad
 use Prim.Native.Nat.{ℕ, _+_, _*_, _/_, _≤_, _<_}
 use mathlib.Core.Path.{_≡_}
 use mathlib.Core.Bool.{Bool, true, false, _&&_}
@@ -9,13 +10,14 @@ use mathlib.Core.List.{List, _∷_, map}
 use mathlib.Core.Option.{Option, none, some}
 use lib.ListN.{length, getD}
 use lib.Dec.{eqb}
-use Rattle.words.specs.Lists.{upTo, eqList}
+use Rattle.words.specs.Lists.{all, upTo, eqList}
 use Rattle.words.specs.Sets.{member, members}
 use Rattle.words.specs.Words.{wordsAt}
 use Rattle.task.specs.Limits.{mostParameters, mostSchemas, mostPairs, pairSize, stepSize}
 use Rattle.task.specs.Task.{Task, schemaPairs, wellFormed}
 use Rattle.task.specs.Table.{pairsFrom}
-use Rattle.task.specs.Run.{Step, paramCount, stepAt, isStepAt, stepsIn, badStep}
+use Rattle.task.specs.declared.BadStep.{BadStep}
+use Rattle.task.specs.Run.{Step, schemaAt, differ, paramCount, stepAt, isStepAt, stepsIn, badStep}
 use Rattle.task.specs.StepTests.{limitsFor}
 use Rattle.tokens.specs.Split.{orders, splitTask, firstOf}
 use Rattle.tokens.specs.Kept.{keptCount, keptOwn}
@@ -163,6 +165,18 @@ pub record SplitStepsKept (t : Task) (steps kept begins origins : List ℕ) : Ty
   pub good : badStep (splitTask t) steps ≡ none
   pub begun : BeginsKept t begins
   pub origin : OriginsKept kept (length (t .schemas)) origins
+
+-- no whole step of the list has equal objects at a pair that its schema of the split carries
+abbrev pub KeepApart : Task → List ℕ → Type 0
+KeepApart t steps = (i : ℕ) → stepSize * i + stepSize ≤ length steps → let n = getD steps (stepSize * i) 0 in
+    n < firstOf t (length (t .schemas)) →
+    all (differ (wordsAt steps (stepSize * i + 1) (paramCount (splitTask t) n))) (schemaAt (splitTask t) n .pairs) ≡
+    true
+
+-- a first look at the pairs alone: the first bad step, where some has equal objects
+unfoldable pub EqualTold : Task → List ℕ → BadStep → Type 0
+EqualTold t steps (bad.At i) = badStep (splitTask t) steps ≡ some i
+EqualTold t steps bad.Nowhere = KeepApart t steps
 
 -- ---- what a list is taken apart into: so many steps, or a misfit
 unfoldable pub takenOf : Folding → Taken

@@ -43,7 +43,7 @@ ghost use Rattle.blocks.specs.FoldCode.{BeginsKept, ParamsNoted, originP
 ghost use Rattle.blocks.specs.FoldCode.{PartNoted, PartsNoted, PartPlaced, PlacesNoted, PairsNoted};
 ghost use Rattle.blocks.specs.FoldCode.{objectIn, agreesAt, gathered};
 ghost use Rattle.blocks.specs.FoldCode.{isPart, StepsKnown, BlocksKnown, GoodBefore, SplitStepsKept};
-ghost use Rattle.blocks.specs.FoldCode.{reachedBy, TakenTold, judgedOf};
+ghost use Rattle.blocks.specs.FoldCode.{KeepApart, EqualTold, reachedBy, TakenTold, judgedOf};
 
 // For each schema of the split: which schema's block it begins, by that one's number and one; 0 for none.
 pub type Begins = [u16; MOST_SCHEMAS];
@@ -302,7 +302,7 @@ fn is_schema_step(
 }
 
 // Whether what stands at position j of the block that begins at split step i is a step of the split, the part of schema
-// s there, and agrees with the parts before it.
+// s there, and agrees with the parts before it. Of no step are equal objects at a pair left to tell.
 fn part_fits(
     steps: &[u16],
     i: usize,
@@ -312,14 +312,13 @@ fn part_fits(
     params: &Params,
     places: &Places,
     limits: &Limits,
-    pairs: &Pairs,
 ) -> bool
-    requires { ⌜ ((t : Task) × (origins : List ℕ) ×
-        BlocksKnown t (now kept) (now params) origins (now places) (now limits) (now pairs) ×
+    requires { ⌜ ((t : Task) × (origins : List ℕ) × (pairs : List ℕ) ×
+        BlocksKnown t (now kept) (now params) origins (now places) (now limits) pairs × KeepApart t (now steps) ×
         (s < length (t .schemas)) × (j < length (orders t s)) × (stepSize * (i + j) ≤ length (now steps))) ⌝ }
-    ensures { λ r. ⌜ ((t : Task) (origins : List ℕ) →
+    ensures { λ r. ⌜ ((t : Task) (origins pairs : List ℕ) →
         BlocksKnown t (now (kept .entry)) (now (params .entry)) origins (now (places .entry)) (now (limits .entry))
-        (now (pairs .entry)) → s < length (t .schemas) → j < length (orders t s) →
+        pairs → KeepApart t (now (steps .entry)) → s < length (t .schemas) → j < length (orders t s) →
         r ≡ isPart t (now (steps .entry)) origins i s j) ⌝ }
 {
     let at = STEP_SIZE * (i + j);
@@ -330,7 +329,7 @@ fn part_fits(
     if schema_at(steps, at) != number {
         return false;
     }
-    if !is_schema_step(steps, i + j, number, params, limits, pairs) {
+    if !are_within(steps, at, wide(params[number]), limits) {
         return false;
     }
     agree(steps, places, STEP_SIZE * i, at, number, params[number])
@@ -344,14 +343,14 @@ fn take_apart(
     params: &Params,
     places: &Places,
     limits: &Limits,
-    pairs: &Pairs,
 ) -> Taken
-    requires { ⌜ ((t : Task) × (origins : List ℕ) ×
-        BlocksKnown t (now kept) (now params) origins (now places) (now limits) (now pairs) ×
+    requires { ⌜ ((t : Task) × (origins : List ℕ) × (pairs : List ℕ) ×
+        BlocksKnown t (now kept) (now params) origins (now places) (now limits) pairs × KeepApart t (now steps) ×
         BeginsKept t (now begins)) ⌝ }
-    ensures { λ r. ⌜ ((t : Task) (origins : List ℕ) →
+    ensures { λ r. ⌜ ((t : Task) (origins pairs : List ℕ) →
         BlocksKnown t (now (kept .entry)) (now (params .entry)) origins (now (places .entry)) (now (limits .entry))
-        (now (pairs .entry)) → BeginsKept t (now (begins .entry)) → TakenTold t (now (steps .entry)) r) ⌝ }
+        pairs → KeepApart t (now (steps .entry)) → BeginsKept t (now (begins .entry)) →
+        TakenTold t (now (steps .entry)) r) ⌝ }
 {
     let count = steps.len() / STEP_SIZE;
     let mut taken: u64 = 0;
@@ -369,7 +368,7 @@ fn take_apart(
         let begin = i;
         let mut j = 0;
         while j < parts {
-            if !part_fits(steps, begin, s, j, kept, params, places, limits, pairs) {
+            if !part_fits(steps, begin, s, j, kept, params, places, limits) {
                 break 'list Taken::Misfit(i as u64);
             }
             i += 1;
@@ -441,8 +440,28 @@ fn bad_from(
     BadStep::Nowhere
 }
 
+// Where the split has pairs, the first bad step of the list, by all that 12 judges; where it has none, no step has
+// equal objects at one, and no pass is made.
+fn equal_step(
+    steps: &[u16],
+    splits: usize,
+    params: &Params,
+    limits: &Limits,
+    pairs: &Pairs,
+) -> BadStep
+    requires { ⌜ ((t : Task) × StepsKnown t (now params) (now limits) (now pairs) ×
+        (splits ≡ firstOf t (length (t .schemas)))) ⌝ }
+    ensures { λ r. ⌜ ((t : Task) → StepsKnown t (now (params .entry)) (now (limits .entry)) (now (pairs .entry)) →
+        splits ≡ firstOf t (length (t .schemas)) → EqualTold t (now (steps .entry)) r) ⌝ }
+{
+    if pairs[0] == 0 {
+        return BadStep::Nowhere;
+    }
+    bad_from(steps, 0, splits, params, limits, pairs)
+}
+
 // "folding's list is judged by 12 against the split task", and taken apart: in one pass, and only where it stops before
-// the list's end the steps behind are judged by 12 alone.
+// the list's end the steps behind are judged by 12 alone. A split with pairs takes a pass for them before.
 pub fn judge(
     table: &[u16],
     kept: &Kept,
@@ -463,7 +482,11 @@ pub fn judge(
     let places = places_of(kept, schemas, origins);
     let limits = limits_of(object_count(table));
     let pairs = pairs_of(table, kept, sizes);
-    let taken = take_apart(steps, kept, begins, &params, &places, &limits, &pairs);
+    let equal = equal_step(steps, sizes.schemas, &params, &limits, &pairs);
+    if let BadStep::At(i) = equal {
+        return Judged::Bad(i);
+    }
+    let taken = take_apart(steps, kept, begins, &params, &places, &limits);
     let bad = bad_from(
         steps,
         reached(taken, steps.len() / STEP_SIZE),

@@ -6,9 +6,10 @@ use mathlib.Core.Bool.{Bool, not, _&&_, _||_}
 use mathlib.Core.List.{List, _++_}
 use lib.ListN.{getD, replicate}
 use lib.Dec.{eqb, ltb}
-use Rattle.words.specs.Lists.{all}
+use Rattle.words.specs.Lists.{all, upTo}
 use Rattle.words.specs.Words.{wordsAt}
-use Rattle.task.specs.Limits.{mostParameters, pairSize}
+use Rattle.task.specs.Limits.{mostParameters, pairSize, stepSize}
+use Rattle.task.specs.Layout.{headIn, pairsBase}
 use Rattle.task.specs.Task.{Pair}
 
 -- what an object is below, twelve times, then what 0 is below: those of a step with n parameters begin at 12 - n
@@ -47,3 +48,8 @@ apartAt rows base steps at s i = not (eqb s (rowSchema rows base i)) || wordsDif
 abbrev pub PairsFew : List ℕ → ℕ → ℕ → Type 0
 PairsFew rows base n = (i : ℕ) → i < n →
     (rowPair rows base i .lower < mostParameters) × (rowPair rows base i .higher < mostParameters)
+
+-- the step at index i of a list has different objects at each pair of a table that names its schema
+abbrev pub rowsApart : List ℕ → List ℕ → ℕ → Bool
+rowsApart w steps i =
+    let at = stepSize * i in all (apartAt w (pairsBase w) steps (at + 1) (getD steps at 0)) (upTo (headIn w .pairs))

@@ -16,8 +16,8 @@ use words::putting::fill;
 use words::runs::wide;
 use words::runs::word;
 ghost use mathlib.Core.Path.{_≡_};
-ghost use mathlib.Core.Bool.{true};
-ghost use Prim.Native.Nat.{ℕ, _*_, _≤_, _+_, _-_, _<_};
+ghost use mathlib.Core.Bool.{true, _&&_};
+ghost use Prim.Native.Nat.{ℕ, _*_, _/_, _≤_, _+_, _-_, _<_};
 ghost use lib.ListN.{length, getD};
 ghost use lib.Dec.{eqb};
 ghost use Rattle.words.specs.Lists.{all, upFrom, upTo};
@@ -26,6 +26,7 @@ ghost use Rattle.task.specs.Limits.{mostParameters, stepSize, pairSize};
 ghost use Rattle.task.specs.Table.{taskOf, isTable};
 ghost use Rattle.task.specs.Run.{isStepAt, badStep, badStepFound};
 ghost use Rattle.task.specs.StepTests.{limitsFor, isWithin, objectsThenZeros, wordsDiffer, apartAt, PairsFew};
+ghost use Rattle.task.specs.StepTests.{rowsApart};
 
 // The schema of the step whose words begin at `at`.
 pub fn schema_at(steps: &[u16], at: usize) -> usize
@@ -134,14 +135,16 @@ pub fn keep_apart(
     true
 }
 
-// Whether the list's words have a whole step of the task at index i. How many pairs the table has is handed over, so
-// that a loop over steps knows once whether any is asked.
-fn is_step(table: &[u16], steps: &[u16], i: usize, limits: &Limits, pairs: usize) -> bool
+// Whether the list's words have at index i a whole step of the task, but for its pairs: a known schema, so many
+// objects, then zeros.
+fn is_choice(table: &[u16], steps: &[u16], i: usize, limits: &Limits) -> bool
     requires { ⌜ isTable (now table) ≡ true ⌝ }
     requires { ⌜ stepSize * i ≤ length (now steps) ⌝ }
     requires { ⌜ now limits ≡ limitsFor (taskOf (now table) .objects) ⌝ }
-    requires { ⌜ pairs ≡ headIn (now table) .pairs ⌝ }
-    ensures { λ r. ⌜ r ≡ isStepAt (taskOf (now (table .entry))) (now (steps .entry)) i ⌝ }
+    ensures { λ r. do
+      let w = now (table .entry)
+      ⌜ isStepAt (taskOf w) (now (steps .entry)) i ≡ r && rowsApart w (now (steps .entry)) i ⌝ }
+    ensures { λ r. ⌜ (r ≡ true → stepSize * i + stepSize ≤ length (now (steps .entry))) ⌝ }
 {
     let at = STEP_SIZE * i;
     if steps.len() - at < STEP_SIZE {
@@ -151,23 +154,66 @@ fn is_step(table: &[u16], steps: &[u16], i: usize, limits: &Limits, pairs: usize
     if schema_count(table) <= schema {
         return false;
     }
-    if !are_within(steps, at, param_count(table, schema), limits) {
-        return false;
-    }
-    if pairs == 0 {
-        return true;
-    }
-    keep_apart(table, pairs_base(table), pairs, steps, at, wide(schema))
+    are_within(steps, at, param_count(table, schema), limits)
 }
 
-// The first step that is none of this task, or incomplete: words left over begin one.
+// Whether they have a whole step of the task there, of a table with so many pairs.
+fn is_step(table: &[u16], steps: &[u16], i: usize, limits: &Limits, pairs: usize) -> bool
+    requires { ⌜ isTable (now table) ≡ true ⌝ }
+    requires { ⌜ stepSize * i ≤ length (now steps) ⌝ }
+    requires { ⌜ now limits ≡ limitsFor (taskOf (now table) .objects) ⌝ }
+    requires { ⌜ pairs ≡ headIn (now table) .pairs ⌝ }
+    ensures { λ r. ⌜ r ≡ isStepAt (taskOf (now (table .entry))) (now (steps .entry)) i ⌝ }
+{
+    if !is_choice(table, steps, i, limits) {
+        return false;
+    }
+    let at = STEP_SIZE * i;
+    keep_apart(
+        table,
+        pairs_base(table),
+        pairs,
+        steps,
+        at,
+        schema_at(steps, at),
+    )
+}
+
+// How many steps a list begins: words left over begin one.
+fn begun_steps(steps: &[u16]) -> usize
+    ensures { λ r. ⌜ r ≡ (length (now (steps .entry)) + 12) / stepSize ⌝ }
+{
+    (steps.len() + STEP_SIZE - 1) / STEP_SIZE
+}
+
+// The first step that is none of a task without pairs. No pair is looked for from step to step: one test more took a
+// quarter of the time.
+fn bad_choice(table: &[u16], steps: &[u16], limits: &Limits) -> BadStep
+    requires { ⌜ isTable (now table) ≡ true ⌝ }
+    requires { ⌜ headIn (now table) .pairs ≡ 0 ⌝ }
+    requires { ⌜ now limits ≡ limitsFor (taskOf (now table) .objects) ⌝ }
+    ensures { λ r. ⌜ badStepFound r ≡ badStep (taskOf (now (table .entry))) (now (steps .entry)) ⌝ }
+{
+    let begun = begun_steps(steps);
+    for i in 0..begun {
+        if !is_choice(table, steps, i, limits) {
+            return BadStep::At(i as u64);
+        }
+    }
+    BadStep::Nowhere
+}
+
+// The first step that is none of this task, or incomplete.
 pub fn bad_step(table: &[u16], steps: &[u16]) -> BadStep
     requires { ⌜ isTable (now table) ≡ true ⌝ }
     ensures { λ r. ⌜ badStepFound r ≡ badStep (taskOf (now (table .entry))) (now (steps .entry)) ⌝ }
 {
-    let begun = (steps.len() + STEP_SIZE - 1) / STEP_SIZE;
     let limits = limits_of(object_count(table));
     let pairs = word(table, PAIRS);
+    if pairs == 0 {
+        return bad_choice(table, steps, &limits);
+    }
+    let begun = begun_steps(steps);
     for i in 0..begun {
         if !is_step(table, steps, i, &limits, pairs) {
             return BadStep::At(i as u64);
