@@ -2,20 +2,20 @@
 -- itself; and in a table both parameters of a row are its schema's.
 use Prim.Native.Nat.{ℕ, _+_, _*_, _<_}
 use mathlib.Core.Path.{_≡_, refl, sym, _∙_, ap, ap₂}
-use mathlib.Core.Bool.{Bool, true, false, not, _&&_, _||_, and-true}
+use mathlib.Core.Bool.{Bool, true, false, not, _&&_, _||_}
 use mathlib.Core.List.{List, [], _∷_, map}
 use native.Mathlib.Omega.{arith}
 use lib.ListN.{length, getD}
 use lib.Dec.{eqb}
 use borrow.Author.Tests.{eq-eqb, ne-eqb}
-use Rattle.words.specs.Lists.{all, filter, keepIf, sum, upTo, upFrom}
+use Rattle.words.specs.Lists.{all, filter, keepIf, sum, upTo}
 use Rattle.words.specs.Words.{wordsAt}
 use Rattle.task.specs.Layout.{headIn, pairsBase, pairBase}
-use Rattle.task.specs.Limits.{mostParameters, pairSize, stepSize}
+use Rattle.task.specs.Limits.{mostParameters, pairSize}
 use Rattle.task.specs.Task.{Pair, Schema, noSchema}
 use Rattle.task.specs.Table.{pairIn, pairNumberIn, pairWords, pairsFrom, taskOf, isTable, naming, schemaIn}
-use Rattle.task.specs.Run.{differ, schemaAt, paramCount, isStepAt}
-use Rattle.task.specs.StepTests.{rowSchema, rowPair, wordsDiffer, apartAt, PairsFew, rowsApart}
+use Rattle.task.specs.Run.{differ, schemaAt, paramCount}
+use Rattle.task.specs.StepTests.{rowSchema, rowPair, wordsDiffer, apartAt, PairsFew}
 use Rattle.words.proofs.Lists.{In, here, there, in-map, in-filter, in-upTo, getD-mapped}
 use Rattle.words.proofs.Words.{At, at-move, getD-wordsAt}
 use Rattle.task.proofs.SchemaRows.{Reads, firstRow, row-stands, rows-indices, rows-are, row-lies}
@@ -155,12 +155,3 @@ module _ (w : List ℕ) (h : isTable w ≡ true) where
       rows-apart w (pairsBase w) (taskOf w .schemas) stand s (paramCount (taskOf w) s) (omega arith)
       (well .schema s (omega arith) .pairs) steps at ∙
       ap (λ (m : ℕ). all (apartAt w (pairsBase w) steps at s) (upTo m)) (pairs-word w fr)
-
--- where there is no pair, what is a step but for its pairs is a step
-pub choice-step : (w steps : List ℕ) (i : ℕ) {r : Bool} → headIn w .pairs ≡ 0 →
-    isStepAt (taskOf w) steps i ≡ r && rowsApart w steps i → r ≡ isStepAt (taskOf w) steps i
-unfolding all upTo upFrom
-choice-step w steps i {r} none e =
-    let at : ℕ = stepSize * i in
-    let test = apartAt w (pairsBase w) steps (at + 1) (getD steps at 0) in
-    sym (e ∙ (ap (λ (n : ℕ). r && all test (upTo n)) none ∙ and-true r))

@@ -21,12 +21,12 @@ ghost use Prim.Native.Nat.{ℕ, _*_, _/_, _≤_, _+_, _-_, _<_};
 ghost use lib.ListN.{length, getD};
 ghost use lib.Dec.{eqb};
 ghost use Rattle.words.specs.Lists.{all, upFrom, upTo};
-ghost use Rattle.task.specs.Layout.{headIn};
 ghost use Rattle.task.specs.Limits.{mostParameters, stepSize, pairSize};
 ghost use Rattle.task.specs.Table.{taskOf, isTable};
 ghost use Rattle.task.specs.Run.{isStepAt, badStep, badStepFound};
 ghost use Rattle.task.specs.StepTests.{limitsFor, isWithin, objectsThenZeros, wordsDiffer, apartAt, PairsFew};
 ghost use Rattle.task.specs.StepTests.{rowsApart};
+ghost use Rattle.task.specs.Choices.{ChoiceTold, choicesEnd};
 
 // The schema of the step whose words begin at `at`.
 pub fn schema_at(steps: &[u16], at: usize) -> usize
@@ -157,28 +157,6 @@ fn is_choice(table: &[u16], steps: &[u16], i: usize, limits: &Limits) -> bool
     are_within(steps, at, param_count(table, schema), limits)
 }
 
-// Whether they have a whole step of the task there, of a table with so many pairs.
-fn is_step(table: &[u16], steps: &[u16], i: usize, limits: &Limits, pairs: usize) -> bool
-    requires { ⌜ isTable (now table) ≡ true ⌝ }
-    requires { ⌜ stepSize * i ≤ length (now steps) ⌝ }
-    requires { ⌜ now limits ≡ limitsFor (taskOf (now table) .objects) ⌝ }
-    requires { ⌜ pairs ≡ headIn (now table) .pairs ⌝ }
-    ensures { λ r. ⌜ r ≡ isStepAt (taskOf (now (table .entry))) (now (steps .entry)) i ⌝ }
-{
-    if !is_choice(table, steps, i, limits) {
-        return false;
-    }
-    let at = STEP_SIZE * i;
-    keep_apart(
-        table,
-        pairs_base(table),
-        pairs,
-        steps,
-        at,
-        schema_at(steps, at),
-    )
-}
-
 // How many steps a list begins: words left over begin one.
 fn begun_steps(steps: &[u16]) -> usize
     ensures { λ r. ⌜ r ≡ (length (now (steps .entry)) + 12) / stepSize ⌝ }
@@ -186,21 +164,30 @@ fn begun_steps(steps: &[u16]) -> usize
     (steps.len() + STEP_SIZE - 1) / STEP_SIZE
 }
 
-// The first step that is none of a task without pairs. No pair is looked for from step to step: one test more took a
-// quarter of the time.
-fn bad_choice(table: &[u16], steps: &[u16], limits: &Limits) -> BadStep
+// The first step that is none of this task, or incomplete, whatever its pairs. No pair is asked for from step to step:
+// even whether there is one took a quarter of the time.
+fn bad_choice(table: &[u16], steps: &[u16], begun: usize) -> BadStep
     requires { ⌜ isTable (now table) ≡ true ⌝ }
-    requires { ⌜ headIn (now table) .pairs ≡ 0 ⌝ }
-    requires { ⌜ now limits ≡ limitsFor (taskOf (now table) .objects) ⌝ }
-    ensures { λ r. ⌜ badStepFound r ≡ badStep (taskOf (now (table .entry))) (now (steps .entry)) ⌝ }
+    requires { ⌜ begun ≡ (length (now steps) + 12) / stepSize ⌝ }
+    ensures { λ r. ⌜ ChoiceTold (now (table .entry)) (now (steps .entry)) begun r ⌝ }
 {
-    let begun = begun_steps(steps);
+    let limits = limits_of(object_count(table));
     for i in 0..begun {
-        if !is_choice(table, steps, i, limits) {
+        if !is_choice(table, steps, i, &limits) {
             return BadStep::At(i as u64);
         }
     }
     BadStep::Nowhere
+}
+
+// Where the steps before it end, of so many begun.
+fn choices_end(choice: BadStep, begun: usize) -> usize
+    ensures { λ r. ⌜ r ≡ choicesEnd begun choice ⌝ }
+{
+    match choice {
+        BadStep::At(i) => i as usize,
+        BadStep::Nowhere => begun,
+    }
 }
 
 // The first step that is none of this task, or incomplete.
@@ -208,16 +195,19 @@ pub fn bad_step(table: &[u16], steps: &[u16]) -> BadStep
     requires { ⌜ isTable (now table) ≡ true ⌝ }
     ensures { λ r. ⌜ badStepFound r ≡ badStep (taskOf (now (table .entry))) (now (steps .entry)) ⌝ }
 {
-    let limits = limits_of(object_count(table));
+    let begun = begun_steps(steps);
+    let choice = bad_choice(table, steps, begun);
     let pairs = word(table, PAIRS);
     if pairs == 0 {
-        return bad_choice(table, steps, &limits);
+        return choice;
     }
-    let begun = begun_steps(steps);
-    for i in 0..begun {
-        if !is_step(table, steps, i, &limits, pairs) {
+    let end = choices_end(choice, begun);
+    let base = pairs_base(table);
+    for i in 0..end {
+        let at = STEP_SIZE * i;
+        if !keep_apart(table, base, pairs, steps, at, schema_at(steps, at)) {
             return BadStep::At(i as u64);
         }
     }
-    BadStep::Nowhere
+    choice
 }

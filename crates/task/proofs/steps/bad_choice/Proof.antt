@@ -1,65 +1,66 @@
--- `task::steps::bad_choice` meets its contract. The invariant of its loop: the steps before i are good; without pairs
--- what is a step but for its pairs is one (`choice-step`). The measure is the number of steps begun, less i.
-use Prim.Native.Nat.{ℕ, _-_, _≤_, _<_}
-use mathlib.Core.Path.{_≡_, sym, _∙_}
-use mathlib.Core.Bool.{true}
+-- `task::steps::bad_choice` meets its contract. The invariant of its loop: the steps before i are whole, and steps
+-- where their pairs are apart (`choice-known`). The measure is the number of steps begun, less i.
+use Prim.Native.Nat.{ℕ, _-_, _≤_}
+use mathlib.Core.Path.{_∙_, ap}
+use mathlib.Core.List.{List}
 use native.Mathlib.Omega.{arith}
 use borrow.Author.Count.{below-more}
 use borrow.Author.Tests.{not-true, not-false}
-use Rattle.task.specs.Table.{taskOf}
-use Rattle.task.specs.Run.{isStepAt, badStepFound}
-use Rattle.task.proofs.BadSteps.{bad-step-at, no-bad-step}
-use Rattle.task.proofs.StepPairs.{choice-step}
+use Rattle.task.specs.StepTests.{limitsFor}
+use Rattle.task.specs.Choices.{ChoicesBefore, ChoiceTold}
+use Rattle.task.proofs.ChoiceSteps.{choice-known, choice-none}
 use Rattle.task.proofs.steps.bad_choice.Statement.{statement}
 use Rattle.task.proofs.steps.bad_choice.Tie as tie
 
 abbrev Inv-loop : tie.InvT-loop
-Inv-loop table steps limits begun i₀ i = (i ≤ begun) × ((k : ℕ) → k < i → isStepAt (taskOf table) steps k ≡ true)
+Inv-loop table steps begun limits i₀ i = (i ≤ begun) × ChoicesBefore table steps i
 
 abbrev μ-loop : tie.MeasureT-loop
-μ-loop table steps limits begun i₀ i = begun - i
+μ-loop table steps begun limits i₀ i = begun - i
 
--- what was lent
+-- what was lent, and its words
 abbrev start : tie.At-loop Inv-loop μ-loop → tie.Start Inv-loop μ-loop
-start c = c .before .before .before .before
+start c = c .before .before .before .before .before
 
-told : (c : tie.After-is-choice Inv-loop μ-loop) → let at-loop = c .before .before in
-    let a = start at-loop .args in
-    c .is-choice .result ≡ isStepAt (taskOf (a .table .now)) (a .steps .now) (at-loop .loop .i)
-told c =
-    let at-loop = c .before .before in
-    let s = start at-loop in
-    choice-step (s .args .table .now) (s .args .steps .now) (at-loop .loop .i) (s .pre .1 .0) (c .is-choice .ensures .0)
+abbrev words : tie.At-loop Inv-loop μ-loop → List ℕ
+words c = start c .args .table .now
 
-returns : tie.Need-returns Inv-loop μ-loop
-unfolding badStepFound
-returns c =
-    let at-loop = c .before .before .before in
-    let a = start at-loop .args in
-    let begun = at-loop .before .begun-steps .ensures in
-    sym (bad-step-at (taskOf (a .table .now)) (a .steps .now) (at-loop .loop .i) (omega arith) (at-loop .loop .inv .1)
-    (sym (told (c .before)) ∙ not-true _ (c .if1 .taken)))
-
-loop-again : tie.Need-loop-again Inv-loop μ-loop
-loop-again c =
-    let at-loop = c .before .before .before in
-    (omega arith, below-more _ _ (at-loop .loop .inv .1) (sym (told (c .before)) ∙ not-false _ (c .if1 .left)))
-
-returns-2 : tie.Need-returns-2 Inv-loop μ-loop
-unfolding badStepFound
-returns-2 c =
-    let a = start (c .before) .args in
-    let begun = c .before .before .begun-steps .ensures in
-    sym (no-bad-step (taskOf (a .table .now)) (a .steps .now) (λ k l. c .before .loop .inv .1 k (omega arith)))
+abbrev list : tie.At-loop Inv-loop μ-loop → List ℕ
+list c = start c .args .steps .now
 
 is-choice-requires : tie.Need-is-choice-requires Inv-loop μ-loop
 is-choice-requires c κs =
-    let s = start (c .before) in
-    let begun = c .before .before .begun-steps .ensures in
-    (s .pre .0, (omega arith, s .pre .1 .1))
+    let at-loop = c .before .before in
+    let made = at-loop .before in
+    let begun = start at-loop .pre .1 in
+    let limits = made .limits-of .ensures ∙ ap limitsFor (made .before .object-count .ensures) in
+    (start at-loop .pre .0, (omega arith, limits))
+
+returns : tie.Need-returns Inv-loop μ-loop
+unfolding ChoiceTold
+returns c =
+    let at-loop = c .before .before .before .before in
+    let none = not-true (c .before .is-choice .result) (c .if1 .taken) in (
+      omega arith,
+      choice-none (words at-loop) (list at-loop) (at-loop .loop .i) (c .before .is-choice .ensures .0) none,
+      at-loop .loop .inv .1,
+    )
+
+loop-again : tie.Need-loop-again Inv-loop μ-loop
+loop-again c =
+    let at-loop = c .before .before .before .before in
+    let w = words at-loop in
+    let choice = not-false (c .before .is-choice .result) (c .if1 .left) in
+    let told = choice-known w (list at-loop) (at-loop .loop .i) (c .before .is-choice .ensures .0) choice in
+    (omega arith, below-more _ _ (at-loop .loop .inv .1) (c .before .is-choice .ensures .1 choice, told))
+
+returns-2 : tie.Need-returns-2 Inv-loop μ-loop
+unfolding ChoiceTold
+returns-2 c = λ k l. c .before .loop .inv .1 k (omega arith)
 
 pub bad-choice-spec : {M : Type 1} → statement M
 bad-choice-spec =
     tie.close
-    (tie.spec Inv-loop μ-loop (λ c κs. tt) (λ c. (omega arith, λ k l. absurd (omega arith))) is-choice-requires returns
-    (λ c. omega arith) (λ c. omega arith) loop-again returns-2)
+    (tie.spec Inv-loop μ-loop (λ c κs. c .before .before .pre .0) (λ c κs. tt)
+    (λ c. (omega arith, λ k l. absurd (omega arith))) is-choice-requires returns (λ c. omega arith) (λ c. omega arith)
+    loop-again returns-2)
