@@ -24,6 +24,8 @@ pub enum Reason {
     BadPair = 19,
     PairInNoPart = 20,
     TooManyPairs = 21,
+    WidthOrScratch = 22,
+    TooManyParts = 23,
 }
 
 /// "Lines count from 1, the others from 0; none is 0."

@@ -82,7 +82,7 @@ fn ready(unplaced: &BTreeSet<PartNumber>, arcs: &Arcs) -> BTreeSet<PartNumber> {
 }
 
 /// The different parameters of some atoms.
-fn parameters<'a>(
+pub(crate) fn parameters<'a>(
     atoms: impl Iterator<Item = &'a SchemaAtom>,
     arities: &[u16],
 ) -> BTreeSet<ParameterNumber> {

@@ -1,9 +1,9 @@
 //! A second implementation of document 01, "Splitting STRIPS action schemas
-//! for station work", and of document 02's notes 1, 2 and 4, with one module
-//! for each section, `pddl` for note 1 and the entry points on lent words and
-//! bytes here. Note 2 changes the choice among ready parts in `arcs`; note 4
-//! gives schemas pairs of parameters that must differ, in every module. Note 3
-//! changes no answer.
+//! for station work", and of document 02's notes 1, 2, 4 and 5, with one module
+//! for each section, `pddl` for note 1, `propose` for note 5 and the entry
+//! points on lent words and bytes here. Note 2 changes the choice among ready
+//! parts in `arcs`; note 4 gives schemas pairs of parameters that must differ,
+//! in every module. Note 3 changes no answer.
 
 pub mod answer;
 pub mod arcs;
@@ -11,6 +11,7 @@ pub mod blocks;
 pub mod pddl;
 pub mod pddl_reader;
 pub mod programs;
+pub mod propose;
 pub mod run;
 pub mod table;
 pub mod text;
@@ -19,6 +20,7 @@ pub mod tokens;
 pub use answer::{Answer, Place, Reason, Refusal};
 
 use pddl::Pddl;
+use propose::{MAX_WIDTH, SCRATCH_WORDS};
 use run::{Step, STEP_WORDS};
 use table::{Task, TABLE_WORDS};
 
@@ -97,6 +99,21 @@ pub fn fold(table: &[u16], split_steps: &[u16], out: &mut [u16]) -> Answer<Folde
         split_steps: split_steps.len() as u64,
         steps: steps.len() as u64,
     })
+}
+
+/// Writes a table's task with proposed parts as a table. The scratch isn't
+/// needed here, and is "all 0 after a result or 23".
+pub fn propose(table: &[u16], width: u64, proposed: &mut [u16], scratch: &mut [u16]) -> Answer<()> {
+    let proposed = lent_table(proposed)?;
+    let task = task_of(table)?;
+    // "22, after 2, for a width above 12 or a shorter scratch."
+    let scratch = scratch.get_mut(..SCRATCH_WORDS);
+    let (Some(scratch), 0..=MAX_WIDTH) = (scratch, width) else {
+        return Err(Refusal::nowhere(Reason::WidthOrScratch));
+    };
+    scratch.fill(0);
+    propose::propose(&task, width)?.store(proposed);
+    Ok(())
 }
 
 /// Refusal 1: a lent table is shorter than 14,007 words.

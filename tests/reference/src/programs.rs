@@ -1,10 +1,12 @@
-//! The two programs of document 01, "Text form", and the one that writes PDDL,
-//! as functions of their input.
+//! The two programs of document 01, "Text form", and those that write PDDL and
+//! propose a partition, as functions of their input.
 
 use crate::answer::{Answer, Reason, Refusal};
 use crate::blocks;
 use crate::pddl::Pddl;
-use crate::text::{read_plan, read_task, Plan};
+use crate::propose::{self, MAX_WIDTH};
+use crate::table::Task;
+use crate::text::{parse_number, read_plan, read_task, Plan};
 use crate::tokens;
 
 /// "A program takes the first 65,536 bytes of an input."
@@ -19,6 +21,29 @@ pub fn split_program(stdin: &[u8]) -> Vec<u8> {
 /// What `pddl` prints for its standard input, which it takes as `split` does.
 pub fn pddl_program(stdin: &[u8]) -> Vec<u8> {
     printed(read_task(taken(stdin)).map(|task| Pddl(&task).to_string()))
+}
+
+/// What `propose` prints for its arguments, of which the width is the only one,
+/// and its standard input, which it takes as `split` does.
+pub fn propose_program(arguments: &[&[u8]], stdin: &[u8]) -> Vec<u8> {
+    printed(proposal(arguments, taken(stdin)).map(|task| task.to_string()))
+}
+
+/// The task is judged first, since 22 comes "after 2", then the argument.
+fn proposal(arguments: &[&[u8]], task: &[u8]) -> Answer<Task> {
+    let task = read_task(task)?;
+    let width = width(arguments).ok_or(Refusal::nowhere(Reason::WidthOrScratch))?;
+    propose::propose(&task, width)
+}
+
+/// The width that the arguments tell: one number in the form that a text's
+/// numbers have, at most 12.
+fn width(arguments: &[&[u8]]) -> Option<u64> {
+    let [argument] = arguments else {
+        return None;
+    };
+    let width = parse_number(argument)?.into();
+    (width <= MAX_WIDTH).then_some(width)
 }
 
 /// What `unfold` prints for its files; "a missing file counts as empty".

@@ -22,7 +22,7 @@ const ROLE_KEYS: [(Role, &str); 3] = [
 ];
 
 /// A number of 1 to 5 digits, judged by value where it stands.
-type Number = u32;
+pub(crate) type Number = u32;
 
 /// A head and its list as they stand in a line: "predicate, colon, arguments"
 /// or "schema, colon, objects".
@@ -46,7 +46,7 @@ fn word_below(number: Number, bound: u16) -> Option<u16> {
 }
 
 /// "Numbers have 1 to 5 digits, no leading 0."
-fn parse_number(body: &[u8]) -> Option<Number> {
+pub(crate) fn parse_number(body: &[u8]) -> Option<Number> {
     let in_form = (1..=5).contains(&body.len())
         && body.iter().all(u8::is_ascii_digit)
         && (body[0] != b'0' || body.len() == 1);
