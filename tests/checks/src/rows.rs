@@ -19,7 +19,7 @@ fn row<Value>(answer: Answer<Value>, values: impl FnOnce(Value) -> [u64; 2]) -> 
     }
 }
 
-/// Reading and splitting: their results carry nothing.
+/// Reading, splitting and proposing: their results carry nothing.
 pub fn plain_row(answer: Answer<()>) -> Row {
     row(answer, |()| [0, 0])
 }
@@ -45,7 +45,7 @@ pub fn fold_row(answer: Answer<Folded>) -> Row {
 }
 
 /// The reasons of a refusal, by number from 1.
-const REASONS: [Reason; 21] = [
+const REASONS: [Reason; 23] = [
     Reason::TableTooShort,
     Reason::NotATable,
     Reason::LineOutOfForm,
@@ -67,6 +67,8 @@ const REASONS: [Reason; 21] = [
     Reason::BadPair,
     Reason::PairInNoPart,
     Reason::TooManyPairs,
+    Reason::WidthOrScratch,
+    Reason::TooManyParts,
 ];
 
 /// The answer that a row tells, with its two values.
@@ -77,7 +79,7 @@ pub fn told(row: Row) -> Answer<[u64; 2]> {
     }
     let place = match number {
         3..=8 | 19 | 21 => Place::Line(place),
-        9 | 20 => Place::Schema(place),
+        9 | 20 | 23 => Place::Schema(place),
         12 | 14 | 16 | 17 => Place::Step(place),
         _ => Place::Nowhere,
     };

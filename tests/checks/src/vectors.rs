@@ -3,6 +3,10 @@
 use std::fs;
 use std::path::Path;
 
+use generate::tables;
+use reference::propose::SCRATCH_WORDS;
+use reference::table::{PartNumber, Task};
+
 use crate::rows::Row;
 use crate::{read_table, report};
 
@@ -130,6 +134,48 @@ pub fn pddl_cases(write: impl Fn(&[u16], &mut [u8]) -> Row) {
         left.resize(lent.len(), LENT);
         assert_eq!(shown(&lent), shown(&left), "{}", case.label);
     });
+}
+
+/// `05-propose.txt`, put to proposing, which is lent a table, a width, a second
+/// table and a scratch.
+pub fn propose_cases(propose: impl Fn(&[u16], u64, &mut [u16], &mut [u16]) -> Row) {
+    each_case("05-propose.txt", |case| {
+        let [text, changes, width, length, scratch, refusal, place, parts] = case.fields();
+        let table = changed_table(text, changes);
+        let mut proposed = vec![LENT.into(); number(length)];
+        let mut scratch = vec![LENT.into(); number(scratch)];
+        let mut left = [proposed.clone(), scratch.clone()];
+        let found = propose(&table, number(width), &mut proposed, &mut scratch);
+        let expected = [refusal, place, "0", "0"].map(number);
+        assert_eq!(found, expected, "{}", case.label);
+        if refusal == "0" {
+            let table = with_parts(&table, parts);
+            left[0][..table.len()].copy_from_slice(&table);
+        }
+        if matches!(refusal, "0" | "23") {
+            left[1][..SCRATCH_WORDS].fill(0);
+        }
+        assert!([proposed, scratch] == left, "{}", case.label);
+    });
+}
+
+/// The words of a table with these parts, an atom each in file order, schemas
+/// parted by `;`.
+fn with_parts(table: &[u16], parts: &str) -> Vec<u16> {
+    let mut task = Task::from_words(table).expect("a table");
+    let schemas: Vec<Vec<u16>> = parts
+        .split(';')
+        .filter(|parts| *parts != "-")
+        .map(words)
+        .collect();
+    assert_eq!(schemas.len(), task.schemas.len(), "parts of each schema");
+    for (schema, parts) in task.schemas.iter_mut().zip(schemas) {
+        assert_eq!(parts.len(), schema.atoms.len(), "a part for each atom");
+        for (atom, part) in schema.atoms.iter_mut().zip(parts) {
+            atom.part = PartNumber(part);
+        }
+    }
+    tables::table(&task)
 }
 
 /// `04-run.txt`, put to running.

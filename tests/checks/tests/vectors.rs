@@ -1,8 +1,9 @@
 //! The reference on every case of `vectors/`.
 
-use checks::rows::{fold_row, run_row, unfold_row, write_row};
+use checks::rows::{fold_row, plain_row, run_row, unfold_row, write_row};
 use checks::vectors::{
-    list_cases, pddl_cases, run_cases, split_program_cases, table_cases, unfold_program_cases,
+    list_cases, pddl_cases, propose_cases, run_cases, split_program_cases, table_cases,
+    unfold_program_cases,
 };
 use reference::programs::{split_program, unfold_program};
 
@@ -27,6 +28,13 @@ fn table_vectors() {
 #[test]
 fn pddl_vectors() {
     pddl_cases(|table, text| write_row(reference::write_pddl(table, text)));
+}
+
+#[test]
+fn propose_vectors() {
+    propose_cases(|table, width, proposed, scratch| {
+        plain_row(reference::propose(table, width, proposed, scratch))
+    });
 }
 
 #[test]
