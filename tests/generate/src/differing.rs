@@ -11,7 +11,9 @@ use reference::tokens;
 
 use crate::random::Random;
 use crate::shape::Shape;
-use crate::tasks::{arities, atoms_in_any_role, finished, mostly, part_freely, push, task_of};
+use crate::tasks::{
+    arities, atoms_in_any_role, finished, mostly, of_parameter, part_freely, push, task_of,
+};
 
 /// The task with random pairs, in most schemas only such as stand together in
 /// some part; with another one its split is refused by 20.
@@ -127,10 +129,9 @@ fn late_schema(random: &mut Random, shape: &Shape, arities: &[u16]) -> Schema {
     pairs.retain(|_| random.chance(2, parameters.into()));
     pairs.truncate(MAX_ATOMS_OF_SCHEMA / 2);
     let mut atoms = Vec::new();
-    for parameter in (0..parameters).map(ParameterNumber) {
+    for parameter in 0..usize::from(parameters) {
         let predicate = random.below(arities.len() - 2);
-        let arguments = vec![parameter; arities[predicate].into()];
-        let atom = Atom::new(predicate as u16, &arguments);
+        let atom = of_parameter(arities, predicate, parameter);
         let part = PartNumber(random.below(last) as u16);
         push(&mut atoms, Role::Precondition, part, atom);
         push(&mut atoms, Role::Delete, PartNumber(last_part), atom);

@@ -5,6 +5,7 @@
 pub mod cases;
 pub mod differing;
 pub mod limits;
+pub mod proposing;
 pub mod random;
 pub mod shape;
 pub mod split_lists;

@@ -117,4 +117,25 @@ impl Shape {
         parts: 4..=16,
         ..Shape::DIFFERING
     };
+
+    /// For tasks that parts are proposed for; their own parts don't matter.
+    pub const PROPOSING: Shape = Shape {
+        predicates: 1..=5,
+        arity: 0..=3,
+        parameters: 1..=6,
+        atoms: 1..=20,
+        free: 8,
+        ..Shape::SMALL
+    };
+
+    /// With up to as many parameters and atoms as a schema may have.
+    pub const WIDE_PROPOSING: Shape = Shape {
+        predicates: 2..=16,
+        arity: 0..=4,
+        schemas: 1..=2,
+        parameters: 6..=12,
+        atoms: 24..=64,
+        parts: 1..=16,
+        ..Shape::PROPOSING
+    };
 }

@@ -145,6 +145,12 @@ fn lifted_atom(
     Atom::new(predicate as u16, &arguments)
 }
 
+/// The atom of a predicate with one parameter at all its places.
+pub(crate) fn of_parameter(arities: &[u16], predicate: usize, parameter: usize) -> LiftedAtom {
+    let arguments = vec![ParameterNumber(parameter as u16); arities[predicate].into()];
+    Atom::new(predicate as u16, &arguments)
+}
+
 /// Adds the atom unless its role has it.
 pub(crate) fn push(atoms: &mut Vec<SchemaAtom>, role: Role, part: PartNumber, atom: LiftedAtom) {
     if !atoms
