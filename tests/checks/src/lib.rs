@@ -3,10 +3,12 @@
 
 pub mod answers;
 pub mod inputs;
+pub mod orders;
 pub mod pair_arcs;
 pub mod rows;
 pub mod shared_runs;
 pub mod subject;
+pub mod unparted;
 pub mod vectors;
 
 use std::io::Write;

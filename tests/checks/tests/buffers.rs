@@ -4,11 +4,13 @@
 use checks::answers::each_answer;
 use checks::inputs::{junk, lent_state, lent_table, step_words, table_or_damaged, task_and_table};
 use checks::{read_table, report, without_parts};
+use generate::proposing::{any_request, Request};
 use generate::split_lists::split_list;
 use generate::tasks::{any_task, task_or_split};
 use generate::{limits, steps, texts, Random};
 use reference::pddl::Pddl;
 use reference::pddl_reader::read_pddl;
+use reference::propose::SCRATCH_WORDS;
 use reference::run::{RECORD_WORDS, STEP_WORDS};
 use reference::table::{Task, TABLE_WORDS};
 use reference::{tokens, Answer};
@@ -101,6 +103,43 @@ fn splitting() {
             Err(_) => assert!(out == found),
         }
         assert!(out.get(TABLE_WORDS..) == found.get(TABLE_WORDS..));
+        number(&answer)
+    });
+}
+
+/// "All 0 after a result or 23", else as found.
+fn require_scratch(scratch: &[u16], found: &[u16], number: u64) {
+    let cleared = if matches!(number, 0 | 23) {
+        SCRATCH_WORDS
+    } else {
+        0
+    };
+    assert!(scratch[..cleared].iter().all(|word| *word == 0));
+    assert!(scratch[cleared..] == found[cleared..]);
+}
+
+#[test]
+fn proposing() {
+    each_answer("proposing", 79, CASES, &[0, 1, 2, 22, 23], |random| {
+        let Request {
+            task,
+            width,
+            scratch,
+        } = any_request(random);
+        let table = table_or_damaged(random, &task);
+        let found = [lent_table(random), junk(random, scratch)];
+        let [mut proposed, mut scratch] = found.clone();
+        let answer = reference::propose(&table, width, &mut proposed, &mut scratch);
+        require_scratch(&scratch, &found[1], number(&answer));
+        match answer {
+            Ok(()) => {
+                let tasks = [&proposed, &table].map(|words| Task::from_words(words));
+                let [proposed, task] = tasks.map(|task| without_parts(&task.expect("a table")));
+                assert_eq!(proposed, task);
+            }
+            Err(_) => assert!(proposed == found[0]),
+        }
+        assert!(proposed.get(TABLE_WORDS..) == found[0].get(TABLE_WORDS..));
         number(&answer)
     });
 }
@@ -212,6 +251,12 @@ fn anything() {
         let _ = reference::run(&table, &steps, &mut lent, records);
         let _ = reference::unfold(&table, &steps, &mut lent);
         let _ = reference::fold(&table, &steps, &mut lent);
+        let _ = reference::propose(
+            &table,
+            records % 16,
+            &mut [0; TABLE_WORDS],
+            &mut [0; SCRATCH_WORDS],
+        );
         let _ = reference::split(&table.clone(), &mut table);
         assert!(reference::read(&bytes, &mut table).is_err());
     }

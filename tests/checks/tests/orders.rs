@@ -2,34 +2,13 @@
 
 use std::collections::BTreeMap;
 
+use checks::orders::{complies, orders};
 use checks::report;
 use generate::differing::differing_task;
 use generate::tasks::{task, telling_task, tying_task};
 use generate::{Random, Shape};
 use reference::arcs::{arcs, order, Arcs, RULES};
 use reference::table::{used_arguments, ParameterNumber, PartNumber, Role, Schema, SchemaAtom};
-
-/// "An order complies if no arc goes backwards."
-fn complies(order: &[PartNumber], arcs: &Arcs) -> bool {
-    let place = |part: &PartNumber| order.iter().position(|other| other == part);
-    arcs.iter().all(|(from, to)| place(from) < place(to))
-}
-
-fn orders(parts: &[PartNumber]) -> Vec<Vec<PartNumber>> {
-    if parts.is_empty() {
-        return vec![Vec::new()];
-    }
-    let mut all = Vec::new();
-    for first in parts {
-        let rest: Vec<PartNumber> = parts.iter().filter(|p| *p != first).copied().collect();
-        all.extend(orders(&rest).into_iter().map(|order| {
-            let mut whole = vec![*first];
-            whole.extend(order);
-            whole
-        }));
-    }
-    all
-}
 
 /// What decides between two ready parts, each only where those before it don't.
 #[derive(Clone, Copy, Debug, PartialEq, Eq, PartialOrd, Ord)]

@@ -1,7 +1,10 @@
 //! The programs.
 
-use checks::{changed_move, MOVE, MOVE_PDDL};
-use reference::programs::{pddl_program, split_program, unfold_program, INPUT_BYTES};
+use checks::unparted::tests_of_one_parameter;
+use checks::{changed_move, MOVE, MOVE_PDDL, MOVE_SPLIT};
+use reference::programs::{
+    pddl_program, propose_program, split_program, unfold_program, INPUT_BYTES,
+};
 use reference::text::read_task;
 
 fn unfolded(task: &str, plan: &str) -> String {
@@ -83,6 +86,102 @@ fn writes_pddl_or_refuses_the_task() {
     }
 }
 
+fn proposed(arguments: &[&str], task: &str) -> String {
+    let arguments: Vec<&[u8]> = arguments
+        .iter()
+        .map(|argument| argument.as_bytes())
+        .collect();
+    String::from_utf8(propose_program(&arguments, task.as_bytes())).expect("text")
+}
+
+/// M's own partition is that of width 2.
+#[test]
+fn proposes_the_width_that_is_its_argument() {
+    for (width, parts) in [
+        ("0", "0,1,2,3,4,5,6"),
+        ("1", "0,1,2,3,4,5,2"),
+        ("2", "0,0,1,1,2,0,1"),
+        ("3", "0,0,0,0,0,0,0"),
+        ("12", "0,0,0,0,0,0,0"),
+    ] {
+        let printed = changed_move("part=0,0,1,1,2,0,1", &format!("part={parts}"));
+        assert_eq!(proposed(&[width], MOVE), printed, "{width}");
+    }
+}
+
+#[test]
+fn a_missing_or_strange_argument_is_22() {
+    for argument in [
+        "13",
+        "14",
+        "99",
+        "00",
+        "02",
+        "012",
+        "+2",
+        "-1",
+        "-0",
+        "",
+        " 2",
+        "2 ",
+        "2\n",
+        "2,",
+        "a",
+        "0x2",
+        "1.0",
+        "1e1",
+        "²",
+        "2\u{0}",
+        "65536",
+        "65538",
+        "100002",
+        "4294967298",
+        "18446744073709551618",
+    ] {
+        assert_eq!(
+            proposed(&[argument], MOVE),
+            "refused=22:0\n",
+            "{argument:?}"
+        );
+    }
+    for arguments in [&[][..], &["2", "2"], &["2", ""], &["", "2"], &["2"; 9]] {
+        assert_eq!(proposed(arguments, MOVE), "refused=22:0\n", "{arguments:?}");
+    }
+    assert_eq!(
+        propose_program(&[b"\xff"], MOVE.as_bytes()),
+        b"refused=22:0\n"
+    );
+}
+
+/// The task first, then the argument, then the parts.
+#[test]
+fn refuses_a_proposal_in_order() {
+    let bad_task = changed_move("schema=3", "schema=4");
+    let many_parts = tests_of_one_parameter(&[1, 17]);
+    for argument in ["0", "13", ""] {
+        assert_eq!(proposed(&[argument], ""), "refused=3:1\n");
+        assert_eq!(proposed(&[argument], &bad_task), "refused=7:12\n");
+    }
+    assert_eq!(proposed(&[], &bad_task), "refused=7:12\n");
+    assert_eq!(proposed(&["13"], &many_parts), "refused=22:0\n");
+    assert_eq!(proposed(&["0"], &many_parts), "refused=23:1\n");
+}
+
+/// `propose 1 | split | pddl`: what is refused by 23 or else is no task for the
+/// next program.
+#[test]
+fn a_proposal_is_split_and_written() {
+    let piped = |width: &str, task: &str| {
+        let split = split_program(proposed(&[width], task).as_bytes());
+        [pddl_program(&split), split].map(|printed| String::from_utf8(printed).expect("text"))
+    };
+    let [pddl, split] = piped("2", MOVE);
+    assert_eq!(split, MOVE_SPLIT);
+    assert!(pddl.starts_with("(define (domain d)"));
+    let refused = piped("0", &tests_of_one_parameter(&[17]));
+    assert_eq!(refused, ["refused=3:1\n"; 2]);
+}
+
 #[test]
 fn a_program_takes_so_many_bytes() {
     for (objects, commas, bytes, number) in [
@@ -97,6 +196,7 @@ fn a_program_takes_so_many_bytes() {
         let expected = format!("refused={number}:3\n");
         assert_eq!(split_program(text.as_bytes()), expected.as_bytes());
         assert_eq!(pddl_program(text.as_bytes()), expected.as_bytes());
+        assert_eq!(proposed(&["2"], &text), expected);
         assert_eq!(unfolded(&text, "end=1\n"), expected);
     }
 }
