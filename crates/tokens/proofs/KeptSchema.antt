@@ -23,7 +23,7 @@ use Rattle.arcs.proofs.OrderTaken.{OrderOf, orderOf-laws}
 use Rattle.arcs.proofs.Stretches.{schema-atoms, schema-stretch, schema-pairs, schema-pair-stretch}
 use Rattle.tokens.specs.Split.{parts, orders}
 use Rattle.arcs.proofs.AtomWords.{schema-fits}
-use Rattle.tokens.proofs.SchemaEnds.{schema-known}
+use Rattle.arcs.proofs.SchemaEnds.{schema-known}
 use Rattle.tokens.proofs.KeptSchemas.{schemas-few, order-few}
 use mathlib.Core.Option.{some}
 use Rattle.task.specs.Limits.{mostSchemas, mostParts, mostAtoms, mostParameters}

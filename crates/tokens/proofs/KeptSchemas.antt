@@ -37,7 +37,7 @@ use Rattle.tokens.specs.Acceptance.{partAt, OrderKept}
 use Rattle.tokens.proofs.Accepted.{circularAt}
 use Rattle.tokens.proofs.Refusals.{is-first}
 use Rattle.arcs.proofs.AtomWords.{schema-fits}
-use Rattle.tokens.proofs.SchemaEnds.{schema-known}
+use Rattle.arcs.proofs.SchemaEnds.{schema-known}
 use Rattle.tokens.proofs.KeptParts.{part-is}
 use Rattle.task.specs.Limits.{mostParts, mostSchemas, mostSchemaAtoms, mostPairs}
 use Rattle.task.specs.Turns.{firstAtom, firstPair}

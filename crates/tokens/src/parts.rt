@@ -5,17 +5,11 @@ use crate::kept::keep_begin;
 use crate::kept::keep_count;
 use crate::kept::keep_part;
 use arcs::Order;
+use arcs::ends::schema_ends;
 use arcs::orders::order_of;
-use task::layout::pairs_base;
-use task::layout::rows_base;
-use task::limits::ATOM_SIZE;
-use task::limits::PAIR_SIZE;
-use task::limits::PAIRS;
-use task::limits::SCHEMA_ATOMS;
 use task::limits::SCHEMAS;
-use task::table::schemas::run_end;
 use words::runs::word;
-ghost use Prim.Native.Nat.{ℕ, suc, _+_, _≤_, _<_};
+ghost use Prim.Native.Nat.{ℕ, _+_, _≤_, _<_};
 ghost use mathlib.Core.Path.{_≡_};
 ghost use mathlib.Core.Bool.{true};
 ghost use mathlib.Core.Option.{none};
@@ -25,36 +19,12 @@ ghost use Rattle.task.specs.Table.{taskOf, isTable};
 ghost use Rattle.tokens.specs.Split.{isNone, orderAt};
 ghost use Rattle.tokens.specs.Acceptance.{partAt, OrderKept, circularTold};
 ghost use Rattle.task.specs.Limits.{mostParts, mostSchemaAtoms};
-ghost use Rattle.task.specs.Turns.{firstAtom, firstPair};
 ghost use Rattle.tokens.specs.Kept.{keptWords, PartsKept};
 
 // The lowest schema for whose parts no order complies, if there is one.
 pub enum Circular {
     At(u64),
     Nowhere,
-}
-
-// Where the atoms of a schema end, and where its pairs do.
-pub struct Ends {
-    pub atoms: usize,
-    pub pairs: usize,
-}
-
-// Those of schema s, whose atoms begin at `from` and whose pairs begin at `pair`.
-fn schema_ends(table: &[u16], s: usize, from: usize, pair: usize) -> Ends
-    requires { ⌜ isTable (now table) ≡ true ⌝ }
-    requires { ⌜ s < length (taskOf (now table) .schemas) ⌝ }
-    requires { ⌜ from ≡ firstAtom (taskOf (now table)) s ⌝ }
-    requires { ⌜ pair ≡ firstPair (taskOf (now table)) s ⌝ }
-    ensures { λ r. ⌜ r .atoms ≡ firstAtom (taskOf (now (table .entry))) (suc s) ⌝ }
-    ensures { λ r. ⌜ r .pairs ≡ firstPair (taskOf (now (table .entry))) (suc s) ⌝ }
-{
-    let atoms = word(table, SCHEMA_ATOMS);
-    let pairs = word(table, PAIRS);
-    Ends {
-        atoms: run_end(table, rows_base(table), ATOM_SIZE, atoms, s, from),
-        pairs: run_end(table, pairs_base(table), PAIR_SIZE, pairs, s, pair),
-    }
 }
 
 // Keeps the order found of the parts of the atoms from `from` on, and the parameters of the part at each position.

@@ -31,6 +31,17 @@ pub fn below(n: usize) -> u64
     (1 << n) - 1
 }
 
+// The same where all numbers may be below n.
+pub fn up_to(n: usize) -> u64
+    requires { ⌜ n ≤ 64 ⌝ }
+    ensures { λ r. ⌜ ((k : ℕ) → member r k ≡ ltb k n) ⌝ }
+{
+    if n == 64 {
+        return u64::MAX;
+    }
+    below(n)
+}
+
 // The set with k in it.
 pub fn with(set: u64, k: usize) -> u64
     requires { ⌜ k < 64 ⌝ }

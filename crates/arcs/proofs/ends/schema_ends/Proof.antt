@@ -1,13 +1,13 @@
--- `tokens::parts::schema_ends` meets its contract: the run found of the atoms that name schema s is that schema's, and
+-- `arcs::ends::schema_ends` meets its contract: the run found of the atoms that name schema s is that schema's, and
 -- so is the one of the pairs.
-use Rattle.tokens.proofs.parts.schema_ends.Tie as tie
+use Rattle.arcs.proofs.ends.schema_ends.Tie as tie
 use Prim.Native.Nat.{_≤_}
 use native.Mathlib.Omega.{arith}
 use lib.ListN.{length}
 use Rattle.task.specs.Limits.{headWords}
 use Rattle.task.proofs.TableReads.{counts-inside}
-use Rattle.tokens.proofs.SchemaEnds.{atoms-room, pairs-room, atoms-end, pairs-end}
-use Rattle.tokens.proofs.parts.schema_ends.Statement.{statement}
+use Rattle.arcs.proofs.SchemaEnds.{atoms-room, pairs-room, atoms-end, pairs-end}
+use Rattle.arcs.proofs.ends.schema_ends.Statement.{statement}
 
 -- the counts lie in the table
 counts : (s : tie.Start) → headWords ≤ length (s .args .table .now)
