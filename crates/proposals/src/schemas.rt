@@ -1,0 +1,92 @@
+// The parts proposed for each schema, before anything is written.
+use crate::Parts;
+use crate::TooMany;
+use crate::merging::merge_all;
+use crate::start::number;
+use crate::start::parameters;
+use crate::start::put_arcs;
+use arcs::ends::schema_ends;
+use task::limits::MOST_PARTS;
+use task::limits::SCHEMAS;
+use words::runs::word;
+ghost use Prim.Native.Nat.{ℕ, suc, _≤_, _<_};
+ghost use mathlib.Core.Path.{_≡_};
+ghost use mathlib.Core.Bool.{true};
+ghost use mathlib.Core.Option.{none};
+ghost use lib.ListN.{length};
+ghost use Rattle.words.specs.Lists.{put};
+ghost use Rattle.task.specs.Limits.{mostSchemaAtoms};
+ghost use Rattle.task.specs.Run.{schemaAt};
+ghost use Rattle.task.specs.Table.{taskOf, isTable};
+ghost use Rattle.task.specs.Turns.{firstAtom, firstPair};
+ghost use Rattle.proposals.specs.Proposal.{countOf, proposedParts, proposedTask, tooMany};
+ghost use Rattle.proposals.specs.Outcome.{scratchWords};
+ghost use Rattle.proposals.specs.Square.{HaveParts, KeepsBehind, manyTold};
+
+// The parts of schema s, whose atoms are atoms `from` to `to - 1` of the table, and whose pairs are pairs `pair` to
+// `end - 1`. Hands back how many there are.
+fn schema_parts(
+    table: &[u16],
+    width: usize,
+    from: usize,
+    to: usize,
+    pair: usize,
+    end: usize,
+    parts: &mut Parts,
+    square: &mut [u16],
+) -> usize
+    requires { ⌜ isTable (now table) ≡ true ⌝ }
+    requires { ⌜ length (now parts) ≡ mostSchemaAtoms ⌝ }
+    requires { ⌜ scratchWords ≤ length (now square) ⌝ }
+    requires { ⌜ ((s : ℕ) × (s < length (taskOf (now table) .schemas)) × (from ≡ firstAtom (taskOf (now table)) s) ×
+        (to ≡ firstAtom (taskOf (now table)) (suc s)) × (pair ≡ firstPair (taskOf (now table)) s) ×
+        (end ≡ firstPair (taskOf (now table)) (suc s))) ⌝ }
+    ensures { λ _. ⌜ KeepsBehind (now (square .entry)) (now (square .exit)) ⌝ }
+    ensures { λ r. ⌜ ((s : ℕ) → s < length (taskOf (now (table .entry)) .schemas) →
+        from ≡ firstAtom (taskOf (now (table .entry))) s → to ≡ firstAtom (taskOf (now (table .entry))) (suc s) →
+        (now (parts .exit) ≡
+        put (now (parts .entry)) from (proposedParts width (schemaAt (taskOf (now (table .entry))) s))) ×
+        (r ≡ countOf (proposedParts width (schemaAt (taskOf (now (table .entry))) s)))) ⌝ }
+{
+    put_arcs(table, from, to, pair, end, square);
+    let mut sets = parameters(table, from, to);
+    number(parts, from, to);
+    merge_all(width, from, to, parts, &mut sets, square)
+}
+
+// The parts of all schemas, up to the first that ends with more than 16.
+pub fn all_parts(table: &[u16], width: usize, parts: &mut Parts, square: &mut [u16]) -> TooMany
+    requires { ⌜ isTable (now table) ≡ true ⌝ }
+    requires { ⌜ length (now parts) ≡ mostSchemaAtoms ⌝ }
+    requires { ⌜ scratchWords ≤ length (now square) ⌝ }
+    ensures { λ _. ⌜ KeepsBehind (now (square .entry)) (now (square .exit)) ⌝ }
+    ensures { λ r. ⌜ manyTold r ≡ tooMany (proposedTask width (taskOf (now (table .entry)))) ⌝ }
+    ensures { λ r. ⌜ (manyTold r ≡ none →
+        HaveParts width (taskOf (now (table .entry))) (length (taskOf (now (table .entry)) .schemas))
+        (now (parts .exit))) ⌝ }
+{
+    let schemas = word(table, SCHEMAS);
+    let mut from = 0;
+    let mut pair = 0;
+    let mut s = 0;
+    while s < schemas {
+        let ends = schema_ends(table, s, from, pair);
+        let count = schema_parts(
+            table,
+            width,
+            from,
+            ends.atoms,
+            pair,
+            ends.pairs,
+            parts,
+            square,
+        );
+        if MOST_PARTS < count {
+            return TooMany::At(s as u64);
+        }
+        from = ends.atoms;
+        pair = ends.pairs;
+        s += 1;
+    }
+    TooMany::Nowhere
+}
