@@ -1,0 +1,2 @@
+-- Laws of proposals, and what the proofs of this crate's code cite.
+pub mod Kahn
