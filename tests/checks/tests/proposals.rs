@@ -27,7 +27,7 @@ fn proposals(seed: u64) -> impl Iterator<Item = (Task, u64, Answer<Task>)> {
     let mut random = Random::new(seed);
     (0..TASKS).map(move |_| {
         let task = any_proposing_task(&mut random);
-        let width = any_width(&mut random).min(MAX_WIDTH);
+        let width = any_width(&mut random, &task).min(MAX_WIDTH);
         let proposed = propose(&task, width);
         (task, width, proposed)
     })

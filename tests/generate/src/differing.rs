@@ -12,7 +12,7 @@ use reference::tokens;
 use crate::random::Random;
 use crate::shape::Shape;
 use crate::tasks::{
-    arities, atoms_in_any_role, finished, mostly, of_parameter, part_freely, push, task_of,
+    arities, atoms_in_any_role, finished, mostly, of_parameters, part_freely, push, task_of,
 };
 
 /// The task with random pairs, in most schemas only such as stand together in
@@ -131,7 +131,7 @@ fn late_schema(random: &mut Random, shape: &Shape, arities: &[u16]) -> Schema {
     let mut atoms = Vec::new();
     for parameter in 0..usize::from(parameters) {
         let predicate = random.below(arities.len() - 2);
-        let atom = of_parameter(arities, predicate, parameter);
+        let atom = of_parameters(arities, predicate, &[parameter]);
         let part = PartNumber(random.below(last) as u16);
         push(&mut atoms, Role::Precondition, part, atom);
         push(&mut atoms, Role::Delete, PartNumber(last_part), atom);

@@ -1,17 +1,17 @@
 //! What is lent for proposing: tasks on which a wrong step of the procedure
 //! shows, widths and scratches.
 
+use std::collections::BTreeSet;
+
 use reference::arcs::RULES;
 use reference::propose::{MAX_WIDTH, SCRATCH_WORDS};
-use reference::table::{
-    Atom, ParameterNumber, PartNumber, Role, SchemaAtom, Task, MAX_ATOMS_OF_SCHEMA,
-};
+use reference::table::{used_arguments, PartNumber, Role, SchemaAtom, Task, MAX_ATOMS_OF_SCHEMA};
 
 use crate::differing::{any_differing_task, with_pairs};
 use crate::random::Random;
 use crate::shape::Shape;
 use crate::tasks::{
-    any_task, arities, atoms_in_any_role, finished, mostly, of_parameter, part_freely, push, task,
+    any_task, arities, atoms_in_any_role, finished, mostly, of_parameters, part_freely, push, task,
     task_of,
 };
 
@@ -25,22 +25,33 @@ pub struct Request {
 
 /// Any task, width and scratch; about two of three are not refused by 22.
 pub fn any_request(random: &mut Random) -> Request {
+    let task = any_proposing_task(random);
+    let width = any_width(random, &task);
+    let scratch = any_scratch(random);
     Request {
-        task: any_proposing_task(random),
-        width: any_width(random),
-        scratch: any_scratch(random),
+        task,
+        width,
+        scratch,
     }
 }
 
-/// A width from 0 to 13, the narrow ones most often; now and then one far above,
+/// A width from 0 to 13, often that of an atom; now and then one far above,
 /// often with low digits that are none too wide.
-pub fn any_width(random: &mut Random) -> u64 {
+pub fn any_width(random: &mut Random, task: &Task) -> u64 {
     match random.below(24) {
         0 => random.pick(&[14, 64, 1 << 8, 1 << 16, 1 << 32, 1 << 63]) + random.bits() % 13,
         1 => u64::MAX,
-        2..=12 => random.below(4) as u64,
+        2..=13 if !task.schemas.is_empty() => width_of_an_atom(random, task),
         _ => random.bits() % (MAX_WIDTH + 2),
     }
+}
+
+/// How many parameters some atom of the task's schemas has.
+fn width_of_an_atom(random: &mut Random, task: &Task) -> u64 {
+    let schema = &task.schemas[random.below(task.schemas.len())];
+    let SchemaAtom { atom, .. } = random.pick(&schema.atoms);
+    let arguments = used_arguments(&atom, &task.arities).iter();
+    arguments.collect::<BTreeSet<_>>().len() as u64
 }
 
 /// Scratches of all lengths: none, a word too few, just enough, more, any.
@@ -81,8 +92,9 @@ fn proposing_task(random: &mut Random, shape: &Shape) -> Task {
         } else {
             barred(random, arities, parameters)
         };
+        let others = random.pick(&[0, 1, 3]);
         for SchemaAtom { role, atom, .. } in atoms_in_any_role(random, shape, arities, parameters) {
-            if random.chance(1, 4) {
+            if random.chance(others, 8) {
                 push(&mut atoms, role, PartNumber(0), atom);
             }
         }
@@ -94,40 +106,44 @@ fn proposing_task(random: &mut Random, shape: &Shape) -> Task {
     })
 }
 
-/// A predicate in two roles that give an arc, for each parameter: the first with
-/// it, the second with the next one. Parts of one parameter each would have arcs
-/// all around, so that the last merge makes a circle of as many parts.
+/// A predicate in two roles that give an arc, for each of some groups of
+/// parameters: the first with its own, the second with those of the next group.
+/// Parts of one group each would have arcs all around, so that the last merge
+/// makes a circle of as many parts.
 fn ring(random: &mut Random, arities: &[u16], parameters: usize) -> Vec<SchemaAtom> {
+    let mut predicates = random.permutation(arities.len());
+    predicates.sort_by_key(|predicate| arities[*predicate] == 0);
+    let together = random.within(&(1..=parameters.div_ceil(3)));
+    let numbers: Vec<usize> = (0..parameters).collect();
+    let groups: Vec<&[usize]> = numbers.chunks(together).take(predicates.len()).collect();
+    let next = groups.iter().cycle().skip(1);
     let mut atoms = Vec::new();
-    for parameter in 0..parameters {
-        let predicate = random.below(arities.len());
-        let next = (parameter + 1) % parameters;
+    for ((own, next), predicate) in groups.iter().zip(next).zip(predicates) {
         let (first, second) = random.pick(&RULES);
-        for (role, parameter) in [(first, parameter), (second, next)] {
-            let atom = of_parameter(arities, predicate, parameter);
+        for (role, group) in [(first, own), (second, next)] {
+            let atom = of_parameters(arities, predicate, group);
             push(&mut atoms, role, PartNumber(0), atom);
         }
     }
     atoms
 }
 
-/// A predicate tested and added with one parameter and deleted with all that it
-/// has room for: as long as the delete is too wide to join them, the test and
-/// the add can't be merged.
+/// A predicate tested and added with one parameter and deleted with as many as
+/// it takes: as long as the delete is too wide to join them, the test and the
+/// add can't be merged.
 fn barred(random: &mut Random, arities: &[u16], parameters: usize) -> Vec<SchemaAtom> {
     let mut atoms = Vec::new();
-    for _ in 0..parameters {
+    for parameter in 0..parameters {
         let predicate = random.below(arities.len());
-        let parameter = random.below(parameters);
-        let narrow = of_parameter(arities, predicate, parameter);
-        push(&mut atoms, Role::Precondition, PartNumber(0), narrow);
-        push(&mut atoms, Role::Add, PartNumber(0), narrow);
-        let arguments: Vec<ParameterNumber> = (0..arities[predicate])
-            .zip(random.permutation(parameters).into_iter().cycle())
-            .map(|(_, parameter)| ParameterNumber(parameter as u16))
-            .collect();
-        let wide = Atom::new(predicate as u16, &arguments);
-        push(&mut atoms, Role::Delete, PartNumber(0), wide);
+        let narrow = of_parameters(arities, predicate, &[parameter]);
+        let wide = of_parameters(arities, predicate, &random.permutation(parameters));
+        for (role, atom) in [
+            (Role::Precondition, narrow),
+            (Role::Add, narrow),
+            (Role::Delete, wide),
+        ] {
+            push(&mut atoms, role, PartNumber(0), atom);
+        }
     }
     atoms
 }

@@ -120,7 +120,7 @@ impl Shape {
 
     /// For tasks that parts are proposed for; their own parts don't matter.
     pub const PROPOSING: Shape = Shape {
-        predicates: 1..=5,
+        predicates: 1..=6,
         arity: 0..=3,
         parameters: 1..=6,
         atoms: 1..=20,

@@ -145,9 +145,13 @@ fn lifted_atom(
     Atom::new(predicate as u16, &arguments)
 }
 
-/// The atom of a predicate with one parameter at all its places.
-pub(crate) fn of_parameter(arities: &[u16], predicate: usize, parameter: usize) -> LiftedAtom {
-    let arguments = vec![ParameterNumber(parameter as u16); arities[predicate].into()];
+/// The atom of a predicate with these parameters, over and over.
+pub(crate) fn of_parameters(arities: &[u16], predicate: usize, parameters: &[usize]) -> LiftedAtom {
+    let over_and_over = parameters.iter().cycle();
+    let arguments: Vec<ParameterNumber> = over_and_over
+        .take(arities[predicate].into())
+        .map(|parameter| ParameterNumber(*parameter as u16))
+        .collect();
     Atom::new(predicate as u16, &arguments)
 }
 
