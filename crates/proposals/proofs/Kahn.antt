@@ -2,7 +2,7 @@
 -- choices: placing any free part changes nothing (Kahn). What can be placed is `Placeable`, by some choices; by
 -- induction over these, some of what can be placed can be placed too, and that is all that is needed.
 use Prim.Native.Nat.{ℕ, zero, suc, _≤_, _<_}
-use mathlib.Core.Path.{_≡_, refl, sym, ap}
+use mathlib.Core.Path.{_≡_, refl, sym, _∙_, ap}
 use mathlib.Core.Bool.{Bool, true, false, not}
 use mathlib.Core.List.{List, [], _∷_}
 use mathlib.Core.Logic.{_↔_}
@@ -30,6 +30,14 @@ module _ (arcs : Arcs) where
   unfolding free
   no-arc-free us p h = ap not (false-if (any (λ q. arcs q p) us)
       (λ e. let (q, i, f) = any-in (λ q. arcs q p) us e in both-ft f (h q i)))
+
+  -- a part without an arc to itself is as free among the others
+  pub free-others : (us : List ℕ) (p : ℕ) → arcs p p ≡ false → free arcs (others p us) p ≡ free arcs us p
+  free-others us p own =
+      bool-ext (free arcs (others p us) p) (free arcs us p)
+      (λ h. no-arc-free us p (λ q i. false-if (arcs q p) (λ e.
+      both-ft e (free-no-arc (others p us) p h q (in-others p i (λ d. both-ft (ap (λ x. arcs x p) d ∙ e) own))))))
+      (λ h. no-arc-free (others p us) p (λ q i. free-no-arc us p h q (others-in p us q i .0)))
 
 -- ---- parts that can be placed, by some choices
 pub data Placeable (arcs : Arcs) : List ℕ → Type 0 where

@@ -1,2 +1,3 @@
 -- Laws of proposals, and what the proofs of this crate's code cite.
 pub mod Kahn
+pub mod SomeOrder
