@@ -1,3 +1,4 @@
 -- Laws of proposals, and what the proofs of this crate's code cite.
 pub mod Kahn
 pub mod SomeOrder
+pub mod Squares
