@@ -2,3 +2,4 @@
 pub mod Kahn
 pub mod SomeOrder
 pub mod Squares
+pub mod Partitions
