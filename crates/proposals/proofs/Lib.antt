@@ -3,3 +3,4 @@ pub mod Kahn
 pub mod SomeOrder
 pub mod Squares
 pub mod Partitions
+pub mod CameFrom

@@ -1,0 +1,87 @@
+-- Where a merged part was before part b closed up: the parts below b stayed, those from b on were one higher. So no
+-- merged part was b alone, no two were the same, and every other part has become one.
+use Prim.Native.Nat.{ℕ, _+_, _-_, _≤_, _<_}
+use mathlib.Core.Path.{_≡_, refl, sym, _∙_, ap}
+use mathlib.Core.Bool.{Bool, true, false, cond}
+use mathlib.Core.List.{List, [], _∷_}
+use mathlib.Core.Logic.{_⊎_, inl, inr}
+use native.Mathlib.Decide.{decLt}
+use native.Mathlib.Omega.{arith}
+use native.Mathlib.Numerals.{add-one}
+use lib.Dec.{eqb}
+use borrow.Author.Tests.{eqb-true, eq-eqb, lt-ltb, le-ltb}
+use Rattle.words.proofs.Lists.{bool-ext, In, here, there, in-empty}
+use Rattle.proposals.specs.Circle.{cameFrom, becoming}
+
+pub came-low : (b q : ℕ) → q < b → cameFrom b q ≡ q
+unfolding cameFrom
+came-low b q l = rw (lt-ltb q b l) refl
+
+pub came-high : (b q : ℕ) → b ≤ q → cameFrom b q ≡ q + 1
+unfolding cameFrom
+came-high b q l = rw (le-ltb q b l, add-one) refl
+
+-- the two cases
+pub data Came (b q : ℕ) : Type 0 where
+  low : q < b → cameFrom b q ≡ q → Came b q
+  high : b ≤ q → cameFrom b q ≡ q + 1 → Came b q
+
+pub came : (b q : ℕ) → Came b q
+came b q = elim (decLt q b) [
+  | yes l ↦ low l (came-low b q l)
+  | no l ↦ let h : b ≤ q = omega arith in high h (came-high b q h)
+]
+
+pub came-below : (b n q : ℕ) → q < n - 1 → cameFrom b q < n
+came-below b n q l = elim (came b q) [ low h e ↦ omega arith | high h e ↦ omega arith ]
+
+pub came-other : (b q : ℕ) → cameFrom b q ≡ b → ⊥
+came-other b q d = elim (came b q) [ low h e ↦ omega arith | high h e ↦ omega arith ]
+
+pub came-apart : (b p q : ℕ) → cameFrom b p ≡ cameFrom b q → p ≡ q
+came-apart b p q d = elim (came b p) [
+  | low h e ↦ elim (came b q) [ low k f ↦ omega arith | high k f ↦ omega arith ]
+  | high h e ↦ elim (came b q) [ low k f ↦ omega arith | high k f ↦ omega arith ]
+]
+
+-- so parts may be compared by where they were
+pub came-same : (b p q : ℕ) → eqb (cameFrom b p) (cameFrom b q) ≡ eqb p q
+came-same b p q = bool-ext (eqb (cameFrom b p) (cameFrom b q)) (eqb p q)
+    (λ h. eq-eqb p q (came-apart b p q (eqb-true (cameFrom b p) (cameFrom b q) h)))
+    (λ h. eq-eqb (cameFrom b p) (cameFrom b q) (ap (cameFrom b) (eqb-true p q h)))
+
+-- each of n parts but b is one of n - 1 merged ones
+pub came-each : (b n x : ℕ) → b < n → x < n → (x ≡ b → ⊥) → (p : ℕ) × (p < n - 1) × (cameFrom b p ≡ x)
+came-each b n x l m d = elim (decLt x b) [
+  | yes h ↦ (x, omega arith, came-low b x h)
+  | no h ↦ (x - 1, omega arith, let e = came-high b (x - 1) (omega arith) in omega arith)
+]
+
+-- ---- the parts that become a merged one: where it was, and b too if it is a
+module _ (a b : ℕ) (l : a < b) where
+  pub came-a : cameFrom b a ≡ a
+  came-a = came-low b a l
+
+  pub came-becomes : (p : ℕ) → In (cameFrom b p) (becoming a b p)
+  unfolding becoming
+  came-becomes p = go (eqb p a) refl
+    where
+      go : (t : Bool) → eqb p a ≡ t → In (cameFrom b p) (cond t (a ∷ b ∷ []) (cameFrom b p ∷ []))
+      go true e = here (ap (cameFrom b) (eqb-true p a e) ∙ came-a)
+      go false e = here refl
+
+  pub higher-becomes : In b (becoming a b a)
+  unfolding becoming
+  higher-becomes = rw (eq-eqb a a refl) (there (here refl))
+
+  pub becomes : (p x : ℕ) → In x (becoming a b p) → (x ≡ cameFrom b p) ⊎ ((p ≡ a) × (x ≡ b))
+  unfolding becoming
+  becomes p x i = go (eqb p a) refl i
+    where
+      go : (t : Bool) → eqb p a ≡ t → In x (cond t (a ∷ b ∷ []) (cameFrom b p ∷ [])) →
+          (x ≡ cameFrom b p) ⊎ ((p ≡ a) × (x ≡ b))
+      go true e (here f) = inl (f ∙ sym (ap (cameFrom b) (eqb-true p a e) ∙ came-a))
+      go true e (there (here f)) = inr (eqb-true p a e, f)
+      go true e (there (there k)) = absurd (in-empty k)
+      go false e (here f) = inl f
+      go false e (there k) = absurd (in-empty k)

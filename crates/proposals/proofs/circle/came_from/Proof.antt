@@ -1,0 +1,15 @@
+-- `proposals::circle::came_from` meets its contract: its two answers are those of the definition.
+use mathlib.Core.Path.{sym}
+use native.Mathlib.Omega.{arith}
+use Rattle.proposals.proofs.CameFrom.{came-low, came-high}
+use Rattle.proposals.proofs.circle.came_from.Statement.{statement}
+use Rattle.proposals.proofs.circle.came_from.Tie as tie
+
+returns : tie.Need-returns
+returns c = sym (came-low (c .before .args .b) (c .before .args .q) (omega arith))
+
+returns-2 : tie.Need-returns-2
+returns-2 c = sym (came-high (c .before .args .b) (c .before .args .q) (omega arith))
+
+pub came-from-spec : {M : Type 1} → statement M
+came-from-spec = tie.close (tie.spec (λ c. omega arith) returns returns-2)
