@@ -16,7 +16,7 @@ use Rattle.defines.specs.Pddl.{pddl}
 use Rattle.defines.specs.ByWords.{longestPddl}
 use Rattle.tokens.specs.Split.{split}
 use Rattle.blocks.specs.Blocks.{listWords}
-use Rattle.programs.specs.Programs.{printSplitting}
+use Rattle.programs.specs.Programs.{printProposal, printSplitting}
 use Rattle.programs.specs.declared.tasks.Form.{Form}
 
 -- bytes after a text was printed over their front, and how many were printed
@@ -36,11 +36,13 @@ pub record PlanSteps (table steps : List ℕ) : Type 0 where
 
 -- what a program makes of the task that it read, and bytes enough for that
 unfoldable pub made : Form → Task → List ℕ
-unfolding printSplitting split write pddl
+unfolding printSplitting split write pddl printProposal
 made form.Split t = printSplitting write (split t)
 made form.Pddl t = pddl t
+made (form.Proposal width) t = printProposal width t
 
 unfoldable pub roomFor : Form → ℕ
 unfolding longestText longestPddl
 roomFor form.Split = longestText
 roomFor form.Pddl = longestPddl
+roomFor (form.Proposal width) = longestText

@@ -1,17 +1,21 @@
--- 'Text form', the two programs as functions of their input bytes; and the program of document 02's note 1.
-use Prim.Native.Nat.{ℕ}
+-- 'Text form', the two programs as functions of their input bytes; and the programs of document 02's notes 1 and 5.
+use Prim.Native.Nat.{ℕ, suc}
+use mathlib.Core.Bool.{cond}
 use mathlib.Core.List.{List, [], _∷_}
 use mathlib.Core.Option.{Option, none, some}
 use lib.ListN.{take}
+use lib.Dec.{leb}
 use Rattle.task.specs.Task.{Task}
 use Rattle.task.specs.Run.{Step, badStep}
 use Rattle.tokens.specs.Split.{Splitting, circular, parted, tooLarge, splitAs, split}
 use Rattle.blocks.specs.Blocks.{listWords, unfoldSteps}
-use Rattle.text.specs.Lines.{entryBytes, line}
+use Rattle.text.specs.Lines.{entryBytes, line, Taken, number}
 use Rattle.text.specs.Reading.{Reading, read, refusedAt}
 use Rattle.text.specs.Text.{write, readText}
 use Rattle.text.specs.Plan.{readPlan, writePlan}
 use Rattle.defines.specs.Pddl.{pddl}
+use Rattle.proposals.specs.Proposal.{proposedTask, tooMany}
+use Rattle.proposals.specs.Outcome.{mostWidth}
 
 -- "A program takes the first 65,536 bytes of an input": shut, since a list function would count a numeral down
 unfoldable pub mostBytes : ℕ
@@ -71,3 +75,37 @@ unfoldProgram task plan =
 unfoldable pub pddlProgram : List ℕ → List ℕ
 unfolding printReading readText taken pddl
 pddlProgram input = printReading pddl (readText (taken input))
+
+-- ---- the program of note 5
+-- the width that an argument says, which is one number and nothing else; "a missing or strange argument" is too wide
+unfoldable pub onlyNumber : ℕ → List ℕ → ℕ
+onlyNumber n [] = n
+onlyNumber n (b ∷ bs) = suc mostWidth
+
+unfoldable pub widthSaid : Option (Taken ℕ) → ℕ
+unfolding onlyNumber
+widthSaid none = suc mostWidth
+widthSaid (some l) = onlyNumber (l .value) (l .rest)
+
+unfoldable pub widthIn : List ℕ → ℕ
+unfolding widthSaid number
+widthIn argument = widthSaid (number argument)
+
+-- "23 when a schema ends with more than 16 parts, with the first such schema"; else the task proposed is printed
+unfoldable pub printSettled : Option ℕ → Task → List ℕ
+unfolding refusal write
+printSettled (some s) t = refusal 23 s
+printSettled none t = write t
+
+-- "22 .. for a width above 12"
+unfoldable pub printProposal : ℕ → Task → List ℕ
+unfolding printSettled tooMany proposedTask refusal
+printProposal width t =
+    let proposed = proposedTask width t in
+    cond (leb width mostWidth) (printSettled (tooMany proposed) proposed) (refusal 22 0)
+
+-- the program `propose` takes its standard input as `split` does, and prints the task with the partitions proposed for
+-- the width that its argument says
+unfoldable pub proposeProgram : List ℕ → List ℕ → List ℕ
+unfolding printReading readText taken printProposal widthIn
+proposeProgram argument input = printReading (printProposal (widthIn argument)) (readText (taken input))

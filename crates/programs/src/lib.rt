@@ -1,4 +1,5 @@
-// What the programs print, as functions of their input bytes: `split`, `unfold` and `pddl` read, call these, and write.
+// What the programs print, as functions of their input bytes: `split`, `unfold`, `pddl` and `propose` read, call these,
+// and write.
 mod inputs;
 mod plans;
 mod printing;
@@ -7,9 +8,10 @@ mod tasks;
 ghost use mathlib.Core.Path.{_≡_};
 ghost use lib.ListN.{length};
 ghost use Rattle.words.specs.Lists.{over};
-ghost use Rattle.programs.specs.Programs.{splitProgram, unfoldProgram, pddlProgram};
+ghost use Rattle.programs.specs.Programs.{splitProgram, unfoldProgram, pddlProgram, proposeProgram};
 use defines::LONGEST_PDDL;
 use inputs::read_table;
+use inputs::width_of;
 use plans::put_plan;
 use printing::put_refusal;
 use task::limits::TABLE_WORDS;
@@ -19,7 +21,7 @@ use text::LONGEST_TEXT;
 use text::ReadAnswer;
 use text::plan::LONGEST_PLAN;
 
-// No text of a task is longer, so this much holds whatever `split` prints.
+// No text of a task is longer, so this much holds whatever `split` and `propose` print.
 pub const TEXT_BYTES: usize = LONGEST_TEXT;
 
 // No unfolding of 100 steps is longer, nor is a refusal: this much holds whatever `unfold` prints.
@@ -58,4 +60,14 @@ pub fn pddl_text(text: &[u8], out: &mut [u8; PDDL_BYTES]) -> usize
     ensures { λ r. ⌜ r ≡ length (pddlProgram (now (text .entry))) ⌝ }
 {
     put_made(text, Form::Pddl, out)
+}
+
+// The program `propose` prints the task on standard input with the partitions that are proposed for the width that its
+// argument says, or a refusal as `split` does: from the argument and the text to the bytes printed, and their number.
+pub fn propose_text(argument: &[u8], text: &[u8], out: &mut [u8; TEXT_BYTES]) -> usize
+    ensures { λ r. ⌜ now (out .exit) ≡
+        over (proposeProgram (now (argument .entry)) (now (text .entry))) (now (out .entry)) ⌝ }
+    ensures { λ r. ⌜ r ≡ length (proposeProgram (now (argument .entry)) (now (text .entry))) ⌝ }
+{
+    put_made(text, Form::Proposal(width_of(argument)), out)
 }

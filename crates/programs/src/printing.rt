@@ -1,4 +1,6 @@
-// What the programs print: a task as text or as PDDL, a split or its refusal, and the line of a refusal.
+// What the programs print: a task as text or as PDDL, a split, a proposal or their refusals, and the line of a refusal.
+use proposals::ProposeAnswer;
+use proposals::square::SCRATCH_WORDS;
 use task::Place;
 use task::limits::TABLE_WORDS;
 use text::WriteAnswer;
@@ -19,7 +21,7 @@ ghost use Rattle.words.specs.Putting.{Puts};
 ghost use Rattle.text.specs.TableLines.{longestText};
 ghost use Rattle.defines.specs.Pddl.{pddl};
 ghost use Rattle.defines.specs.ByWords.{longestPddl};
-ghost use Rattle.programs.specs.Programs.{refusal, printSplitting};
+ghost use Rattle.programs.specs.Programs.{refusal, printProposal, printSplitting};
 ghost use Rattle.programs.specs.Printing.{Prints};
 
 // "Numbers have 1 to 5 digits".
@@ -99,5 +101,20 @@ pub fn put_split(table: &[u16], out: &mut [u8]) -> usize
     match tokens::split(table, &mut words) {
         SplitAnswer::Split => put_task(&words, out),
         SplitAnswer::Refused(number, place) => put_refusal(out, number, place),
+    }
+}
+
+// The task proposed for a width is printed, or the refusal.
+pub fn put_proposal(table: &[u16], width: u64, out: &mut [u8]) -> usize
+    requires { ⌜ isTable (now table) ≡ true ⌝ }
+    requires { ⌜ longestText ≤ length (now out) ⌝ }
+    ensures { λ r. ⌜ Prints (now (out .entry)) (printProposal width (taskOf (now (table .entry)))) (now (out .exit))
+        r ⌝ }
+{
+    let mut words = [0u16; TABLE_WORDS];
+    let mut scratch = [0u16; SCRATCH_WORDS];
+    match proposals::propose(table, width, &mut words, &mut scratch) {
+        ProposeAnswer::Proposed => put_task(&words, out),
+        ProposeAnswer::Refused(number, place) => put_refusal(out, number, place),
     }
 }

@@ -1,6 +1,7 @@
 // A program that reads one task prints what it makes of it, or the refusal.
 use crate::inputs::read_table;
 use crate::printing::put_pddl;
+use crate::printing::put_proposal;
 use crate::printing::put_refusal;
 use crate::printing::put_split;
 use task::limits::TABLE_WORDS;
@@ -14,10 +15,11 @@ ghost use Rattle.text.specs.Text.{readText};
 ghost use Rattle.programs.specs.Programs.{taken, printReading};
 ghost use Rattle.programs.specs.Printing.{Prints, made, roomFor};
 
-// What is made of a task: its split as text, or the task as PDDL.
+// What is made of a task: its split as text, the task as PDDL, or with the partitions proposed for a width.
 pub enum Form {
     Split,
     Pddl,
+    Proposal(u64),
 }
 
 fn put_form(table: &[u16], form: Form, out: &mut [u8]) -> usize
@@ -28,6 +30,7 @@ fn put_form(table: &[u16], form: Form, out: &mut [u8]) -> usize
     match form {
         Form::Split => put_split(table, out),
         Form::Pddl => put_pddl(table, out),
+        Form::Proposal(width) => put_proposal(table, width, out),
     }
 }
 

@@ -4,7 +4,7 @@ mod circle;
 mod closing;
 mod merging;
 mod schemas;
-mod square;
+pub mod square;
 mod start;
 mod writing;
 
