@@ -4,3 +4,6 @@ pub mod SomeOrder
 pub mod Squares
 pub mod Partitions
 pub mod CameFrom
+pub mod MergedNumbers
+pub mod Merges
+pub mod MergedArcs
