@@ -7,3 +7,4 @@ pub mod CameFrom
 pub mod MergedNumbers
 pub mod Merges
 pub mod MergedArcs
+pub mod Waiting

@@ -64,8 +64,7 @@ fn without_part(a: usize, b: usize, unplaced: u64, q: usize) -> u64
     requires { ⌜ (a < b) × (b < squareSide) × (q < squareSide - 1) ⌝ }
     requires { ⌜ Joint a b unplaced ⌝ }
     ensures { λ r. ⌜ (Joint a b r) × (member r (cameFrom b q) ≡ false) ⌝ }
-    ensures { λ r. ⌜ ((n : ℕ) → n < squareSide →
-        waiting b n r ≡ filter (λ p. not (eqb q p)) (waiting b n unplaced)) ⌝ }
+    ensures { λ r. ⌜ ((n : ℕ) → waiting b n r ≡ filter (λ p. not (eqb q p)) (waiting b n unplaced)) ⌝ }
 {
     let rest = without(unplaced, came_from(b, q));
     if q == a {
