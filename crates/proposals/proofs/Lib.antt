@@ -8,3 +8,5 @@ pub mod MergedNumbers
 pub mod Merges
 pub mod MergedArcs
 pub mod Waiting
+pub mod PartPairs
+pub mod Turns

@@ -1,18 +1,19 @@
 -- What becomes of part numbers when parts a < b merge: each part below b stays, b joins a, and each behind b closes up
 -- by one. So a merged part that isn't a comes from one part, a from two, and the numbers have again no gap.
 use Prim.Native.Nat.{ℕ, suc, _-_, _≤_, _<_}
-use mathlib.Core.Path.{_≡_, refl, sym, _∙_, ap}
-use mathlib.Core.Bool.{Bool, true, false, cond}
+use mathlib.Core.Path.{_≡_, refl, sym, _∙_, subst}
 use mathlib.Core.List.{List, [], _∷_, map}
+use mathlib.Core.Logic.{inl, inr}
 use native.Mathlib.Omega.{arith}
 use native.Mathlib.Decide.{decLt}
 use lib.ListN.{length, length-map}
-use lib.Dec.{eqb}
-use borrow.Author.Tests.{eqb-true, eqb-false, eq-eqb, ne-eqb, lt-ltb, le-ltb}
-use Rattle.words.proofs.Lists.{In, here, there, in-eq, in-empty, in-map, map-in}
+use borrow.Author.Tests.{eq-eqb, ne-eqb, lt-ltb, le-ltb}
+use Rattle.words.proofs.Lists.{In, in-eq, in-map, map-in}
 use Rattle.proposals.specs.Proposal.{mergedNumber, merged}
 use Rattle.proposals.specs.Circle.{cameFrom, becoming}
 use Rattle.proposals.proofs.Partitions.{GapFree}
+use Rattle.proposals.proofs.CameFrom.{Came, low, high, came, came-low, came-high, came-becomes, higher-becomes}
+use Rattle.proposals.proofs.CameFrom.{becomes}
 
 -- ---- where a part goes
 module _ (a b : ℕ) where
@@ -43,20 +44,6 @@ module _ (a b : ℕ) where
   ]
 
 -- ---- where a merged part was
-pub data Came (b q : ℕ) : Type 0 where
-  before : q < b → cameFrom b q ≡ q → Came b q
-  behind : b ≤ q → cameFrom b q ≡ suc q → Came b q
-
-pub came : (b q : ℕ) → Came b q
-unfolding cameFrom
-came b q = elim (decLt q b) [
-  | yes l ↦ before l (ap (λ c. cond c q (suc q)) (lt-ltb q b l))
-  | no l ↦ behind (omega arith) (ap (λ c. cond c q (suc q)) (le-ltb q b (omega arith)))
-]
-
-pub came-small : (b n q : ℕ) → b ≤ n → q < n → cameFrom b q < suc n
-came-small b n q m l = elim (came b q) [ before k e ↦ omega arith | behind k e ↦ omega arith ]
-
 pub becoming-both : (a b : ℕ) → becoming a b a ≡ a ∷ b ∷ []
 unfolding becoming
 becoming-both a b = rw (eq-eqb a a refl) refl
@@ -68,36 +55,23 @@ becoming-other a b q n = rw (ne-eqb q a n) refl
 -- the parts that become part p are those that go there
 module _ (a b : ℕ) (l : a < b) where
   pub becoming-goes : (p q : ℕ) → In q (becoming a b p) → mergedNumber a b q ≡ p
-  unfolding becoming
-  becoming-goes p q i = go (eqb p a) refl i
+  becoming-goes p q i = elim (becomes a b l p q i) [
+    | inl f ↦ one (came b p) f
+    | inr h ↦ merged-higher a b q (h .1) ∙ sym (h .0)
+  ]
     where
       one : Came b p → q ≡ cameFrom b p → mergedNumber a b q ≡ p
-      one (before k e) f = merged-below a b q (omega arith) ∙ (f ∙ e)
-      one (behind k e) f = let z = merged-beyond a b q (omega arith) in omega arith
-
-      go : (c : Bool) → eqb p a ≡ c → In q (cond c (a ∷ b ∷ []) (cameFrom b p ∷ [])) → mergedNumber a b q ≡ p
-      go true e (here f) = let k = eqb-true p a e in let z = merged-below a b q (omega arith) in omega arith
-      go true e (there (here f)) = merged-higher a b q f ∙ sym (eqb-true p a e)
-      go true e (there (there j)) = absurd (in-empty j)
-      go false e (here f) = one (came b p) f
-      go false e (there j) = absurd (in-empty j)
+      one (low k e) f = merged-below a b q (omega arith) ∙ (f ∙ e)
+      one (high k e) f = let z = merged-beyond a b q (omega arith) in omega arith
 
   pub goes-becoming : (p q : ℕ) → mergedNumber a b q ≡ p → In q (becoming a b p)
-  unfolding becoming
-  goes-becoming p q h = go (eqb p a) refl (goes a b q)
+  goes-becoming p q h = go (goes a b q)
     where
-      one : Goes a b q → (p ≡ a → ⊥) → Came b p → q ≡ cameFrom b p
-      one (stays x y) n (before k e) = omega arith
-      one (stays x y) n (behind k e) = absurd (omega arith)
-      one (joins x y) n k = absurd (n (sym h ∙ y))
-      one (closes-up x y) n (before k e) = absurd (omega arith)
-      one (closes-up x y) n (behind k e) = omega arith
-
-      go : (c : Bool) → eqb p a ≡ c → Goes a b q → In q (cond c (a ∷ b ∷ []) (cameFrom b p ∷ []))
-      go true e (stays x y) = let k = eqb-true p a e in here {y = a} (omega arith)
-      go true e (joins x y) = there (here x)
-      go true e (closes-up x y) = let k = eqb-true p a e in absurd (omega arith)
-      go false e k = here (one k (eqb-false p a e) (came b p))
+      go : Goes a b q → In q (becoming a b p)
+      go (stays x y) = in-eq (let e = came-low b p (omega arith) in omega arith) (came-becomes a b l p)
+      go (joins x y) =
+          subst (λ (p : ℕ). In q (becoming a b p)) (sym y ∙ h) (in-eq x (higher-becomes a b l))
+      go (closes-up x y) = in-eq (let e = came-high b p (omega arith) in omega arith) (came-becomes a b l p)
 
   -- of n + 1 parts those that become a part below n are parts
   pub becoming-small : (n : ℕ) → b ≤ n → (p q : ℕ) → p < n → In q (becoming a b p) → q < suc n
