@@ -2,6 +2,7 @@
 pub mod Kahn
 pub mod SomeOrder
 pub mod Squares
+pub mod StartWords
 pub mod Partitions
 pub mod CameFrom
 pub mod MergedNumbers
