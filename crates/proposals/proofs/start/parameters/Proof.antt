@@ -1,10 +1,10 @@
 -- `proposals::start::parameters` meets its contract. The invariant: the sets of the atoms before i are found. The
 -- measure is the atoms left.
-use Prim.Native.Nat.{ℕ, _+_, _-_, _≤_, _<_}
+use Prim.Native.Nat.{ℕ, _+_, _-_, _≤_}
 use mathlib.Core.Path.{_≡_, refl, _∙_, ap}
 use native.Mathlib.Omega.{arith}
 use lib.ListN.{length, replicate, length-set}
-use Rattle.task.specs.Task.{Atom, names}
+use Rattle.task.specs.Task.{names}
 use Rattle.task.specs.Table.{atomIn}
 use Rattle.task.specs.Limits.{mostAtoms}
 use Rattle.arcs.proofs.Stretches.{stretch-atom}
@@ -23,10 +23,16 @@ abbrev μ-loop : tie.MeasureT-loop
 loop-holds : tie.Need-loop-holds Inv-loop μ-loop
 loop-holds c =
     let s = c .before in
-    (omega arith, s .pre .0 .forward, refl, sets-none (λ p. atomIn (s .args .table .now) (s .args .from + p)) (s .args .from) (replicate mostAtoms 0))
+    let a = s .args in (
+      omega arith,
+      s .pre .0 .forward,
+      refl,
+      sets-none (λ p. atomIn (a .table .now) (a .from + p)) (a .from) (replicate mostAtoms 0),
+    )
 
 parameters-of-requires : tie.Need-parameters-of-requires Inv-loop μ-loop
-parameters-of-requires c κs = stretch-atom (c .before .before .before .pre .0) (c .before .loop .i) (c .loop-test .taken)
+parameters-of-requires c κs =
+    stretch-atom (c .before .before .before .pre .0) (c .before .loop .i) (c .loop-test .taken)
 
 loop-again : tie.Need-loop-again Inv-loop μ-loop
 loop-again c =
@@ -35,12 +41,12 @@ loop-again c =
     let a = at .before .before .args in
     let n = h .i - a .from in
     let own = c .parameters-of .result in
-    let atom : ℕ → Atom = λ (k : ℕ). atomIn (a .table .now) k in
     let here : h .i ≡ a .from + n = omega arith in (
       omega arith,
       omega arith,
       length-set (h .sets) n own ∙ h .inv .2,
-      sets-more own (omega arith) (omega arith) (h .inv .3) (λ x. c .parameters-of .ensures x ∙ ap (λ (k : ℕ). names x (atom k)) here),
+      sets-more own (omega arith) (omega arith) (h .inv .3)
+          (λ x. c .parameters-of .ensures x ∙ ap (λ (k : ℕ). names x (atomIn (a .table .now) k)) here),
     )
 
 returns : tie.Need-returns Inv-loop μ-loop

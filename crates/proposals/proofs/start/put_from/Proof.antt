@@ -54,7 +54,9 @@ gives-arc-requires : tie.Need-gives-arc-requires Inv-loop μ-loop
 gives-arc-requires c κs =
     let l = c .before in
     let s = start l in
-    let after = subst (λ (r : ℕ). AreAfter r (l .before .roles-after .result)) (l .before .before .role-of .ensures .0) (l .before .roles-after .ensures) in
+    let found = l .before in
+    let after = subst (λ (r : ℕ). AreAfter r (found .roles-after .result)) (found .before .role-of .ensures .0)
+    (found .roles-after .ensures) in
     (atom s (s .args .i) (s .pre .1 .0 .1), (atom s (l .loop .j) (c .loop-test .taken), after))
 
 put-arc-requires : tie.Need-put-arc-requires Inv-loop μ-loop
