@@ -11,3 +11,6 @@ pub mod MergedArcs
 pub mod Waiting
 pub mod PartPairs
 pub mod Turns
+pub mod PutWords
+pub mod Renumbering
+pub mod MergedSets

@@ -17,7 +17,7 @@ ghost use Rattle.words.specs.Lists.{put};
 ghost use Rattle.words.specs.Words.{wordsAt};
 ghost use Rattle.task.specs.Limits.{mostAtoms, mostSchemaAtoms};
 ghost use Rattle.task.specs.Task.{Schema};
-ghost use Rattle.proposals.specs.Proposal.{countOf, firstPair, merged, mergeable, mergeFrom};
+ghost use Rattle.proposals.specs.Proposal.{countOf, firstPair, merged, mergedNumber, mergeable, mergeFrom};
 ghost use Rattle.proposals.specs.Outcome.{scratchWords};
 ghost use Rattle.proposals.specs.Square.{squareSide, KeepsBehind, MergesSets, Named, InPlay, pairFound};
 
@@ -94,7 +94,19 @@ fn first_pair(square: &[u16], sets: &ParameterSets, n: usize, width: usize) -> F
     Found::Nowhere
 }
 
-// "the merged part takes the lower number and higher ones close up", in the part numbers of atoms `from` to `to - 1`.
+// "the merged part takes the lower number and higher ones close up": what becomes of part p.
+fn merged_number(a: usize, b: usize, p: u16) -> u16
+    requires { ⌜ (a < b) × (b < mostAtoms) ⌝ }
+    ensures { λ r. ⌜ r ≡ mergedNumber a b p ⌝ }
+{
+    let part = p as usize;
+    if part == b {
+        return a as u16;
+    }
+    if b < part { p - 1 } else { p }
+}
+
+// The same in the part numbers of atoms `from` to `to - 1`.
 fn renumber(parts: &mut Parts, from: usize, to: usize, a: usize, b: usize)
     requires { ⌜ (from ≤ to) × (to ≤ mostSchemaAtoms) ⌝ }
     requires { ⌜ (a < b) × (b < mostAtoms) ⌝ }
@@ -104,12 +116,7 @@ fn renumber(parts: &mut Parts, from: usize, to: usize, a: usize, b: usize)
 {
     let mut i = from;
     while i < to {
-        let p = parts[i] as usize;
-        if p == b {
-            parts[i] = a as u16;
-        } else if b < p {
-            parts[i] = (p - 1) as u16;
-        }
+        parts[i] = merged_number(a, b, parts[i]);
         i += 1;
     }
 }
