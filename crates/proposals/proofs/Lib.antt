@@ -14,3 +14,4 @@ pub mod Turns
 pub mod PutWords
 pub mod Renumbering
 pub mod MergedSets
+pub mod JoinedArcs

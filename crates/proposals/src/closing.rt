@@ -4,35 +4,40 @@ use crate::square::has_arc;
 use crate::square::put_arc;
 ghost use Prim.Native.Nat.{ℕ, _-_, _≤_, _<_};
 ghost use mathlib.Core.Path.{_≡_};
-ghost use mathlib.Core.Bool.{false, cond, _&&_, _||_};
+ghost use mathlib.Core.Bool.{_||_};
 ghost use lib.ListN.{length};
-ghost use lib.Dec.{eqb, ltb};
-ghost use Rattle.proposals.specs.Circle.{cameFrom};
+ghost use Rattle.proposals.specs.Circle.{cameFrom, mergedArcs};
 ghost use Rattle.proposals.specs.Outcome.{scratchWords};
-ghost use Rattle.proposals.specs.Square.{squareSide, arcsIn, KeepsBehind, MergesArcs};
+ghost use Rattle.proposals.specs.Square.{squareSide, arcsIn, KeepsBehind, PutsArc, MergesArcs};
 
-// The arcs of part b join those of part a; "Arcs inside a part don't count".
+// There is an arc from part p to part q also where there is one from r to s.
+fn join_arc(square: &mut [u16], p: usize, q: usize, r: usize, s: usize)
+    requires { ⌜ scratchWords ≤ length (now square) ⌝ }
+    requires { ⌜ (p < squareSide) × (q < squareSide) × (r < squareSide) × (s < squareSide) ⌝ }
+    ensures { λ _. ⌜ PutsArc (now (square .entry)) p q
+        (arcsIn (now (square .entry)) p q || arcsIn (now (square .entry)) r s) (now (square .exit)) ⌝ }
+{
+    if has_arc(square, r, s) {
+        put_arc(square, p, q, true);
+    }
+}
+
+// The arcs of part b join those of part a; "Arcs inside a part don't count". The parts that will be left still stand
+// where they came from.
 fn join_arcs(square: &mut [u16], n: usize, a: usize, b: usize)
     requires { ⌜ scratchWords ≤ length (now square) ⌝ }
     requires { ⌜ (n ≤ squareSide) × (a < b) × (b < n) ⌝ }
     ensures { λ _. ⌜ KeepsBehind (now (square .entry)) (now (square .exit)) ⌝ }
-    ensures { λ _. ⌜ arcsIn (now (square .exit)) a a ≡ false ⌝ }
-    ensures { λ _. ⌜ ((p q : ℕ) → p < n → q < n → (p ≡ q → ⊥) → (p ≡ b → ⊥) → (q ≡ b → ⊥) →
-        arcsIn (now (square .exit)) p q ≡
-        (arcsIn (now (square .entry)) p q || (eqb q a && arcsIn (now (square .entry)) p b)) ||
-        (eqb p a && arcsIn (now (square .entry)) b q)) ⌝ }
+    ensures { λ _. ⌜ ((p q : ℕ) → p < n - 1 → q < n - 1 →
+        arcsIn (now (square .exit)) (cameFrom b p) (cameFrom b q) ≡ mergedArcs a b (arcsIn (now (square .entry))) p q) ⌝ }
 {
     let mut x = 0;
     while x < n {
-        if has_arc(square, x, b) {
-            put_arc(square, x, a, true);
-        }
-        if has_arc(square, b, x) {
-            put_arc(square, a, x, true);
-        }
+        join_arc(square, x, a, x, b);
+        join_arc(square, a, x, b, x);
+        put_arc(square, x, x, false);
         x += 1;
     }
-    put_arc(square, a, a, false);
 }
 
 // Row q after part b is gone. What stands before it in the row and in the rows above has its place already.
@@ -40,10 +45,10 @@ fn close_row(square: &mut [u16], n: usize, b: usize, q: usize)
     requires { ⌜ scratchWords ≤ length (now square) ⌝ }
     requires { ⌜ (n ≤ squareSide) × (b < n) × (q < n - 1) ⌝ }
     ensures { λ _. ⌜ KeepsBehind (now (square .entry)) (now (square .exit)) ⌝ }
-    ensures { λ _. ⌜ ((x y : ℕ) → x < squareSide → y < squareSide →
-        arcsIn (now (square .exit)) x y ≡
-        cond (eqb y q && ltb x (n - 1)) (arcsIn (now (square .entry)) (cameFrom b x) (cameFrom b q))
-        (arcsIn (now (square .entry)) x y)) ⌝ }
+    ensures { λ _. ⌜ ((p : ℕ) → p < n - 1 →
+        arcsIn (now (square .exit)) p q ≡ arcsIn (now (square .entry)) (cameFrom b p) (cameFrom b q)) ⌝ }
+    ensures { λ _. ⌜ ((x y : ℕ) → x < squareSide → y < squareSide → (y ≡ q → ⊥) →
+        arcsIn (now (square .exit)) x y ≡ arcsIn (now (square .entry)) x y) ⌝ }
 {
     let row = came_from(b, q);
     let mut p = 0;
