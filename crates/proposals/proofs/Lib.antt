@@ -15,3 +15,4 @@ pub mod PutWords
 pub mod Renumbering
 pub mod MergedSets
 pub mod JoinedArcs
+pub mod Widths
