@@ -4,3 +4,4 @@ pub mod Answered
 pub mod Printed
 pub mod PlanUnfolded
 pub mod Uncut
+pub mod Arguments
