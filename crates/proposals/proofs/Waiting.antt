@@ -93,11 +93,14 @@ module _ (a b unplaced q rest : ℕ) (l : a < b) where
       ap (λ (t : Bool). member unplaced (cameFrom b p) && not t) (came-same b q p)))
 
 -- ---- whether one is free
+-- one of n parts is unplaced and has an arc to y
+abbrev pub reached : Arcs → ℕ → ℕ → ℕ → Bool
+reached arcs n unplaced y = any (λ x. member unplaced x && arcs x y) (upTo n)
+
 module _ (arcs : Arcs) (a b n unplaced : ℕ) (l : a < b) (m : b < n) (joint : Joint a b unplaced) (q : ℕ)
     (placed : member unplaced (cameFrom b q) ≡ false) where
-  -- an unplaced part has an arc to y
-  abbrev pub reached : ℕ → Bool
-  reached y = any (λ x. member unplaced x && arcs x y) (upTo n)
+  abbrev isReached : ℕ → Bool
+  isReached y = reached arcs n unplaced y
 
   abbrev merged : ℕ → Bool
   merged p = mergedArcs a b arcs p q
@@ -132,7 +135,7 @@ module _ (arcs : Arcs) (a b n unplaced : ℕ) (l : a < b) (m : b < n) (joint : J
   another p w e =
       both-ft (waiting-in b (n - 1) unplaced p w .1) (ap (λ (p : ℕ). member unplaced (cameFrom b p)) e ∙ placed)
 
-  pub not-free : (y : ℕ) → In y (becoming a b q) → reached y ≡ true →
+  not-free : (y : ℕ) → In y (becoming a b q) → isReached y ≡ true →
       false ≡ free (mergedArcs a b arcs) (waiting b (n - 1) unplaced) q
   unfolding free mergedArcs
   not-free y i r =
@@ -142,7 +145,7 @@ module _ (arcs : Arcs) (a b n unplaced : ℕ) (l : a < b) (m : b < n) (joint : J
       (in-any (λ y. arcs x y) i (and-right (member unplaced x) (arcs x y) h)) in
       sym (ap not (in-any merged w (and-both _ _ (ap not (ne-eqb p q (another p w))) e)))
 
-  pub is-free : ((y : ℕ) → In y (becoming a b q) → reached y ≡ false) →
+  is-free : ((y : ℕ) → In y (becoming a b q) → isReached y ≡ false) →
       true ≡ free (mergedArcs a b arcs) (waiting b (n - 1) unplaced) q
   unfolding free mergedArcs
   is-free h = sym (ap not (false-if (any merged (waiting b (n - 1) unplaced)) (λ t.
@@ -153,3 +156,21 @@ module _ (arcs : Arcs) (a b n unplaced : ℕ) (l : a < b) (m : b < n) (joint : J
       let (k, u) = waiting-in b (n - 1) unplaced p w in
       let (z, v) = unplaced-in p x k u i in
       both-ft (in-any (λ x. member unplaced x && arcs x y) (in-upTo n x z) (and-both _ _ v g)) (h y j))))
+
+  -- so it is decided by where it was, and by b too if it is a
+  pub free-never : isReached (cameFrom b q) ≡ true → false ≡ free (mergedArcs a b arcs) (waiting b (n - 1) unplaced) q
+  free-never r = not-free (cameFrom b q) (came-becomes a b l q) r
+
+  pub free-other : (q ≡ a → ⊥) → isReached (cameFrom b q) ≡ false →
+      true ≡ free (mergedArcs a b arcs) (waiting b (n - 1) unplaced) q
+  free-other d r = is-free (λ y i.
+      elim (becomes a b l q y i) [ inl e ↦ ap isReached e ∙ r | inr (e, f) ↦ absurd (d e) ])
+
+  pub free-merged : q ≡ a → isReached (cameFrom b q) ≡ false →
+      not (isReached b) ≡ free (mergedArcs a b arcs) (waiting b (n - 1) unplaced) q
+  free-merged e r = go (isReached b) refl
+    where
+      go : (t : Bool) → isReached b ≡ t → not t ≡ free (mergedArcs a b arcs) (waiting b (n - 1) unplaced) q
+      go true t = not-free b (subst (λ p. In b (becoming a b p)) (sym e) (higher-becomes a b l)) t
+      go false t = is-free (λ y i.
+          elim (becomes a b l q y i) [ inl f ↦ ap isReached f ∙ r | inr (f, g) ↦ ap isReached g ∙ t ])
