@@ -4,6 +4,7 @@ pub mod SomeOrder
 pub mod Squares
 pub mod StartWords
 pub mod Partitions
+pub mod PartNames
 pub mod CameFrom
 pub mod MergedNumbers
 pub mod Merges
@@ -16,3 +17,4 @@ pub mod Renumbering
 pub mod MergedSets
 pub mod JoinedArcs
 pub mod Widths
+pub mod InPlay

@@ -2,11 +2,11 @@
 -- of the parts that became it, and an arc between parts is one between parts that became them.
 use Prim.Native.Nat.{ℕ, _<_}
 use mathlib.Core.Path.{_≡_, refl, sym, _∙_, ap, ap₂}
-use mathlib.Core.Bool.{Bool, true, not, _&&_, _||_}
+use mathlib.Core.Bool.{Bool, true, not, _||_}
 use mathlib.Core.List.{List, map}
 use lib.ListN.{length}
 use lib.Dec.{eqb}
-use borrow.Author.Tests.{eqb-true, eqb-false, eq-eqb, ne-eqb, not-true}
+use borrow.Author.Tests.{eqb-false, ne-eqb, not-true}
 use Rattle.words.specs.Lists.{any, upTo}
 use Rattle.words.proofs.Lists.{and-left, and-right, and-both, bool-ext, In, any-in, in-any, in-map, map-in, filter-same}
 use Rattle.words.proofs.Ranges.{or-false}
@@ -17,31 +17,8 @@ use Rattle.tokens.specs.Split.{has, paramsOf}
 use Rattle.proposals.specs.Proposal.{withPart, withParts, mergedNumber, merged, together}
 use Rattle.proposals.specs.Circle.{arcsOf, cameFrom, becoming, mergedArcs}
 use Rattle.proposals.proofs.Partitions.{renumbered, parted-renumbered}
+use Rattle.proposals.proofs.PartNames.{part-names, names-part}
 use Rattle.proposals.proofs.MergedNumbers.{becoming-goes, goes-becoming, becoming-both, becoming-other}
-
--- ---- the atoms of a part that name a parameter
-record Naming (atoms : List Atom) (x p : ℕ) : Type 0 where
-  atom : Atom
-  one : In atom atoms
-  part : atom .part ≡ p
-  names-it : names x atom ≡ true
-
-part-names : (atoms : List Atom) (x p : ℕ) → inPart atoms x p ≡ true → Naming atoms x p
-unfolding inPart
-part-names atoms x p h =
-    let (a, i, e) = any-in (λ a. eqb p (a .part) && names x a) atoms h in
-    record {
-      atom = a;
-      one = i;
-      part = sym (eqb-true p (a .part) (and-left (eqb p (a .part)) _ e));
-      names-it = and-right (eqb p (a .part)) _ e;
-    }
-
-names-part : (atoms : List Atom) (x p : ℕ) → Naming atoms x p → inPart atoms x p ≡ true
-unfolding inPart
-names-part atoms x p n =
-    in-any (λ a. eqb p (a .part) && names x a) (n .one)
-    (and-both _ _ (eq-eqb p (n .atom .part) (sym (n .part))) (n .names-it))
 
 -- ---- a schema before and after the merge
 module _ (s : Schema) (ps : List ℕ) (size : length ps ≡ length (s .atoms)) (a b : ℕ) (l : a < b) where

@@ -2,16 +2,15 @@
 -- schema's atoms name its own parameters alone, and these are few enough for the set of a word.
 use Prim.Native.Nat.{ℕ, _<_}
 use mathlib.Core.Path.{_≡_, refl, sym, _∙_, ap}
-use mathlib.Core.Bool.{true, _&&_, _||_}
+use mathlib.Core.Bool.{true, _||_}
 use mathlib.Core.List.{List}
 use mathlib.Core.Logic.{inl, inr}
 use native.Mathlib.Omega.{arith}
 use lib.ListN.{length}
-use lib.Dec.{eqb}
 use borrow.Author.Tests.{leb-true}
 use Rattle.words.specs.Lists.{upTo}
 use Rattle.words.specs.Sets.{wordBits, member, members}
-use Rattle.words.proofs.Lists.{and-right, or-cases, any-in, in-any, filter-same}
+use Rattle.words.proofs.Lists.{or-cases, any-in, in-any, filter-same}
 use Rattle.words.proofs.SetMembers.{filter-below}
 use Rattle.task.specs.Limits.{mostParameters}
 use Rattle.task.specs.Task.{Atom, Schema, names, schemaFits}
@@ -21,6 +20,7 @@ use Rattle.arcs.specs.Order.{inPart}
 use Rattle.proposals.specs.Proposal.{withPart, withParts, together}
 use Rattle.proposals.specs.Square.{Named}
 use Rattle.proposals.proofs.Partitions.{parted-any}
+use Rattle.proposals.proofs.PartNames.{part-names}
 
 -- a well-formed schema is so
 pub fits-named : (arities : List ℕ) (s : Schema) → schemaFits arities s ≡ true → Named s
@@ -34,12 +34,11 @@ fits-named arities s h = record {
 module _ (s : Schema) (known : Named s) (ps : List ℕ) where
   -- a part has parameters of the schema
   pub part-known : (x p : ℕ) → inPart (withParts s ps .atoms) x p ≡ true → x < s .params
-  unfolding inPart withParts withPart names
+  unfolding withParts withPart names
   part-known x p h =
-      let (a, i, e) = any-in (λ a. eqb p (a .part) && names x a) (withParts s ps .atoms) h in
+      let k = part-names (withParts s ps .atoms) x p h in
       known .known x
-      (sym (parted-any (names x) (λ q c. refl) (s .atoms) ps)
-      ∙ in-any (names x) i (and-right (eqb p (a .part)) _ e))
+      (sym (parted-any (names x) (λ q c. refl) (s .atoms) ps) ∙ in-any (names x) (k .one) (k .names-it))
 
   pub together-counted : (a b set : ℕ) →
       ((x : ℕ) → member set x ≡ inPart (withParts s ps .atoms) x a || inPart (withParts s ps .atoms) x b) →
