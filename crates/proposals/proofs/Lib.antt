@@ -18,3 +18,5 @@ pub mod MergedSets
 pub mod JoinedArcs
 pub mod Widths
 pub mod InPlay
+pub mod PairTests
+pub mod MergingTurns

@@ -4,11 +4,11 @@ use mathlib.Core.Path.{_≡_, refl, _∙_, ap}
 use mathlib.Core.List.{List, [], _∷_}
 use native.Mathlib.Omega.{arith}
 use lib.ListN.{length, getD, set, length-set}
-use lib.Seq.{getD-set-same, getD-set-other, set-set}
+use lib.Seq.{getD-set-same, getD-set-other, set-set, set-getD}
 use Rattle.words.specs.Lists.{put}
 use Rattle.words.specs.Words.{wordsAt}
 use Rattle.words.proofs.Puts.{put-before}
-use Rattle.words.proofs.Words.{At, wordsAt-is}
+use Rattle.words.proofs.Words.{At, wordsAt-is, wordsAt-next}
 
 -- ---- each place
 pub before-put : (w : List ℕ) (at : ℕ) (xs : List ℕ) (k : ℕ) → k < at → getD (put w at xs) k 0 ≡ getD w k 0
@@ -48,3 +48,13 @@ put-again w at (x ∷ xs) (y ∷ ys) e =
     ap (λ (v : List ℕ). put v (suc at) ys)
     (put-before (set w at x) at y (suc at) xs (omega arith) ∙ ap (λ (v : List ℕ). put v (suc at) xs) (set-set w at x y))
     ∙ put-again (set w at y) (suc at) xs ys (omega arith)
+
+-- ---- its own words put into it
+pub put-own : (w : List ℕ) (at n : ℕ) → put w at (wordsAt w at n) ≡ w
+unfolding wordsAt
+put-own w at zero = refl
+put-own w at (suc n) =
+    let e : at + 1 ≡ suc at = omega arith in
+    ap (put w at) (wordsAt-next w at n)
+    ∙ (ap (λ (v : List ℕ). put v (suc at) (wordsAt w (at + 1) n)) (set-getD w at 0)
+    ∙ (ap (λ (i : ℕ). put w (suc at) (wordsAt w i n)) e ∙ put-own w (suc at) n))
