@@ -10,14 +10,12 @@ use native.Mathlib.Omega.{arith}
 use lib.Dec.{eqb}
 use borrow.Author.Tests.{eqb-true, eq-eqb, ne-eqb}
 use Rattle.words.proofs.Lists.{or-right}
+use Rattle.words.proofs.Ranges.{or-false}
 use Rattle.proposals.specs.Circle.{Arcs, cameFrom, becoming, mergedArcs}
 use Rattle.proposals.specs.Square.{squareSide, arcsIn, KeepsBehind, PutsArc}
 use Rattle.proposals.proofs.CameFrom.{came-a, came-below, came-other, came-apart}
+use Rattle.proposals.proofs.MergedArcs.{merged-self}
 use Rattle.proposals.proofs.Squares.{keeps-refl, keeps-trans, put-here, put-other}
-
-or-false : (b : Bool) → b || false ≡ b
-or-false true = refl
-or-false false = refl
 
 -- ---- one arc joins another, of which a call told whether it is there
 pub join-put : {w v : List ℕ} {p q : ℕ} {more told : Bool} → told ≡ more → told ≡ true → PutsArc w p q true v →
@@ -41,12 +39,8 @@ join-none {w} {p} {q} {more} d e = record {
     go x y false true s t = refl
     go x y false false s t = refl
 
--- ---- the arcs of merged parts, case by case
+-- ---- the arcs of merged parts, where they are different ones
 module _ (a b : ℕ) (arcs : Arcs) where
-  merged-self : (p : ℕ) → mergedArcs a b arcs p p ≡ false
-  unfolding mergedArcs
-  merged-self p = rw (eq-eqb p p refl) refl
-
   merged-into : (p : ℕ) → (p ≡ a → ⊥) →
       mergedArcs a b arcs p a ≡ arcs (cameFrom b p) a || arcs (cameFrom b p) b
   unfolding mergedArcs

@@ -20,3 +20,4 @@ pub mod Widths
 pub mod InPlay
 pub mod PairTests
 pub mod MergingTurns
+pub mod ClosedRows
