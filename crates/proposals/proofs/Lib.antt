@@ -21,3 +21,5 @@ pub mod InPlay
 pub mod PairTests
 pub mod MergingTurns
 pub mod ClosedRows
+pub mod FreshRows
+pub mod FreshParts

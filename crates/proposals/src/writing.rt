@@ -9,12 +9,11 @@ use words::runs::word;
 ghost use Prim.Native.Nat.{ℕ, _≤_};
 ghost use mathlib.Core.Path.{_≡_};
 ghost use mathlib.Core.Bool.{true};
-ghost use mathlib.Core.Option.{none};
 ghost use lib.ListN.{length};
 ghost use Rattle.words.specs.Lists.{over};
 ghost use Rattle.task.specs.Limits.{tableWords, mostSchemaAtoms};
 ghost use Rattle.task.specs.Table.{taskOf, wordsOf, isTable};
-ghost use Rattle.proposals.specs.Proposal.{proposedTask, tooMany};
+ghost use Rattle.proposals.specs.Proposal.{proposedTask};
 ghost use Rattle.proposals.specs.Square.{HaveParts};
 
 // Writes the table of the task proposed, whose parts these are.
@@ -22,7 +21,7 @@ pub fn write_proposed(table: &[u16], parts: &Parts, proposed: &mut [u16])
     requires { ⌜ isTable (now table) ≡ true ⌝ }
     requires { ⌜ length (now parts) ≡ mostSchemaAtoms ⌝ }
     requires { ⌜ tableWords ≤ length (now proposed) ⌝ }
-    ensures { λ _. ⌜ ((width : ℕ) → tooMany (proposedTask width (taskOf (now (table .entry)))) ≡ none →
+    ensures { λ _. ⌜ ((width : ℕ) →
         HaveParts width (taskOf (now (table .entry))) (length (taskOf (now (table .entry)) .schemas))
         (now (parts .entry)) →
         now (proposed .exit) ≡
