@@ -23,3 +23,4 @@ pub mod MergingTurns
 pub mod ClosedRows
 pub mod FreshRows
 pub mod FreshParts
+pub mod OwnParts
