@@ -1,14 +1,14 @@
 -- Rows close up in place: what is read lies at or behind what is written. Row q takes its arcs from where the parts
 -- were; and row after row, the square comes to have the arcs of the merged parts.
 use Prim.Native.Nat.{ℕ, _+_, _-_, _≤_, _<_}
-use mathlib.Core.Path.{_≡_, refl, sym, _∙_, ap, ap₂, subst}
+use mathlib.Core.Path.{_≡_, refl, sym, _∙_, ap₂, subst}
 use mathlib.Core.Bool.{Bool}
 use mathlib.Core.List.{List}
 use native.Mathlib.Decide.{decLt}
 use native.Mathlib.Omega.{arith}
 use Rattle.proposals.specs.Circle.{cameFrom, mergedArcs}
 use Rattle.proposals.specs.Square.{squareSide, arcsIn, KeepsBehind, PutsArc, MergesArcs}
-use Rattle.proposals.proofs.CameFrom.{Came, low, high, came, came-low, came-below}
+use Rattle.proposals.proofs.CameFrom.{low, high, came, came-low, came-below}
 use Rattle.proposals.proofs.Squares.{keeps-refl, keeps-trans, put-here, put-other}
 
 -- a part was no lower
@@ -20,7 +20,7 @@ pub came-fits : (b : ℕ) {n q row : ℕ} → n ≤ squareSide → q < n - 1 →
 came-fits b {n} {q} few l e = let z = came-below b n q l in omega arith
 
 -- ---- one row
--- row q up to p
+-- row q has closed up before p, and nothing else has changed
 pub record RowClosing (b q : ℕ) (lent : List ℕ) (p : ℕ) (square : List ℕ) : Type 0 where
   pub keeps : KeepsBehind lent square
   pub done : (x : ℕ) → x < p → arcsIn square x q ≡ arcsIn lent (cameFrom b x) (cameFrom b q)
@@ -58,42 +58,42 @@ row-turn {b} {n} {q} {p} {lent = lent} {w = w} {v = v} few l m h from at read pu
         h .left (cameFrom b p) (cameFrom b q) (came-fits b few m refl) (came-fits b few l refl) (λ f. came-behind b p)))
 
 -- ---- row after row
--- the rows before q have closed up; those from q on have the arcs where the parts were
-pub record Closing (a b n : ℕ) (lent : List ℕ) (q : ℕ) (square : List ℕ) : Type 0 where
-  pub keeps : KeepsBehind lent square
-  pub done : (x y : ℕ) → x < n - 1 → y < q → arcsIn square x y ≡ mergedArcs a b (arcsIn lent) x y
-  pub left : (x y : ℕ) → x < n - 1 → q ≤ y → y < n - 1 →
-      arcsIn square (cameFrom b x) (cameFrom b y) ≡ mergedArcs a b (arcsIn lent) x y
+-- the rows before q have closed up, those from q on have not changed
+pub record Closing (b n : ℕ) (joined : List ℕ) (q : ℕ) (square : List ℕ) : Type 0 where
+  pub keeps : KeepsBehind joined square
+  pub done : (x y : ℕ) → x < n - 1 → y < q → arcsIn square x y ≡ arcsIn joined (cameFrom b x) (cameFrom b y)
+  pub left : (x y : ℕ) → x < squareSide → y < squareSide → q ≤ y → arcsIn square x y ≡ arcsIn joined x y
 
-pub closing-start : {a b n : ℕ} {lent joined : List ℕ} → KeepsBehind lent joined →
-    ((p q : ℕ) → p < n - 1 → q < n - 1 →
-    arcsIn joined (cameFrom b p) (cameFrom b q) ≡ mergedArcs a b (arcsIn lent) p q) →
-    Closing a b n lent 0 joined
-closing-start k h = record {
-  keeps = k;
+pub closing-start : (b n : ℕ) (joined : List ℕ) → Closing b n joined 0 joined
+closing-start b n joined = record {
+  keeps = keeps-refl joined;
   done = λ x y l m. absurd (omega arith);
-  left = λ x y l i m. h x y l m;
+  left = λ x y l m k. refl;
 }
 
-pub closing-turn : {a b n q : ℕ} {lent w v : List ℕ} → n ≤ squareSide → q < n - 1 → Closing a b n lent q w →
+pub closing-turn : {b n q : ℕ} {joined w v : List ℕ} → n ≤ squareSide → q < n - 1 → Closing b n joined q w →
     KeepsBehind w v → ((p : ℕ) → p < n - 1 → arcsIn v p q ≡ arcsIn w (cameFrom b p) (cameFrom b q)) →
     ((x y : ℕ) → x < squareSide → y < squareSide → (y ≡ q → ⊥) → arcsIn v x y ≡ arcsIn w x y) →
-    Closing a b n lent (q + 1) v
-closing-turn {a} {b} {n} {q} {lent} {w} {v} few l h k row other = record {
+    Closing b n joined (q + 1) v
+closing-turn {b} {n} {q} {joined} {w} {v} few l h k row other = record {
   keeps = keeps-trans (h .keeps) k;
   done = λ x y i j. elim (decLt y q) [
     | yes m ↦ other x y (omega arith) (omega arith) (λ e. let z = e in omega arith) ∙ h .done x y i m
     | no m ↦
         let o : q ≡ y = omega arith in
-        subst (λ (z : ℕ). arcsIn v x z ≡ mergedArcs a b (arcsIn lent) x z) o (row x i ∙ h .left x q i (omega arith) l)
+        subst (λ (z : ℕ). arcsIn v x z ≡ arcsIn joined (cameFrom b x) (cameFrom b z)) o
+        (row x i ∙ h .left (cameFrom b x) (cameFrom b q) (came-fits b few i refl) (came-fits b few l refl)
+        (came-behind b q))
   ];
-  left = λ x y i m j.
-      let g = came-behind b y in
-      other (cameFrom b x) (cameFrom b y) (came-fits b few i refl) (came-fits b few j refl)
-      (λ e. let z = e in omega arith) ∙
-      h .left x y i (omega arith) j;
+  left = λ x y i j m. other x y i j (λ e. let z = e in omega arith) ∙ h .left x y i j (omega arith);
 }
 
-pub closing-end : {a b n q : ℕ} {lent square : List ℕ} → Closing a b n lent q square → n ≤ q + 1 →
-    MergesArcs a b n lent square
-closing-end h l = record { keeps = h .keeps; arcs = λ p q i j. h .done p q i (omega arith) }
+-- once all have, the merged parts have their arcs
+pub closing-end : {a b n q : ℕ} {lent joined square : List ℕ} → KeepsBehind lent joined →
+    ((p q : ℕ) → p < n - 1 → q < n - 1 →
+    arcsIn joined (cameFrom b p) (cameFrom b q) ≡ mergedArcs a b (arcsIn lent) p q) →
+    Closing b n joined q square → n ≤ q + 1 → MergesArcs a b n lent square
+closing-end k joins h l = record {
+  keeps = keeps-trans k (h .keeps);
+  arcs = λ p q i j. h .done p q i (omega arith) ∙ joins p q i j;
+}

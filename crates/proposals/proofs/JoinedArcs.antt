@@ -3,15 +3,15 @@
 -- parts that are left have, where they came from, the arcs of the merged ones.
 use Prim.Native.Nat.{ℕ, _+_, _-_, _≤_, _<_}
 use mathlib.Core.Path.{_≡_, refl, sym, _∙_, ap, ap₂, subst}
-use mathlib.Core.Bool.{Bool, true, false, cond, not, _&&_, _||_}
-use mathlib.Core.List.{List, [], _∷_}
+use mathlib.Core.Bool.{Bool, true, false, cond, _&&_, _||_}
+use mathlib.Core.List.{List}
 use native.Mathlib.Decide.{ℕ-discrete, decLt}
 use native.Mathlib.Omega.{arith}
 use lib.Dec.{eqb}
 use borrow.Author.Tests.{eqb-true, eq-eqb, ne-eqb}
 use Rattle.words.proofs.Lists.{or-right}
 use Rattle.words.proofs.Ranges.{or-false}
-use Rattle.proposals.specs.Circle.{Arcs, cameFrom, becoming, mergedArcs}
+use Rattle.proposals.specs.Circle.{Arcs, cameFrom, mergedArcs}
 use Rattle.proposals.specs.Square.{squareSide, arcsIn, KeepsBehind, PutsArc}
 use Rattle.proposals.proofs.CameFrom.{came-a, came-below, came-other, came-apart}
 use Rattle.proposals.proofs.MergedArcs.{merged-self}
@@ -61,7 +61,7 @@ module _ (a b : ℕ) (arcs : Arcs) where
   merged-other p q c d e = rw (ne-eqb p q c, ne-eqb p a d, ne-eqb q a e) (or-false _ ∙ or-false _)
 
 -- ---- the turns
--- before part x's turn
+-- before part x's turn: what no turn has come to is as lent, and the parts below x have joined
 pub record Joining (a b n : ℕ) (lent : List ℕ) (x : ℕ) (square : List ℕ) : Type 0 where
   pub keeps : KeepsBehind lent square
   pub left : (p q : ℕ) → p < n → q < n → (q ≡ a → x ≤ p) → (p ≡ a → x ≤ q) → (p ≡ q → x ≤ p) →

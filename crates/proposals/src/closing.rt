@@ -29,7 +29,8 @@ fn join_arcs(square: &mut [u16], n: usize, a: usize, b: usize)
     requires { ⌜ (n ≤ squareSide) × (a < b) × (b < n) ⌝ }
     ensures { λ _. ⌜ KeepsBehind (now (square .entry)) (now (square .exit)) ⌝ }
     ensures { λ _. ⌜ ((p q : ℕ) → p < n - 1 → q < n - 1 →
-        arcsIn (now (square .exit)) (cameFrom b p) (cameFrom b q) ≡ mergedArcs a b (arcsIn (now (square .entry))) p q) ⌝ }
+        arcsIn (now (square .exit)) (cameFrom b p) (cameFrom b q) ≡
+        mergedArcs a b (arcsIn (now (square .entry))) p q) ⌝ }
 {
     let mut x = 0;
     while x < n {
