@@ -28,6 +28,13 @@ pub fn report(what: &str, count: usize) {
         .expect("standard error takes a line");
 }
 
+/// Requires that a wrong variant shows in more than so many cases, and tells the
+/// log in how many it does.
+pub fn shows_in(name: &str, cases: usize, least: usize) {
+    report(&format!("{name}, shown"), cases);
+    assert!(cases > least, "{name}: shown in {cases} cases only");
+}
+
 /// The table that a text in form is read into.
 pub fn read_table(text: &[u8]) -> Vec<u16> {
     let mut table = vec![0; TABLE_WORDS];

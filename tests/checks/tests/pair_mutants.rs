@@ -2,7 +2,7 @@
 //! than the reference for many cases of one seed, and the right one, put in the
 //! same form, for none.
 
-use checks::report;
+use checks::{report, shows_in};
 use generate::differing::{any_differing_task, splittable_differing_task};
 use generate::split_lists::split_list;
 use generate::tables::table;
@@ -19,12 +19,6 @@ use reference::tokens::{self, BlockPart, Split};
 use reference::{blocks, Answer, Reason, Refusal};
 
 const SEED: u64 = 43;
-
-/// Requires that a variant answers otherwise for more than so many cases.
-fn answers_otherwise(name: &str, other: usize, least: usize) {
-    report(&format!("{name}, other answers"), other);
-    assert!(other > least, "{name}: only {other} other answers");
-}
 
 /// What speaks against splitting a task.
 struct Faults {
@@ -146,7 +140,7 @@ fn refusal_20_and_its_place() {
         ("20 after 10", after_10, 3),
         ("the lowest schema of 9 or 20", lowest_schema_of_either, 3),
     ] {
-        answers_otherwise(name, refused_otherwise(variant), least);
+        shows_in(name, refused_otherwise(variant), least);
     }
 }
 
@@ -224,7 +218,7 @@ fn lines_that_parts_carry() {
         ("the later parts alone", later_parts_alone, 400),
         ("old numbers", with_old_numbers, 400),
     ] {
-        answers_otherwise(name, carried_otherwise(variant), least);
+        shows_in(name, carried_otherwise(variant), least);
     }
 }
 
@@ -286,9 +280,9 @@ fn read_otherwise(order: [Reason; 2]) -> [usize; 2] {
 fn refusal_21_before_19() {
     let [refused, other] = read_otherwise([Reason::TooManyPairs, Reason::BadPair]);
     assert_eq!(other, 0);
-    answers_otherwise("19 or 21", refused, 400);
+    shows_in("19 or 21", refused, 400);
     let [_, other] = read_otherwise([Reason::BadPair, Reason::TooManyPairs]);
-    answers_otherwise("19 before 21", other, 50);
+    shows_in("19 before 21", other, 50);
 }
 
 /// Whether the reference refuses by 12 what a variant doesn't.
@@ -344,9 +338,9 @@ fn folding(random: &mut Random, task: &Task, split: &Split) -> bool {
 
 #[test]
 fn equal_objects_let_through() {
-    answers_otherwise("running of equal objects", lists_where(running), 1000);
-    answers_otherwise("unfolding of equal objects", lists_where(unfolding), 1000);
-    answers_otherwise("folding of equal objects", lists_where(folding), 1000);
+    shows_in("running of equal objects", lists_where(running), 1000);
+    shows_in("unfolding of equal objects", lists_where(unfolding), 1000);
+    shows_in("folding of equal objects", lists_where(folding), 1000);
 }
 
 /// What is judged when a step is to fit the block that is open: the pairs of the
@@ -415,7 +409,7 @@ fn folded_otherwise(judged: Judged) -> usize {
 fn only_the_pairs_that_parts_carry() {
     assert_eq!(folded_otherwise(no_pair), 0);
     let other = folded_otherwise(every_pair_known);
-    answers_otherwise("every pair of a beginning", other, 20);
+    shows_in("every pair of a beginning", other, 20);
 }
 
 /// How many schemas of a task with pairs have another order, and how many none,
@@ -441,6 +435,6 @@ fn dropped_arcs_matter() {
         }
     }
     report("orders that pairs leave alone", same);
-    answers_otherwise("circular without pairs", circular, 1000);
-    answers_otherwise("in another order without pairs", other, 150);
+    shows_in("circular without pairs", circular, 1000);
+    shows_in("in another order without pairs", other, 150);
 }

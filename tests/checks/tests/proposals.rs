@@ -6,7 +6,7 @@ use std::collections::BTreeSet;
 
 use checks::orders::{complies, orders};
 use checks::{report, without_parts};
-use generate::proposing::{any_proposing_task, any_width};
+use generate::proposing::{any_proposing_task, any_width, full_task};
 use generate::tables::table;
 use generate::tasks::parted_anew;
 use generate::Random;
@@ -163,6 +163,24 @@ fn partitions_of_the_same_task_with_no_pair_left() {
         report(what, count);
         assert!(count > least, "{what}: only {count}");
     }
+}
+
+/// Also for schemas of 64 atoms.
+#[test]
+fn many_atoms_with_no_pair_left() {
+    let mut random = Random::new(66);
+    let mut seen = Seen::default();
+    for _ in 0..3 {
+        let task = full_task(&mut random);
+        for width in 4..=MAX_WIDTH {
+            if let Ok(proposed) = propose(&task, width) {
+                seen.see_task(&task, width as usize, &proposed);
+            }
+        }
+    }
+    report("proposals for 64 atoms", seen.proposals);
+    report("their pairs left, circular", seen.circular);
+    assert!(seen.proposals > 10 && seen.circular > 20);
 }
 
 /// Splitting never answers 9 for a proposal.

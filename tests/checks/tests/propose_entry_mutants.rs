@@ -3,8 +3,8 @@
 //! of one seed.
 
 use checks::inputs::table_or_damaged;
-use checks::report;
 use checks::rows::{plain_row, Row};
+use checks::shows_in;
 use generate::proposing::{any_request, Request};
 use generate::Random;
 use reference::propose::{propose, MAX_WIDTH, SCRATCH_WORDS};
@@ -256,7 +256,6 @@ fn a_wrong_entry_point_leaves_something_else() {
         }
     }
     for ((name, _, least), other) in WRONG.into_iter().zip(others) {
-        report(&format!("{name}, other"), other);
-        assert!(other > least, "{name}: only {other} other cases");
+        shows_in(name, other, least);
     }
 }

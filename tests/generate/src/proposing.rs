@@ -5,14 +5,16 @@ use std::collections::BTreeSet;
 
 use reference::arcs::RULES;
 use reference::propose::{MAX_WIDTH, SCRATCH_WORDS};
-use reference::table::{used_arguments, PartNumber, Role, SchemaAtom, Task, MAX_ATOMS_OF_SCHEMA};
+use reference::table::{
+    used_arguments, PartNumber, Role, SchemaAtom, Task, MAX_ATOMS_OF_SCHEMA, MAX_PARAMETERS,
+};
 
 use crate::differing::{any_differing_task, with_pairs};
 use crate::random::Random;
 use crate::shape::Shape;
 use crate::tasks::{
-    any_task, arities, atoms_in_any_role, finished, mostly, of_parameters, part_freely, push, task,
-    task_of,
+    any_task, arities, atoms_in_any_role, finished, lifted_atom, mostly, of_parameters,
+    part_freely, push, task, task_of,
 };
 
 /// A task with the width and the number of scratch words that go with it.
@@ -75,10 +77,42 @@ pub fn any_proposing_task(random: &mut Random) -> Task {
         4..=7 => task(random, shape),
         _ => proposing_task(random, shape),
     };
+    perhaps_with_pairs(random, task)
+}
+
+fn perhaps_with_pairs(random: &mut Random, task: Task) -> Task {
     if random.chance(1, 4) {
         with_pairs(random, task)
     } else {
         task
+    }
+}
+
+/// A task of one schema with as many atoms and parameters as it may have.
+pub fn full_task(random: &mut Random) -> Task {
+    let arities: Vec<u16> = (0..random.within(&(1..=6)))
+        .map(|_| random.within(&(2..=4)) as u16)
+        .collect();
+    let task = filled_task(random, &arities, MAX_ATOMS_OF_SCHEMA);
+    perhaps_with_pairs(random, task)
+}
+
+/// A task of one schema with so many different atoms of these predicates, which
+/// must have that many, in any role.
+pub fn filled_task(random: &mut Random, arities: &[u16], count: usize) -> Task {
+    let mut atoms = Vec::new();
+    while atoms.len() < count {
+        let role = random.pick(&Role::ALL);
+        let predicate = random.below(arities.len());
+        let atom = lifted_atom(random, arities, predicate, MAX_PARAMETERS);
+        push(&mut atoms, role, PartNumber(0), atom);
+    }
+    Task {
+        objects: 1,
+        arities: arities.to_vec(),
+        schemas: vec![finished(random, atoms, Vec::new(), arities)],
+        initial: Vec::new(),
+        goal: Vec::new(),
     }
 }
 

@@ -133,7 +133,7 @@ fn schema(random: &mut Random, shape: &Shape, arities: &[u16]) -> Schema {
     finished(random, atoms, Vec::new(), arities)
 }
 
-fn lifted_atom(
+pub(crate) fn lifted_atom(
     random: &mut Random,
     arities: &[u16],
     predicate: usize,
