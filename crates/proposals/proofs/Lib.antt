@@ -24,3 +24,5 @@ pub mod ClosedRows
 pub mod FreshRows
 pub mod FreshParts
 pub mod OwnParts
+pub mod ClearedScratch
+pub mod ProposeOutcome
