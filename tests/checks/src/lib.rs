@@ -2,6 +2,7 @@
 //! and small helpers.
 
 pub mod answers;
+pub mod arguments;
 pub mod inputs;
 pub mod orders;
 pub mod pair_arcs;

@@ -1,5 +1,6 @@
 //! The programs.
 
+use checks::arguments::{bytes, STRANGE};
 use checks::unparted::tests_of_one_parameter;
 use checks::{changed_move, MOVE, MOVE_PDDL, MOVE_SPLIT};
 use reference::programs::{
@@ -87,11 +88,8 @@ fn writes_pddl_or_refuses_the_task() {
 }
 
 fn proposed(arguments: &[&str], task: &str) -> String {
-    let arguments: Vec<&[u8]> = arguments
-        .iter()
-        .map(|argument| argument.as_bytes())
-        .collect();
-    String::from_utf8(propose_program(&arguments, task.as_bytes())).expect("text")
+    let printed = propose_program(&bytes(arguments), task.as_bytes());
+    String::from_utf8(printed).expect("text")
 }
 
 /// M's own partition is that of width 2.
@@ -111,46 +109,14 @@ fn proposes_the_width_that_is_its_argument() {
 
 #[test]
 fn a_missing_or_strange_argument_is_22() {
-    for argument in [
-        "13",
-        "14",
-        "99",
-        "00",
-        "02",
-        "012",
-        "+2",
-        "-1",
-        "-0",
-        "",
-        " 2",
-        "2 ",
-        "2\n",
-        "2,",
-        "a",
-        "0x2",
-        "1.0",
-        "1e1",
-        "²",
-        "2\u{0}",
-        "65536",
-        "65538",
-        "100002",
-        "4294967298",
-        "18446744073709551618",
-    ] {
-        assert_eq!(
-            proposed(&[argument], MOVE),
-            "refused=22:0\n",
-            "{argument:?}"
-        );
+    for arguments in STRANGE {
+        let printed = proposed(arguments, MOVE);
+        assert_eq!(printed, "refused=22:0\n", "{arguments:?}");
     }
-    for arguments in [&[][..], &["2", "2"], &["2", ""], &["", "2"], &["2"; 9]] {
-        assert_eq!(proposed(arguments, MOVE), "refused=22:0\n", "{arguments:?}");
+    for argument in [b"\xff".as_slice(), b"2\xff", b"2\0"] {
+        let printed = propose_program(&[argument], MOVE.as_bytes());
+        assert_eq!(printed, b"refused=22:0\n");
     }
-    assert_eq!(
-        propose_program(&[b"\xff"], MOVE.as_bytes()),
-        b"refused=22:0\n"
-    );
 }
 
 /// The task first, then the argument, then the parts.

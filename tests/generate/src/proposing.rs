@@ -25,7 +25,7 @@ pub struct Request {
     pub scratch: usize,
 }
 
-/// Any task, width and scratch; about two of three are not refused by 22.
+/// Any task, width and scratch; about one of five is refused by 22.
 pub fn any_request(random: &mut Random) -> Request {
     let task = any_proposing_task(random);
     let width = any_width(random, &task);
