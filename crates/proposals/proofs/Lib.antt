@@ -26,3 +26,4 @@ pub mod FreshParts
 pub mod OwnParts
 pub mod ClearedScratch
 pub mod ProposeOutcome
+pub mod Sweeps

@@ -155,7 +155,8 @@ module _ (arcs : Arcs) (a b n unplaced : ℕ) (l : a < b) (m : b < n) (joint : J
       let (y, j, g) = any-in (λ y. arcs x y) (becoming a b q) f in
       let (k, u) = waiting-in b (n - 1) unplaced p w in
       let (z, v) = unplaced-in p x k u i in
-      both-ft (in-any (λ x. member unplaced x && arcs x y) (in-upTo n x z) (and-both _ _ v g)) (h y j))))
+      both-ft (in-any (λ x. member unplaced x && arcs x y) (in-upTo n x z)
+      (and-both (member unplaced x) (arcs x y) v g)) (h y j))))
 
   -- so it is decided by where it was, and by b too if it is a
   pub free-never : isReached (cameFrom b q) ≡ true → false ≡ free (mergedArcs a b arcs) (waiting b (n - 1) unplaced) q

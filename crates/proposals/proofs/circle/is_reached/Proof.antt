@@ -1,8 +1,8 @@
 -- `proposals::circle::is_reached` meets its contract.
 -- The invariant: the whole search is what is left of it from q on. The measure is how many parts are left.
 use Prim.Native.Nat.{ℕ, _-_}
-use mathlib.Core.Path.{refl, sym, _∙_, ap}
-use mathlib.Core.Bool.{Bool, _&&_}
+use mathlib.Core.Path.{_≡_, refl, sym, _∙_, ap}
+use mathlib.Core.Bool.{Bool, false, _&&_}
 use mathlib.Core.List.{List}
 use mathlib.Core.Logic.{⊎-elim}
 use native.Mathlib.Omega.{arith}
@@ -42,7 +42,7 @@ loop-again c =
     let a = turn .before .before .before .args in
     let q = turn .before .loop .q in
     any-more (turn .before .loop .inv) (turn .loop-test .taken)
-    (⊎-elim
+    (⊎-elim {C = reaches (a .square .now) (a .unplaced) (a .p) q ≡ false}
     (λ w. ap (λ (t : Bool). member (a .unplaced) q && t) (sym (w .1 .ensures) ∙ w .2 .left) ∙
     and-false (member (a .unplaced) q))
     (λ w. ap (λ (t : Bool). t && arcsIn (a .square .now) q (a .p)) (sym (c .before .has .ensures) ∙ w .left))
