@@ -9,7 +9,6 @@ use native.Mathlib.Omega.{arith}
 use lib.ListN.{length}
 use lib.Dec.{ltb}
 use borrow.Author.Count.{below-more}
-use borrow.Author.Tests.{eq-eqb}
 use Rattle.words.specs.Lists.{any}
 use Rattle.words.specs.Sets.{member}
 use Rattle.words.proofs.Lists.{both-ft, bool-ext, In, any-in, in-any, length-upTo}
@@ -17,14 +16,10 @@ use Rattle.words.proofs.Ascending.{Ascend, others, in-others, others-in, others
 use Rattle.proposals.specs.Circle.{Arcs, free, placeable, cameFrom, mergedArcs, noCircle}
 use Rattle.proposals.specs.Square.{Joint, Sweeps, waiting}
 use Rattle.proposals.proofs.Kahn.{placeable-none, placeable-one, placeable-stuck}
+use Rattle.proposals.proofs.MergedArcs.{merged-self}
 use Rattle.proposals.proofs.Waiting.{in-waiting, waiting-in, ascend-waiting, all-joint, all-wait}
 
--- a merged part has no arc to itself
-pub merged-self : (a b : ℕ) (arcs : Arcs) (q : ℕ) → mergedArcs a b arcs q q ≡ false
-unfolding mergedArcs
-merged-self a b arcs q = rw (eq-eqb q q refl) refl
-
--- so that it may be told without it among the unplaced ones whether it is free
+-- a merged part has no arc to itself, so that it may be told without it among the unplaced ones whether it is free
 free-alone : (arcs : Arcs) (us : List ℕ) (q : ℕ) → arcs q q ≡ false → free arcs (others q us) q ≡ free arcs us q
 unfolding free
 free-alone arcs us q s = ap not (bool-ext (any (λ p. arcs p q) (others q us)) (any (λ p. arcs p q) us)
