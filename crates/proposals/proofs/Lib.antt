@@ -27,3 +27,6 @@ pub mod OwnParts
 pub mod ClearedScratch
 pub mod ProposeOutcome
 pub mod Sweeps
+pub mod MergingEnds
+pub mod Proposed
+pub mod ProposedTask
