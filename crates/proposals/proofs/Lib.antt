@@ -30,3 +30,4 @@ pub mod Sweeps
 pub mod MergingEnds
 pub mod Proposed
 pub mod ProposedTask
+pub mod Examples
