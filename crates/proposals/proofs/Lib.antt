@@ -31,3 +31,5 @@ pub mod MergingEnds
 pub mod Proposed
 pub mod ProposedTask
 pub mod Examples
+pub mod SchemaStart
+pub mod SchemaParts

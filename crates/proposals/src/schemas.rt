@@ -9,21 +9,21 @@ use arcs::ends::schema_ends;
 use task::limits::MOST_PARTS;
 use task::limits::SCHEMAS;
 use words::runs::word;
-ghost use Prim.Native.Nat.{ℕ, suc, _≤_, _<_};
+ghost use Prim.Native.Nat.{_-_, _≤_};
 ghost use mathlib.Core.Path.{_≡_};
 ghost use mathlib.Core.Bool.{true};
 ghost use mathlib.Core.Option.{none};
 ghost use lib.ListN.{length};
 ghost use Rattle.words.specs.Lists.{put};
-ghost use Rattle.task.specs.Limits.{mostSchemaAtoms};
-ghost use Rattle.task.specs.Run.{schemaAt};
+ghost use Rattle.task.specs.Limits.{mostAtoms, mostSchemaAtoms};
+ghost use Rattle.task.specs.Task.{Schema};
 ghost use Rattle.task.specs.Table.{taskOf, isTable};
-ghost use Rattle.task.specs.Turns.{firstAtom, firstPair};
+ghost use Rattle.arcs.specs.Stretches.{IsPairStretch, IsStretch, pairStretchIn, stretchIn};
 ghost use Rattle.proposals.specs.Proposal.{countOf, proposedParts, proposedTask, tooMany};
 ghost use Rattle.proposals.specs.Outcome.{scratchWords};
-ghost use Rattle.proposals.specs.Square.{HaveParts, KeepsBehind, manyTold};
+ghost use Rattle.proposals.specs.Square.{HaveParts, KeepsBehind, Named, manyTold};
 
-// The parts of schema s, whose atoms are atoms `from` to `to - 1` of the table, and whose pairs are pairs `pair` to
+// The parts of the schema whose atoms are atoms `from` to `to - 1` of the table, and whose pairs are pairs `pair` to
 // `end - 1`. Hands back how many there are.
 fn schema_parts(
     table: &[u16],
@@ -35,18 +35,16 @@ fn schema_parts(
     parts: &mut Parts,
     square: &mut [u16],
 ) -> usize
-    requires { ⌜ isTable (now table) ≡ true ⌝ }
+    requires { ⌜ IsStretch (now table) from to ⌝ }
+    requires { ⌜ IsPairStretch (now table) pair end ⌝ }
+    requires { ⌜ to - from ≤ mostAtoms ⌝ }
     requires { ⌜ length (now parts) ≡ mostSchemaAtoms ⌝ }
     requires { ⌜ scratchWords ≤ length (now square) ⌝ }
-    requires { ⌜ ((s : ℕ) × (s < length (taskOf (now table) .schemas)) × (from ≡ firstAtom (taskOf (now table)) s) ×
-        (to ≡ firstAtom (taskOf (now table)) (suc s)) × (pair ≡ firstPair (taskOf (now table)) s) ×
-        (end ≡ firstPair (taskOf (now table)) (suc s))) ⌝ }
     ensures { λ _. ⌜ KeepsBehind (now (square .entry)) (now (square .exit)) ⌝ }
-    ensures { λ r. ⌜ ((s : ℕ) → s < length (taskOf (now (table .entry)) .schemas) →
-        from ≡ firstAtom (taskOf (now (table .entry))) s → to ≡ firstAtom (taskOf (now (table .entry))) (suc s) →
-        (now (parts .exit) ≡
-        put (now (parts .entry)) from (proposedParts width (schemaAt (taskOf (now (table .entry))) s))) ×
-        (r ≡ countOf (proposedParts width (schemaAt (taskOf (now (table .entry))) s)))) ⌝ }
+    ensures { λ r. ⌜ ((s : Schema) → Named s → s .pairs ≡ pairStretchIn (now (table .entry)) pair end →
+        s .atoms ≡ stretchIn (now (table .entry)) from to →
+        (now (parts .exit) ≡ put (now (parts .entry)) from (proposedParts width s)) ×
+        (r ≡ countOf (proposedParts width s))) ⌝ }
 {
     put_arcs(table, from, to, pair, end, square);
     let mut sets = parameters(table, from, to);
