@@ -33,3 +33,4 @@ pub mod ProposedTask
 pub mod Examples
 pub mod SchemaStart
 pub mod SchemaParts
+pub mod WrittenProposal
