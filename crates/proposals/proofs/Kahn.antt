@@ -2,18 +2,17 @@
 -- choices: placing any free part changes nothing (Kahn). What can be placed is `Placeable`, by some choices; by
 -- induction over these, some of what can be placed can be placed too, and that is all that is needed.
 use Prim.Native.Nat.{ℕ, zero, suc, _≤_, _<_}
-use mathlib.Core.Path.{_≡_, refl, sym, _∙_, ap}
+use mathlib.Core.Path.{_≡_, refl, sym, ap}
 use mathlib.Core.Bool.{Bool, true, false, not}
 use mathlib.Core.List.{List, [], _∷_}
 use mathlib.Core.Logic.{_↔_}
 use mathlib.Core.Option.{Option, none, some}
 use native.Mathlib.Omega.{arith}
-use native.Mathlib.Decide.{decLe}
 use lib.ListN.{length}
 use lib.Dec.{eqb}
 use borrow.Author.Tests.{eqb-true, not-true, eq-eqb}
 use Rattle.words.specs.Lists.{any, head, filter, first, upTo}
-use Rattle.words.proofs.Lists.{no-ft, both-ft, false-if, bool-ext, In, here, there, in-eq, in-empty, any-in, in-any}
+use Rattle.words.proofs.Lists.{no-ft, both-ft, false-if, bool-ext, In, here, in-eq, in-empty, any-in, in-any}
 use Rattle.words.proofs.Lists.{filter-in, first-none}
 use Rattle.words.proofs.Ascending.{some-inj, no-none, Ascend, ascend-upTo, ascend-filter, others, in-others, others-in}
 use Rattle.words.proofs.Ascending.{others-fewer, others-one-less}
@@ -31,14 +30,6 @@ module _ (arcs : Arcs) where
   no-arc-free us p h = ap not (false-if (any (λ q. arcs q p) us)
       (λ e. let (q, i, f) = any-in (λ q. arcs q p) us e in both-ft f (h q i)))
 
-  -- a part without an arc to itself is as free among the others
-  pub free-others : (us : List ℕ) (p : ℕ) → arcs p p ≡ false → free arcs (others p us) p ≡ free arcs us p
-  free-others us p own =
-      bool-ext (free arcs (others p us) p) (free arcs us p)
-      (λ h. no-arc-free us p (λ q i. false-if (arcs q p) (λ e.
-      both-ft e (free-no-arc (others p us) p h q (in-others p i (λ d. both-ft (ap (λ x. arcs x p) d ∙ e) own))))))
-      (λ h. no-arc-free (others p us) p (λ q i. free-no-arc us p h q (others-in p us q i .0)))
-
 -- ---- parts that can be placed, by some choices
 pub data Placeable (arcs : Arcs) : List ℕ → Type 0 where
   all-placed : Placeable arcs []
@@ -49,7 +40,7 @@ pub data Placeable (arcs : Arcs) : List ℕ → Type 0 where
 abbrev pub Within : List ℕ → List ℕ → Type 0
 Within vs us = (q : ℕ) → In q vs → In q us
 
-pub none-within : (vs : List ℕ) → Within vs [] → vs ≡ []
+none-within : (vs : List ℕ) → Within vs [] → vs ≡ []
 none-within [] h = refl
 none-within (v ∷ vs) h = absurd (in-empty (h v (here refl)))
 
@@ -175,49 +166,3 @@ module _ (arcs : Arcs) where
   placeable-stuck {us} a l h =
       let (u, i) = one-left us l in
       false-if (placeable arcs us) (λ k. none-free (placeable-exactly arcs a .0 k) u i h)
-
--- ---- parts in ranks
--- one of the lowest rank
-lowest-rank : (rank : ℕ → ℕ) (u : ℕ) (us : List ℕ) →
-    (p : ℕ) × In p (u ∷ us) × ((q : ℕ) → In q (u ∷ us) → rank p ≤ rank q)
-lowest-rank rank u [] = (u, here refl, only)
-  where
-    only : (q : ℕ) → In q (u ∷ []) → rank u ≤ rank q
-    only q (here e) = let z : rank q ≡ rank u = ap rank e in omega arith
-    only q (there k) = absurd (in-empty k)
-lowest-rank rank u (v ∷ us) =
-    let (p, i, l) = lowest-rank rank v us in
-    elim (decLe (rank u) (rank p)) [
-      | yes h ↦ (u, here refl, first-is p h l)
-      | no h ↦ (p, there i, later p h l)
-    ]
-  where
-    first-is : (p : ℕ) → rank u ≤ rank p → ((q : ℕ) → In q (v ∷ us) → rank p ≤ rank q) →
-        (q : ℕ) → In q (u ∷ v ∷ us) → rank u ≤ rank q
-    first-is p h l q (here e) = let z : rank q ≡ rank u = ap rank e in omega arith
-    first-is p h l q (there k) = omega (arith, l q k)
-
-    later : (p : ℕ) → (rank u ≤ rank p → ⊥) → ((q : ℕ) → In q (v ∷ us) → rank p ≤ rank q) →
-        (q : ℕ) → In q (u ∷ v ∷ us) → rank p ≤ rank q
-    later p h l q (here e) = let z : rank q ≡ rank u = ap rank e in omega arith
-    later p h l q (there k) = l q k
-
--- where arcs go up in rank, all parts can be placed
-pub ranked-placeable : (arcs : Arcs) (rank : ℕ → ℕ) → ((p q : ℕ) → arcs p q ≡ true → rank p < rank q) →
-    (us : List ℕ) → Placeable arcs us
-ranked-placeable arcs rank h us = go (length us) us (omega arith)
-  where
-    next : (n : ℕ) (us : List ℕ) → length us ≤ suc n → ((vs : List ℕ) → length vs ≤ n → Placeable arcs vs) →
-        Placeable arcs us
-    next n [] l rest = all-placed
-    next n (u ∷ us) l rest =
-        let (p, i, m) = lowest-rank rank u us in
-        let fewer = others-fewer i in
-        place-next i
-        (no-arc-free arcs (u ∷ us) p (λ q j. false-if (arcs q p) (λ e. omega (arith, m q j, h q p e))))
-        (rest (others p (u ∷ us)) (omega arith))
-
-    go : (n : ℕ) (us : List ℕ) → length us ≤ n → Placeable arcs us
-    go zero [] l = all-placed
-    go zero (u ∷ us) l = absurd (omega arith)
-    go (suc n) us l = next n us l (λ vs m. go n vs m)

@@ -1,5 +1,6 @@
 -- Laws of proposals, and what the proofs of this crate's code cite.
 pub mod Kahn
+pub mod RankedParts
 pub mod SomeOrder
 pub mod Squares
 pub mod StartWords

@@ -18,7 +18,7 @@ use Rattle.arcs.proofs.Arcs.{Ordered, tested-then-added, tested-then-deleted, d
 use Rattle.proposals.specs.Proposal.{withPart, parted, withParts, ownParts, someOrder}
 use Rattle.proposals.specs.Circle.{arcsOf}
 use Rattle.proposals.specs.Square.{arcsIn, InPlay}
-use Rattle.proposals.proofs.Kahn.{ranked-placeable}
+use Rattle.proposals.proofs.RankedParts.{ranked-placeable}
 use Rattle.proposals.proofs.SomeOrder.{some-order-exactly}
 use Rattle.proposals.proofs.Partitions.{GapFree, numbered-gap-free, parted-at, parted-length}
 use Rattle.proposals.proofs.PartNames.{part-names, names-part}

@@ -53,7 +53,7 @@ count-most n (p ∷ ps) h =
     let f = count-most n ps (λ q i. h q (there i)) in
     omega arith
 
-pub part-counted : {p : ℕ} {ps : List ℕ} → In p ps → p < countOf ps
+part-counted : {p : ℕ} {ps : List ℕ} → In p ps → p < countOf ps
 unfolding countOf
 part-counted (here e) = omega arith
 part-counted (there i) = omega (arith, part-counted i)
@@ -135,7 +135,7 @@ parted-any test h [] ps = refl
 parted-any test h (a ∷ atoms) [] = ap₂ (λ (b c : Bool). b || c) (h 0 a) (parted-any test h atoms [])
 parted-any test h (a ∷ atoms) (p ∷ ps) = ap₂ (λ (b c : Bool). b || c) (h p a) (parted-any test h atoms ps)
 
-pub parted-all : (test : Atom → Bool) → PartBlind test → (atoms : List Atom) (ps : List ℕ) →
+parted-all : (test : Atom → Bool) → PartBlind test → (atoms : List Atom) (ps : List ℕ) →
     all test (parted atoms ps) ≡ all test atoms
 unfolding parted all
 parted-all test h [] ps = refl
