@@ -8,6 +8,7 @@ use native.Mathlib.Omega.{arith}
 use lib.ListN.{length}
 use Rattle.words.specs.Lists.{put}
 use Rattle.words.specs.Words.{wordsAt}
+use Rattle.words.proofs.Puts.{length-put}
 use Rattle.words.proofs.Words.{length-wordsAt}
 use Rattle.task.specs.Task.{Schema}
 use Rattle.proposals.specs.Proposal.{countOf, merged, firstPair, mergeFrom}
@@ -41,11 +42,19 @@ merging-first width from k lent square sets s known play = record {
   words = sym (put-own lent from k);
 }
 
+-- the numbers of atoms after a merge, with all words around them
+abbrev pub renumberedAll : ℕ → ℕ → ℕ → ℕ → List ℕ → List ℕ
+renumberedAll a b from k parts = put parts from (merged a b (wordsAt parts from k))
+
+pub renumbered-long : (a b from k : ℕ) (parts : List ℕ) {after : List ℕ} → after ≡ renumberedAll a b from k parts →
+    length after ≡ length parts
+renumbered-long a b from k parts e = ap length e ∙ length-put parts from (merged a b (wordsAt parts from k))
+
 module _ {width from k : ℕ} {lent square₀ sets₀ : List ℕ} {n : ℕ} {parts square sets : List ℕ}
     (h : MergingAny width from k lent square₀ sets₀ n parts square sets) where
   pub merging-turn : (a b : ℕ) → a < b → b < n → from + k ≤ length parts →
       ((s : Schema) (ps : List ℕ) → Named s → InPlay s n ps square sets → some (pair a b) ≡ firstPair width s ps) →
-      {parts' square' sets' : List ℕ} → parts' ≡ put parts from (merged a b (wordsAt parts from k)) →
+      {parts' square' sets' : List ℕ} → parts' ≡ renumberedAll a b from k parts →
       MergesSets a b n sets sets' → MergesArcs a b n square square' →
       MergingAny width from k lent square₀ sets₀ (n - 1) parts' square' sets'
   merging-turn a b l m room found {parts'} {square'} {sets'} e named arcs s known play₀ = record {

@@ -5,16 +5,17 @@ use mathlib.Core.Path.{_≡_, sym, _∙_, ap}
 use mathlib.Core.Bool.{Bool, true, false, _&&_, _||_}
 use mathlib.Core.List.{List}
 use mathlib.Core.Logic.{inl, inr}
-use mathlib.Core.Option.{none, some}
+use mathlib.Core.Option.{Option, none, some}
 use native.Mathlib.Omega.{arith}
 use lib.ListN.{length, getD}
 use borrow.Author.Count.{below-more}
 use borrow.Author.Tests.{le-leb, lt-leb}
 use Rattle.words.specs.Sets.{wordBits, member, members}
 use Rattle.task.specs.Task.{Schema}
-use Rattle.proposals.specs.Proposal.{countOf, mergeable, firstPair}
+use Rattle.proposals.specs.Proposal.{PartPair, countOf, mergeable, firstPair}
 use Rattle.proposals.specs.Circle.{mergedArcs, noCircle}
-use Rattle.proposals.specs.Square.{arcsIn, Named, InPlay}
+use Rattle.proposals.specs.Square.{arcsIn, Named, InPlay, pairFound}
+use Rattle.proposals.specs.declared.merging.Found.the-variants as found
 use Rattle.proposals.proofs.Partitions.{GapFree, numbered-gap-free, gap-free-count}
 use Rattle.proposals.proofs.InPlay.{mergeable-in-play}
 use Rattle.proposals.proofs.PartPairs.{pair, Before}
@@ -83,3 +84,21 @@ module _ (width n : ℕ) (square sets : List ℕ) where
   pub no-found-pair : NoneBefore n → Tells (λ s ps. none ≡ firstPair width s ps)
   no-found-pair h s ps known play =
       sym (first-pair-none width s n ps (in-play-gap-free play) (λ c d i j. h s ps known play c d (omega arith) i j))
+
+-- ---- the pair that is found
+-- its parts, of which no pair that isn't there has any
+abbrev ends : Option PartPair → ℕ × ℕ
+ends none = (0, 0)
+ends (some c) = (c .lower, c .higher)
+
+pub found-below : {a b n : ℕ} → a < b → b < n → (c d : ℕ) → pairFound (found.Pair a b) ≡ some (pair c d) →
+    (c < d) × (d < n)
+unfolding pairFound
+found-below l m c d e =
+    let x = ap (λ o. ends o .0) e in
+    let y = ap (λ o. ends o .1) e in
+    (omega arith, omega arith)
+
+pub nowhere-none : (c d : ℕ) → pairFound found.Nowhere ≡ some (pair c d) → ⊥
+unfolding pairFound
+nowhere-none c d e = let z : _≡_ {A = ℕ} 0 1 = cc in omega arith
