@@ -8,7 +8,6 @@ use native.Mathlib.Omega.{arith}
 use lib.ListN.{length}
 use Rattle.words.specs.Lists.{put}
 use Rattle.words.specs.Words.{wordsAt}
-use Rattle.words.proofs.Puts.{length-put}
 use Rattle.words.proofs.Words.{length-wordsAt}
 use Rattle.task.specs.Task.{Schema}
 use Rattle.proposals.specs.Proposal.{countOf, merged, firstPair, mergeFrom}
@@ -19,6 +18,7 @@ use Rattle.proposals.proofs.PartPairs.{pair}
 use Rattle.proposals.proofs.Turns.{merging-goes-on, merging-stops}
 use Rattle.proposals.proofs.PairTests.{in-play-count}
 use Rattle.proposals.proofs.PutWords.{words-put, put-again, put-own}
+use Rattle.proposals.proofs.Renumbering.{renumberedAll}
 
 -- at a turn: n of k parts are left, what further merges give is what the merging gives, and only the part numbers of
 -- the k atoms have changed
@@ -41,14 +41,6 @@ merging-first width from k lent square sets s known play = record {
   same = refl;
   words = sym (put-own lent from k);
 }
-
--- the numbers of atoms after a merge, with all words around them
-abbrev pub renumberedAll : ℕ → ℕ → ℕ → ℕ → List ℕ → List ℕ
-renumberedAll a b from k parts = put parts from (merged a b (wordsAt parts from k))
-
-pub renumbered-long : (a b from k : ℕ) (parts : List ℕ) {after : List ℕ} → after ≡ renumberedAll a b from k parts →
-    length after ≡ length parts
-renumbered-long a b from k parts e = ap length e ∙ length-put parts from (merged a b (wordsAt parts from k))
 
 module _ {width from k : ℕ} {lent square₀ sets₀ : List ℕ} {n : ℕ} {parts square sets : List ℕ}
     (h : MergingAny width from k lent square₀ sets₀ n parts square sets) where

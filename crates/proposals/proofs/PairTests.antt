@@ -1,5 +1,5 @@
--- The search for the first pair that can be merged: the sets of two parts say whether they are narrow enough, the square
--- says the rest, and all pairs are tried in order.
+-- The search for the first pair that can be merged: the sets of two parts say whether they are narrow enough, and the
+-- square says the rest. All pairs are tried in order.
 use Prim.Native.Nat.{ℕ, _+_, _-_, _≤_, _<_}
 use mathlib.Core.Path.{_≡_, sym, _∙_, ap}
 use mathlib.Core.Bool.{Bool, true, false, _&&_, _||_}

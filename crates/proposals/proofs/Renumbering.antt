@@ -1,8 +1,8 @@
 -- The part numbers of a schema's atoms while they become those after a merge, one by one: those before atom i are
 -- renumbered, all other words stand as found.
-use Prim.Native.Nat.{ℕ, _+_, _-_, _≤_, _<_}
+use Prim.Native.Nat.{ℕ, _+_, _-_, _≤_}
 use mathlib.Core.Path.{_≡_, sym, _∙_, ap}
-use mathlib.Core.List.{List, [], _∷_, _++_, map}
+use mathlib.Core.List.{List, [], _∷_, _++_}
 use native.Mathlib.Omega.{arith}
 use lib.ListN.{length, getD, set, length-map}
 use Rattle.words.specs.Lists.{put}
@@ -34,9 +34,6 @@ renumbered-none a b from parts = let e : from - from ≡ 0 = omega arith in reco
 }
 
 module _ {a b from : ℕ} {parts : List ℕ} {i : ℕ} {after : List ℕ} (h : Renumbered a b from parts i after) where
-  pub renumbered-length : length after ≡ length parts
-  renumbered-length = ap length (h .words) ∙ length-put parts from (renumberedTo a b from parts i)
-
   -- the next atom's number stands as found
   as-found : getD after i 0 ≡ getD parts i 0
   as-found =
@@ -72,7 +69,14 @@ module _ {a b from : ℕ} {parts : List ℕ} {i : ℕ} {after : List ℕ} (h : R
             (ap (λ (y : ℕ). renumberedTo a b from parts i ++ (y ∷ [])) e ∙ sym one-more));
       }
 
+-- the numbers of atoms after a merge, with all words around them
+abbrev pub renumberedAll : ℕ → ℕ → ℕ → ℕ → List ℕ → List ℕ
+renumberedAll a b from k parts = put parts from (merged a b (wordsAt parts from k))
+
+pub renumbered-long : (a b from k : ℕ) (parts : List ℕ) {after : List ℕ} → after ≡ renumberedAll a b from k parts →
+    length after ≡ length parts
+renumbered-long a b from k parts e = ap length e ∙ length-put parts from (merged a b (wordsAt parts from k))
+
 pub renumbered-end : {a b from : ℕ} {parts : List ℕ} {i to : ℕ} {after : List ℕ} → i ≡ to →
-    Renumbered a b from parts i after → after ≡ put parts from (merged a b (wordsAt parts from (to - from)))
-renumbered-end {a} {b} {from} {parts} e h =
-    h .words ∙ ap (λ (k : ℕ). put parts from (merged a b (wordsAt parts from (k - from)))) e
+    Renumbered a b from parts i after → after ≡ renumberedAll a b from (to - from) parts
+renumbered-end {a} {b} {from} {parts} e h = h .words ∙ ap (λ (k : ℕ). renumberedAll a b from (k - from) parts) e

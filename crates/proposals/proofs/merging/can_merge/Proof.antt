@@ -1,5 +1,5 @@
--- `proposals::merging::can_merge` meets its contract: the union of the two sets has the parameters of both parts, so its
--- size is how many they have together, and the square says whether some order still complies.
+-- `proposals::merging::can_merge` meets its contract: the union of the two sets has the parameters of both parts, so
+-- its size is how many they have together, and the square says whether some order still complies.
 use borrow.Author.Needs.{needs}
 use Prim.Native.Nat.{ℕ}
 use mathlib.Core.Path.{_≡_, _∙_, ap₂}

@@ -1,6 +1,6 @@
 -- `proposals::merging::first_pair` meets its contract.
--- The invariant: no part before a can be merged with one behind it. Where none behind a can be merged with a, that holds
--- of a too (`none-before-more`); else the pair is the first. The measure is n - a.
+-- The invariant: no part before a can be merged with one behind it. Where none behind a can be merged with a, that
+-- holds of a too (`none-before-more`); else the pair is the first. The measure is n - a.
 use Prim.Native.Nat.{_-_, _≤_}
 use native.Mathlib.Omega.{arith}
 use Rattle.proposals.specs.Square.{pairFound}
@@ -44,8 +44,10 @@ loop-again c =
 returns-2 : tie.Need-returns-2 Inv-loop μ-loop
 unfolding pairFound
 returns-2 c =
-    let h = c .before .loop .inv in
-    (λ a b e. absurd (nowhere-none a b e), no-found-pair _ _ _ _ (λ s ps known play d e i. h .1 s ps known play d e (omega arith)))
+    let h = c .before .loop .inv .1 in (
+      λ a b e. absurd (nowhere-none a b e),
+      no-found-pair _ _ _ _ (λ s ps known play d e i. h s ps known play d e (omega arith)),
+    )
 
 pub first-pair-spec : {M : Type 1} → statement M
 first-pair-spec =

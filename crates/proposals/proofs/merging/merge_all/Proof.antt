@@ -12,7 +12,8 @@ use Rattle.proposals.specs.Outcome.{scratchWords}
 use Rattle.proposals.specs.Square.{KeepsBehind, pairFound}
 use Rattle.proposals.proofs.Squares.{keeps-refl, keeps-trans, keeps-room}
 use Rattle.proposals.proofs.PartPairs.{pair}
-use Rattle.proposals.proofs.MergingTurns.{MergingAny, merging-first, renumbered-long, merging-turn, merging-end}
+use Rattle.proposals.proofs.Renumbering.{renumbered-long}
+use Rattle.proposals.proofs.MergingTurns.{MergingAny, merging-first, merging-turn, merging-end}
 use Rattle.proposals.proofs.merging.merge_all.Statement.{statement}
 use Rattle.proposals.proofs.merging.merge_all.Tie as tie
 
@@ -55,10 +56,9 @@ returns : tie.Need-returns Inv-loop μ-loop
 unfolding pairFound
 returns c =
     let h = last-turn c .loop .inv in
-    let found = c .before .before .first-pair .ensures .1 in (
-      h .3,
-      (h .1, merging-end (h .4) (λ s ps known play. sym (ap pairFound (c .enum-told .given .1)) ∙ found s ps known play)),
-    )
+    let is-none = ap pairFound (c .enum-told .given .1) in
+    let found = c .before .before .first-pair .ensures .1 in
+    (h .3, (h .1, merging-end (h .4) (λ s ps known play. sym is-none ∙ found s ps known play)))
 
 -- ---- a pair is found
 abbrev At-pair : Type 0
@@ -139,4 +139,5 @@ pub merge-all-spec : {M : Type 1} → statement M
 merge-all-spec =
     tie.close
     (tie.spec Inv-loop μ-loop (λ c. omega arith) loop-holds first-pair-requires (λ c. search needs) (λ c. search needs)
-    (λ c. last-turn c .loop .inv .3 .long) returns renumber-requires merge-sets-requires merge-arcs-requires sub-n-2 loop-less loop-again)
+    (λ c. last-turn c .loop .inv .3 .long) returns renumber-requires merge-sets-requires merge-arcs-requires sub-n-2
+    loop-less loop-again)

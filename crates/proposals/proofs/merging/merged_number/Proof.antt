@@ -1,7 +1,6 @@
 -- `proposals::merging::merged_number` meets its contract: each branch gives the number that the definition gives there.
 use borrow.Author.Needs.{needs}
-use mathlib.Core.Path.{refl, sym}
-use native.Mathlib.Omega.{arith}
+use mathlib.Core.Path.{refl}
 use borrow.Author.Tests.{eq-eqb, ne-eqb, lt-ltb, le-ltb}
 use Rattle.proposals.specs.Proposal.{mergedNumber}
 use Rattle.proposals.proofs.merging.merged_number.Statement.{statement}
