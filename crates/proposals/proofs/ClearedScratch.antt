@@ -1,7 +1,7 @@
 -- The scratch afterwards: its square is "all 0", and the words behind the square are as lent, whatever the merging left
 -- in it. So a square that is filled with 0 last is the scratch cleared.
-use Prim.Native.Nat.{ℕ, _+_, _≤_, _<_}
-use mathlib.Core.Path.{_≡_, sym, _∙_, ap}
+use Prim.Native.Nat.{ℕ, _+_, _*_, _≤_, _<_}
+use mathlib.Core.Path.{_≡_, refl, sym, _∙_, ap}
 use mathlib.Core.List.{List, _++_}
 use native.Mathlib.Omega.{arith}
 use lib.ListN.{length, getD, drop, replicate, length-drop, length-replicate, getD-replicate, List·getD-append}
@@ -10,13 +10,28 @@ use Rattle.words.specs.Lists.{over}
 use Rattle.words.specs.Putting.{Puts}
 use Rattle.words.proofs.Puts.{put-over}
 use Rattle.proposals.specs.Outcome.{scratchWords, cleared}
-use Rattle.proposals.specs.Square.{KeepsBehind}
+use Rattle.proposals.specs.Square.{squareSide, KeepsBehind}
 
 abbrev zeros : ℕ → List ℕ
 zeros n = replicate n 0
 
 length-zeros : (n : ℕ) → length (zeros n) ≡ n
 length-zeros n = length-replicate n 0
+
+-- "a square of 64 by 64 words"
+pub square-words : squareSide * squareSide ≡ scratchWords
+unfolding scratchWords
+square-words = refl
+
+-- a scratch that has them, as code tests it, or hasn't
+module _ (w : List ℕ) where
+  pub has-square : squareSide * squareSide ≤ length w → scratchWords ≤ length w
+  unfolding scratchWords
+  has-square h = h
+
+  pub too-small : length w < squareSide * squareSide → length w < scratchWords
+  unfolding scratchWords
+  too-small h = h
 
 -- ---- a square filled with 0
 behind-same : {lent after : List ℕ} → KeepsBehind lent after → drop scratchWords after ≡ drop scratchWords lent

@@ -11,7 +11,7 @@ ghost use mathlib.Core.Path.{_≡_};
 ghost use mathlib.Core.Bool.{true};
 ghost use lib.ListN.{length};
 ghost use Rattle.words.specs.Lists.{over};
-ghost use Rattle.task.specs.Limits.{tableWords, mostSchemaAtoms};
+ghost use Rattle.task.specs.Limits.{tableWords};
 ghost use Rattle.task.specs.Table.{taskOf, wordsOf, isTable};
 ghost use Rattle.proposals.specs.Proposal.{proposedTask};
 ghost use Rattle.proposals.specs.Square.{HaveParts};
@@ -19,7 +19,6 @@ ghost use Rattle.proposals.specs.Square.{HaveParts};
 // Writes the table of the task proposed, whose parts these are.
 pub fn write_proposed(table: &[u16], parts: &Parts, proposed: &mut [u16])
     requires { ⌜ isTable (now table) ≡ true ⌝ }
-    requires { ⌜ length (now parts) ≡ mostSchemaAtoms ⌝ }
     requires { ⌜ tableWords ≤ length (now proposed) ⌝ }
     ensures { λ _. ⌜ ((width : ℕ) →
         HaveParts width (taskOf (now (table .entry))) (length (taskOf (now (table .entry)) .schemas))

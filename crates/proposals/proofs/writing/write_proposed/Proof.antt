@@ -33,14 +33,14 @@ start c = begun (entry c)
 
 -- there is room for a table, also in the copy
 copy-room : (c : tie.After-copy Inv-loop μ-loop) → tableWords ≤ length (c .copy .last .1 .1 .1 .0)
-copy-room c = omega (arith, puts-length (c .copy .ensures), begun c .pre .1 .1)
+copy-room c = omega (arith, puts-length (c .copy .ensures), begun c .pre .1)
 
 copy-requires : tie.Need-copy-requires Inv-loop μ-loop
 copy-requires c κs =
     let s = c .before .before .before in
     let e = tableWords-is in
     let l = table-long (s .args .table .now) (s .pre .0) in
-    (omega arith, omega (arith, s .pre .1 .1))
+    (omega arith, omega (arith, s .pre .1))
 
 word-requires : tie.Need-word-requires Inv-loop μ-loop
 word-requires c κs =
@@ -85,7 +85,7 @@ same-length c =
 returns : tie.Need-returns Inv-loop μ-loop
 returns c width have =
     let a = c .before .before .before .before .before in
-    fresh-words (begun a .pre .0) (begun a .pre .1 .1) (a .copy .ensures) (c .before .loop .inv .1) (omega arith) width
+    fresh-words (begun a .pre .0) (begun a .pre .1) (a .copy .ensures) (c .before .loop .inv .1) (omega arith) width
     have
 
 pub write-proposed-spec : {M : Type 1} → statement M
