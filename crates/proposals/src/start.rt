@@ -22,7 +22,7 @@ ghost use Rattle.task.specs.Limits.{mostAtoms, mostSchemaAtoms};
 ghost use Rattle.task.specs.Task.{Pair, names};
 ghost use Rattle.task.specs.Table.{atomIn};
 ghost use Rattle.arcs.specs.Order.{givesArc};
-ghost use Rattle.arcs.specs.Stretches.{IsPairStretch, IsSchemaAtom, IsStretch, Pairing, pairStretchIn};
+ghost use Rattle.arcs.specs.Stretches.{IsPairStretch, IsStretch, Pairing, pairStretchIn};
 ghost use Rattle.proposals.specs.Outcome.{scratchWords};
 ghost use Rattle.proposals.specs.Square.{squareSide, arcsIn, KeepsBehind};
 
