@@ -17,15 +17,15 @@ use Rattle.proposals.proofs.CameFrom.{becomes}
 
 -- ---- where a part goes
 module _ (a b : ℕ) where
-  merged-below : (p : ℕ) → p < b → mergedNumber a b p ≡ p
+  pub merged-below : (p : ℕ) → p < b → mergedNumber a b p ≡ p
   unfolding mergedNumber
   merged-below p l = rw (ne-eqb p b (λ e. omega arith), le-ltb b p (omega arith)) refl
 
-  merged-higher : (p : ℕ) → p ≡ b → mergedNumber a b p ≡ a
+  pub merged-higher : (p : ℕ) → p ≡ b → mergedNumber a b p ≡ a
   unfolding mergedNumber
   merged-higher p e = rw (eq-eqb p b e) refl
 
-  merged-beyond : (p : ℕ) → b < p → mergedNumber a b p ≡ p - 1
+  pub merged-beyond : (p : ℕ) → b < p → mergedNumber a b p ≡ p - 1
   unfolding mergedNumber
   merged-beyond p l = rw (ne-eqb p b (λ e. omega arith), lt-ltb b p l) refl
 
