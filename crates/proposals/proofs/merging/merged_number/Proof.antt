@@ -1,5 +1,5 @@
--- `proposals::merging::merged_number` meets its contract: part b joins part a, a part behind b closes up, and one before
--- b stays.
+-- `proposals::merging::merged_number` meets its contract: part b joins part a, a part behind b closes up, and one
+-- before b stays.
 use borrow.Author.Needs.{needs}
 use mathlib.Core.Path.{sym}
 use native.Mathlib.Omega.{arith}
