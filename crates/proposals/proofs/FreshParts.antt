@@ -7,19 +7,19 @@ use mathlib.Core.Bool.{true}
 use mathlib.Core.List.{List, [], _∷_, _++_, map}
 use native.Mathlib.Omega.{arith}
 use native.Mathlib.Decide.{decLt}
-use lib.ListN.{length, getD, set, take, drop, length-map, length-set, take-append-drop, List·getD-append}
+use lib.ListN.{length, getD, set, take, drop, length-set, take-append-drop, List·getD-append}
 use lib.Seq.{ext-getD, getD-take, length-take-le, getD-set-same, getD-set-other, drop-set-lt, drop-at}
 use Rattle.words.specs.Lists.{concatMap, over, sum}
 use Rattle.words.specs.Putting.{Puts}
 use Rattle.words.specs.Words.{wordsAt}
-use Rattle.words.proofs.Lists.{In, map-in, map-map, map-same, length-padded}
+use Rattle.words.proofs.Lists.{In, map-in, map-map, length-padded}
 use Rattle.words.proofs.Puts.{put-over, puts-length}
 use Rattle.words.proofs.Words.{At, at-move, getD-wordsAt, length-wordsAt}
 use Rattle.task.specs.Layout.{Head, headBlock, headIn, goalsFrom, paramsBase, rowsBase, wordsUsed, factsBase, pairBase}
 use Rattle.task.specs.Layout.{atomBase}
 use Rattle.task.specs.Limits.{tableLength, tableWords, headWords, atomSize}
 use Rattle.task.specs.Run.{schemaAt}
-use Rattle.task.specs.Task.{Atom, Schema, Task, schemaAtoms, schemaPairs, initial, goalRole}
+use Rattle.task.specs.Task.{Atom, Schema, Task, schemaAtoms, initial, goalRole}
 use Rattle.task.specs.Table.{factWords, pairWords, rowsFrom, schemasFrom, pairsFrom, headOf, blocksOf, taskOf, wordsOf}
 use Rattle.task.specs.Table.{isTable}
 use Rattle.task.proofs.AtomsStand.{Sized, Lengths}
@@ -30,7 +30,7 @@ use Rattle.task.proofs.TablesPass.{table-words}
 use Rattle.arcs.proofs.Stretches.{schema-stretch}
 use Rattle.proposals.specs.Proposal.{withPart, withParts, proposedParts, proposedSchema, proposedTask}
 use Rattle.proposals.specs.Square.{HaveParts}
-use Rattle.proposals.proofs.Partitions.{parted-length}
+use Rattle.proposals.proofs.ProposedTask.{proposed-length, same-atoms, same-pairs}
 use Rattle.proposals.proofs.FreshRows.{parted-in, schemas-fresh}
 
 -- ---- the words as code leaves them
@@ -112,16 +112,11 @@ module _ (width : ℕ) where
   }
 
   head-proposed : (t : Task) → headOf (proposedTask width t) ≡ headOf t
-  unfolding proposedTask proposedSchema withParts
+  unfolding proposedTask
   head-proposed t =
-      let ss = t .schemas in
-      let schemas = length-map ss (proposedSchema width) in
-      let atoms : schemaAtoms (map (proposedSchema width) ss) ≡ schemaAtoms ss =
-      ap sum (map-map (λ (s : Schema). length (s .atoms)) (proposedSchema width) ss ∙
-      map-same (λ s. length (proposedSchema width s .atoms)) (λ s. length (s .atoms)) ss
-      (λ s i. parted-length (s .atoms) (proposedParts width s))) in
-      let pairs : schemaPairs (map (proposedSchema width) ss) ≡ schemaPairs ss =
-      ap sum (map-map (λ (s : Schema). length (s .pairs)) (proposedSchema width) ss) in
+      let schemas = proposed-length width t in
+      let atoms = same-atoms width t (t .schemas) in
+      let pairs = same-pairs width t (t .schemas) in
       λ j. record {
         objects = t .objects;
         predicates = length (t .arities);

@@ -132,12 +132,12 @@ module _ (width : ℕ) (t : Task) where
       let z = ltb-false mostParts (partCount (schemaAt t′ k .atoms)) f in
       omega (arith, parts-at k l)
 
-  same-atoms : (ss : List Schema) → schemaAtoms (map (proposedSchema width) ss) ≡ schemaAtoms ss
+  pub same-atoms : (ss : List Schema) → schemaAtoms (map (proposedSchema width) ss) ≡ schemaAtoms ss
   unfolding sum proposedSchema
   same-atoms [] = refl
   same-atoms (s ∷ ss) = ap₂ _+_ (proposed width s .same-size) (same-atoms ss)
 
-  same-pairs : (ss : List Schema) → schemaPairs (map (proposedSchema width) ss) ≡ schemaPairs ss
+  pub same-pairs : (ss : List Schema) → schemaPairs (map (proposedSchema width) ss) ≡ schemaPairs ss
   unfolding sum proposedSchema withParts
   same-pairs [] = refl
   same-pairs (s ∷ ss) = ap (λ (n : ℕ). length (s .pairs) + n) (same-pairs ss)
