@@ -19,7 +19,7 @@ use Rattle.task.specs.Layout.{Head, headBlock, headIn, goalsFrom, paramsBase, r
 use Rattle.task.specs.Layout.{atomBase}
 use Rattle.task.specs.Limits.{tableLength, tableWords, headWords, atomSize}
 use Rattle.task.specs.Run.{schemaAt}
-use Rattle.task.specs.Task.{Atom, Schema, Task, schemaAtoms, initial, goalRole}
+use Rattle.task.specs.Task.{Atom, Schema, Task, initial, goalRole}
 use Rattle.task.specs.Table.{factWords, pairWords, rowsFrom, schemasFrom, pairsFrom, headOf, blocksOf, taskOf, wordsOf}
 use Rattle.task.specs.Table.{isTable}
 use Rattle.task.proofs.AtomsStand.{Sized, Lengths}
