@@ -9,7 +9,7 @@ use native.Mathlib.Decide.{decLt}
 use native.Mathlib.Omega.{arith}
 use native.Mathlib.Numerals.{add-one}
 use lib.Dec.{eqb}
-use borrow.Author.Tests.{eqb-true, eq-eqb, lt-ltb, le-ltb}
+use borrow.Author.Tests.{eqb-true, eq-eqb, ne-eqb, lt-ltb, le-ltb}
 use Rattle.words.proofs.Lists.{bool-ext, In, here, there, in-empty}
 use Rattle.proposals.specs.Circle.{cameFrom, becoming}
 
@@ -35,6 +35,10 @@ came b q = elim (decLt q b) [
 pub came-below : (b n q : ℕ) → q < n - 1 → cameFrom b q < n
 came-below b n q l = elim (came b q) [ low h e ↦ omega arith | high h e ↦ omega arith ]
 
+-- it was no lower
+pub came-behind : (b q : ℕ) → q ≤ cameFrom b q
+came-behind b q = elim (came b q) [ low h e ↦ omega arith | high h e ↦ omega arith ]
+
 pub came-other : (b q : ℕ) → cameFrom b q ≡ b → ⊥
 came-other b q d = elim (came b q) [ low h e ↦ omega arith | high h e ↦ omega arith ]
 
@@ -58,6 +62,14 @@ came-each b n x l m d = elim (decLt x b) [
 ]
 
 -- ---- the parts that become a merged one: where it was, and b too if it is a
+pub becoming-both : (a b : ℕ) → becoming a b a ≡ a ∷ b ∷ []
+unfolding becoming
+becoming-both a b = rw (eq-eqb a a refl) refl
+
+pub becoming-other : (a b q : ℕ) → (q ≡ a → ⊥) → becoming a b q ≡ cameFrom b q ∷ []
+unfolding becoming
+becoming-other a b q n = rw (ne-eqb q a n) refl
+
 module _ (a b : ℕ) (l : a < b) where
   pub came-a : cameFrom b a ≡ a
   came-a = came-low b a l
@@ -71,8 +83,7 @@ module _ (a b : ℕ) (l : a < b) where
       go false e = here refl
 
   pub higher-becomes : In b (becoming a b a)
-  unfolding becoming
-  higher-becomes = rw (eq-eqb a a refl) (there (here refl))
+  higher-becomes = rw (becoming-both a b) (there (here refl))
 
   pub becomes : (p x : ℕ) → In x (becoming a b p) → (x ≡ cameFrom b p) ⊎ ((p ≡ a) × (x ≡ b))
   unfolding becoming

@@ -8,12 +8,8 @@ use native.Mathlib.Decide.{decLt}
 use native.Mathlib.Omega.{arith}
 use Rattle.proposals.specs.Circle.{cameFrom, mergedArcs}
 use Rattle.proposals.specs.Square.{squareSide, arcsIn, KeepsBehind, PutsArc, MergesArcs}
-use Rattle.proposals.proofs.CameFrom.{low, high, came, came-low, came-below}
+use Rattle.proposals.proofs.CameFrom.{came-low, came-below, came-behind}
 use Rattle.proposals.proofs.Squares.{keeps-refl, keeps-trans, put-here, put-other}
-
--- a part was no lower
-came-behind : (b q : ℕ) → q ≤ cameFrom b q
-came-behind b q = elim (came b q) [ low h e ↦ omega arith | high h e ↦ omega arith ]
 
 -- where a part was lies in the square
 pub came-fits : (b : ℕ) {n q row : ℕ} → n ≤ squareSide → q < n - 1 → row ≡ cameFrom b q → row < squareSide

@@ -115,8 +115,8 @@ module _ (width : ℕ) where
   unfolding proposedTask
   head-proposed t =
       let schemas = proposed-length width t in
-      let atoms = same-atoms width t (t .schemas) in
-      let pairs = same-pairs width t (t .schemas) in
+      let atoms = same-atoms width (t .schemas) in
+      let pairs = same-pairs width (t .schemas) in
       λ j. record {
         objects = t .objects;
         predicates = length (t .arities);

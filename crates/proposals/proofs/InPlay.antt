@@ -10,23 +10,30 @@ use lib.Dec.{leb}
 use Rattle.words.specs.Sets.{wordBits, member, members}
 use Rattle.task.specs.Task.{Schema}
 use Rattle.arcs.specs.Order.{inPart}
-use Rattle.proposals.specs.Proposal.{withParts, merged, mergeable}
+use Rattle.proposals.specs.Proposal.{withParts, countOf, merged, mergeable}
 use Rattle.proposals.specs.Circle.{becoming, mergedArcs, noCircle}
 use Rattle.proposals.specs.Square.{arcsIn, MergesArcs, MergesSets, Named, InPlay}
-use Rattle.proposals.proofs.Partitions.{GapFree, numbered-gap-free}
+use Rattle.proposals.proofs.Partitions.{GapFree, numbered-gap-free, gap-free-count}
 use Rattle.proposals.proofs.MergedNumbers.{becoming-small, merged-gap-free, merged-length}
 use Rattle.proposals.proofs.Merges.{has-merged}
 use Rattle.proposals.proofs.MergedArcs.{any-alike, arcs-merged, mergeable-by-arcs}
 use Rattle.proposals.proofs.PartPairs.{pair}
 use Rattle.proposals.proofs.Widths.{together-counted}
 
+pub in-play-gap-free : {s : Schema} {n : ℕ} {ps square sets : List ℕ} → InPlay s n ps square sets → GapFree n ps
+in-play-gap-free play = numbered-gap-free .0 (play .numbered)
+
+pub in-play-count : {s : Schema} {n : ℕ} {ps square sets : List ℕ} → InPlay s n ps square sets → countOf ps ≡ n
+in-play-count {n = n} {ps = ps} play = gap-free-count n ps (in-play-gap-free play)
+
+-- ---- two parts of them
 module _ {s : Schema} {n : ℕ} {ps square sets : List ℕ} (play : InPlay s n ps square sets) (a b : ℕ) (l : a < b)
     (m : b < n) where
   fewer : n ≡ suc (n - 1)
   fewer = omega arith
 
   numbers : GapFree (suc (n - 1)) ps
-  numbers = subst (λ (k : ℕ). GapFree k ps) fewer (numbered-gap-free .0 (play .numbered))
+  numbers = subst (λ (k : ℕ). GapFree k ps) fewer (in-play-gap-free play)
 
   -- "together they have at most that many parameters and some order still complies"
   pub mergeable-in-play : Named s → (width set : ℕ) →

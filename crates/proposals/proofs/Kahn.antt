@@ -37,7 +37,7 @@ pub data Placeable (arcs : Arcs) : List ℕ → Type 0 where
       Placeable arcs us
 
 -- all in vs are in us
-abbrev pub Within : List ℕ → List ℕ → Type 0
+abbrev Within : List ℕ → List ℕ → Type 0
 Within vs us = (q : ℕ) → In q vs → In q us
 
 none-within : (vs : List ℕ) → Within vs [] → vs ≡ []
@@ -78,7 +78,7 @@ any-choice arcs us p i f =
     (λ h. placeable-within h (others p us) (λ q m. others-in p us q m .0), λ h. place-next i f h)
 
 -- where parts are left and none is free, they can't be placed
-pub none-free : {arcs : Arcs} {us : List ℕ} → Placeable arcs us → (u : ℕ) → In u us →
+none-free : {arcs : Arcs} {us : List ℕ} → Placeable arcs us → (u : ℕ) → In u us →
     ((p : ℕ) → In p us → free arcs us p ≡ false) → ⊥
 none-free all-placed u i h = in-empty i
 none-free (place-next {p = p} j f k) u i h = both-ft f (h p j)
@@ -132,7 +132,7 @@ lowest-placed arcs (suc n) us l a h = go (nextFree arcs us) refl (λ vs m b k. l
         (any-choice arcs us p i f .0 h)
 
 -- the lowest free parts place all parts exactly where some choices do
-pub placeable-exactly : (arcs : Arcs) {us : List ℕ} → Ascend us → (placeable arcs us ≡ true) ↔ Placeable arcs us
+placeable-exactly : (arcs : Arcs) {us : List ℕ} → Ascend us → (placeable arcs us ≡ true) ↔ Placeable arcs us
 unfolding placeable
 placeable-exactly arcs {us} a = (
   λ h. placed-lowest arcs (length us) us (omega arith) h,

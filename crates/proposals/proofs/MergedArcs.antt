@@ -32,7 +32,7 @@ merged-self a b arcs p =
 
 module _ (a b : ℕ) (l : a < b) (n : ℕ) (m : b ≤ n) where
   -- arcs that agree on n + 1 parts do so on the n that are left
-  pub merged-alike : (arcs others : Arcs) → ((p q : ℕ) → p < suc n → q < suc n → arcs p q ≡ others p q) →
+  merged-alike : (arcs others : Arcs) → ((p q : ℕ) → p < suc n → q < suc n → arcs p q ≡ others p q) →
       (p q : ℕ) → p < n → q < n → mergedArcs a b arcs p q ≡ mergedArcs a b others p q
   unfolding mergedArcs
   merged-alike arcs others h p q i j =

@@ -2,7 +2,7 @@
 -- by one. So a merged part that isn't a comes from one part, a from two, and the numbers have again no gap.
 use Prim.Native.Nat.{ℕ, suc, _-_, _≤_, _<_}
 use mathlib.Core.Path.{_≡_, refl, sym, _∙_, subst}
-use mathlib.Core.List.{List, [], _∷_, map}
+use mathlib.Core.List.{List, map}
 use mathlib.Core.Logic.{inl, inr}
 use native.Mathlib.Omega.{arith}
 use native.Mathlib.Decide.{decLt}
@@ -29,12 +29,12 @@ module _ (a b : ℕ) where
   unfolding mergedNumber
   merged-beyond p l = rw (ne-eqb p b (λ e. omega arith), lt-ltb b p l) refl
 
-  pub data Goes (p : ℕ) : Type 0 where
+  data Goes (p : ℕ) : Type 0 where
     stays : p < b → mergedNumber a b p ≡ p → Goes p
     joins : p ≡ b → mergedNumber a b p ≡ a → Goes p
     closes-up : b < p → mergedNumber a b p ≡ p - 1 → Goes p
 
-  pub goes : (p : ℕ) → Goes p
+  goes : (p : ℕ) → Goes p
   goes p = elim (decLt p b) [
     | yes l ↦ stays l (merged-below p l)
     | no l ↦ elim (decLt b p) [
@@ -44,14 +44,6 @@ module _ (a b : ℕ) where
   ]
 
 -- ---- where a merged part was
-pub becoming-both : (a b : ℕ) → becoming a b a ≡ a ∷ b ∷ []
-unfolding becoming
-becoming-both a b = rw (eq-eqb a a refl) refl
-
-pub becoming-other : (a b q : ℕ) → (q ≡ a → ⊥) → becoming a b q ≡ cameFrom b q ∷ []
-unfolding becoming
-becoming-other a b q n = rw (ne-eqb q a n) refl
-
 -- the parts that become part p are those that go there
 module _ (a b : ℕ) (l : a < b) where
   pub becoming-goes : (p q : ℕ) → In q (becoming a b p) → mergedNumber a b q ≡ p

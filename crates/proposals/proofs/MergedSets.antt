@@ -15,8 +15,7 @@ use Rattle.words.specs.Sets.{member}
 use Rattle.words.proofs.Ranges.{or-false}
 use Rattle.proposals.specs.Circle.{cameFrom, becoming}
 use Rattle.proposals.specs.Square.{MergesSets}
-use Rattle.proposals.proofs.CameFrom.{came-low, came-high, came-apart, came-a}
-use Rattle.proposals.proofs.MergedNumbers.{becoming-both, becoming-other}
+use Rattle.proposals.proofs.CameFrom.{came-low, came-high, came-apart, came-a, becoming-both, becoming-other}
 
 -- ---- closing up
 -- the sets before place q have their place, those from it on stand as found

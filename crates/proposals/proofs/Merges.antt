@@ -18,7 +18,8 @@ use Rattle.proposals.specs.Proposal.{withPart, withParts, mergedNumber, 
 use Rattle.proposals.specs.Circle.{arcsOf, cameFrom, becoming, mergedArcs}
 use Rattle.proposals.proofs.Partitions.{renumbered, parted-renumbered}
 use Rattle.proposals.proofs.PartNames.{part-names, names-part}
-use Rattle.proposals.proofs.MergedNumbers.{becoming-goes, goes-becoming, becoming-both, becoming-other}
+use Rattle.proposals.proofs.CameFrom.{becoming-both, becoming-other}
+use Rattle.proposals.proofs.MergedNumbers.{becoming-goes, goes-becoming}
 
 -- ---- a schema before and after the merge
 module _ (s : Schema) (ps : List ℕ) (size : length ps ≡ length (s .atoms)) (a b : ℕ) (l : a < b) where
@@ -70,7 +71,7 @@ module _ (s : Schema) (ps : List ℕ) (size : length ps ≡ length (s .atoms)) (
           })
 
   -- the merged part has those that both had together
-  pub has-both : (x : ℕ) →
+  has-both : (x : ℕ) →
       inPart (after .atoms) x a ≡ inPart (before .atoms) x a || inPart (before .atoms) x b
   unfolding any
   has-both x =
@@ -85,7 +86,7 @@ module _ (s : Schema) (ps : List ℕ) (size : length ps ≡ length (s .atoms)) (
 
   -- another part those that the part had that became it
   module _ (q : ℕ) (n : q ≡ a → ⊥) where
-    pub has-other : (x : ℕ) → inPart (after .atoms) x q ≡ inPart (before .atoms) x (cameFrom b q)
+    has-other : (x : ℕ) → inPart (after .atoms) x q ≡ inPart (before .atoms) x (cameFrom b q)
     unfolding any
     has-other x =
         has-merged x q ∙ (ap (any (hadBefore x)) (becoming-other a b q n) ∙ or-false (hadBefore x (cameFrom b q)))

@@ -20,10 +20,11 @@ use Rattle.proposals.specs.Proposal.{mergeable, firstPair, mergeFirst, m
 use Rattle.proposals.specs.Circle.{cameFrom}
 use Rattle.proposals.proofs.SomeOrder.{no-order-exactly}
 use Rattle.proposals.proofs.Partitions.{GapFree, gap-free-count}
-use Rattle.proposals.proofs.MergedNumbers.{goes-becoming, becoming-other, merged-gap-free, merged-length}
+use Rattle.proposals.proofs.CameFrom.{becoming-other}
+use Rattle.proposals.proofs.MergedNumbers.{goes-becoming, merged-gap-free, merged-length}
 use Rattle.proposals.proofs.Merges.{merged-width, other-width}
 use Rattle.proposals.proofs.PartPairs.{pair-in}
-use Rattle.proposals.proofs.Turns.{found-pair}
+use Rattle.proposals.proofs.Turns.{found-pair, first-pair-none}
 
 -- part p is one atom
 abbrev pub Alone : List ℕ → ℕ → Type 0
@@ -81,7 +82,7 @@ module _ (width : ℕ) (s : Schema) where
           merged-alone a b l ps q n (h .alone (cameFrom b q) (omega arith))
 
   -- with one part fewer
-  pub standing-merged : (n : ℕ) (ps : List ℕ) (c : PartPair) → Standing width s (suc n) ps → c .lower < c .higher →
+  standing-merged : (n : ℕ) (ps : List ℕ) (c : PartPair) → Standing width s (suc n) ps → c .lower < c .higher →
       c .higher ≤ n → mergeable width s ps c ≡ true → Standing width s n (merged (c .lower) (c .higher) ps)
   standing-merged n ps c h l m t =
       let a = c .lower in
@@ -105,11 +106,10 @@ module _ (width : ℕ) (s : Schema) where
   pub merging-ends : (k n : ℕ) (ps : List ℕ) → n ≤ k → Standing width s n ps → Ended n (mergeFrom width s k ps)
   unfolding mergeFrom mergeFirst
   merging-ends zero n ps l h =
-      record { count = n; no-more = omega arith; stands = h; none-left = nothing (firstPair width s ps) refl }
+      record { count = n; no-more = omega arith; stands = h; none-left = none-there }
     where
-      nothing : (r : Option PartPair) → firstPair width s ps ≡ r → r ≡ none
-      nothing none e = refl
-      nothing (some c) e = let (x, y, t) = found-pair width s n ps (h .gap-free) c e in absurd (omega arith)
+      none-there : firstPair width s ps ≡ none
+      none-there = first-pair-none width s n ps (h .gap-free) (λ a b x y. absurd (omega arith))
   merging-ends (suc k) n ps l h =
       go (firstPair width s ps) refl (λ m qs i st. merging-ends k m qs i st)
     where

@@ -13,10 +13,9 @@ use Rattle.task.specs.Task.{Schema}
 use Rattle.proposals.specs.Proposal.{countOf, merged, firstPair, mergeFrom}
 use Rattle.proposals.specs.Square.{MergesArcs, MergesSets, Named, InPlay}
 use Rattle.proposals.proofs.MergedNumbers.{merged-length}
-use Rattle.proposals.proofs.InPlay.{in-play-merged}
+use Rattle.proposals.proofs.InPlay.{in-play-count, in-play-merged}
 use Rattle.proposals.proofs.PartPairs.{pair}
 use Rattle.proposals.proofs.Turns.{merging-goes-on, merging-stops}
-use Rattle.proposals.proofs.PairTests.{in-play-count}
 use Rattle.proposals.proofs.PutWords.{words-put, put-again, put-own}
 use Rattle.proposals.proofs.Renumbering.{renumberedAll}
 

@@ -75,7 +75,7 @@ module _ (s : Schema) where
       g ∙ ap (λ (p : ℕ). withPart p (atomAt p)) (sym (ap (λ (z : Atom). z .part) g) ∙ d)
 
   -- ---- the arcs
-  pub own-arc : (p q : ℕ) → p < length (s .atoms) → q < length (s .atoms) →
+  own-arc : (p q : ℕ) → p < length (s .atoms) → q < length (s .atoms) →
       arcsOf (withParts s (ownParts s)) p q ≡
       givesArc (s .pairs) (getD (s .atoms) p noAtom) (getD (s .atoms) q noAtom)
   unfolding withParts withPart givesArc
@@ -108,7 +108,7 @@ module _ (s : Schema) where
           })
 
   -- ---- the parameters
-  pub own-has : (x p : ℕ) → p < length (s .atoms) →
+  own-has : (x p : ℕ) → p < length (s .atoms) →
       inPart (withParts s (ownParts s) .atoms) x p ≡ names x (getD (s .atoms) p noAtom)
   unfolding withPart names
   own-has x p l = bool-ext (inPart (own .atoms) x p) (names x (atomAt p)) forth back

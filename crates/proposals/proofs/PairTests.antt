@@ -12,20 +12,13 @@ use borrow.Author.Count.{below-more}
 use borrow.Author.Tests.{le-leb, lt-leb}
 use Rattle.words.specs.Sets.{wordBits, member, members}
 use Rattle.task.specs.Task.{Schema}
-use Rattle.proposals.specs.Proposal.{PartPair, countOf, mergeable, firstPair}
+use Rattle.proposals.specs.Proposal.{PartPair, mergeable, firstPair}
 use Rattle.proposals.specs.Circle.{mergedArcs, noCircle}
 use Rattle.proposals.specs.Square.{arcsIn, Named, InPlay, pairFound}
 use Rattle.proposals.specs.declared.merging.Found.the-variants as found
-use Rattle.proposals.proofs.Partitions.{GapFree, numbered-gap-free, gap-free-count}
-use Rattle.proposals.proofs.InPlay.{mergeable-in-play}
+use Rattle.proposals.proofs.InPlay.{in-play-gap-free, mergeable-in-play}
 use Rattle.proposals.proofs.PartPairs.{pair, Before}
 use Rattle.proposals.proofs.Turns.{first-pair-is, first-pair-none}
-
-pub in-play-gap-free : {s : Schema} {n : ℕ} {ps square sets : List ℕ} → InPlay s n ps square sets → GapFree n ps
-in-play-gap-free play = numbered-gap-free .0 (play .numbered)
-
-pub in-play-count : {s : Schema} {n : ℕ} {ps square sets : List ℕ} → InPlay s n ps square sets → countOf ps ≡ n
-in-play-count {n = n} {ps = ps} play = gap-free-count n ps (in-play-gap-free play)
 
 -- ---- the test of one pair
 module _ (width : ℕ) {s : Schema} {n : ℕ} {ps square sets : List ℕ} (known : Named s)
@@ -48,7 +41,7 @@ module _ (width : ℕ) {s : Schema} {n : ℕ} {ps square sets : List ℕ} (known
 -- ---- the search
 -- what is said of the parts, whatever schema they belong to
 module _ (width n : ℕ) (square sets : List ℕ) where
-  abbrev pub Tells : (Schema → List ℕ → Type 0) → Type 0
+  abbrev Tells : (Schema → List ℕ → Type 0) → Type 0
   Tells P = (s : Schema) (ps : List ℕ) → Named s → InPlay s n ps square sets → P s ps
 
   -- no part behind a and before b can be merged with it

@@ -4,37 +4,19 @@ use mathlib.Core.Path.{_≡_, refl}
 use mathlib.Core.Bool.{true}
 use mathlib.Core.List.{List}
 use mathlib.Core.Logic.{_⊎_}
-use mathlib.Core.Option.{Option, none, some}
+use mathlib.Core.Option.{none}
 use native.Mathlib.Omega.{arith}
 use lib.ListN.{length, getD}
-use Rattle.words.proofs.Lists.{no-ft}
 use Rattle.task.specs.Task.{Schema, partCount, noGap}
 use Rattle.task.proofs.AtomsStand.{noAtom}
-use Rattle.arcs.specs.Order.{OrderOfParts, Complies, NoOrderComplies, orderOf}
-use Rattle.arcs.proofs.OrderTaken.{order-taken}
+use Rattle.arcs.specs.Order.{NoOrderComplies}
 use Rattle.tokens.specs.Split.{paramsOf}
-use Rattle.proposals.specs.Proposal.{withPart, withParts, countOf, ownParts, merged, together, isSome, someOrder}
+use Rattle.proposals.specs.Proposal.{withPart, withParts, countOf, ownParts, merged, together}
 use Rattle.proposals.specs.Proposal.{firstPair, proposedParts}
 use Rattle.proposals.proofs.Partitions.{gap-free-count, gap-free-parts, parted-at, parted-count, parted-length}
+use Rattle.proposals.proofs.SomeOrder.{Accepted, some-order}
 use Rattle.proposals.proofs.OwnParts.{own-length, own-gap-free, own-part, own-accepted}
 use Rattle.proposals.proofs.MergingEnds.{Alone, Standing, merging-ends, pair-left}
-
--- "accepted by the order rule": the order that is taken, which complies
-pub record Accepted (s : Schema) : Type 0 where
-  pub order : List ℕ
-  pub taken : orderOf s ≡ some order
-  pub parts : OrderOfParts s order
-  pub complies : Complies s order
-
-pub some-order : (s : Schema) → someOrder s ≡ true → Accepted s
-unfolding someOrder isSome
-some-order s h = go (orderOf s) refl h
-  where
-    go : (r : Option (List ℕ)) → orderOf s ≡ r → isSome r ≡ true → Accepted s
-    go none e k = absurd (no-ft k)
-    go (some o) e k =
-        let (parts, complies) = order-taken s o e in
-        record { order = o; taken = e; parts = parts; complies = complies }
 
 -- the schema s with the part numbers ps, as note 5 wants them
 pub record Proposed (width : ℕ) (s : Schema) (ps : List ℕ) : Type 0 where

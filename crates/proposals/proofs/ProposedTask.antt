@@ -24,6 +24,18 @@ use Rattle.proposals.specs.Proposal.{withParts, proposedParts, proposedS
 use Rattle.proposals.proofs.Partitions.{parted-fits}
 use Rattle.proposals.proofs.Proposed.{Proposed, proposed}
 
+-- schemas have as many atoms and pairs as they had
+module _ (width : ℕ) where
+  pub same-atoms : (ss : List Schema) → schemaAtoms (map (proposedSchema width) ss) ≡ schemaAtoms ss
+  unfolding sum proposedSchema
+  same-atoms [] = refl
+  same-atoms (s ∷ ss) = ap₂ _+_ (proposed width s .same-size) (same-atoms ss)
+
+  pub same-pairs : (ss : List Schema) → schemaPairs (map (proposedSchema width) ss) ≡ schemaPairs ss
+  unfolding sum proposedSchema withParts
+  same-pairs [] = refl
+  same-pairs (s ∷ ss) = ap (λ (n : ℕ). length (s .pairs) + n) (same-pairs ss)
+
 module _ (width : ℕ) (t : Task) where
   abbrev t′ : Task
   t′ = proposedTask width t
@@ -33,7 +45,7 @@ module _ (width : ℕ) (t : Task) where
   unfolding proposedTask
   proposed-length = length-map (t .schemas) (proposedSchema width)
 
-  pub proposed-at : (k : ℕ) → k < length (t .schemas) →
+  proposed-at : (k : ℕ) → k < length (t .schemas) →
       schemaAt (proposedTask width t) k ≡ proposedSchema width (schemaAt t k)
   unfolding proposedTask schemaAt
   proposed-at k l = getD-map (proposedSchema width) (t .schemas) k noSchema noSchema l
@@ -132,16 +144,6 @@ module _ (width : ℕ) (t : Task) where
       let z = ltb-false mostParts (partCount (schemaAt t′ k .atoms)) f in
       omega (arith, parts-at k l)
 
-  pub same-atoms : (ss : List Schema) → schemaAtoms (map (proposedSchema width) ss) ≡ schemaAtoms ss
-  unfolding sum proposedSchema
-  same-atoms [] = refl
-  same-atoms (s ∷ ss) = ap₂ _+_ (proposed width s .same-size) (same-atoms ss)
-
-  pub same-pairs : (ss : List Schema) → schemaPairs (map (proposedSchema width) ss) ≡ schemaPairs ss
-  unfolding sum proposedSchema withParts
-  same-pairs [] = refl
-  same-pairs (s ∷ ss) = ap (λ (n : ℕ). length (s .pairs) + n) (same-pairs ss)
-
   fits-again : (s : Schema) → schemaFits (t .arities) s ≡ true → partCount (proposedSchema width s .atoms) ≤ mostParts →
       schemaFits (t .arities) (proposedSchema width s) ≡ true
   unfolding proposedSchema withParts
@@ -171,11 +173,11 @@ module _ (width : ℕ) (t : Task) where
         preds = c .preds;
         arities = c .arities;
         schemas = rw proposed-length (c .schemas);
-        atoms = subst (λ (n : ℕ). leb n mostSchemaAtoms ≡ true) (sym (same-atoms ss)) (c .atoms);
+        atoms = subst (λ (n : ℕ). leb n mostSchemaAtoms ≡ true) (sym (same-atoms width ss)) (c .atoms);
         inits = c .inits;
         goals = c .goals;
         fit = in-all (schemaFits (t .arities)) (map (proposedSchema width) ss) (all-fit h few);
         init = c .init;
         goal = c .goal;
-        pairs = subst (λ (n : ℕ). leb n mostPairs ≡ true) (sym (same-pairs ss)) (c .pairs);
+        pairs = subst (λ (n : ℕ). leb n mostPairs ≡ true) (sym (same-pairs width ss)) (c .pairs);
       })

@@ -1,6 +1,6 @@
 -- A buffer into which words are put: each place of it, the words read back, and others put over them.
 use Prim.Native.Nat.{ℕ, zero, suc, _+_, _≤_, _<_}
-use mathlib.Core.Path.{_≡_, refl, _∙_, ap}
+use mathlib.Core.Path.{_≡_, refl, sym, _∙_, ap}
 use mathlib.Core.List.{List, [], _∷_}
 use native.Mathlib.Omega.{arith}
 use lib.ListN.{length, getD, set, length-set}
@@ -8,10 +8,10 @@ use lib.Seq.{getD-set-same, getD-set-other, set-set, set-getD}
 use Rattle.words.specs.Lists.{put}
 use Rattle.words.specs.Words.{wordsAt}
 use Rattle.words.proofs.Puts.{put-before}
-use Rattle.words.proofs.Words.{At, wordsAt-is, wordsAt-next}
+use Rattle.words.proofs.Words.{At, getD-wordsAt, length-wordsAt, wordsAt-is, wordsAt-next}
 
 -- ---- each place
-pub before-put : (w : List ℕ) (at : ℕ) (xs : List ℕ) (k : ℕ) → k < at → getD (put w at xs) k 0 ≡ getD w k 0
+before-put : (w : List ℕ) (at : ℕ) (xs : List ℕ) (k : ℕ) → k < at → getD (put w at xs) k 0 ≡ getD w k 0
 before-put w at [] k l = refl
 before-put w at (x ∷ xs) k l =
     before-put (set w at x) (suc at) xs k (omega arith) ∙ getD-set-other w at k x 0 (λ e. let q = e in omega arith)
@@ -22,7 +22,7 @@ behind-put w at [] k l = refl
 behind-put w at (x ∷ xs) k l =
     behind-put (set w at x) (suc at) xs k (omega arith) ∙ getD-set-other w at k x 0 (λ e. let q = e in omega arith)
 
-pub at-put : (w : List ℕ) (at : ℕ) (xs : List ℕ) → at + length xs ≤ length w → At (put w at xs) at xs
+at-put : (w : List ℕ) (at : ℕ) (xs : List ℕ) → at + length xs ≤ length w → At (put w at xs) at xs
 at-put w at [] r k l = absurd (omega arith)
 at-put w at (x ∷ xs) r zero l =
     let e : at + 0 ≡ at = omega arith in
@@ -34,7 +34,14 @@ at-put w at (x ∷ xs) r (suc k) l =
     ap (λ (i : ℕ). getD (put (set w at x) (suc at) xs) i 0) e
     ∙ at-put (set w at x) (suc at) xs (omega arith) k (omega arith)
 
--- ---- what is put is read back
+-- ---- what is put is read back, and so is what stands before it
+pub words-before : (w : List ℕ) (at : ℕ) (xs : List ℕ) (i n : ℕ) → i + n ≤ at →
+    wordsAt (put w at xs) i n ≡ wordsAt w i n
+words-before w at xs i n l =
+    wordsAt-is (put w at xs) i n (wordsAt w i n) (length-wordsAt w i n) (λ k m.
+    let e = length-wordsAt w i n in
+    before-put w at xs (i + k) (omega arith) ∙ sym (getD-wordsAt w i n k (omega arith)))
+
 pub words-put : (w : List ℕ) (at n : ℕ) (xs : List ℕ) → length xs ≡ n → at + n ≤ length w →
     wordsAt (put w at xs) at n ≡ xs
 words-put w at n xs e r = wordsAt-is (put w at xs) at n xs e (at-put w at xs (omega arith))

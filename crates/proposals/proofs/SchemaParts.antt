@@ -1,18 +1,16 @@
 -- The parts proposed for schema after schema of a table: where a schema lies, that the words for the schemas before it
 -- stay when its own are put, and which schema is the first that ends with too many parts.
 use Prim.Native.Nat.{ℕ, suc, _+_, _-_, _≤_, _<_}
-use mathlib.Core.Path.{_≡_, sym, _∙_, ap, subst₂}
-use mathlib.Core.Bool.{Bool, true, false}
+use mathlib.Core.Path.{_≡_, refl, sym, _∙_, ap, subst₂}
+use mathlib.Core.Bool.{true}
 use mathlib.Core.List.{List}
-use mathlib.Core.Option.{none, some}
+use mathlib.Core.Option.{Option, none, some}
 use native.Mathlib.Omega.{arith}
 use lib.ListN.{length}
-use lib.Dec.{ltb}
 use borrow.Author.Count.{below-more}
-use borrow.Author.Tests.{leb-true, lt-ltb, le-ltb}
+use borrow.Author.Tests.{leb-true}
 use Rattle.words.specs.Lists.{put}
 use Rattle.words.specs.Words.{wordsAt}
-use Rattle.words.proofs.Words.{length-wordsAt, getD-wordsAt, wordsAt-is}
 use Rattle.task.specs.Limits.{mostAtoms, mostParts, mostSchemaAtoms}
 use Rattle.task.specs.Task.{Schema, Task, partCount}
 use Rattle.task.specs.Run.{schemaAt}
@@ -25,21 +23,13 @@ use Rattle.arcs.specs.Stretches.{IsStretch, IsPairStretch, stretchIn, pairStret
 use Rattle.arcs.proofs.AtomWords.{schema-fits}
 use Rattle.arcs.proofs.SchemaEnds.{schema-known}
 use Rattle.arcs.proofs.Stretches.{schema-atoms, schema-stretch, schema-pairs, schema-pair-stretch}
-use Rattle.tokens.proofs.KeptSchemas.{atoms-few, lowest-here, lowest-nowhere}
-use Rattle.proposals.specs.Proposal.{countOf, proposedParts, proposedTask, tooMany}
+use Rattle.tokens.proofs.KeptSchemas.{atoms-few}
+use Rattle.proposals.specs.Proposal.{countOf, proposedParts, proposedSchema, proposedTask, tooMany}
 use Rattle.proposals.specs.Square.{HaveParts, Named}
 use Rattle.proposals.proofs.Proposed.{proposed}
-use Rattle.proposals.proofs.ProposedTask.{proposed-length, proposed-schema}
-use Rattle.proposals.proofs.PutWords.{before-put, words-put}
+use Rattle.proposals.proofs.ProposedTask.{too-many-exactly}
+use Rattle.proposals.proofs.PutWords.{words-before, words-put}
 use Rattle.proposals.proofs.Widths.{fits-named}
-
--- words before a place stay when others are put there
-words-before : (w : List ℕ) (at : ℕ) (xs : List ℕ) (i n : ℕ) → i + n ≤ at →
-    wordsAt (put w at xs) i n ≡ wordsAt w i n
-words-before w at xs i n l =
-    wordsAt-is (put w at xs) i n (wordsAt w i n) (length-wordsAt w i n) (λ k m.
-    let e = length-wordsAt w i n in
-    before-put w at xs (i + k) (omega arith) ∙ sym (getD-wordsAt w i n k (omega arith)))
 
 -- a schema's atoms come behind those of the schema before it
 atoms-next : (w : List ℕ) → isTable w ≡ true → (s : ℕ) → s < length (taskOf w .schemas) →
@@ -125,33 +115,28 @@ module _ (width : ℕ) (t : Task) where
   abbrev pub FewParts : ℕ → Type 0
   FewParts s = (r : ℕ) → r < s → countOf (proposedParts width (schemaAt t r)) ≤ mostParts
 
-  abbrev many : ℕ → Bool
-  many r = ltb mostParts (partCount (schemaAt (proposedTask width t) r .atoms))
-
-  counted : (r : ℕ) → r < length (t .schemas) →
-      partCount (schemaAt (proposedTask width t) r .atoms) ≡ countOf (proposedParts width (schemaAt t r))
-  counted r l =
-      ap (λ (s : Schema). partCount (s .atoms)) (proposed-schema width t r l) ∙ proposed width (schemaAt t r) .counted
+  counted : (r : ℕ) →
+      partCount (proposedSchema width (schemaAt t r) .atoms) ≡ countOf (proposedParts width (schemaAt t r))
+  unfolding proposedSchema
+  counted r = proposed width (schemaAt t r) .counted
 
   module _ (s : ℕ) (few : FewParts s) where
-    few-before : s ≤ length (t .schemas) → (r : ℕ) → r < s → many r ≡ false
-    few-before l r k =
-        le-ltb mostParts (partCount (schemaAt (proposedTask width t) r .atoms))
-        (omega (arith, counted r (omega arith), few r k))
-
     pub many-here : s < length (t .schemas) → mostParts < countOf (proposedParts width (schemaAt t s)) →
         tooMany (proposedTask width t) ≡ some s
-    unfolding tooMany
-    many-here l m =
-        lowest-here many s (length (proposedTask width t .schemas)) (few-before (omega arith))
-        (omega (arith, proposed-length width t))
-        (lt-ltb mostParts (partCount (schemaAt (proposedTask width t) s .atoms)) (omega (arith, counted s l)))
+    many-here l m = too-many-exactly width t s .1 (record {
+      known = l;
+      many = omega (arith, counted s);
+      before = λ r k. omega (arith, counted r, few r k);
+    })
 
     pub many-nowhere : s ≡ length (t .schemas) → tooMany (proposedTask width t) ≡ none
-    unfolding tooMany
-    many-nowhere e =
-        lowest-nowhere many s (length (proposedTask width t .schemas)) (few-before (omega arith))
-        (e ∙ sym (proposed-length width t))
+    many-nowhere e = go (tooMany (proposedTask width t)) refl
+      where
+        go : (o : Option ℕ) → tooMany (proposedTask width t) ≡ o → o ≡ none
+        go none f = refl
+        go (some r) f =
+            let c = too-many-exactly width t r .0 f in
+            absurd (omega (arith, c .many, counted r, few r (let l = c .known in omega arith)))
 
     pub few-more : countOf (proposedParts width (schemaAt t s)) ≤ mostParts → FewParts (s + 1)
     few-more m = below-more (λ r. countOf (proposedParts width (schemaAt t r)) ≤ mostParts) s few m

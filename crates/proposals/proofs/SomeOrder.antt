@@ -87,6 +87,23 @@ placed-order {arcs} (place-next {p = p} {us = us} i f k) a =
         complies (suc i) (suc j) l m = h .complies i j (omega arith) (omega arith)
 
 -- ---- the orders of a schema
+-- "accepted by the order rule": the order that is taken, which complies
+pub record Accepted (s : Schema) : Type 0 where
+  pub order : List ℕ
+  pub taken : orderOf s ≡ some order
+  pub parts : OrderOfParts s order
+  pub complies : Complies s order
+
+pub some-order : (s : Schema) → someOrder s ≡ true → Accepted s
+unfolding someOrder isSome
+some-order s h = go (orderOf s) refl h
+  where
+    go : (r : Option (List ℕ)) → orderOf s ≡ r → isSome r ≡ true → Accepted s
+    go none e k = absurd (no-ft k)
+    go (some o) e k =
+        let (parts, complies) = order-taken s o e in
+        record { order = o; taken = e; parts = parts; complies = complies }
+
 module _ (s : Schema) where
   abbrev all : List ℕ
   all = upTo (partCount (s .atoms))
@@ -110,12 +127,11 @@ module _ (s : Schema) where
 
   pub some-order-exactly : (someOrder s ≡ true) ↔ Placeable (arcsOf s) all
   unfolding someOrder isSome
-  some-order-exactly = (λ h. forth (orderOf s) refl h, λ h. back (orderOf s) refl h)
+  some-order-exactly = (
+    λ h. let a = some-order s h in complying-placeable (a .order) (a .parts) (a .complies),
+    λ h. back (orderOf s) refl h,
+  )
     where
-      forth : (r : Option (List ℕ)) → orderOf s ≡ r → isSome r ≡ true → Placeable (arcsOf s) all
-      forth none e h = absurd (no-ft h)
-      forth (some o) e h = let (parts, complies) = order-taken s o e in complying-placeable o parts complies
-
       back : (r : Option (List ℕ)) → orderOf s ≡ r → Placeable (arcsOf s) all → isSome r ≡ true
       back none e h = absurd (placeable-complies h (circular-exactly s .0 e))
       back (some o) e h = refl

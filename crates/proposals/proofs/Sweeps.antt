@@ -35,7 +35,7 @@ pub record Sweeping (arcs : Arcs) (waited left : List ℕ) (placed q : ℕ) : Ty
   pub counted : placed + length left ≡ length waited
   pub passed : placed ≡ 0 → (left ≡ waited) × ((p : ℕ) → p < q → In p waited → free arcs waited p ≡ false)
 
-pub sweep-start : (arcs : Arcs) (us : List ℕ) → Sweeping arcs us us 0 0
+sweep-start : (arcs : Arcs) (us : List ℕ) → Sweeping arcs us us 0 0
 sweep-start arcs us = record {
   same = refl;
   counted = omega arith;
@@ -57,7 +57,7 @@ module _ {arcs : Arcs} {waited left : List ℕ} {placed q : ℕ} (h : Sweeping a
   }
 
   -- it doesn't wait
-  pub sweep-over : (In q left → ⊥) → Sweeping arcs waited left placed (q + 1)
+  sweep-over : (In q left → ⊥) → Sweeping arcs waited left placed (q + 1)
   sweep-over n = sweep-on (λ i. absurd (n i))
 
   module _ (s : arcs q q ≡ false) {rest : List ℕ} (e : rest ≡ others q left) where
@@ -65,11 +65,11 @@ module _ {arcs : Arcs} {waited left : List ℕ} {placed q : ℕ} (h : Sweeping a
     alone = ap (λ (us : List ℕ). free arcs us q) e ∙ free-alone arcs left q s
 
     -- it isn't free
-    pub sweep-by : free arcs rest q ≡ false → Sweeping arcs waited left placed (q + 1)
+    sweep-by : free arcs rest q ≡ false → Sweeping arcs waited left placed (q + 1)
     sweep-by f = sweep-on (λ i. sym alone ∙ f)
 
     -- it is
-    pub sweep-places : Ascend left → In q left → free arcs rest q ≡ true →
+    sweep-places : Ascend left → In q left → free arcs rest q ≡ true →
         Sweeping arcs waited rest (placed + 1) (q + 1)
     sweep-places a i f = record {
       same = ap (placeable arcs) e ∙ (placeable-one arcs a i (sym alone ∙ f) ∙ h .same);
@@ -80,7 +80,7 @@ module _ {arcs : Arcs} {waited left : List ℕ} {placed q : ℕ} (h : Sweeping a
     }
 
   -- all have had their turn
-  pub sweep-ends : Ascend waited → ((p : ℕ) → In p waited → p < q) → Sweeps arcs waited left placed
+  sweep-ends : Ascend waited → ((p : ℕ) → In p waited → p < q) → Sweeps arcs waited left placed
   sweep-ends a b = record {
     same = h .same;
     counted = h .counted;

@@ -33,7 +33,7 @@ fits-named arities s h = record {
 
 module _ (s : Schema) (known : Named s) (ps : List ℕ) where
   -- a part has parameters of the schema
-  pub part-known : (x p : ℕ) → inPart (withParts s ps .atoms) x p ≡ true → x < s .params
+  part-known : (x p : ℕ) → inPart (withParts s ps .atoms) x p ≡ true → x < s .params
   unfolding withParts withPart names
   part-known x p h =
       let k = part-names (withParts s ps .atoms) x p h in
