@@ -1,37 +1,44 @@
 -- Laws of proposals, and what the proofs of this crate's code cite.
-pub mod Kahn
-pub mod RankedParts
-pub mod SomeOrder
-pub mod Squares
-pub mod StartWords
+-- ---- the definitions: part numbers, merges, the test for a circle
 pub mod Partitions
 pub mod PartNames
+pub mod PartPairs
 pub mod CameFrom
 pub mod MergedNumbers
 pub mod Merges
+pub mod Kahn
+pub mod RankedParts
+pub mod SomeOrder
 pub mod MergedArcs
-pub mod Waiting
-pub mod PartPairs
-pub mod Turns
-pub mod PutWords
-pub mod Renumbering
-pub mod MergedSets
-pub mod JoinedArcs
-pub mod Widths
-pub mod InPlay
-pub mod PairTests
-pub mod MergingTurns
-pub mod ClosedRows
-pub mod FreshRows
-pub mod FreshParts
+-- ---- the theorems: how the merging starts and ends, what is proposed, what is written
 pub mod OwnParts
-pub mod ClearedScratch
-pub mod ProposeOutcome
-pub mod Sweeps
+pub mod Turns
 pub mod MergingEnds
 pub mod Proposed
 pub mod ProposedTask
-pub mod Examples
-pub mod SchemaStart
-pub mod SchemaParts
+pub mod ProposeOutcome
 pub mod WrittenProposal
+pub mod Examples
+-- ---- for the code: the lent buffers
+pub mod PutWords
+pub mod Squares
+pub mod ClearedScratch
+-- ---- a schema's start
+pub mod StartWords
+pub mod SchemaStart
+-- ---- the test of a pair, and the search
+pub mod Waiting
+pub mod Sweeps
+pub mod Widths
+pub mod InPlay
+pub mod PairTests
+-- ---- a merge, and the merging
+pub mod Renumbering
+pub mod MergedSets
+pub mod JoinedArcs
+pub mod ClosedRows
+pub mod MergingTurns
+-- ---- all schemas, and the second table
+pub mod SchemaParts
+pub mod FreshRows
+pub mod FreshParts

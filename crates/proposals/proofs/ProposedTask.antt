@@ -51,7 +51,7 @@ module _ (width : ℕ) (t : Task) where
   proposed-at k l = getD-map (proposedSchema width) (t .schemas) k noSchema noSchema l
 
   -- schema k is that of the task with the parts proposed for it
-  pub proposed-schema : (k : ℕ) → k < length (t .schemas) →
+  proposed-schema : (k : ℕ) → k < length (t .schemas) →
       schemaAt (proposedTask width t) k ≡ withParts (schemaAt t k) (proposedParts width (schemaAt t k))
   unfolding proposedSchema
   proposed-schema k l = proposed-at k l

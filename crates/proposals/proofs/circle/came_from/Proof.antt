@@ -1,4 +1,5 @@
--- `proposals::circle::came_from` meets its contract: its two answers are those of the definition.
+-- `proposals::circle::came_from` meets its contract: a part below b stayed where it was (`came-low`), any other was one
+-- higher (`came-high`), and nothing wraps, since there are at most 64 parts.
 use mathlib.Core.Path.{sym}
 use native.Mathlib.Omega.{arith}
 use Rattle.proposals.proofs.CameFrom.{came-low, came-high}

@@ -1,5 +1,5 @@
--- `proposals::circle::is_free` meets its contract: q is free exactly where no unplaced part reaches where it was, nor b
--- if q is a.
+-- `proposals::circle::is_free` meets its contract: a merged arc to q is an arc to a part that became q. So q is free
+-- exactly where no unplaced part reaches where q was, nor b if q is a.
 use mathlib.Core.Path.{_≡_, sym, _∙_, ap}
 use mathlib.Core.Bool.{not}
 use native.Mathlib.Omega.{arith}

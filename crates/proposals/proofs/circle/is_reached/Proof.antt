@@ -1,5 +1,6 @@
 -- `proposals::circle::is_reached` meets its contract.
--- The invariant: the whole search is what is left of it from q on. The measure is how many parts are left.
+-- The invariant: the whole search is what is left of it from q on (`AnyLeft`). It holds again where part q is placed or
+-- has no arc to p. The measure is how many parts are left.
 use Prim.Native.Nat.{ℕ, _-_}
 use mathlib.Core.Path.{_≡_, refl, sym, _∙_, ap}
 use mathlib.Core.Bool.{Bool, false, _&&_}

@@ -1,4 +1,5 @@
--- `proposals::circle::without_part` meets its contract: it takes out all parts that became q.
+-- `proposals::circle::without_part` meets its contract: it takes out all parts that became q, where q was, and b too if
+-- q is a. So q waits no more, all others wait as they did, and the parts that merge stay in or go out together.
 use mathlib.Core.Path.{subst}
 use native.Mathlib.Omega.{arith}
 use Rattle.proposals.specs.Circle.{cameFrom}

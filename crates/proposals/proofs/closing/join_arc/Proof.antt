@@ -1,4 +1,5 @@
--- `proposals::closing::join_arc` meets its contract: an arc is put where there is another, and else none is lost.
+-- `proposals::closing::join_arc` meets its contract: where the second arc is there the first is put, which says of it
+-- what 'one or the other' says (`join-put`); else that says what was so before, and nothing is put (`join-none`).
 use borrow.Author.Needs.{needs}
 use Rattle.proposals.proofs.JoinedArcs.{join-put, join-none}
 use Rattle.proposals.proofs.closing.join_arc.Statement.{statement}

@@ -1,5 +1,5 @@
 -- `proposals::merging::merged_number` meets its contract: part b joins part a, a part behind b closes up, and one
--- before b stays.
+-- before b stays. Each branch is a case of the definition.
 use borrow.Author.Needs.{needs}
 use mathlib.Core.Path.{sym}
 use native.Mathlib.Omega.{arith}

@@ -1,6 +1,7 @@
--- `proposals::schemas::all_parts` meets its contract. The invariant: the words for the schemas before s are the parts
--- proposed for them, and none of these has too many; s begins at atom `from` and at pair `pair`. A schema's words are
--- put behind those. The measure is the schemas left.
+-- `proposals::schemas::all_parts` meets its contract.
+-- The invariant: the words for the schemas before s are the parts proposed for them, and none of these has too many; s
+-- begins at atom `from` and at pair `pair`. Its words are put behind those (`have-more`). The measure is the schemas
+-- left.
 use Prim.Native.Nat.{ℕ, _-_, _≤_, _<_}
 use mathlib.Core.Path.{_≡_, refl, sym, _∙_, ap}
 use mathlib.Core.List.{List}

@@ -1,5 +1,5 @@
--- `proposals::schemas::schema_parts` meets its contract: what is put for each atom in its own part is what the merging
--- begins with, and so it ends with the parts proposed.
+-- `proposals::schemas::schema_parts` meets its contract: the arcs, sets and numbers that are put are those of each atom
+-- in its own part (`stretch-in-play`). With these the merging begins, so it ends with the parts proposed.
 use Prim.Native.Nat.{_-_, _≤_}
 use mathlib.Core.Path.{_∙_, ap}
 use native.Mathlib.Omega.{arith}

@@ -1,4 +1,5 @@
--- `proposals::square::has_arc` meets its contract: the word read is that of the arc, and lies in the square.
+-- `proposals::square::has_arc` meets its contract: the word read is the one by which the square tells this arc, and it
+-- lies in the square, since both parts are below its side.
 use Prim.Native.Nat.{ℕ}
 use mathlib.Core.Path.{ap}
 use borrow.Author.Needs.{needs}

@@ -1,4 +1,5 @@
--- `proposals::square::put_arc` meets its contract: the word set is that of the arc, and lies in the square.
+-- `proposals::square::put_arc` meets its contract: the word set is the one by which the square tells this arc. It lies
+-- in the square, and no other arc has it, so all else is as it was (`arc-set`).
 use borrow.Author.Needs.{needs}
 use Rattle.proposals.proofs.Squares.{arc-inside, arc-set}
 use Rattle.proposals.proofs.square.put_arc.Statement.{statement}

@@ -1,5 +1,6 @@
--- `proposals::start::number` meets its contract. The invariant: the numbers of the atoms before i are put. The next
--- store puts one more. The measure is the atoms left.
+-- `proposals::start::number` meets its contract.
+-- The invariant: the numbers of the atoms before i are put, and all other words are as lent. The next store puts one
+-- more (`numbers-more`). The measure is the atoms left.
 use Prim.Native.Nat.{ℕ, _-_, _≤_}
 use mathlib.Core.Path.{_≡_, _∙_, ap}
 use mathlib.Core.List.{List}

@@ -1,5 +1,6 @@
--- `proposals::start::parameters` meets its contract. The invariant: the sets of the atoms before i are found. The
--- measure is the atoms left.
+-- `proposals::start::parameters` meets its contract.
+-- The invariant: the sets of the atoms before i are found. The next store adds that of atom i and leaves the others
+-- (`sets-more`). The measure is the atoms left.
 use Prim.Native.Nat.{ℕ, _+_, _-_, _≤_}
 use mathlib.Core.Path.{_≡_, refl, _∙_, ap}
 use native.Mathlib.Omega.{arith}

@@ -1,5 +1,6 @@
--- `proposals::start::put_arcs` meets its contract. The invariant: the arcs from the atoms before i are put. The measure
--- is the atoms left.
+-- `proposals::start::put_arcs` meets its contract.
+-- The invariant: the arcs from the atoms before i are put (`RowsPut`). It holds again, since a row puts the arcs from
+-- atom i and changes no other (`rows-more`). The measure is the atoms left.
 use Prim.Native.Nat.{ℕ, _+_, _-_, _≤_}
 use mathlib.Core.Path.{_≡_, subst}
 use mathlib.Core.Bool.{Bool}

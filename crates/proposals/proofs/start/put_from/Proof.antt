@@ -1,5 +1,6 @@
--- `proposals::start::put_from` meets its contract. The invariant: the arcs from atom i to the atoms before j are put,
--- and nothing else changed. The measure is the atoms left.
+-- `proposals::start::put_from` meets its contract.
+-- The invariant: the arcs from atom i to the atoms before j are put, whatever pairs the partners stand for, and nothing
+-- else has changed (`RowPut`). The next arc adds one (`row-more`). The measure is the atoms left.
 use Prim.Native.Nat.{ℕ, _+_, _-_, _≤_, _<_}
 use mathlib.Core.Path.{_≡_, _∙_, ap, subst}
 use mathlib.Core.Bool.{Bool}

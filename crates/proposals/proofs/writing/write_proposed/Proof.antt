@@ -1,6 +1,6 @@
--- `writing::write_proposed` meets its contract: the table is copied, and after i turns the parts of the first i schema
--- atoms are written and all other words are as copied. After the last turn these are the words of the task proposed.
--- The measure is the atoms left.
+-- `proposals::writing::write_proposed` meets its contract: the table is copied first.
+-- The invariant: the parts of the first i schema atoms are written, and all other words are as copied (`Fresh`). After
+-- the last turn these are the words of the task proposed (`fresh-words`). The measure is the atoms left.
 use Rattle.proposals.proofs.writing.write_proposed.Statement.{statement}
 use Rattle.proposals.proofs.writing.write_proposed.Tie as tie
 use Prim.Native.Nat.{_+_, _-_, _≤_, _<_}
