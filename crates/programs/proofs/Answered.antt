@@ -39,6 +39,7 @@ use Rattle.tokens.specs.Split.{Splitting, circular, parted, tooLarge, splitAs, 
 use Rattle.tokens.proofs.SplitOutcome.{refused-nine, refused-twenty, refused-ten, split-refused as outcome-refused}
 use Rattle.tokens.proofs.SplitOutcome.{split-done}
 use Rattle.programs.specs.Programs.{taken, refusal, printReading, printSplitting, splitProgram, pddlProgram}
+use Rattle.programs.specs.Programs.{widthIn, proposeProgram}
 use Rattle.task.proofs.Answers.{told-by, left-by, tells}
 use Rattle.programs.specs.Printing.{Prints, made, roomFor}
 use Rattle.programs.proofs.Printed.{prints-same}
@@ -189,6 +190,7 @@ pub refusal-fits : {n : ℕ} (f : Form) → roomFor f ≤ n → longestText ≤ 
 unfolding roomFor
 refusal-fits form.Split room = room
 refusal-fits form.Pddl room = omega arith
+refusal-fits (form.Proposal width) room = room
 
 pub as-printed : {program lent text after : List ℕ} {n : ℕ} → program ≡ text → Prints lent text after n →
     Printed lent program after n
@@ -206,3 +208,10 @@ split-is text = refl
 pub pddl-is : (text : List ℕ) → pddlProgram text ≡ printReading (made form.Pddl) (readText (taken text))
 unfolding pddlProgram made
 pddl-is text = refl
+
+-- the program `propose`, of a width that its argument says
+pub propose-is : (argument text : List ℕ) {width : ℕ} → width ≡ widthIn argument →
+    proposeProgram argument text ≡ printReading (made (form.Proposal width)) (readText (taken text))
+unfolding proposeProgram made
+propose-is argument text e =
+    ap (λ (width : ℕ). printReading (made (form.Proposal width)) (readText (taken text))) (sym e)

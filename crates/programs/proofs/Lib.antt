@@ -5,3 +5,4 @@ pub mod Printed
 pub mod PlanUnfolded
 pub mod Uncut
 pub mod Arguments
+pub mod Proposals

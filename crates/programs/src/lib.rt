@@ -39,6 +39,15 @@ pub fn split_text(text: &[u8], out: &mut [u8; TEXT_BYTES]) -> usize
     put_made(text, Form::Split, out)
 }
 
+// The program `pddl` prints the task on standard input as a domain and a problem, or a refusal as `split` does: from
+// the text to the bytes printed, and their number.
+pub fn pddl_text(text: &[u8], out: &mut [u8; PDDL_BYTES]) -> usize
+    ensures { λ r. ⌜ now (out .exit) ≡ over (pddlProgram (now (text .entry))) (now (out .entry)) ⌝ }
+    ensures { λ r. ⌜ r ≡ length (pddlProgram (now (text .entry))) ⌝ }
+{
+    put_made(text, Form::Pddl, out)
+}
+
 // "A second program reads the files `task` and `plan` .. and prints the unfolding so": from the two texts to the bytes
 // printed, and their number. "`task` is read first, unfolding comes last".
 pub fn unfold_texts(task: &[u8], plan: &[u8], out: &mut [u8; PLAN_BYTES]) -> usize
@@ -51,15 +60,6 @@ pub fn unfold_texts(task: &[u8], plan: &[u8], out: &mut [u8; PLAN_BYTES]) -> usi
         ReadAnswer::Read => put_plan(&table, plan, out),
         ReadAnswer::Refused(number, place) => put_refusal(out, number, place),
     }
-}
-
-// The program `pddl` prints the task on standard input as a domain and a problem, or a refusal as `split` does: from
-// the text to the bytes printed, and their number.
-pub fn pddl_text(text: &[u8], out: &mut [u8; PDDL_BYTES]) -> usize
-    ensures { λ r. ⌜ now (out .exit) ≡ over (pddlProgram (now (text .entry))) (now (out .entry)) ⌝ }
-    ensures { λ r. ⌜ r ≡ length (pddlProgram (now (text .entry))) ⌝ }
-{
-    put_made(text, Form::Pddl, out)
 }
 
 // The program `propose` prints the task on standard input with the partitions that are proposed for the width that its
