@@ -20,7 +20,6 @@ pub mod ProposeOutcome
 pub mod WrittenProposal
 pub mod Examples
 -- ---- for the code: the lent buffers
-pub mod PutWords
 pub mod Squares
 pub mod ClearedScratch
 -- ---- a schema's start

@@ -16,7 +16,7 @@ use Rattle.proposals.proofs.MergedNumbers.{merged-length}
 use Rattle.proposals.proofs.InPlay.{in-play-count, in-play-merged}
 use Rattle.proposals.proofs.PartPairs.{pair}
 use Rattle.proposals.proofs.Turns.{merging-goes-on, merging-stops}
-use Rattle.proposals.proofs.PutWords.{words-put, put-again, put-own}
+use Rattle.words.proofs.PutWords.{words-put, put-again, put-own}
 use Rattle.proposals.proofs.Renumbering.{renumberedAll}
 
 -- at a turn: n of k parts are left, what further merges give is what the merging gives, and only the part numbers of

@@ -11,7 +11,7 @@ use Rattle.words.proofs.Lists.{map-append}
 use Rattle.words.proofs.Puts.{length-put, put-word, words-more}
 use Rattle.words.proofs.Words.{length-wordsAt}
 use Rattle.proposals.specs.Proposal.{mergedNumber, merged}
-use Rattle.proposals.proofs.PutWords.{behind-put}
+use Rattle.words.proofs.PutWords.{behind-put}
 
 -- the parts of atoms `from` to i - 1 after the merge
 abbrev renumberedTo : ℕ → ℕ → ℕ → List ℕ → ℕ → List ℕ

@@ -28,7 +28,7 @@ use Rattle.proposals.specs.Proposal.{countOf, proposedParts, proposedSch
 use Rattle.proposals.specs.Square.{HaveParts, Named}
 use Rattle.proposals.proofs.Proposed.{proposed}
 use Rattle.proposals.proofs.ProposedTask.{too-many-exactly}
-use Rattle.proposals.proofs.PutWords.{words-before, words-put}
+use Rattle.words.proofs.PutWords.{words-before, words-put}
 use Rattle.proposals.proofs.Widths.{fits-named}
 
 -- a schema's atoms come behind those of the schema before it

@@ -18,7 +18,7 @@ use Rattle.proposals.specs.Proposal.{ownParts, countOf, mergeFrom, propo
 use Rattle.proposals.specs.Square.{arcsIn, InPlay}
 use Rattle.proposals.proofs.OwnParts.{own-in-play}
 use Rattle.proposals.proofs.Proposed.{proposed}
-use Rattle.proposals.proofs.PutWords.{words-put, put-again}
+use Rattle.words.proofs.PutWords.{words-put, put-again}
 use Rattle.proposals.proofs.Turns.{merging-begins}
 
 -- the schema whose atoms are atoms `from` to `to - 1` of a table

@@ -5,6 +5,7 @@ pub mod Ascending
 pub mod Sums
 pub mod Words
 pub mod Puts
+pub mod PutWords
 pub mod JoinedWords
 pub mod BitSets
 pub mod SetMembers
