@@ -8,6 +8,7 @@ use native.Mathlib.Omega.{arith}
 use lib.ListN.{length, getD}
 use lib.Dec.{leb}
 use Rattle.words.specs.Sets.{wordBits, member, members}
+use Rattle.words.proofs.Lists.{any-same}
 use Rattle.task.specs.Task.{Schema}
 use Rattle.arcs.specs.Order.{inPart}
 use Rattle.proposals.specs.Proposal.{withParts, countOf, merged, mergeable}
@@ -16,7 +17,7 @@ use Rattle.proposals.specs.Square.{arcsIn, MergesArcs, MergesSets, Named
 use Rattle.proposals.proofs.Partitions.{GapFree, numbered-gap-free, gap-free-count}
 use Rattle.proposals.proofs.MergedNumbers.{becoming-small, merged-gap-free, merged-length}
 use Rattle.proposals.proofs.Merges.{has-merged}
-use Rattle.proposals.proofs.MergedArcs.{any-alike, arcs-merged, mergeable-by-arcs}
+use Rattle.proposals.proofs.MergedArcs.{arcs-merged, mergeable-by-arcs}
 use Rattle.proposals.proofs.PartPairs.{pair}
 use Rattle.proposals.proofs.Widths.{together-counted}
 
@@ -60,7 +61,7 @@ module _ {s : Schema} {n : ℕ} {ps square sets : List ℕ} (play : InPlay s n p
         (λ x y u v. play .arcs x y (omega arith) (omega arith)) p q i j;
     named = λ q x i.
         params .named q x i
-        ∙ (any-alike (λ p. member (getD sets p 0) x) (λ p. inPart (withParts s ps .atoms) x p) (becoming a b q)
+        ∙ (any-same (λ p. member (getD sets p 0) x) (λ p. inPart (withParts s ps .atoms) x p) (becoming a b q)
         (λ p k. play .named p x (omega (arith, becoming-small a b l (n - 1) (omega arith) q p i k)))
         ∙ sym (has-merged s ps (play .size) a b l x q));
   }

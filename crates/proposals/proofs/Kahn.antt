@@ -2,7 +2,7 @@
 -- choices: placing any free part changes nothing (Kahn). What can be placed is `Placeable`, by some choices; by
 -- induction over these, some of what can be placed can be placed too, and that is all that is needed.
 use Prim.Native.Nat.{ℕ, zero, suc, _≤_, _<_}
-use mathlib.Core.Path.{_≡_, refl, sym, ap}
+use mathlib.Core.Path.{_≡_, refl, ap}
 use mathlib.Core.Bool.{Bool, true, false, not}
 use mathlib.Core.List.{List, [], _∷_}
 use mathlib.Core.Logic.{_↔_}
@@ -11,10 +11,10 @@ use native.Mathlib.Omega.{arith}
 use lib.ListN.{length}
 use lib.Dec.{eqb}
 use borrow.Author.Tests.{eqb-true, not-true, eq-eqb}
-use Rattle.words.specs.Lists.{any, head, filter, first, upTo}
+use Rattle.words.specs.Lists.{any, filter, upTo}
 use Rattle.words.proofs.Lists.{no-ft, both-ft, false-if, bool-ext, In, here, in-eq, in-empty, any-in, in-any}
-use Rattle.words.proofs.Lists.{filter-in, first-none}
-use Rattle.words.proofs.Ascending.{some-inj, no-none, Ascend, ascend-upTo, ascend-filter, others, in-others, others-in}
+use Rattle.words.proofs.Lists.{first-none, first-found}
+use Rattle.words.proofs.Ascending.{Ascend, ascend-upTo, ascend-filter, others, in-others, others-in}
 use Rattle.words.proofs.Ascending.{others-fewer, others-one-less}
 use Rattle.proposals.specs.Circle.{Arcs, free, nextFree, placeOne, allPlaced, placeable, noCircle}
 
@@ -84,14 +84,6 @@ none-free all-placed u i h = in-empty i
 none-free (place-next {p = p} j f k) u i h = both-ft f (h p j)
 
 -- ---- the choice of the lowest
-pub first-found : {A : Type 0} (p : A → Bool) (xs : List A) (x : A) → first p xs ≡ some x → In x xs × (p x ≡ true)
-unfolding first head
-first-found {A} p xs x h = go (filter p xs) refl h
-  where
-    go : (ys : List A) → filter p xs ≡ ys → head ys ≡ some x → In x xs × (p x ≡ true)
-    go [] e k = absurd (no-none k)
-    go (y ∷ ys) e k = filter-in p xs x (rw e (here (sym (some-inj k))))
-
 placed-lowest : (arcs : Arcs) (n : ℕ) (us : List ℕ) → length us ≤ n → allPlaced arcs n us ≡ true → Placeable arcs us
 unfolding allPlaced placeOne nextFree
 placed-lowest arcs zero [] l h = all-placed

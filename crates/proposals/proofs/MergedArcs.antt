@@ -2,14 +2,14 @@
 -- before the merge are kept: merged arcs depend on those between parts alone, and for a schema they are its own arcs
 -- after the merge.
 use Prim.Native.Nat.{ℕ, suc, _≤_, _<_}
-use mathlib.Core.Path.{_≡_, refl, sym, _∙_, ap, ap₂}
-use mathlib.Core.Bool.{Bool, false, not, _&&_, _||_}
-use mathlib.Core.List.{List, [], _∷_}
+use mathlib.Core.Path.{_≡_, refl, sym, _∙_, ap}
+use mathlib.Core.Bool.{false, not, _&&_}
+use mathlib.Core.List.{List}
 use lib.ListN.{length}
 use lib.Dec.{eqb}
 use borrow.Author.Tests.{eq-eqb}
 use Rattle.words.specs.Lists.{any}
-use Rattle.words.proofs.Lists.{In, here, there}
+use Rattle.words.proofs.Lists.{any-same}
 use Rattle.task.specs.Task.{Schema}
 use Rattle.proposals.specs.Proposal.{withParts, merged, someOrder}
 use Rattle.proposals.specs.Circle.{Arcs, arcsOf, becoming, mergedArcs, noCircle}
@@ -17,12 +17,6 @@ use Rattle.proposals.proofs.SomeOrder.{some-order-by-sets}
 use Rattle.proposals.proofs.Partitions.{GapFree, gap-free-count, parted-count}
 use Rattle.proposals.proofs.MergedNumbers.{becoming-small, merged-gap-free, merged-length}
 use Rattle.proposals.proofs.Merges.{arc-merged}
-
-pub any-alike : {A : Type 0} (f g : A → Bool) (xs : List A) → ((x : A) → In x xs → f x ≡ g x) → any f xs ≡ any g xs
-unfolding any
-any-alike f g [] h = refl
-any-alike f g (x ∷ xs) h =
-    ap₂ (λ (c d : Bool). c || d) (h x (here refl)) (any-alike f g xs (λ y i. h y (there i)))
 
 -- "Arcs inside a part don't count"
 pub merged-self : (a b : ℕ) (arcs : Arcs) (p : ℕ) → mergedArcs a b arcs p p ≡ false
@@ -37,8 +31,8 @@ module _ (a b : ℕ) (l : a < b) (n : ℕ) (m : b ≤ n) where
   unfolding mergedArcs
   merged-alike arcs others h p q i j =
       ap (λ c. not (eqb p q) && c)
-      (any-alike (λ x. any (arcs x) (becoming a b q)) (λ x. any (others x) (becoming a b q)) (becoming a b p)
-      (λ x u. any-alike (arcs x) (others x) (becoming a b q) (λ y v.
+      (any-same (λ x. any (arcs x) (becoming a b q)) (λ x. any (others x) (becoming a b q)) (becoming a b p)
+      (λ x u. any-same (arcs x) (others x) (becoming a b q) (λ y v.
       h x y (becoming-small a b l n m p x i u) (becoming-small a b l n m q y j v))))
 
   module _ (s : Schema) (ps : List ℕ) (size : length ps ≡ length (s .atoms)) (g : GapFree (suc n) ps) (arcs : Arcs)

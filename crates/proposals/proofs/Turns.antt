@@ -9,11 +9,10 @@ use mathlib.Core.Option.{Option, none, some}
 use native.Mathlib.Omega.{arith}
 use lib.ListN.{length}
 use Rattle.words.specs.Lists.{first}
-use Rattle.words.proofs.Lists.{both-ft}
+use Rattle.words.proofs.Lists.{both-ft, first-found}
 use Rattle.task.specs.Task.{Schema}
 use Rattle.proposals.specs.Proposal.{PartPair, ownParts, merged, countOf, mergeable, partPairs, firstPair}
 use Rattle.proposals.specs.Proposal.{mergeFirst, mergeFrom, proposedParts}
-use Rattle.proposals.proofs.Kahn.{first-found}
 use Rattle.proposals.proofs.Partitions.{GapFree, gap-free-count}
 use Rattle.proposals.proofs.PartPairs.{pair, in-pairs, Before, first-of-pairs}
 

@@ -4,7 +4,7 @@ use mathlib.Core.Path.{_≡_, refl, sym, _∙_, ap, ap₂, subst}
 use mathlib.Core.Bool.{Bool, true, false, _&&_, _||_}
 use mathlib.Core.List.{List, [], _∷_, _++_, map, append-assoc}
 use mathlib.Core.Logic.{_⊎_, inl, inr}
-use mathlib.Core.Option.{none}
+use mathlib.Core.Option.{none, some}
 use native.Mathlib.Omega.{arith}
 use native.Mathlib.Decide.{decLe, decLt}
 use lib.ListN.{length, getD, length-append, take, replicate, length-replicate}
@@ -160,6 +160,15 @@ module _ {A : Type 0} where
       go : {x : A} (ys : List A) → head ys ≡ none → In x ys → ⊥
       go [] k j = in-empty j
       go (y ∷ ys) k j = let z : _≡_ {A = ℕ} 0 1 = cc in omega arith
+
+  -- the one that is found is an element that passes it
+  pub first-found : (p : A → Bool) (xs : List A) (x : A) → first p xs ≡ some x → In x xs × (p x ≡ true)
+  unfolding first head
+  first-found p xs x h = go (filter p xs) refl h
+    where
+      go : (ys : List A) → filter p xs ≡ ys → head ys ≡ some x → In x xs × (p x ≡ true)
+      go [] e k = let z : _≡_ {A = ℕ} 0 1 = cc in absurd (omega arith)
+      go (y ∷ ys) e k = let f : x ≡ y = cc in filter-in p xs x (rw e (here f))
 
   pub in-getD : (xs : List A) (i : ℕ) (d : A) → i < length xs → In (getD xs i d) xs
   in-getD [] i d h = absurd (omega arith)
@@ -460,6 +469,11 @@ unfolding filter
 filter-same p q [] h = refl
 filter-same {A} p q (x ∷ xs) h =
     ap₂ (λ (b : Bool) (ys : List A). keepIf b x ys) (h x (here refl)) (filter-same p q xs (λ y i. h y (there i)))
+
+pub any-same : {A : Type 0} (p q : A → Bool) (xs : List A) → ((x : A) → In x xs → p x ≡ q x) → any p xs ≡ any q xs
+unfolding any
+any-same p q [] h = refl
+any-same p q (x ∷ xs) h = ap₂ _||_ (h x (here refl)) (any-same p q xs (λ y i. h y (there i)))
 
 -- a list with an element is not empty
 pub some-length : {A : Type 0} {a : A} {xs : List A} → In a xs → 1 ≤ length xs
