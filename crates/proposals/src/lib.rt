@@ -57,7 +57,8 @@ fn propose_parts(
     ensures lent { λ _. do
       let t = proposedTask width (taskOf (now (table .entry)))
       ⌜ record { proposed = now (proposed .exit); scratch = now (scratch .exit) } ≡
-          settled (tooMany t) t (record { proposed = now (proposed .entry); scratch = now (scratch .entry) }) .buffer ⌝ }
+          settled (tooMany t) t
+          (record { proposed = now (proposed .entry); scratch = now (scratch .entry) }) .buffer ⌝ }
 {
     let mut parts = [0u16; MOST_SCHEMA_ATOMS];
     let many = all_parts(table, width, &mut parts, scratch);
