@@ -5,6 +5,7 @@ pub mod beside;
 pub mod folding;
 pub mod pddl;
 pub mod programs;
+pub mod proposing;
 pub mod reading;
 pub mod running;
 pub mod shared_runs;

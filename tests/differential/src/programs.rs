@@ -1,7 +1,9 @@
 //! The programs, each run as a process of its own.
 
+use std::ffi::OsStr;
 use std::fs;
 use std::io::{ErrorKind, Write};
+use std::os::unix::ffi::OsStrExt;
 use std::path::{Path, PathBuf};
 use std::process::{Command, Output, Stdio};
 use std::sync::atomic::{AtomicUsize, Ordering};
@@ -19,8 +21,14 @@ impl Program {
 
     /// What it prints for this standard input.
     pub fn printed_for(&self, stdin: &[u8]) -> Vec<u8> {
+        self.printed_given(&[], stdin)
+    }
+
+    /// What it prints for these arguments and this standard input.
+    pub fn printed_given(&self, arguments: &[&[u8]], stdin: &[u8]) -> Vec<u8> {
         let mut process = self
             .command()
+            .args(arguments.iter().map(|argument| OsStr::from_bytes(argument)))
             .stdin(Stdio::piped())
             .spawn()
             .expect("a process");

@@ -5,6 +5,8 @@ mod folding;
 mod pddl;
 mod pddl_program;
 mod programs;
+mod propose_program;
+mod proposing;
 mod reading;
 mod running;
 mod shared_runs;
@@ -28,6 +30,7 @@ fn every_function_is_compared() {
         ("splitter_unfold", "unfolding"),
         ("splitter_fold", "folding"),
         ("splitter_write_pddl", "pddl"),
+        ("splitter_propose", "proposing"),
     ] {
         let declared = HEADER.contains(&format!("uint32_t {function}("));
         let compared = MODULES.lines().any(|line| line == format!("mod {module};"));

@@ -1,8 +1,8 @@
 //! The program `unfold` as a process.
 
-use super::programs::{long_text, refused};
+use super::programs::{long_text, refusals, refused};
 use checks::vectors::unfold_program_cases;
-use checks::{changed_move, report, MOVE, SWAP};
+use checks::{changed_move, MOVE, SWAP};
 use differential::programs::Program;
 use generate::tasks::any_task;
 use generate::texts;
@@ -51,12 +51,10 @@ fn unfold_files() {
         let (task, plan) = (task.as_deref(), plan.as_deref());
         refused(&unfold(&program, task, plan), &unfold_program(task, plan))
     };
-    let mut random = Random::new(188);
-    let cases = 800;
-    let refusals = (0..cases).filter(|_| compared(files(&mut random))).count();
-    report("unfold as a process, refused", refusals);
-    report("unfold as a process, not refused", cases - refusals);
-    assert!((100..cases - 100).contains(&refusals));
+    let refusals = refusals("unfold as a process", 188, 800, |random| {
+        compared(files(random))
+    });
+    assert!((100..700).contains(&refusals));
     let circular = changed_move("part=0,0,1,1,2,0,1", "part=0,0,1,1,0,0,1");
     for task in [MOVE, &circular] {
         for plan in [
