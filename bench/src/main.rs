@@ -3,6 +3,7 @@
 mod folding;
 mod lists;
 mod pddl;
+mod proposing;
 mod reading;
 mod running;
 mod splitting;
@@ -17,6 +18,7 @@ fn main() {
     writing::bench();
     pddl::bench();
     splitting::bench();
+    proposing::bench();
     unfolding::bench();
     folding::bench();
 }

@@ -9,7 +9,7 @@ use checks::vectors::propose_cases;
 use differential::beside::{compare, short_or_long, shown};
 use differential::proposing::propose;
 use generate::differing::any_differing_task;
-use generate::proposing::{any_proposing_task, any_request, any_width, Request};
+use generate::proposing::{any_proposing_task, any_request, any_width, full_task, Request};
 use generate::tasks::{parted_anew, task};
 use generate::{limits, tables, Random, Shape};
 use reference::propose::{MAX_WIDTH, SCRATCH_WORDS};
@@ -85,13 +85,18 @@ fn parameters_that_differ() {
     });
 }
 
-/// Schemas of up to 64 atoms, which often end with too many parts.
+/// Schemas of up to 64 atoms or just so many, which often end with too many
+/// parts.
 #[test]
 fn many_atoms() {
     let entry = "proposing for many atoms compared";
     each_answer(entry, 205, 500, &[0, 23], |random| {
-        let task = task(random, &Shape::WIDE_PROPOSING);
-        let width = random.below(7) as u64;
+        let task = if random.chance(1, 2) {
+            task(random, &Shape::WIDE_PROPOSING)
+        } else {
+            full_task(random)
+        };
+        let width = random.below(8) as u64;
         compared_task(&task, width)
     });
 }
