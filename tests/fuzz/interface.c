@@ -21,8 +21,9 @@ uint32_t reference_unfold(const uint16_t *, size_t, const uint16_t *, size_t, ui
                           uint64_t *);
 uint32_t reference_fold(const uint16_t *, size_t, const uint16_t *, size_t, uint16_t *, size_t, uint64_t *, uint64_t *,
                         uint64_t *);
+uint32_t reference_propose(const uint16_t *, size_t, uint64_t, uint16_t *, size_t, uint16_t *, size_t, uint64_t *);
 
-enum call { READ, WRITE, WRITE_PDDL, SPLIT, RUN, UNFOLD, FOLD, CALLS };
+enum call { READ, WRITE, WRITE_PDDL, SPLIT, RUN, UNFOLD, FOLD, PROPOSE, CALLS };
 
 struct input {
     enum call call;
@@ -45,8 +46,9 @@ struct answer {
 static const struct answer unanswered = {77, {88, 99, 111}};
 
 /* Buffers of the proved code in fenced pages, those of the reference beside them. */
-static struct lent given_text, given_table, given_list, written;
+static struct lent given_text, given_table, given_list, written, scratch;
 static uint16_t task[TABLE + BEHIND], list[MOST_WORDS], beside[MOST_WORDS], records[MOST_WORDS];
+static uint16_t scratch_beside[MOST_WORDS];
 
 static uint16_t word(struct input *in) {
     if (in->left < 2) {
@@ -184,6 +186,25 @@ static void fold_steps(const struct input *in) {
     same(&proved, &reference, 2 * in->lent);
 }
 
+/* So many words of scratch as `lent` says. One word tells every width up to 13; another makes it far too wide. */
+static void propose_parts(const struct input *in) {
+    struct answer proved = unanswered, reference = unanswered;
+    uint64_t width = (uint64_t)in->state << 48 | in->records;
+    lend_to_write(NULL, 2 * in->written_table, in->at_front);
+    lend(&scratch, NULL, 2 * in->lent, in->at_front);
+    memcpy(scratch_beside, scratch.bytes, 2 * in->lent);
+    only_read(&given_table, 1);
+    proved.number = splitter_propose((uint16_t *)given_table.bytes, in->read_table, width, (uint16_t *)written.bytes,
+                                     in->written_table, (uint16_t *)scratch.bytes, in->lent, proved.values);
+    only_read(&given_table, 0);
+    reference.number = reference_propose(task, in->read_table, width, beside, in->written_table, scratch_beside,
+                                         in->lent, reference.values);
+    same(&proved, &reference, 2 * in->written_table);
+    if (memcmp(scratch.bytes, scratch_beside, 2 * in->lent) != 0)
+        fail("both leave the same scratch");
+    guards_stand(&scratch);
+}
+
 /* The table of the text, with so many words behind it; then the changes to it. */
 static void make_table(struct input *in) {
     memcpy(task, written.bytes, 2 * TABLE);
@@ -237,6 +258,7 @@ int LLVMFuzzerInitialize(int *count, char ***arguments) {
     given_table = pages_to_lend();
     given_list = pages_to_lend();
     written = pages_to_lend();
+    scratch = pages_to_lend();
 #ifndef REPLAY
     set_traps();
 #endif
@@ -274,6 +296,9 @@ int LLVMFuzzerTestOneInput(const uint8_t *data, size_t size) {
         break;
     case UNFOLD:
         unfold_steps(&in);
+        break;
+    case PROPOSE:
+        propose_parts(&in);
         break;
     default:
         fold_steps(&in);

@@ -1,4 +1,4 @@
-//! The reference behind the names `reference_read` to `reference_fold`, lent
+//! The reference behind the names `reference_read` to `reference_propose`, lent
 //! and answered as `include/splitter.h` says, and its programs.
 
 use reference::{programs, Answer};
@@ -166,26 +166,57 @@ pub unsafe extern "C" fn reference_fold(
     told(&answer, place)
 }
 
+/// # Safety
+/// As for reading.
+#[no_mangle]
+pub unsafe extern "C" fn reference_propose(
+    table: *const u16,
+    table_len: usize,
+    width: u64,
+    proposed: *mut u16,
+    proposed_len: usize,
+    scratch: *mut u16,
+    scratch_len: usize,
+    place: &mut u64,
+) -> u32 {
+    let answer = reference::propose(
+        from_raw_parts(table, table_len),
+        width,
+        from_raw_parts_mut(proposed, proposed_len),
+        from_raw_parts_mut(scratch, scratch_len),
+    );
+    told(&answer, place)
+}
+
 /// What a program printed is lent to be compared; 1 if it is what the
-/// reference prints: for `split` (0), `unfold` (1) or `pddl` (2).
+/// reference prints: for `split` (0), `unfold` (1), `pddl` (2) or `propose` (3).
+/// Beside the task `unfold` has a plan, and `propose` its arguments, each ended
+/// by byte 0.
 ///
 /// # Safety
-/// As for reading; `plan` may be null where the program is not `unfold`.
+/// As for reading; `other` may be null where the program is `split` or `pddl`.
 #[no_mangle]
 pub unsafe extern "C" fn reference_prints(
     program: u32,
     task: *const u8,
     task_len: usize,
-    plan: *const u8,
-    plan_len: usize,
+    other: *const u8,
+    other_len: usize,
     printed: *const u8,
     printed_len: usize,
 ) -> u32 {
     let task = from_raw_parts(task, task_len);
     let expected = match program {
         0 => programs::split_program(task),
-        1 => programs::unfold_program(Some(task), Some(from_raw_parts(plan, plan_len))),
-        _ => programs::pddl_program(task),
+        1 => programs::unfold_program(Some(task), Some(from_raw_parts(other, other_len))),
+        2 => programs::pddl_program(task),
+        _ => {
+            let arguments = from_raw_parts(other, other_len).split_inclusive(|byte| *byte == 0);
+            let arguments: Vec<&[u8]> = arguments
+                .filter_map(|argument| argument.strip_suffix(&[0]))
+                .collect();
+            programs::propose_program(&arguments, task)
+        }
     };
     u32::from(expected == from_raw_parts(printed, printed_len))
 }
