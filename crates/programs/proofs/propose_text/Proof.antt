@@ -1,4 +1,5 @@
--- `programs::propose_text` meets its contract: it prints what is made in its form, for the width that the argument says.
+-- `programs::propose_text` meets its contract: it prints what is made in its form, for the width that the argument
+-- says.
 use native.Mathlib.Omega.{arith}
 use borrow.Author.Needs.{needs}
 use Rattle.text.specs.TableLines.{longestText}

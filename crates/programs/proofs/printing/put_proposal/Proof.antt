@@ -1,5 +1,5 @@
--- `programs::printing::put_proposal` meets its contract: the task proposed lies as a table, whose text is put; a refusal
--- is the one that is printed.
+-- `programs::printing::put_proposal` meets its contract: the task proposed lies as a table, whose text is put; a
+-- refusal is the one that is printed.
 use mathlib.Core.Path.{sym, _∙_, ap}
 use borrow.Author.Needs.{needs}
 use Rattle.proposals.specs.Outcome.{proposeAnswerTold}

@@ -8,12 +8,15 @@ use Rattle.splitter.proofs.propose.splitter_propose.Statement.{statemen
 
 returns : tie.Need-returns
 unfolding proposeAnswerTold
-returns c = no-values proposeAnswerTold (c .before .before .before .before .before .before .before .before .propose .ensures)
+returns c =
+    no-values proposeAnswerTold (c .before .before .before .before .before .before .before .before .propose .ensures)
     (c .before .before .enum-told .given .1) (c .result .ensures)
 
 returns-2 : tie.Need-returns-2
 unfolding proposeAnswerTold
-returns-2 c = no-values proposeAnswerTold (c .before .before .before .before .before .before .before .before .before .propose .ensures)
+returns-2 c =
+    no-values proposeAnswerTold
+    (c .before .before .before .before .before .before .before .before .before .propose .ensures)
     (c .before .before .before .number .given .1) (c .refusal .ensures)
 
 pub splitter-propose-spec : {M : Type 1} → statement M
