@@ -68,7 +68,7 @@ module _ (t : Task) (s : ℕ) (o : List ℕ) (j : ℕ) (P : PartOf t s o j) wher
       (λ a b i k e. omega (arith, add-role t s o j a i, del-role t s o j b k, e .role)))
       (λ a b i k e. omega (arith, pre-role t s o j a i, behind b k, e .role))
 
-  schema-roles : rolesAscend (new .atoms) ≡ true
+  pub schema-roles : rolesAscend (new .atoms) ≡ true
   unfolding splitSchema rolesAscend
   schema-roles =
       roles-append 0 (omega arith) (preAtoms t s o j) (addAtoms t s o j ++ delAtoms t s o j) (pre-role t s o j)
@@ -120,14 +120,14 @@ module _ (t : Task) (s : ℕ) (o : List ℕ) (j : ℕ) (P : PartOf t s o j) wher
       )
 
   -- ---- one part
-  schema-part : (a : Atom) → In a (new .atoms) → a .part ≡ 0
+  pub schema-part : (a : Atom) → In a (new .atoms) → a .part ≡ 0
   schema-part a i = elim (of-schema t s o j a i) [
     | of-pre h ↦ part-is t s o j precondition false (required t s o j) (laterHere t s o j) a h
     | of-add h ↦ part-is t s o j addition (lone t s o j) (handedOn t s o j) (firstHere t s o j) a h
     | of-del h ↦ part-is t s o j deletion (lone t s o j) (required t s o j) (lastHere t s o j) a h
   ]
 
-  requires-token : In (token precondition (required t s o j) []) (new .atoms)
+  pub requires-token : In (token precondition (required t s o j) []) (new .atoms)
   requires-token =
       in-schema t s o j _
       (of-pre (to-role t s o j 0 false (required t s o j) (laterHere t s o j) _ (the-token refl refl)))

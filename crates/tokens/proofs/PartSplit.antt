@@ -7,12 +7,14 @@ use mathlib.Core.List.{List, [], _∷_, _++_, map}
 use native.Mathlib.Omega.{arith}
 use lib.ListN.{length, getD, length-append}
 use lib.Seq.{getD-append-add}
+use borrow.Author.Tests.{leb-true}
 use Rattle.words.specs.Lists.{filter, keepIf, concatMap, upFrom, upTo, indexOf}
+use Rattle.task.specs.Limits.{mostParameters}
 use Rattle.task.specs.Task.{Atom, Task, precondition, addition, deletion}
 use Rattle.task.specs.Run.{schemaAt}
 use Rattle.task.specs.Table.{atomWords, taskOf}
 use Rattle.words.proofs.Lists.{In, map-same, filter-in, append-concatMap, filter-append, upFrom-append, filter-same}
-use Rattle.words.specs.Sets.{member, members}
+use Rattle.words.specs.Sets.{member, members, wordBits}
 use Rattle.tokens.specs.Split.{has, paramsOf, orders, parToken, token, own, oldAtoms, required, lone, firstHere}
 use Rattle.tokens.specs.Split.{lastHere, laterHere, pars, splitSchema}
 use Rattle.tokens.specs.Writing.{newNumber, renumbered, oldIn, parIn, oldWords, parWords, roleWords, partWords}
@@ -22,7 +24,8 @@ use Rattle.words.proofs.Sums.{filter-filter}
 use Rattle.tokens.proofs.Places.{index-getD, in-params}
 use Rattle.tokens.proofs.RoleAtoms.{renumber, atomsHere, parAtom, roleAtoms, here-atom, preAtoms, addAtoms}
 use Rattle.tokens.proofs.RoleAtoms.{delAtoms, schema-atoms}
-use Rattle.tokens.proofs.PartRoles.{PartOf, own-in}
+use Rattle.tokens.proofs.PartRoles.{PartOf, tests, own-in}
+use Rattle.tokens.proofs.ParPlaces.{own-listed}
 use Rattle.tokens.specs.declared.part_atoms.PartTokens.{PartTokens}
 use Rattle.tokens.specs.declared.part_atoms.RoleTokens.{RoleTokens}
 
@@ -74,13 +77,20 @@ module _ (t : Task) (s : ℕ) (o : List ℕ) (j : ℕ) (P : PartOf t s o j) (set
       filter-same (λ x. has (schemaAt t s) x (getD o j 0)) (member set) (upTo (schemaAt t s .params))
       (λ x i. sym (is x))
 
+  -- the set has as many numbers as the part's schema has parameters
+  pub set-size : length (members set wordBits) ≡ splitSchema t s o j .params
+  unfolding splitSchema
+  set-size =
+      let few = leb-true (schemaAt t s .params) mostParameters (tests t s o j P .params) in
+      ap length (own-listed t s o j wordBits (P .fits) (omega arith) set is)
+
   pub new-index : (x : ℕ) → In x (own t s o j) → newNumber set x ≡ indexOf x (own t s o j)
   unfolding own
   new-index x i =
       let (l, h) = in-params (schemaAt t s) x (getD o j 0) i in
       index-member set (schemaAt t s .params) x l (is x ∙ h) ∙ ap (indexOf x) (sym own-members)
 
-  old-same : (r : ℕ) → oldIn set r (getD o j 0) (schemaAt t s .atoms) ≡ oldAtoms t s o j r
+  pub old-same : (r : ℕ) → oldIn set r (getD o j 0) (schemaAt t s .atoms) ≡ oldAtoms t s o j r
   unfolding oldIn oldAtoms
   old-same r = map-same (renumbered set r) (renumber t s o j r) (atomsHere t s o j r) (λ a i.
       let (k, q, p) = here-atom t s o j r a i in
@@ -88,7 +98,7 @@ module _ (t : Task) (s : ℕ) (o : List ℕ) (j : ℕ) (P : PartOf t s o j) (set
       (map-same (newNumber set) (λ x. indexOf x (own t s o j)) (a .args)
       (λ x m. new-index x (own-in t s o j P a k p x m))))
 
-  par-same : (par r which : ℕ) (test : ℕ → Bool) → par ≡ parToken t 0 →
+  pub par-same : (par r which : ℕ) (test : ℕ → Bool) → par ≡ parToken t 0 →
       filter test (own t s o j) ≡ members which (schemaAt t s .params) →
       map (parIn set par r) (members which (schemaAt t s .params)) ≡ pars t s o j r test
   unfolding pars parToken

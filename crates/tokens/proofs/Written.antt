@@ -6,7 +6,7 @@ use mathlib.Core.Bool.{true}
 use mathlib.Core.List.{List, [], _∷_, _++_, map, append-nil}
 use native.Mathlib.Omega.{arith}
 use native.Mathlib.Numerals.{add-one}
-use lib.ListN.{length, getD, replicate, length-map}
+use lib.ListN.{length, replicate, length-map}
 use borrow.Author.Tests.{leb-true}
 use Rattle.words.specs.Lists.{concatMap, upTo}
 use Rattle.task.specs.Limits.{headWords}
@@ -14,7 +14,6 @@ use Rattle.task.specs.Layout.{headIn, factsBase, atomBase}
 use Rattle.task.specs.Limits.{tableWords, atomSize, mostPredicates, mostSchemas, mostSchemaAtoms, mostInitial, mostGoal}
 use Rattle.task.specs.Limits.{pairSize, mostPairs}
 use Rattle.task.specs.Task.{Fact, Schema, Task, schemaAtoms, schemaPairs, wellFormed}
-use Rattle.task.specs.Run.{schemaAt}
 use Rattle.words.specs.Words.{wordsAt}
 use Rattle.task.specs.Table.{atomWords, factWords, pairWords, schemasFrom, pairsFrom, headOf, taskOf, isTable}
 use Rattle.task.specs.Table.{aritiesIn}
@@ -28,17 +27,13 @@ use Rattle.task.proofs.Tables.{content, content-fits, places}
 use Rattle.task.proofs.Tests.{task-tests}
 use Rattle.task.proofs.TablesByIndex.{Frame, table-frame, objects-word, arities-word}
 use Rattle.task.proofs.TablesByIndex.{init-word, goal-word}
-use Rattle.words.specs.Sets.{member, members, wordBits}
-use Rattle.tokens.specs.Split.{has, procnone, token, orders, free, splitSchema, splitTask}
+use Rattle.tokens.specs.Split.{procnone, token, orders, free, splitSchema, splitTask}
 use Rattle.tokens.specs.Writing.{setSize, splitHead, arityWords, setSizes}
-use Rattle.tokens.proofs.Places.{has-small}
-use Rattle.words.proofs.SetMembers.{filter-below}
 use Rattle.tokens.proofs.Predicates.{predicate-count}
 use Rattle.tokens.proofs.Sizes.{init-count, goal-count}
-use Rattle.tokens.proofs.PartRoles.{facts}
 use Rattle.tokens.proofs.WellSplit.{part-of}
-use Rattle.tokens.proofs.PartSplit.{own-members}
-use Rattle.tokens.proofs.Splitting.{well, ordered, few-params}
+use Rattle.tokens.proofs.PartSplit.{set-size}
+use Rattle.tokens.proofs.Splitting.{well, ordered}
 use Rattle.tokens.specs.Kept.{keptOwn}
 use Rattle.tokens.specs.Acceptance.{AcceptedKept, partSchemas}
 use Rattle.tokens.specs.declared.measure.Sizes.{Sizes}
@@ -91,16 +86,9 @@ module _ {w : List ℕ} {sizes : Sizes} {kept : List ℕ} (S : AcceptedKept w si
   -- ---- parameters
   size-written : (s j : ℕ) → s < length (t .schemas) → j < length (orders t s) →
       setSize kept s j ≡ splitSchema t s (orders t s) j .params
-  unfolding splitSchema members
   size-written s j l h =
-      let P = part-of t (well S) (ordered S) s j l h in
-      let is : (x : ℕ) → member (keptOwn kept s j) x ≡ has (schemaAt t s) x (getD (orders t s) j 0) =
-      λ x. S .parts .params s j x l h in
-      ap length (filter-below (member (keptOwn kept s j)) (schemaAt t s .params) wordBits
-      (omega (arith, few-params S s l))
-      (λ x e. has-small (schemaAt t s) (t .arities) (facts t s (orders t s) j P) x (getD (orders t s) j 0)
-      (sym (is x) ∙ e)) ∙
-      sym (own-members t s (orders t s) j P (keptOwn kept s j) is))
+      set-size t s (orders t s) j (part-of t (well S) (ordered S) s j l h) (keptOwn kept s j)
+      (λ x. S .parts .params s j x l h)
 
   pub params-written : (n : ℕ) → n ≡ length (t .schemas) →
       map (λ (u : Schema). u .params) (splitTask t .schemas) ≡ concatMap (setSizes kept) (upTo n)

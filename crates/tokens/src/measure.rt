@@ -79,7 +79,7 @@ fn atoms_in(table: &[u16], from: usize, to: usize, part: Part) -> usize
 }
 
 // The atoms of the part at position j of schema s: its old ones, procnone or do, and pars.
-fn part_size(table: &[u16], kept: &Kept, s: usize, j: usize) -> usize
+pub fn part_size(table: &[u16], kept: &Kept, s: usize, j: usize) -> usize
     requires { ⌜ SchemaKept (now table) s (now kept) ⌝ }
     requires { ⌜ j < keptCount (now kept) s ⌝ }
     ensures { λ r. ⌜ r ≡

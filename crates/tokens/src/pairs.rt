@@ -38,7 +38,7 @@ pub enum Parted {
 }
 
 // Whether a part with these parameters has both of pair i.
-fn carries_pair(table: &[u16], own: u64, i: usize) -> bool
+pub fn carries_pair(table: &[u16], own: u64, i: usize) -> bool
     requires { ⌜ isTable (now table) ≡ true ⌝ }
     requires { ⌜ i < headIn (now table) .pairs ⌝ }
     ensures { λ r. ⌜ r ≡ carries own (pairIn (now (table .entry)) i) ⌝ }
@@ -119,7 +119,7 @@ pub fn carried(table: &[u16], own: u64, from: usize, to: usize) -> usize
 }
 
 // Pair i, renumbered for a part with these parameters, under the part's number in the split.
-fn put_pair(table: &[u16], own: u64, number: u16, i: usize, out: &mut [u16], at: usize) -> usize
+pub fn put_pair(table: &[u16], own: u64, number: u16, i: usize, out: &mut [u16], at: usize) -> usize
     requires { ⌜ isTable (now table) ≡ true ⌝ }
     requires { ⌜ i < headIn (now table) .pairs ⌝ }
     requires { ⌜ at + pairSize ≤ length (now out) ⌝ }

@@ -66,7 +66,7 @@ struct Reached {
 }
 
 // A parameter's number among those of the part.
-pub(crate) fn renumbered_in(own: u64, x: Parameter) -> Parameter
+pub fn renumbered_in(own: u64, x: Parameter) -> Parameter
     requires { ⌜ x .0 < wordBits ⌝ }
     ensures { λ r. ⌜ r .0 ≡ newNumber own (x .0) ⌝ }
 {
@@ -92,7 +92,7 @@ fn arguments(table: &[u16], i: usize, own: u64, out: &mut [u16], at: usize) -> u
 }
 
 // An old atom, renumbered.
-fn old_atom(
+pub fn old_atom(
     table: &[u16],
     i: usize,
     own: u64,
@@ -162,7 +162,7 @@ pub fn bare_token(number: u16, role: u16, predicate: u16, out: &mut [u16], at: u
 }
 
 // The par of a parameter.
-fn par_atom(here: PartPlace, role: u16, x: Parameter, out: &mut [u16], at: usize) -> usize
+pub fn par_atom(here: PartPlace, role: u16, x: Parameter, out: &mut [u16], at: usize) -> usize
     requires { ⌜ x .0 < wordBits ⌝ }
     requires { ⌜ here .par < parBound ⌝ }
     requires { ⌜ at + atomSize ≤ length (now out) ⌝ }

@@ -80,7 +80,7 @@ fn token_at(procnone: usize, before: usize, count: usize, j: usize) -> u16
 }
 
 // The place of the part of schema s at position j.
-fn place_of(table: &[u16], kept: &Kept, sizes: Sizes, s: usize, j: usize) -> PartPlace
+pub fn place_of(table: &[u16], kept: &Kept, sizes: Sizes, s: usize, j: usize) -> PartPlace
     requires { ⌜ AcceptedKept (now table) sizes (now kept) ⌝ }
     requires { ⌜ s < length (taskOf (now table) .schemas) ⌝ }
     requires { ⌜ j < length (orders (taskOf (now table)) s) ⌝ }
@@ -100,7 +100,7 @@ fn place_of(table: &[u16], kept: &Kept, sizes: Sizes, s: usize, j: usize) -> Par
 }
 
 // The tokens of that part. The schemas before have as many later parts as they have parts less one each.
-fn tokens_of(table: &[u16], kept: &Kept, s: usize, j: usize) -> PartTokens
+pub fn tokens_of(table: &[u16], kept: &Kept, s: usize, j: usize) -> PartTokens
     requires { ⌜ AcceptedParts (now table) (now kept) ⌝ }
     requires { ⌜ s < length (taskOf (now table) .schemas) ⌝ }
     requires { ⌜ j < length (orders (taskOf (now table)) s) ⌝ }
