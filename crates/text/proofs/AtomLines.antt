@@ -1,31 +1,23 @@
 -- The line of an atom by the words of the table, as code writes it: key, predicate, colon, arguments, byte 10; and how
 -- long it can be.
-use Rattle.task.specs.Limits.{atomSize}
+use Rattle.task.specs.Limits.{atomSize, mostArity}
 use Rattle.task.specs.Layout.{arityIn}
-use Prim.Native.Nat.{ℕ, zero, suc, _+_, _-_, _*_, _≤_, _<_}
+use Prim.Native.Nat.{ℕ, zero, suc, _+_, _-_, _*_, _^_, _≤_, _<_}
 use mathlib.Core.Path.{_≡_, refl, sym, _∙_, ap, ap₂}
 use mathlib.Core.List.{List, [], _∷_, _++_, map, append-assoc}
 use native.Mathlib.Nat.{mul-suc}
 use native.Mathlib.Omega.{arith}
-use native.Mathlib.Decide.{decLt}
 use lib.ListN.{length, getD, length-append, length-map}
 use Rattle.words.specs.Lists.{upTo, upFrom}
 use Rattle.words.specs.Words.{wordsAt}
 use Rattle.words.proofs.Lists.{In, here, there, length-upTo}
 use Rattle.text.specs.Lines.{bytes, equals, colon, newline, digits, commaed, entryBytes, line}
 use Rattle.text.specs.Text.{keyName}
-use Rattle.text.specs.TableLines.{spaced, AtomInside, entryAt, atomKey, keyBytes, atomText, atomsText}
+use Rattle.text.specs.TableLines.{spaced, entryAt, atomKey, keyBytes, rowText, atomText, atomsText}
 use Rattle.text.proofs.DigitSteps.{at-most-five}
 use Rattle.text.proofs.Onwards.{onwards, onwards-all}
 
 -- ---- keys
-pub key-short : (role : ℕ) → role < 3 → length (keyBytes role) ≡ 4
-unfolding keyBytes
-key-short zero h = refl
-key-short (suc zero) h = refl
-key-short (suc (suc zero)) h = refl
-key-short (suc (suc (suc r))) h = absurd (omega arith)
-
 -- a role that is none of the first four counts as a goal's
 pub key-other : (role : ℕ) → 4 ≤ role → keyBytes role ≡ keyBytes 4
 unfolding keyBytes
@@ -35,19 +27,13 @@ key-other (suc (suc zero)) h = absurd (omega arith)
 key-other (suc (suc (suc zero))) h = absurd (omega arith)
 key-other (suc (suc (suc (suc r)))) h = refl
 
-pub key-long : (role : ℕ) → 3 ≤ role → length (keyBytes role) ≡ 5
+key-most : (role : ℕ) → length (keyBytes role) ≤ 5
 unfolding keyBytes
-key-long zero h = absurd (omega arith)
-key-long (suc zero) h = absurd (omega arith)
-key-long (suc (suc zero)) h = absurd (omega arith)
-key-long (suc (suc (suc zero))) h = refl
-key-long (suc (suc (suc (suc r)))) h = refl
-
-pub key-most : (role : ℕ) → length (keyBytes role) ≤ 5
-key-most role = elim (decLt role 3) [
-  | yes l ↦ let e = key-short role l in omega arith
-  | no l ↦ let e = key-long role (omega arith) in omega arith
-]
+key-most zero = omega arith
+key-most (suc zero) = omega arith
+key-most (suc (suc zero)) = omega arith
+key-most (suc (suc (suc zero))) = omega arith
+key-most (suc (suc (suc (suc r)))) = omega arith
 
 -- ---- words in a row
 spaced-from : (w : List ℕ) (i k n : ℕ) →
@@ -89,7 +75,7 @@ commaed-within d (suc (suc k)) (n ∷ m ∷ ns) l h =
     omega (arith, length-append (digits n) (44 ∷ commaed (m ∷ ns)))
 
 -- no number has more than five digits
-pub commaed-most : (ns : List ℕ) → length (commaed ns) ≤ 6 * length ns
+commaed-most : (ns : List ℕ) → length (commaed ns) ≤ 6 * length ns
 commaed-most ns = let m = commaed-within 5 (length ns) ns (omega arith) (λ n i. at-most-five n) in omega arith
 
 pub spaced-most : (w : List ℕ) (from step n : ℕ) → length (commaed (spaced w from step n)) ≤ 6 * n
@@ -99,46 +85,48 @@ spaced-most w from step n =
     omega arith
 
 -- ---- the line
-pub line-is : (key : List ℕ) (body : List ℕ) →
-    (key ++ (equals ∷ [])) ++ (body ++ (newline ∷ [])) ≡ key ++ (equals ∷ (body ++ (newline ∷ [])))
-line-is key body = append-assoc key (equals ∷ []) (body ++ (newline ∷ []))
+-- a number and a colon, n words and byte 10: the rest of an atom's line behind its key, or of a step's
+pub entry-is : (head : ℕ) (w : List ℕ) (from n : ℕ) →
+    entryBytes (record { head = head; list = wordsAt w from n }) ++ (newline ∷ []) ≡
+    (digits head ++ (colon ∷ [])) ++ (commaed (spaced w from 1 n) ++ (newline ∷ []))
+unfolding entryBytes
+entry-is head w from n =
+    append-assoc (digits head) (colon ∷ commaed (wordsAt w from n)) (newline ∷ []) ∙
+    (ap (λ (ns : List ℕ). digits head ++ (colon ∷ (commaed ns ++ (newline ∷ [])))) (sym (spaced-words w from n)) ∙
+    sym (append-assoc (digits head) (colon ∷ []) (commaed (spaced w from 1 n) ++ (newline ∷ []))))
 
-module _ (w : List ℕ) (b : ℕ) where
-  abbrev pub argsAt : List ℕ
-  argsAt = commaed (spaced w (b + 4) 1 (arityIn w (getD w (b + 2) 0)))
+pub rowText-is : (w : List ℕ) (b n : ℕ) →
+    rowText w b n ≡ keyBytes (getD w (b + 1) 0) ++
+    (entryBytes (record { head = getD w (b + 2) 0; list = wordsAt w (b + 4) n }) ++ (newline ∷ []))
+unfolding rowText keyBytes line entryAt
+rowText-is w b n =
+    sym (append-assoc (bytes (keyName (atomKey (getD w (b + 1) 0)))) (equals ∷ [])
+    (entryBytes (entryAt w b n) ++ (newline ∷ [])))
 
-  pub atomText-is : atomText w b ≡ keyBytes (getD w (b + 1) 0) ++ (digits (getD w (b + 2) 0) ++
-      (colon ∷ (argsAt ++ (newline ∷ []))))
-  unfolding atomText keyBytes line entryBytes entryAt
-  atomText-is =
-      let key = bytes (keyName (atomKey (getD w (b + 1) 0))) in
-      let pred = digits (getD w (b + 2) 0) in
-      let args = wordsAt w (b + 4) (arityIn w (getD w (b + 2) 0)) in
-      sym (line-is key (pred ++ (colon ∷ commaed args))) ∙
-      ap (λ (body : List ℕ). (key ++ (equals ∷ [])) ++ body)
-      (append-assoc pred (colon ∷ commaed args) (newline ∷ []) ∙
-      ap (λ (ns : List ℕ). pred ++ (colon ∷ (commaed ns ++ (newline ∷ []))))
-      (sym (spaced-words w (b + 4) (arityIn w (getD w (b + 2) 0)))))
-
-  pub length-atomText : length (atomText w b) ≡
-      length (keyBytes (getD w (b + 1) 0)) + (length (digits (getD w (b + 2) 0)) + (1 + (length argsAt + 1)))
-  length-atomText =
-      let key = keyBytes (getD w (b + 1) 0) in
-      let pred = digits (getD w (b + 2) 0) in
-      let e = ap length atomText-is in
-      let k = length-append key (pred ++ (colon ∷ (argsAt ++ (newline ∷ [])))) in
-      let p = length-append pred (colon ∷ (argsAt ++ (newline ∷ []))) in
-      let a = length-append argsAt (newline ∷ []) in
-      omega arith
-
-  -- the arguments' words lie in the table
-  pub args-inside : AtomInside w b → (k : ℕ) → k < arityIn w (getD w (b + 2) 0) → b + 4 + 1 * k < length w
-  args-inside h k l = let i = h .inside in let s = h .short in omega arith
-
-  pub args-short : AtomInside w b → length argsAt ≤ 24
-  args-short h = let m = spaced-most w (b + 4) 1 (arityIn w (getD w (b + 2) 0)) in let s = h .short in omega arith
+pub row-fits : (w : List ℕ) (b n : ℕ) → n ≤ mostArity → length (rowText w b n) < 2 ^ 64
+row-fits w b n h =
+    let key = keyBytes (getD w (b + 1) 0) in
+    let pred = getD w (b + 2) 0 in
+    let args = commaed (spaced w (b + 4) 1 n) in
+    let entry = (digits pred ++ (colon ∷ [])) ++ (args ++ (newline ∷ [])) in
+    let whole : rowText w b n ≡ key ++ entry =
+    rowText-is w b n ∙ ap (λ (bs : List ℕ). key ++ bs) (entry-is pred w (b + 4) n) in
+    let long = ap length whole in
+    let lengths = length-append key entry in
+    let short = key-most (getD w (b + 1) 0) in
+    let parts = length-append (digits pred ++ (colon ∷ [])) (args ++ (newline ∷ [])) in
+    let head = length-append (digits pred) (colon ∷ []) in
+    let five = at-most-five pred in
+    let end = length-append args (newline ∷ []) in
+    let few = spaced-most w (b + 4) 1 n in
+    omega arith
 
 -- ---- the lines of atoms, from atom k on
+-- an atom's line has as many arguments as its predicate's arity
+pub atom-row : (w : List ℕ) (b n : ℕ) → n ≡ arityIn w (getD w (b + 2) 0) → rowText w b n ≡ atomText w b
+unfolding atomText
+atom-row w b n e = ap (rowText w b) e
+
 abbrev pub atomLine : List ℕ → ℕ → ℕ → List ℕ
 atomLine w b k = atomText w (b + atomSize * k)
 

@@ -1,14 +1,12 @@
--- What is still to come of a list that is written by a counter: the pieces from a number on. And lists of numbers so:
--- a number, then the others from 1 on, each behind its comma.
-use Prim.Native.Nat.{ℕ, zero, suc, _+_, _-_, _*_, _≤_, _<_}
+-- What is still to come of a list that is written by a counter: the pieces from a number on. And lists of numbers so,
+-- each with the byte behind it: a comma, or byte 10 behind the last.
+use Prim.Native.Nat.{ℕ, suc, _+_, _-_, _*_, _≤_, _<_}
 use mathlib.Core.Path.{_≡_, refl, sym, _∙_, ap}
-use mathlib.Core.List.{List, [], _∷_, _++_, map, append-nil}
+use mathlib.Core.List.{List, [], _∷_, _++_, map, append-assoc}
 use native.Mathlib.Omega.{arith}
 use lib.ListN.{length, getD, length-append}
 use Rattle.words.specs.Lists.{upTo, upFrom, concatMap}
-use Rattle.words.specs.Putting.{Puts}
-use Rattle.words.proofs.Puts.{Going, going-left, going-room, going-on, going-end}
-use Rattle.text.specs.Lines.{comma, digits, commaed}
+use Rattle.text.specs.Lines.{comma, newline, digits, commaed}
 use Rattle.text.specs.TableLines.{spaced}
 
 -- the pieces k, k + 1, .., n - 1
@@ -39,53 +37,42 @@ onwards-longer piece k n h =
 pub onwards-short : (piece : ℕ → List ℕ) (k n : ℕ) → n ≤ k → length (onwards piece k n) ≡ 0
 onwards-short piece k n h = ap length (onwards-none piece k n h)
 
--- ---- pieces put by a counter
-module _ {w whole v : List ℕ} {at next : ℕ} (piece : ℕ → List ℕ) (k n : ℕ)
-    (going : Going w at whole (onwards piece k n) v next) where
-  -- piece k comes next, so it has room; once it is put, those from k + 1 on are to come
-  pub piece-room : k < n → next + length (piece k) ≤ length v
-  piece-room h = going-room (piece k) (onwards piece (k + 1) n) (going-left (onwards-next piece k n h) going)
-
-  pub piece-put : {u : List ℕ} {end : ℕ} → k < n → Puts v next (piece k) u end →
-      Going w at whole (onwards piece (k + 1) n) u end
-  piece-put h p = going-on (going-left (onwards-next piece k n h) going) p
-
-  -- behind the last piece the whole is put
-  pub pieces-end : n ≤ k → Puts w at whole v next
-  pieces-end h = going-end (going-left (onwards-none piece k n h) going)
-
 -- ---- lists of numbers
--- number k of a spaced list, behind its comma
-abbrev pub listed : List ℕ → ℕ → ℕ → ℕ → List ℕ
-listed w from step k = comma ∷ digits (getD w (from + step * k) 0)
+-- the numbers from k on of a spaced list, and byte 10 behind the last
+abbrev pub listing : List ℕ → ℕ → ℕ → ℕ → ℕ → List ℕ
+listing w from step k n = commaed (map (λ j. getD w (from + step * j) 0) (upFrom k (n - k))) ++ (newline ∷ [])
 
-commaed-onwards : (word : ℕ → ℕ) (k m : ℕ) →
-    commaed (map word (upFrom k (suc m))) ≡
-    digits (word k) ++ concatMap (λ j. comma ∷ digits (word j)) (upFrom (suc k) m)
-unfolding commaed upFrom concatMap
-commaed-onwards word k zero = sym (append-nil (digits (word k)))
-commaed-onwards word k (suc m) =
-    ap (λ (ds : List ℕ). digits (word k) ++ (comma ∷ ds)) (commaed-onwards word (suc k) m)
-
-pub commaed-none : (w : List ℕ) (from step : ℕ) → commaed (spaced w from step 0) ≡ []
-unfolding commaed spaced upTo upFrom
-commaed-none w from step = refl
-
-pub commaed-first : (w : List ℕ) (from step n : ℕ) → 0 < n →
-    commaed (spaced w from step n) ≡ digits (getD w from 0) ++ onwards (listed w from step) 1 n
+pub listing-all : (w : List ℕ) (from step n : ℕ) →
+    commaed (spaced w from step n) ++ (newline ∷ []) ≡ listing w from step 0 n
 unfolding spaced upTo
-commaed-first w from step zero h = absurd (omega arith)
-commaed-first w from step (suc m) h =
-    let word : ℕ → ℕ = λ k. getD w (from + step * k) 0 in
-    let e : from + step * 0 ≡ from = omega arith in
-    let q : m ≡ suc m - 1 = omega arith in
-    commaed-onwards word 0 m ∙
-    (ap (λ (i : ℕ). digits (getD w i 0) ++ concatMap (listed w from step) (upFrom 1 m)) e ∙
-    ap (λ (i : ℕ). digits (getD w from 0) ++ concatMap (listed w from step) (upFrom 1 i)) q)
+listing-all w from step n =
+    let e : n ≡ n - 0 = omega arith in
+    ap (λ (m : ℕ). commaed (map (λ j. getD w (from + step * j) 0) (upFrom 0 m)) ++ (newline ∷ [])) e
 
-pub commaed-long : (w : List ℕ) (from step n : ℕ) → 0 < n →
-    length (commaed (spaced w from step n)) ≡
-    length (digits (getD w from 0)) + length (onwards (listed w from step) 1 n)
-commaed-long w from step n h =
-    ap length (commaed-first w from step n h) ∙
-    length-append (digits (getD w from 0)) (onwards (listed w from step) 1 n)
+pub listing-none : (w : List ℕ) (from step : ℕ) → commaed (spaced w from step 0) ++ (newline ∷ []) ≡ newline ∷ []
+unfolding commaed spaced upTo upFrom
+listing-none w from step = refl
+
+-- number k with a comma behind it, or with byte 10 where it is the last
+module _ (w : List ℕ) (from step k n : ℕ) where
+  pub listing-next : k + 1 < n →
+      listing w from step k n ≡
+      (digits (getD w (from + step * k) 0) ++ (comma ∷ [])) ++ listing w from step (k + 1) n
+  unfolding commaed upFrom
+  listing-next h =
+      let number = digits (getD w (from + step * k) 0) in
+      let rest : ℕ → ℕ → List ℕ = λ i m. commaed (map (λ j. getD w (from + step * j) 0) (upFrom i m)) in
+      let e : n - k ≡ suc (suc (n - (k + 2))) = omega arith in
+      let q : suc (n - (k + 2)) ≡ n - (k + 1) = omega arith in
+      let i : suc k ≡ k + 1 = omega arith in
+      ap (λ (m : ℕ). rest k m ++ (newline ∷ [])) e ∙
+      (append-assoc number (comma ∷ rest (suc k) (suc (n - (k + 2)))) (newline ∷ []) ∙
+      (ap (λ (m : ℕ). number ++ (comma ∷ (rest (suc k) m ++ (newline ∷ [])))) q ∙
+      (ap (λ (i : ℕ). number ++ (comma ∷ (rest i (n - (k + 1)) ++ (newline ∷ [])))) i ∙
+      sym (append-assoc number (comma ∷ []) (rest (k + 1) (n - (k + 1)) ++ (newline ∷ []))))))
+
+  pub listing-last : k + 1 ≡ n → listing w from step k n ≡ digits (getD w (from + step * k) 0) ++ (newline ∷ [])
+  unfolding commaed upFrom
+  listing-last h =
+      let e : n - k ≡ 1 = omega arith in
+      ap (λ (m : ℕ). commaed (map (λ j. getD w (from + step * j) 0) (upFrom k m)) ++ (newline ∷ [])) e

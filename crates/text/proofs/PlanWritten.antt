@@ -3,7 +3,7 @@
 use Prim.Native.Nat.{ℕ, _+_, _*_, _/_, _≤_, _<_}
 use mathlib.Core.Path.{_≡_, refl, sym, _∙_, ap}
 use mathlib.Core.Bool.{true}
-use mathlib.Core.List.{List, [], _∷_, _++_, map, append-assoc}
+use mathlib.Core.List.{List, [], _∷_, _++_, map}
 use mathlib.Core.Option.{none}
 use native.Mathlib.Omega.{arith}
 use lib.ListN.{length, getD, length-append}
@@ -18,13 +18,12 @@ use Rattle.task.proofs.Tests.{task-tests}
 use Rattle.task.proofs.States.{isStep-is}
 use Rattle.task.proofs.StepWords.{length-stepsIn, params-few, step-here}
 use Rattle.task.proofs.BadSteps.{good-steps, steps-good}
-use Rattle.text.specs.Lines.{bytes, equals, colon, newline, digits, commaed, entryBytes, line}
-use Rattle.text.specs.Plan.{step, planKeyName, PlanLine, stepLine, endLine, writePlanLine, stepEntry, planLines}
+use Rattle.text.specs.Lines.{colon, newline, digits, commaed, entryBytes, line}
+use Rattle.text.specs.Plan.{PlanLine, stepLine, endLine, writePlanLine, stepEntry, planLines}
 use Rattle.text.specs.Plan.{writePlan}
-use Rattle.text.specs.TableLines.{spaced}
 use Rattle.text.specs.PlanCode.{stepText, mostSplitSteps, longestPlan}
 use Rattle.text.proofs.DigitSteps.{digits-most}
-use Rattle.text.proofs.AtomLines.{spaced-words, Within, commaed-within}
+use Rattle.text.proofs.AtomLines.{Within, commaed-within}
 use Rattle.text.proofs.Onwards.{onwards, onwards-all}
 use Rattle.text.proofs.Pieces.{pieces-map, pieces-same, pieces-most}
 use Rattle.text.proofs.WholeText.{endBytes}
@@ -46,7 +45,7 @@ abbrev pub stepKey : List ℕ
 stepKey = 115 ∷ 116 ∷ 101 ∷ 112 ∷ 61 ∷ []
 
 pub stepText-is : (w : List ℕ) (b n : ℕ) → stepText w b n ≡
-    stepKey ++ (digits (getD w b 0) ++ (colon ∷ (commaed (spaced w (b + 1) 1 n) ++ (newline ∷ []))))
+    stepKey ++ (entryBytes (record { head = getD w b 0; list = wordsAt w (b + 1) n }) ++ (newline ∷ []))
 unfolding stepText
 stepText-is w b n = refl
 
@@ -56,14 +55,8 @@ module _ (t : Task) (w : List ℕ) where
   lineAtStep i = stepText w (stepSize * i) (paramCount t (getD w (stepSize * i) 0))
 
   step-line-is : (i : ℕ) → stepPiece (stepAt t w i) ≡ lineAtStep i
-  unfolding writePlanLine stepEntry stepText stepAt stepIn line entryBytes
-  step-line-is i =
-      let n = paramCount t (getD w (stepSize * i) 0) in
-      let ds = digits (getD w (stepSize * i) 0) in
-      let e = ap commaed (spaced-words w (stepSize * i + 1) n) in
-      ap (λ (bs : List ℕ). bytes (planKeyName step) ++ (equals ∷ bs))
-      (append-assoc ds (colon ∷ commaed (wordsAt w (stepSize * i + 1) n)) (newline ∷ []) ∙
-      ap (λ (bs : List ℕ). ds ++ (colon ∷ (bs ++ (newline ∷ [])))) (sym e))
+  unfolding writePlanLine stepEntry stepText stepAt stepIn
+  step-line-is i = refl
 
   pub plan-onwards : writePlan (stepsIn t w) ≡ onwards lineAtStep 0 (length w / stepSize) ++ endBytes
   unfolding stepsIn

@@ -1,5 +1,5 @@
 -- A number's digits, put into a text from the last to the first: `Behind` says that the digits behind a place stand,
--- and that those of `rest` are still to come before them.
+-- and that those of `rest` are still to come before them. What is put where it ends is put from a place on.
 use Prim.Native.Nat.{ℕ, suc, _+_, _-_, _/_, _%_, _≤_, _<_}
 use mathlib.Core.Path.{_≡_, refl, sym, _∙_, ap}
 use mathlib.Core.List.{List, [], _∷_, _++_, append-assoc, append-nil}
@@ -76,3 +76,9 @@ module _ {w v : List ℕ} {at n rest place : ℕ} (b : Behind w at n rest place 
             (ap (λ (i : ℕ). put w i (x ∷ b .tail)) q ∙ ap (put w at) ds);
         place = e;
       }
+
+pub puts-ended : {w xs v : List ℕ} {at end : ℕ} → end ≡ at + length xs → Puts w (end - length xs) xs v end →
+    Puts w at xs v end
+puts-ended {w} {xs} {v} {at} {end} e p =
+    let q : end - length xs ≡ at = omega arith in
+    record { words = p .words ∙ ap (λ (i : ℕ). put w i xs) q; place = e }

@@ -20,8 +20,8 @@ use Rattle.text.specs.Lines.{digits, commaed, entryBytes, line}
 use Rattle.text.specs.Text.{Key, Line, taskLine, objectsLine, schemaLine, endLine, arityLine, differLine}
 use Rattle.text.specs.Text.{partLine, atomLine, initLine, goalLine, keyName, keyOf, roleKey, writeLine, factEntry}
 use Rattle.text.specs.Text.{atomEntry, pairList, schemaLines, taskLines, write}
-use Rattle.text.specs.TableLines.{spaced, entryAt, atomKey, atomText, atomsText, pairsText}
-use Rattle.text.specs.TableLines.{schemaText, schemasText, headText}
+use Rattle.text.specs.TableLines.{spaced, entryAt, atomKey, rowText, atomText, atomsText, pairsText}
+use Rattle.text.specs.TableLines.{schemaText, schemasText, headText, factsText}
 use Rattle.text.proofs.Onwards.{onwards, onwards-all}
 use Rattle.text.proofs.AtomLines.{spaced-words}
 use Rattle.text.proofs.SchemaLines.{pairLine, partsAt, schemaText-is}
@@ -69,7 +69,7 @@ write-is t =
 
 -- ---- lines of atoms
 -- a role of a schema's atom has one key, whether its line is said by the atom or by the table
-role-key : (r : ℕ) → r ≤ 2 → roleKey r ≡ atomKey r
+pub role-key : (r : ℕ) → r ≤ 2 → roleKey r ≡ atomKey r
 unfolding roleKey atomKey
 role-key zero h = refl
 role-key (suc zero) h = refl
@@ -124,17 +124,17 @@ module _ (w : List ℕ) where
   -- atom i of a schema says its line as the table does
   schema-line : (i : ℕ) → atomIn w i .role ≤ 2 →
       writeLine (atomLine (atomIn w i .role) (atomEntry (atomIn w i))) ≡ lineIn i
-  unfolding writeLine keyOf atomText entryAt atomIn atomEntry
+  unfolding writeLine keyOf atomText rowText entryAt atomIn atomEntry
   schema-line i h =
       ap (λ (k : Key). line (keyName k) (entryBytes (atomEntry (atomIn w i)))) (role-key (atomIn w i .role) h)
 
   init-line : (i : ℕ) → getD w (atomBase w i + 1) 0 ≡ 3 → initPiece (factIn w i) ≡ lineIn i
-  unfolding writeLine keyOf atomText atomKey entryAt atomIn factIn factEntry
-  init-line i e = ap (λ (r : ℕ). line (keyName (atomKey r)) (entryBytes (entryAt w (atomBase w i)))) (sym e)
+  unfolding writeLine keyOf atomText rowText atomKey entryAt atomIn factIn factEntry
+  init-line i e = ap (λ (r : ℕ). line (keyName (atomKey r)) (entryBytes (factEntry (factIn w i)))) (sym e)
 
   goal-line : (i : ℕ) → getD w (atomBase w i + 1) 0 ≡ 4 → goalPiece (factIn w i) ≡ lineIn i
-  unfolding writeLine keyOf atomText atomKey entryAt atomIn factIn factEntry
-  goal-line i e = ap (λ (r : ℕ). line (keyName (atomKey r)) (entryBytes (entryAt w (atomBase w i)))) (sym e)
+  unfolding writeLine keyOf atomText rowText atomKey entryAt atomIn factIn factEntry
+  goal-line i e = ap (λ (r : ℕ). line (keyName (atomKey r)) (entryBytes (factEntry (factIn w i)))) (sym e)
 
 -- ---- a table's schemas
 -- the lines of schema s of a table
@@ -216,8 +216,19 @@ schema-lines w table s l =
     subst (λ (x : ℕ). atomIn w x .role ≤ 2) e (schema-role w table s k l (omega arith)))
 
 -- ---- a table's initial and goal atoms
+facts-pieces : (w : List ℕ) →
+    factsText w ≡ concatMap initPiece (taskOf w .init) ++ concatMap goalPiece (taskOf w .goal)
+unfolding factsText
+facts-pieces w =
+    let init : Fact → Line = λ f. initLine (factEntry f) in
+    let goal : Fact → Line = λ f. goalLine (factEntry f) in
+    append-concatMap writeLine (map init (taskOf w .init)) (map goal (taskOf w .goal)) ∙
+    ap₂ (λ (x y : List ℕ). x ++ y) (pieces-map writeLine init (taskOf w .init))
+    (pieces-map writeLine goal (taskOf w .goal))
+
+-- in a table they are the atoms behind those of the schemas
 pub facts-lines : (w : List ℕ) → isTable w ≡ true →
-    concatMap initPiece (taskOf w .init) ++ concatMap goalPiece (taskOf w .goal) ≡
+    factsText w ≡
     atomsText w (atomBase w (headIn w .schemaAtoms)) (headIn w .initialAtoms + headIn w .goalAtoms)
 unfolding taskOf
 facts-lines w table =
@@ -237,9 +248,10 @@ facts-lines w table =
     let e : i + n + (j - (i + n)) ≡ j = omega arith in
     goal-line w j (subst (λ (x : ℕ). getD w (atomBase w x + 1) 0 ≡ 4) e
     (goal-role w table (j - (i + n)) (omega arith)))) in
-    ap₂ (λ (x y : List ℕ). x ++ y) inits goals ∙
+    facts-pieces w ∙
+    (ap₂ (λ (x y : List ℕ). x ++ y) inits goals ∙
     (sym (append-concatMap (lineIn w) (upFrom i n) (upFrom (i + n) m)) ∙
-    (ap (concatMap (lineIn w)) (sym (upFrom-append i n m)) ∙ atomsText-from w i (n + m)))
+    (ap (concatMap (lineIn w)) (sym (upFrom-append i n m)) ∙ atomsText-from w i (n + m))))
 
 -- ---- the whole text of a table
 head-is : (w bs : List ℕ) →
@@ -256,19 +268,16 @@ head-is w bs =
     (ap (λ (x : List ℕ). task ++ x) (sym (append-assoc objects arities bs)) ∙
     sym (append-assoc task (objects ++ arities) bs))
 
-pub write-table : (w : List ℕ) → isTable w ≡ true → write (taskOf w) ≡
-    headText w ++ (schemasText w ++
-    (atomsText w (atomBase w (headIn w .schemaAtoms)) (headIn w .initialAtoms + headIn w .goalAtoms) ++
-    writeLine (endLine 1)))
+pub write-table : (w : List ℕ) →
+    write (taskOf w) ≡ headText w ++ (schemasText w ++ (factsText w ++ writeLine (endLine 1)))
 unfolding taskOf schemasText
-write-table w table =
+write-table w =
     let t = taskOf w in
-    let rest : concatMap initPiece (t .init) ++ (concatMap goalPiece (t .goal) ++ writeLine (endLine 1)) ≡
-    atomsText w (atomBase w (headIn w .schemaAtoms)) (headIn w .initialAtoms + headIn w .goalAtoms) ++
-    writeLine (endLine 1) =
-    sym (append-assoc (concatMap initPiece (t .init)) (concatMap goalPiece (t .goal)) (writeLine (endLine 1))) ∙
-    ap (λ (x : List ℕ). x ++ writeLine (endLine 1)) (facts-lines w table) in
+    let end = writeLine (endLine 1) in
+    let inits = concatMap initPiece (t .init) in
+    let goals = concatMap goalPiece (t .goal) in
+    let facts : inits ++ (goals ++ end) ≡ factsText w ++ end =
+    sym (append-assoc inits goals end) ∙ ap (λ (x : List ℕ). x ++ end) (sym (facts-pieces w)) in
     write-is t ∙
-    (head-is w (schemasText w ++ (concatMap initPiece (t .init) ++
-    (concatMap goalPiece (t .goal) ++ writeLine (endLine 1)))) ∙
-    ap (λ (x : List ℕ). headText w ++ (schemasText w ++ x)) rest)
+    (head-is w (schemasText w ++ (inits ++ (goals ++ end))) ∙
+    ap (λ (x : List ℕ). headText w ++ (schemasText w ++ x)) facts)

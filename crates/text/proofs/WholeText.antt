@@ -1,7 +1,7 @@
--- The whole text of a table, as code writes it: its parts with their lengths, that what they read lies in the table,
--- and what `write` does with a table for which there is room, or none.
+-- The whole text of a table, as code writes it: its parts, that a machine counts them, that what they read lies in the
+-- table, and what `write` does with a table for which there is room, or none.
 use Prim.Native.Nat.{ℕ, _+_, _*_, _^_, _<_}
-use mathlib.Core.Path.{_≡_, refl, _∙_, ap, subst}
+use mathlib.Core.Path.{_≡_, refl, sym, _∙_, ap, subst}
 use mathlib.Core.Bool.{true, false}
 use mathlib.Core.List.{List, [], _∷_, _++_}
 use native.Mathlib.Omega.{arith}
@@ -15,13 +15,13 @@ use Rattle.task.specs.Limits.{tableWords, headWords, atomSize}
 use Rattle.task.specs.Answers.{result, refused, refuseUnless, inOrder}
 use Rattle.task.specs.Table.{taskOf, longEnough, isTable}
 use Rattle.task.proofs.Tables.{of-table}
-use Rattle.text.specs.Lines.{bytes, newline, digits, commaed, line}
+use Rattle.text.specs.Lines.{digits, commaed, line}
 use Rattle.text.specs.Text.{endLine, writeLine, write}
 use Rattle.text.specs.Outcomes.{writeOutcome}
-use Rattle.text.specs.TableLines.{spaced, AtomInside, atomsText, headText, schemasText, factCount}
+use Rattle.text.specs.TableLines.{spaced, AtomInside, atomsText, headText, schemasText, factCount, factsText}
 use Rattle.text.specs.TableLines.{longestText}
 use Rattle.text.proofs.TableAtoms.{each-inside}
-use Rattle.text.proofs.TableText.{write-table}
+use Rattle.text.proofs.TableText.{facts-lines, write-table}
 use Rattle.task.proofs.TableReads.{table-roomy}
 use Rattle.task.proofs.TablesByIndex.{table-long}
 use Rattle.text.proofs.LongestText.{text-most}
@@ -29,16 +29,6 @@ use Rattle.text.proofs.LongestText.{text-most}
 -- ---- the head
 abbrev pub arityBytes : List ℕ → List ℕ
 arityBytes w = commaed (spaced w headWords 1 (headIn w .predicates))
-
-pub length-headText : (w : List ℕ) →
-    length (headText w) ≡ 23 + length (digits (headIn w .objects)) + length (arityBytes w)
-unfolding headText line bytes
-length-headText w =
-    let objects = digits (headIn w .objects) in
-    let e = length-append objects (newline ∷ []) in
-    let f = length-append (arityBytes w) (newline ∷ []) in
-    let g = length-append (objects ++ (newline ∷ [])) (line "arity" (arityBytes w)) in
-    omega arith
 
 abbrev pub taskBytes : List ℕ
 taskBytes = 116 ∷ 97 ∷ 115 ∷ 107 ∷ 61 ∷ 49 ∷ 10 ∷ []
@@ -59,30 +49,27 @@ end-is : writeLine (endLine 1) ≡ endBytes
 unfolding writeLine
 end-is = refl
 
+pub write-by-words : (w : List ℕ) → write (taskOf w) ≡ headText w ++ (schemasText w ++ (factsText w ++ endBytes))
+write-by-words w = write-table w ∙ ap (λ (x : List ℕ). headText w ++ (schemasText w ++ (factsText w ++ x))) end-is
+
 module _ (w : List ℕ) (table : isTable w ≡ true) where
-  abbrev pub factsText : List ℕ
-  factsText = atomsText w (factsBase w) (factCount w)
-
-  pub write-by-words : write (taskOf w) ≡ headText w ++ (schemasText w ++ (factsText ++ endBytes))
-  unfolding factCount atomBase
-  write-by-words =
-      write-table w table ∙ ap (λ (x : List ℕ). headText w ++ (schemasText w ++ (factsText ++ x))) end-is
-
-  pub length-write : length (write (taskOf w)) ≡ length (headText w) + (length (schemasText w) + (length factsText + 6))
-  length-write =
-      let whole = ap length write-by-words in
-      let h = length-append (headText w) (schemasText w ++ (factsText ++ endBytes)) in
-      let s = length-append (schemasText w) (factsText ++ endBytes) in
-      let a = length-append factsText endBytes in
-      omega arith
-
   -- a machine counts the whole, and so each part
   pub write-fits : length (write (taskOf w)) < 2 ^ 64
   unfolding longestText
   write-fits = let m = text-most (taskOf w) (of-table w table .0) in omega arith
 
-  pub head-fits : length (headText w) < 2 ^ 64
-  head-fits = let l = length-write in let m = write-fits in omega arith
+  pub facts-fit : length (factsText w) < 2 ^ 64
+  facts-fit =
+      let whole = ap length (write-by-words w) in
+      let fits = write-fits in
+      let h = length-append (headText w) (schemasText w ++ (factsText w ++ endBytes)) in
+      let s = length-append (schemasText w) (factsText w ++ endBytes) in
+      let a = length-append (factsText w) endBytes in
+      omega arith
+
+  pub facts-atoms : atomsText w (factsBase w) (factCount w) ≡ factsText w
+  unfolding factCount atomBase
+  facts-atoms = sym (facts-lines w table)
 
   pub facts-inside : (k : ℕ) → k < factCount w → AtomInside w (factsBase w + atomSize * k)
   unfolding factCount atomBase

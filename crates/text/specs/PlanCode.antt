@@ -7,14 +7,14 @@ use mathlib.Core.Bool.{true}
 use mathlib.Core.List.{List, [], _∷_, _++_}
 use mathlib.Core.Option.{Option}
 use lib.ListN.{length, getD}
+use Rattle.words.specs.Words.{wordsAt}
 use Rattle.task.specs.Task.{Task}
 use Rattle.task.specs.Run.{Step, isChoice, stepWords}
 use Rattle.text.specs.declared.cursor.Cursor.{Cursor}
 use Rattle.text.specs.declared.plan.PlanTurn.{PlanTurn}
-use Rattle.text.specs.Lines.{Taken, colon, newline, digits, commaed, bytes, equals}
+use Rattle.text.specs.Lines.{Taken, entryBytes, line}
 use Rattle.text.specs.Reading.{Reading, refusedAt, atEnd, lineAt}
 use Rattle.text.specs.Plan.{PlanLine, step, planKeyName, takePlanLine, mostPlanSteps}
-use Rattle.text.specs.TableLines.{spaced}
 use Rattle.text.specs.ReadCode.{rest, Wrote, NextLine}
 use Rattle.task.specs.Limits.{mostParts, stepSize}
 
@@ -55,10 +55,9 @@ PlanTurned t text from xs l w (turn.Refuse k) after = PlanRefuses t text from xs
 -- ---- writing
 -- the line of a step with so many objects, whose words begin at b
 unfoldable pub stepText : List ℕ → ℕ → ℕ → List ℕ
-unfolding bytes planKeyName digits commaed spaced
+unfolding line planKeyName entryBytes wordsAt
 stepText w b params =
-    bytes (planKeyName step) ++ (equals ∷ (digits (getD w b 0) ++ (colon ∷ (commaed (spaced w (b + 1) 1 params) ++
-    (newline ∷ [])))))
+    line (planKeyName step) (entryBytes (record { head = getD w b 0; list = wordsAt w (b + 1) params }))
 
 -- a plan unfolds to no more steps: "1 to 16 parts" of each
 abbrev pub mostSplitSteps : ℕ

@@ -10,7 +10,8 @@ use Rattle.words.specs.Words.{wordsAt}
 use Rattle.task.specs.Table.{taskOf}
 use Rattle.text.specs.declared.writer.Rows.{Rows}
 use Rattle.text.specs.Lines.{bytes, equals, Entry, digits, commaed, entryBytes, line}
-use Rattle.text.specs.Text.{Key, pre, add, del, init, goal, keyName, writeLine, schemaLines}
+use Rattle.text.specs.Text.{Key, pre, add, del, init, goal, keyName, initLine, goalLine, writeLine, schemaLines}
+use Rattle.text.specs.Text.{factEntry}
 
 -- n words of a table, each `step` words behind the one before
 unfoldable pub spaced : List ℕ → ℕ → ℕ → ℕ → List ℕ
@@ -23,10 +24,10 @@ pub record AtomInside (w : List ℕ) (b : ℕ) : Type 0 where
   pub known : headWords + getD w (b + 2) 0 < length w
   pub short : arityIn w (getD w (b + 2) 0) ≤ mostArity
 
--- "An atom is predicate, colon, arguments", of the atom whose words begin at b
-unfoldable pub entryAt : List ℕ → ℕ → Entry
-unfolding wordsAt arityIn
-entryAt w b = record { head = getD w (b + 2) 0; list = wordsAt w (b + 4) (arityIn w (getD w (b + 2) 0)) }
+-- "An atom is predicate, colon, arguments", of the atom whose words begin at b, with n arguments
+unfoldable pub entryAt : List ℕ → ℕ → ℕ → Entry
+unfolding wordsAt
+entryAt w b n = record { head = getD w (b + 2) 0; list = wordsAt w (b + 4) n }
 
 -- "role (0 precondition, 1 add, 2 delete, 3 initial, 4 goal)"
 unfoldable pub atomKey : ℕ → Key
@@ -41,10 +42,15 @@ unfoldable pub keyBytes : ℕ → List ℕ
 unfolding bytes keyName atomKey
 keyBytes role = bytes (keyName (atomKey role)) ++ (equals ∷ [])
 
--- the line of the atom whose words begin at b
-unfoldable pub atomText : List ℕ → ℕ → List ℕ
+-- the line of the atom whose words begin at b, with n arguments
+unfoldable pub rowText : List ℕ → ℕ → ℕ → List ℕ
 unfolding line keyName atomKey entryBytes entryAt
-atomText w b = line (keyName (atomKey (getD w (b + 1) 0))) (entryBytes (entryAt w b))
+rowText w b n = line (keyName (atomKey (getD w (b + 1) 0))) (entryBytes (entryAt w b n))
+
+-- the same with as many arguments as its predicate has
+unfoldable pub atomText : List ℕ → ℕ → List ℕ
+unfolding rowText arityIn
+atomText w b = rowText w b (arityIn w (getD w (b + 2) 0))
 
 -- the lines of n atoms, whose words begin at b
 unfoldable pub atomsText : List ℕ → ℕ → ℕ → List ℕ
@@ -95,6 +101,13 @@ pub record SchemaRun (w : List ℕ) (size b left schema n : ℕ) : Type 0 where
 -- how many initial and goal atoms a table has
 unfoldable pub factCount : List ℕ → ℕ
 factCount w = headIn w .initialAtoms + headIn w .goalAtoms
+
+-- the lines of its initial atoms, then those of its goal atoms
+unfoldable pub factsText : List ℕ → List ℕ
+unfolding concatMap writeLine factEntry taskOf
+factsText w =
+    concatMap writeLine
+    (map (λ f. initLine (factEntry f)) (taskOf w .init) ++ map (λ f. goalLine (factEntry f)) (taskOf w .goal))
 
 -- no text of a task is longer: 7 and 13 bytes for `task` and `objects`, 806 for 400 arities, 15 for each of 200
 -- schemas, 13 for each of 200 pairs, 20 for each of 1,000 atoms and 3 for its part, 25 for each of 600 initial and goal

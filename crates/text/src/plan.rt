@@ -1,15 +1,13 @@
 // The text of a plan: "at most 100 `step=` lines, schema, colon, objects; then `end=1`". Read into 13-word steps of a
 // task, or refused at a line; and written from them.
 use crate::checks::all_below;
+use crate::counted::write_bytes;
+use crate::counted::write_entry;
 use crate::cursor::Behind;
 use crate::cursor::Cursor;
 use crate::lists::Atom;
 use crate::lists::entry_line;
 use crate::lists::one_line;
-use crate::put::put_byte;
-use crate::put::put_bytes;
-use crate::put::put_list;
-use crate::put::put_number;
 use crate::storing::clear;
 use crate::storing::put_words;
 use task::Place;
@@ -22,7 +20,7 @@ ghost use mathlib.Core.Path.{_≡_};
 ghost use mathlib.Core.Bool.{true};
 ghost use mathlib.Core.List.{List};
 ghost use mathlib.Core.Option.{none};
-ghost use Prim.Native.Nat.{ℕ, _+_, _*_, _≤_, _<_};
+ghost use Prim.Native.Nat.{ℕ, _+_, _*_, _^_, _≤_, _<_};
 ghost use lib.ListN.{length, getD, take};
 ghost use Rattle.words.specs.Lists.{over};
 ghost use Rattle.task.specs.Task.{Task};
@@ -31,7 +29,7 @@ ghost use Rattle.task.specs.Run.{Step, isChoice, stepWords, stepsIn, badStep};
 ghost use Rattle.text.specs.Lines.{ended, number, entry};
 ghost use Rattle.text.specs.Plan.{planWords, stepLine, endLine, nextPlanLine, writePlan};
 ghost use Rattle.text.specs.Outcomes.{planOutcome, planAnswerTold};
-ghost use Rattle.words.specs.Putting.{Puts};
+ghost use Rattle.text.specs.Writes.{Writes};
 ghost use Rattle.text.specs.ReadCode.{rest, Placed, Listed, Wrote};
 ghost use Rattle.text.specs.PlanCode.{stepOf, PlanTurned, stepText};
 ghost use Rattle.words.specs.Words.{wordBound};
@@ -190,16 +188,13 @@ pub fn read_plan(table: &[u16], text: &[u8], steps: &mut [u16]) -> PlanAnswer
 }
 
 // The line of the step whose words begin at `base`: "schema, colon, objects".
-fn put_step_line(text: &mut [u8], at: usize, words: &[u16], base: usize, params: usize) -> usize
+fn write_step(text: &mut [u8], at: usize, words: &[u16], base: usize, params: usize) -> usize
     requires { ⌜ base + 1 + params ≤ length (now words) ⌝ }
-    requires { ⌜ at + length (stepText (now words) base params) ≤ length (now text) ⌝ }
-    ensures { λ r. ⌜ Puts (now (text .entry)) at (stepText (now (words .entry)) base params) (now (text .exit)) r ⌝ }
+    requires { ⌜ at + length (stepText (now words) base params) < 2 ^ 64 ⌝ }
+    ensures { λ r. ⌜ Writes (now (text .entry)) at (stepText (now (words .entry)) base params) (now (text .exit)) r ⌝ }
 {
-    let at_schema = put_bytes(text, at, b"step=");
-    let at_colon = put_number(text, at_schema, words[base]);
-    let at_objects = put_byte(text, at_colon, b':');
-    let at_end = put_list(text, at_objects, words, base + 1, 1, params);
-    put_byte(text, at_end, b'\n')
+    let at_schema = write_bytes(text, at, b"step=");
+    write_entry(text, at_schema, words[base], words, base + 1, params)
 }
 
 // Writes the plan whose steps are these words, steps of a table's task, and gives the number of bytes.
@@ -216,7 +211,7 @@ pub fn write_plan(table: &[u16], words: &[u16], text: &mut [u8]) -> usize
     for i in 0..count {
         let base = STEP_SIZE * i;
         let params = param_count(table, words[base]);
-        next = put_step_line(text, next, words, base, params);
+        next = write_step(text, next, words, base, params);
     }
-    put_bytes(text, next, b"end=1\n")
+    write_bytes(text, next, b"end=1\n")
 }

@@ -1,12 +1,11 @@
-// Bytes, numbers, lists and lines of them, put into a lent text from a place on. Each `put_x` gives the place behind
-// what it put, and `x_size` gives the number of bytes that `put_x` puts.
+// Bytes and numbers, put into a lent text. Each `put_x` that is given a place to begin at gives the place behind what
+// it put.
 ghost use mathlib.Core.Path.{_≡_};
-ghost use mathlib.Core.List.{[], _∷_, _++_};
-ghost use Prim.Native.Nat.{ℕ, _+_, _*_, _^_, _≤_, _<_};
+ghost use mathlib.Core.List.{[], _∷_};
+ghost use Prim.Native.Nat.{_+_, _-_, _≤_, _<_};
 ghost use lib.ListN.{length};
-ghost use Rattle.text.specs.Lines.{comma, newline, digits, commaed};
+ghost use Rattle.text.specs.Lines.{digits};
 ghost use Rattle.words.specs.Putting.{Puts};
-ghost use Rattle.text.specs.TableLines.{spaced};
 
 // "Numbers have 1 to 5 digits".
 pub fn number_size(n: u16) -> usize
@@ -35,12 +34,11 @@ pub fn digit(n: u16) -> u8
     (48 + n) as u8
 }
 
-// "Numbers are in base ten": digits are found from the last to the first.
-pub fn put_number(text: &mut [u8], at: usize, n: u16) -> usize
-    requires { ⌜ at + length (digits n) ≤ length (now text) ⌝ }
-    ensures { λ r. ⌜ Puts (now (text .entry)) at (digits n) (now (text .exit)) r ⌝ }
+// "Numbers are in base ten": digits are found from the last to the first, so a number is put where it ends.
+pub fn put_digits(text: &mut [u8], end: usize, n: u16)
+    requires { ⌜ (length (digits n) ≤ end) × (end ≤ length (now text)) ⌝ }
+    ensures { λ _. ⌜ Puts (now (text .entry)) (end - length (digits n)) (digits n) (now (text .exit)) end ⌝ }
 {
-    let end = at + number_size(n);
     let mut rest = n;
     let mut place = end - 1;
     while 10 <= rest {
@@ -49,6 +47,14 @@ pub fn put_number(text: &mut [u8], at: usize, n: u16) -> usize
         place -= 1;
     }
     text[place] = digit(rest);
+}
+
+pub fn put_number(text: &mut [u8], at: usize, n: u16) -> usize
+    requires { ⌜ at + length (digits n) ≤ length (now text) ⌝ }
+    ensures { λ r. ⌜ Puts (now (text .entry)) at (digits n) (now (text .exit)) r ⌝ }
+{
+    let end = at + number_size(n);
+    put_digits(text, end, n);
     end
 }
 
@@ -69,84 +75,4 @@ pub fn put_bytes(text: &mut [u8], at: usize, bytes: &[u8]) -> usize
         text[at + k] = bytes[k];
     }
     at + bytes.len()
-}
-
-// The n words from `from` on, each `step` words behind the one before.
-pub fn list_size(table: &[u16], from: usize, step: usize, n: usize) -> usize
-    requires { ⌜ ((k : ℕ) → k < n → from + step * k < length (now table)) ⌝ }
-    requires { ⌜ length (commaed (spaced (now table) from step n)) < 2 ^ 64 ⌝ }
-    ensures { λ r. ⌜ r ≡ length (commaed (spaced (now (table .entry)) from step n)) ⌝ }
-{
-    if n == 0 {
-        return 0;
-    }
-    let mut size = number_size(table[from]);
-    for k in 1..n {
-        size = size + 1 + number_size(table[from + step * k]);
-    }
-    size
-}
-
-// "commas between": a number behind another.
-pub fn put_further(text: &mut [u8], at: usize, n: u16) -> usize
-    requires { ⌜ at + length (comma ∷ digits n) ≤ length (now text) ⌝ }
-    ensures { λ r. ⌜ Puts (now (text .entry)) at (comma ∷ digits n) (now (text .exit)) r ⌝ }
-{
-    let next = put_byte(text, at, b',');
-    put_number(text, next, n)
-}
-
-pub fn put_list(
-    text: &mut [u8],
-    at: usize,
-    table: &[u16],
-    from: usize,
-    step: usize,
-    n: usize,
-) -> usize
-    requires { ⌜ ((k : ℕ) → k < n → from + step * k < length (now table)) ⌝ }
-    requires { ⌜ at + length (commaed (spaced (now table) from step n)) ≤ length (now text) ⌝ }
-    ensures { λ r. ⌜ Puts (now (text .entry)) at
-        (commaed (spaced (now (table .entry)) from step n)) (now (text .exit)) r ⌝ }
-{
-    if n == 0 {
-        return at;
-    }
-    let mut next = put_number(text, at, table[from]);
-    for k in 1..n {
-        next = put_further(text, next, table[from + step * k]);
-    }
-    next
-}
-
-// A line whose body is a number, and one whose body is a list.
-pub fn put_number_line(text: &mut [u8], at: usize, key: &[u8], n: u16) -> usize
-    requires { ⌜ at + length (now key ++ (digits n ++ (newline ∷ []))) ≤ length (now text) ⌝ }
-    ensures { λ r. ⌜ Puts (now (text .entry)) at
-        (now (key .entry) ++ (digits n ++ (newline ∷ []))) (now (text .exit)) r ⌝ }
-{
-    let at_body = put_bytes(text, at, key);
-    let at_end = put_number(text, at_body, n);
-    put_byte(text, at_end, b'\n')
-}
-
-pub fn put_list_line(
-    text: &mut [u8],
-    at: usize,
-    key: &[u8],
-    table: &[u16],
-    from: usize,
-    step: usize,
-    n: usize,
-) -> usize
-    requires { ⌜ ((k : ℕ) → k < n → from + step * k < length (now table)) ⌝ }
-    requires { ⌜ at + length (now key ++ (commaed (spaced (now table) from step n) ++ (newline ∷ []))) ≤
-        length (now text) ⌝ }
-    ensures { λ r. ⌜ Puts (now (text .entry)) at
-        (now (key .entry) ++ (commaed (spaced (now (table .entry)) from step n) ++ (newline ∷ [])))
-        (now (text .exit)) r ⌝ }
-{
-    let at_body = put_bytes(text, at, key);
-    let at_end = put_list(text, at_body, table, from, step, n);
-    put_byte(text, at_end, b'\n')
 }

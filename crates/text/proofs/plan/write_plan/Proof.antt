@@ -9,13 +9,13 @@ use Rattle.task.specs.Limits.{stepSize}
 use Rattle.task.specs.Table.{taskOf}
 use Rattle.task.specs.Run.{paramCount, stepsIn}
 use Rattle.task.proofs.Tables.{of-table}
-use Rattle.words.proofs.Puts.{put-over, puts-same, Going, going-start, going-long, going-left, going-room, going-on}
-use Rattle.words.proofs.Puts.{last-room, going-last}
 use Rattle.text.specs.Plan.{writePlan}
 use Rattle.text.specs.PlanCode.{stepText}
 use Rattle.text.proofs.Onwards.{onwards, onwards-next, onwards-none}
 use Rattle.text.proofs.WholeText.{endBytes}
 use Rattle.text.proofs.PlanWritten.{lineAtStep, plan-onwards, StepThere, step-there}
+use Rattle.text.proofs.Writes.{writes-same, writes-size, writes-over, Writing, writing-start, writing-long}
+use Rattle.text.proofs.Writes.{writing-left, writing-fits, writing-on, last-fits, writing-last}
 use borrow.Author.Needs.{needs}
 use Rattle.text.proofs.plan.write_plan.Statement.{statement}
 use Rattle.text.proofs.plan.write_plan.Tie as tie
@@ -23,7 +23,7 @@ use Rattle.text.proofs.plan.write_plan.Tie as tie
 abbrev Inv-loop : tie.InvT-loop
 Inv-loop table words text₀ next₀ count i₀ t text next i =
     (i ≤ length words / stepSize) ×
-    Going text₀ 0 (writePlan (stepsIn (taskOf table) words))
+    Writing text₀ 0 (writePlan (stepsIn (taskOf table) words))
     (onwards (lineAtStep (taskOf table) words) i (length words / stepSize) ++ endBytes) text next
 
 abbrev μ-loop : tie.MeasureT-loop
@@ -34,7 +34,7 @@ loop-holds c =
     let start = c .before .before .before in
     let t = taskOf (start .args .table .now) in
     let room = start .pre .1 .1 in
-    (omega arith, going-left (plan-onwards t (start .args .words .now)) (going-start (omega arith)))
+    (omega arith, writing-left (plan-onwards t (start .args .words .now)) (writing-start (omega arith)))
 
 -- the function's entry, from the loop's head
 abbrev start : tie.At-loop Inv-loop μ-loop → tie.Start Inv-loop μ-loop
@@ -58,12 +58,12 @@ module _ (c : tie.In-loop Inv-loop μ-loop) where
 
   -- what is to come is the line of step i, then those from i + 1 on, then the end
   to-come :
-      Going (start (c .before) .args .text .now) 0
+      Writing (start (c .before) .args .text .now) 0
       (writePlan (stepsIn (taskOf (start (c .before) .args .table .now)) words))
       (lines i ++ (onwards lines (i + 1) (length words / stepSize) ++ endBytes))
       (c .before .loop .text) (c .before .loop .next)
   to-come =
-      going-left
+      writing-left
       (ap (λ (bs : List ℕ). bs ++ endBytes) (onwards-next lines i (length words / stepSize) (c .loop-test .taken)) ∙
       append-assoc (lines i) (onwards lines (i + 1) (length words / stepSize)) endBytes)
       (c .before .loop .inv .1)
@@ -92,14 +92,14 @@ line-read : (c : tie.After-param-count Inv-loop μ-loop) →
     (i at)
 line-read c = ap (stepText (words (c .before .before)) (stepSize * i (c .before .before))) (params-read c)
 
-put-step-line-requires : tie.Need-put-step-line-requires Inv-loop μ-loop
-put-step-line-requires c κs =
+write-step-requires : tie.Need-write-step-requires Inv-loop μ-loop
+write-step-requires c κs =
     let at = c .before .before .before in
     let e = params-read (c .before) in
     let inside = there at .inside in
     let few = there at .few in
     let later = onwards (lines at) (i at + 1) (length (words at) / stepSize) ++ endBytes in
-    let r = going-room (lines at (i at)) later (to-come at) in
+    let r = writing-fits (lines at (i at)) later (to-come at) in
     let l = ap length (line-read (c .before)) in
     (omega arith, omega arith)
 
@@ -110,41 +110,40 @@ loop-again : tie.Need-loop-again Inv-loop μ-loop
 loop-again c =
     let at = c .before .before .before .before .before .before in
     let l = at .loop-test .taken in
-    let put = puts-same (line-read (c .before .before .before .before)) (c .before .before .put-step-line .ensures) in
-    (omega arith, going-on (to-come at) put)
+    let line = writes-same (line-read (c .before .before .before .before)) (c .before .before .write-step .ensures) in
+    (omega arith, writing-on (to-come at) line)
 
 -- behind the last step only the end is to come
 ending : (c : tie.After-loop Inv-loop μ-loop) →
     let args = start (c .before) .args in
-    Going (args .text .now) 0 (writePlan (stepsIn (taskOf (args .table .now)) (args .words .now))) endBytes
+    Writing (args .text .now) 0 (writePlan (stepsIn (taskOf (args .table .now)) (args .words .now))) endBytes
     (c .before .loop .text) (c .before .loop .next)
 ending c =
     let args = start (c .before) .args in
     let w = args .words .now in
-    going-left
+    writing-left
     (ap (λ (bs : List ℕ). bs ++ endBytes)
     (onwards-none (lineAtStep (taskOf (args .table .now)) w) (c .before .loop .i) (length w / stepSize)
     (c .loop-test .left)))
     (c .before .loop .inv .1)
 
-put-bytes-requires : tie.Need-put-bytes-requires Inv-loop μ-loop
-put-bytes-requires c κs = last-room (ending (c .before .before))
+write-bytes-requires : tie.Need-write-bytes-requires Inv-loop μ-loop
+write-bytes-requires c κs = last-fits (ending (c .before .before))
 
 same-length : tie.Need-same-length Inv-loop μ-loop
-same-length c = c .before .before .put-bytes .kept .0 ∙ going-long (ending (c .before .before .before .before .before))
+same-length c =
+    c .before .before .write-bytes .kept .0 ∙ writing-long (ending (c .before .before .before .before .before))
 
 returns : tie.Need-returns Inv-loop μ-loop
 returns c =
     let start = start (c .before .before .before .before .before .before) in
-    let plan = writePlan (stepsIn (taskOf (start .args .table .now)) (start .args .words .now)) in
     let at-end = ending (c .before .before .before .before .before) in
-    let puts = going-last at-end (c .before .before .put-bytes .ensures) in
-    let place = puts .place in
-    (omega arith, puts .words ∙ put-over plan (start .args .text .now) (start .pre .1 .1))
+    let written = writing-last at-end (c .before .before .write-bytes .ensures) in
+    (writes-size written, writes-over written (start .pre .1 .1))
 
 pub write-plan-spec : {M : Type 1} → statement M
 write-plan-spec =
     tie.close
     (tie.spec Inv-loop μ-loop loop-holds mul-base mul-param-count shared-slice-read-param-count param-count-requires
-    put-step-line-requires (λ c. omega arith) loop-less loop-again (λ c. search needs) put-bytes-requires same-length
+    write-step-requires (λ c. omega arith) loop-less loop-again (λ c. search needs) write-bytes-requires same-length
     returns)

@@ -1,7 +1,5 @@
 -- `text::writer::write_task` meets its contract: without room it refuses and stores nothing; with room it puts the text
 -- at the front, which lies over what was lent.
-use Rattle.text.proofs.writer.write_task.Tie as tie
-use native.Mathlib.Omega.{arith}
 use Prim.Native.Nat.{ℕ}
 use mathlib.Core.Path.{_≡_, sym, _∙_, ap}
 use mathlib.Core.Bool.{true}
@@ -11,12 +9,13 @@ use lib.Dec.{leb}
 use borrow.Author.Tests.{leb-true, not-true, not-false}
 use Rattle.task.specs.Answers.{result}
 use Rattle.task.specs.Table.{taskOf}
-use Rattle.words.proofs.Puts.{put-over}
 use Rattle.text.specs.Text.{write}
 use Rattle.text.specs.Outcomes.{writeAnswerTold}
 use Rattle.text.proofs.WholeText.{outcome-room, outcome-none}
+use Rattle.text.proofs.Writes.{writes-size, writes-over}
 use borrow.Author.Needs.{needs}
 use Rattle.text.proofs.writer.write_task.Statement.{statement}
+use Rattle.text.proofs.writer.write_task.Tie as tie
 use Rattle.task.proofs.Answers.{both}
 
 returns : tie.Need-returns
@@ -34,8 +33,8 @@ room : (c : tie.Else1) →
     leb (length (write (taskOf (start c .args .table .now)))) (length (start c .args .text .now)) ≡ true
 room c = sym (c .before .has-room .ensures) ∙ not-false _ (c .if1 .left)
 
-put-text-requires : tie.Need-put-text-requires
-put-text-requires c κs = (start (c .before) .pre, leb-true _ _ (room (c .before)))
+write-text-requires : tie.Need-write-text-requires
+write-text-requires c κs = start (c .before) .pre
 
 returns-2 : tie.Need-returns-2
 unfolding writeAnswerTold
@@ -45,12 +44,10 @@ returns-2 c =
     let text = s .args .text .now in
     let fits = room (c .before .before .before .before) in
     let o = outcome-room w text (s .pre) fits in
-    let put = c .before .before .put-text .ensures in
-    let long = put .place in
-    let e : c .before .before .put-text .result ≡ length (write (taskOf w)) = omega arith in (
-      ap (λ (n : ℕ). result (n ∷ [])) e ∙ both o .0,
-      put .words ∙ (put-over (write (taskOf w)) text (leb-true _ _ fits) ∙ both o .1),
+    let written = c .before .before .write-text .ensures in (
+      ap (λ (n : ℕ). result (n ∷ [])) (writes-size written) ∙ both o .0,
+      writes-over written (leb-true _ _ fits) ∙ both o .1,
     )
 
 pub write-task-spec : {M : Type 1} → statement M
-write-task-spec = tie.close (tie.spec (λ c κs. search needs) returns put-text-requires (λ c. search needs) returns-2)
+write-task-spec = tie.close (tie.spec (λ c κs. search needs) returns write-text-requires (λ c. search needs) returns-2)
