@@ -1,6 +1,6 @@
 /* The splitter for a C host. Every function is proved, in Rattle, to do what documents 01 and 02 say, for every input.
  *
- * Each returns 0 for a result, else the number of its refusal (1 to 23). Every number lent by pointer is written:
+ * Each returns 0 for a result, else the number of its refusal (1 to 24). Every number lent by pointer is written:
  * `place` is the refusal's line (from 1), schema or step (from 0), and 0 with a result or where there is no place;
  * values that have no meaning are 0. These numbers are distinct variables, and none lies in a slice that is lent. A
  * slice is lent as a pointer and the number of its elements, bytes or words of 16 bits, each two bytes, the low one
@@ -93,6 +93,16 @@ uint32_t splitter_propose(const uint16_t *table, size_t table_len, uint64_t widt
  * schema), 10 the split would pass a limit of a table; in this order. Each leaves the split as found. Words behind the
  * split's are never touched. */
 uint32_t splitter_split(const uint16_t *table, size_t table_len, uint16_t *split, size_t split_len, uint64_t *place);
+
+/* Tells what the split of the table's task will need; nothing of it is written. `predicates`, `schemas`, `atoms` (those
+ * of its schemas) and `bytes` (of its text, differ lines included) are the split's, so splitter_write takes just that
+ * many bytes for it. `before` and `after` are the ground instances of the task and of its split: for each schema the
+ * number of objects to the power of its parameter count, in all; a pair that must differ takes none away.
+ *
+ * Refusals: 1 a short table, 2, 9, 20 and 10 as in splitting, 24 the instances before or after are 2 to the power 63 or
+ * more; in this order. 9 and 20 have a place, their schema. Each leaves all six values 0. */
+uint32_t splitter_sizes(const uint16_t *table, size_t table_len, uint64_t *place, uint64_t *predicates,
+                        uint64_t *schemas, uint64_t *atoms, uint64_t *bytes, uint64_t *before, uint64_t *after);
 
 /* Unfolds a list of steps of the table's task, 13 words each, into steps of its split: each step's block, which is its
  * parts in order with its objects, one after another over the front of the words lent. The table is that of the task,

@@ -4,6 +4,7 @@ pub mod fold;
 pub mod propose;
 pub mod read;
 pub mod run;
+pub mod sizes;
 pub mod split;
 mod telling;
 pub mod unfold;
