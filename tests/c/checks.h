@@ -87,7 +87,7 @@ enum { HEAD = 7 };
 struct task {
     uint16_t counts[HEAD];
     uint16_t arities[8];
-    uint16_t parameters[4];
+    uint16_t parameters[8];
     uint16_t pairs[2][3];
     struct atom atoms[32];
 };
@@ -189,6 +189,16 @@ static inline uint16_t *circular_table(void) {
 static inline uint16_t *damaged_table(void) {
     uint16_t *table = table_of(&move);
     table[SPLITTER_TABLE_WORDS - 1] = 1;
+    return table;
+}
+
+/* Gives a table 400 predicates, so that its split would have more: the words behind the arities move up. */
+static inline uint16_t *crowd(uint16_t *table) {
+    size_t behind = table[2] + 3 * table[6] + 8 * (table[3] + table[4] + table[5]);
+    uint16_t *arities_end = table + HEAD + table[1];
+    memmove(table + HEAD + 400, arities_end, behind * sizeof *table);
+    memset(arities_end, 0, (400 - table[1]) * sizeof *table);
+    table[1] = 400;
     return table;
 }
 

@@ -62,14 +62,10 @@ static inline void refuse_as_splitting(entry call, const uint16_t *table, const 
     list.table_len--;
     expect_refused(call, list, 1, 0, "a short table", __LINE__);
     uint16_t *damaged = damaged_table(), *circular = circular_table(), *apart = apart_table();
-    uint16_t *crowded = table_of(&move);
+    uint16_t *crowded = crowd(table_of(&move));
     expect_refused(call, LIST(damaged, bad_steps, 13, 0), 2, 0, "no table", __LINE__);
     expect_refused(call, LIST(circular, bad_steps, 13, 0), 9, 0, "E2", __LINE__);
     expect_refused(call, LIST(apart, bad_steps, 13, 0), 20, 0, "a pair in no part", __LINE__);
-    /* 400 predicates: the words behind the two arities move up. */
-    memmove(crowded + HEAD + 400, crowded + HEAD + 2, (1 + 11 * 8) * sizeof *crowded);
-    memset(crowded + HEAD + 2, 0, 398 * sizeof *crowded);
-    crowded[1] = 400;
     expect_refused(call, LIST(crowded, bad_steps, 13, 0), 10, 0, "a split of more than 400 predicates", __LINE__);
     free(damaged);
     free(circular);

@@ -22,8 +22,10 @@ uint32_t reference_unfold(const uint16_t *, size_t, const uint16_t *, size_t, ui
 uint32_t reference_fold(const uint16_t *, size_t, const uint16_t *, size_t, uint16_t *, size_t, uint64_t *, uint64_t *,
                         uint64_t *);
 uint32_t reference_propose(const uint16_t *, size_t, uint64_t, uint16_t *, size_t, uint16_t *, size_t, uint64_t *);
+uint32_t reference_sizes(const uint16_t *, size_t, uint64_t *, uint64_t *, uint64_t *, uint64_t *, uint64_t *,
+                         uint64_t *, uint64_t *);
 
-enum call { READ, WRITE, WRITE_PDDL, SPLIT, RUN, UNFOLD, FOLD, PROPOSE, CALLS };
+enum call { READ, WRITE, WRITE_PDDL, SPLIT, RUN, UNFOLD, FOLD, PROPOSE, SIZES, CALLS };
 
 struct input {
     enum call call;
@@ -38,12 +40,12 @@ struct input {
     size_t left;
 };
 
-/* An answer: its number, then the numbers lent to be written, which hold this before. */
+/* An answer: its number, then the numbers lent to be written, which hold this before; no bytes between them. */
 struct answer {
-    uint32_t number;
-    uint64_t values[3];
+    uint64_t number;
+    uint64_t values[7];
 };
-static const struct answer unanswered = {77, {88, 99, 111}};
+static const struct answer unanswered = {77, {88, 99, 111, 122, 133, 144, 155}};
 
 /* Buffers of the proved code in fenced pages, those of the reference beside them. */
 static struct lent given_text, given_table, given_list, written, scratch;
@@ -104,7 +106,7 @@ static void lend_to_write(const void *given, size_t bytes, int at_front) {
     memcpy(beside, written.bytes, bytes);
 }
 
-static uint32_t read_text(const struct input *in, const uint8_t *text, size_t length, size_t words) {
+static uint64_t read_text(const struct input *in, const uint8_t *text, size_t length, size_t words) {
     struct answer proved = unanswered, reference = unanswered;
     lend(&given_text, text, length, in->at_front);
     lend_to_write(NULL, 2 * words, in->at_front);
@@ -205,6 +207,19 @@ static void propose_parts(const struct input *in) {
     guards_stand(&scratch);
 }
 
+/* No words are lent to be written. */
+static void tell_sizes(const struct input *in) {
+    struct answer proved = unanswered, reference = unanswered;
+    uint64_t *told = proved.values, *beside_it = reference.values;
+    only_read(&given_table, 1);
+    proved.number = splitter_sizes((uint16_t *)given_table.bytes, in->read_table, told, told + 1, told + 2, told + 3,
+                                   told + 4, told + 5, told + 6);
+    only_read(&given_table, 0);
+    reference.number = reference_sizes(task, in->read_table, beside_it, beside_it + 1, beside_it + 2, beside_it + 3,
+                                       beside_it + 4, beside_it + 5, beside_it + 6);
+    same(&proved, &reference, 0);
+}
+
 /* The table of the text, with so many words behind it; then the changes to it. */
 static void make_table(struct input *in) {
     memcpy(task, written.bytes, 2 * TABLE);
@@ -299,6 +314,9 @@ int LLVMFuzzerTestOneInput(const uint8_t *data, size_t size) {
         break;
     case PROPOSE:
         propose_parts(&in);
+        break;
+    case SIZES:
+        tell_sizes(&in);
         break;
     default:
         fold_steps(&in);

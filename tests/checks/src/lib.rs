@@ -4,6 +4,7 @@
 pub mod answers;
 pub mod arguments;
 pub mod inputs;
+pub mod needs;
 pub mod orders;
 pub mod pair_arcs;
 pub mod rows;

@@ -1,5 +1,6 @@
 //! Answers as numbers in a row.
 
+use reference::sizes::Sizes;
 use reference::{Answer, Folded, Place, Ran, Reason, Refusal};
 
 /// Refusal (0 for a result), place and two values, 0 where they have no
@@ -44,8 +45,39 @@ pub fn fold_row(answer: Answer<Folded>) -> Row {
     row(answer, |folded| [folded.split_steps, folded.steps])
 }
 
+/// Refusal, place and the six sizes, 0 where they have no meaning.
+pub type SizesRow = [u64; 8];
+
+/// The sizes of a split: predicates, schemas, schema atoms, text bytes, and the
+/// ground instances before and after.
+pub fn sizes_row(answer: Answer<Sizes>) -> SizesRow {
+    match answer {
+        Ok(Sizes {
+            predicates,
+            schemas,
+            schema_atoms,
+            text_bytes,
+            instances_before,
+            instances_after,
+        }) => [
+            0,
+            0,
+            predicates,
+            schemas,
+            schema_atoms,
+            text_bytes,
+            instances_before,
+            instances_after,
+        ],
+        Err(refusal) => {
+            let [number, place] = [refusal.number().into(), refusal.place.number()];
+            [number, place, 0, 0, 0, 0, 0, 0]
+        }
+    }
+}
+
 /// The reasons of a refusal, by number from 1.
-const REASONS: [Reason; 23] = [
+const REASONS: [Reason; 24] = [
     Reason::TableTooShort,
     Reason::NotATable,
     Reason::LineOutOfForm,
@@ -69,6 +101,7 @@ const REASONS: [Reason; 23] = [
     Reason::TooManyPairs,
     Reason::WidthOrScratch,
     Reason::TooManyParts,
+    Reason::TooManyInstances,
 ];
 
 /// The answer that a row tells, with its two values.

@@ -7,7 +7,7 @@ use generate::tables;
 use reference::propose::SCRATCH_WORDS;
 use reference::table::{PartNumber, Task};
 
-use crate::rows::Row;
+use crate::rows::{Row, SizesRow};
 use crate::{read_table, report};
 
 /// A line of a vector file.
@@ -176,6 +176,15 @@ fn with_parts(table: &[u16], parts: &str) -> Vec<u16> {
         }
     }
     tables::table(&task)
+}
+
+/// `06-sizes.txt`, put to what tells the sizes of a split.
+pub fn sizes_cases(sizes: impl Fn(&[u16]) -> SizesRow) {
+    each_case("06-sizes.txt", |case| {
+        let [text, changes, expected @ ..] = case.fields::<10>();
+        let found = sizes(&changed_table(text, changes));
+        assert_eq!(found, expected.map(number), "{}", case.label);
+    });
 }
 
 /// `04-run.txt`, put to running.

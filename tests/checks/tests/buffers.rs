@@ -5,6 +5,7 @@ use checks::answers::each_answer;
 use checks::inputs::{junk, lent_state, lent_table, step_words, table_or_damaged, task_and_table};
 use checks::{read_table, report, without_parts};
 use generate::proposing::{any_request, Request};
+use generate::sizing::any_sizing_task;
 use generate::split_lists::split_list;
 use generate::tasks::{any_task, task_or_split};
 use generate::{limits, steps, texts, Random};
@@ -144,6 +145,31 @@ fn proposing() {
     });
 }
 
+/// Refused as splitting is, and by 24 only where it is not.
+#[test]
+fn telling_sizes() {
+    let expected = [0, 1, 2, 9, 10, 20, 24];
+    let seen = each_answer("telling sizes", 80, 2 * CASES, &expected, |random| {
+        let task = any_sizing_task(random);
+        let table = table_or_damaged(random, &task);
+        let mut split = vec![7; TABLE_WORDS];
+        let refused = reference::split(&table, &mut split).err();
+        let sizes = reference::sizes(&table);
+        match sizes {
+            Ok(sizes) => {
+                let counts = [sizes.predicates, sizes.schemas, sizes.schema_atoms];
+                assert_eq!(counts, [1, 2, 3].map(|at| u64::from(split[at])));
+                let written = reference::write(&split, &mut [0; 1 << 16]);
+                assert_eq!(written, Ok(sizes.text_bytes));
+            }
+            Err(refusal) if refusal.number() == 24 => assert_eq!(refused, None),
+            Err(refusal) => assert_eq!(refused, Some(refusal)),
+        }
+        number(&sizes)
+    });
+    assert!(seen.values().all(|times| *times > 10), "{seen:?}");
+}
+
 /// Requires that the lent words hold so many ascending records, then zeros.
 fn require_records(lent: &[u16], records: u64) {
     let (records, rest) = lent.split_at(RECORD_WORDS * records as usize);
@@ -257,6 +283,7 @@ fn anything() {
             &mut [0; TABLE_WORDS],
             &mut [0; SCRATCH_WORDS],
         );
+        let _ = reference::sizes(&table);
         let _ = reference::split(&table.clone(), &mut table);
         assert!(reference::read(&bytes, &mut table).is_err());
     }

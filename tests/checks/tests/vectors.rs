@@ -1,9 +1,9 @@
 //! The reference on every case of `vectors/`.
 
-use checks::rows::{fold_row, plain_row, run_row, unfold_row, write_row};
+use checks::rows::{fold_row, plain_row, run_row, sizes_row, unfold_row, write_row};
 use checks::vectors::{
-    list_cases, pddl_cases, propose_cases, run_cases, split_program_cases, table_cases,
-    unfold_program_cases,
+    list_cases, pddl_cases, propose_cases, run_cases, sizes_cases, split_program_cases,
+    table_cases, unfold_program_cases,
 };
 use reference::programs::{split_program, unfold_program};
 
@@ -35,6 +35,11 @@ fn propose_vectors() {
     propose_cases(|table, width, proposed, scratch| {
         plain_row(reference::propose(table, width, proposed, scratch))
     });
+}
+
+#[test]
+fn sizes_vectors() {
+    sizes_cases(|table| sizes_row(reference::sizes(table)));
 }
 
 #[test]

@@ -3,7 +3,6 @@
 use std::fmt::Debug;
 
 use checks::inputs::lent_table;
-use checks::rows::Row;
 use generate::Random;
 use reference::table::TABLE_WORDS;
 
@@ -12,10 +11,10 @@ const GUARDS: usize = 8;
 
 /// Lends a copy from within guards, which must stay, and gives it back with the
 /// answer.
-fn lending<Element: Copy + Debug + From<u8> + PartialEq>(
+fn lending<Element: Copy + Debug + From<u8> + PartialEq, const NUMBERS: usize>(
     lent: &[Element],
-    entry: impl FnOnce(&mut [Element]) -> Row,
-) -> (Row, Vec<Element>) {
+    entry: impl FnOnce(&mut [Element]) -> [u64; NUMBERS],
+) -> ([u64; NUMBERS], Vec<Element>) {
     let guards = [Element::from(0xa5); GUARDS];
     let mut around = [&guards, lent, &guards].concat();
     let row = entry(&mut around[GUARDS..GUARDS + lent.len()]);
@@ -27,10 +26,10 @@ fn lending<Element: Copy + Debug + From<u8> + PartialEq>(
 
 /// Requires the same answer and the same elements afterwards of both; the
 /// number of the answer.
-pub fn compare<Element: Copy + Debug + From<u8> + PartialEq>(
+pub fn compare<Element: Copy + Debug + From<u8> + PartialEq, const NUMBERS: usize>(
     lent: &[Element],
-    reference: impl FnOnce(&mut [Element]) -> Row,
-    proved: impl FnOnce(&mut [Element]) -> Row,
+    reference: impl FnOnce(&mut [Element]) -> [u64; NUMBERS],
+    proved: impl FnOnce(&mut [Element]) -> [u64; NUMBERS],
     input: impl FnOnce() -> String,
 ) -> u64 {
     let mut expected = lent.to_vec();

@@ -9,6 +9,7 @@ pub mod proposing;
 pub mod reading;
 pub mod running;
 pub mod shared_runs;
+pub mod sizing;
 pub mod splitting;
 pub mod unfolding;
 pub mod writing;

@@ -8,6 +8,7 @@ pub mod limits;
 pub mod proposing;
 pub mod random;
 pub mod shape;
+pub mod sizing;
 pub mod split_lists;
 pub mod states;
 pub mod steps;

@@ -26,6 +26,7 @@ pub enum Reason {
     TooManyPairs = 21,
     WidthOrScratch = 22,
     TooManyParts = 23,
+    TooManyInstances = 24,
 }
 
 /// "Lines count from 1, the others from 0; none is 0."

@@ -1,9 +1,9 @@
 //! A second implementation of document 01, "Splitting STRIPS action schemas
-//! for station work", and of document 02's notes 1, 2, 4 and 5, with one module
-//! for each section, `pddl` for note 1, `propose` for note 5 and the entry
-//! points on lent words and bytes here. Note 2 changes the choice among ready
-//! parts in `arcs`; note 4 gives schemas pairs of parameters that must differ,
-//! in every module. Note 3 changes no answer.
+//! for station work", and of document 02's notes 1, 2, 4, 5 and 6, with one
+//! module for each section, `pddl` for note 1, `propose` for note 5, `sizes` for
+//! note 6 and the entry points on lent words and bytes here. Note 2 changes the
+//! choice among ready parts in `arcs`; note 4 gives schemas pairs of parameters
+//! that must differ, in every module. Note 3 changes no answer.
 
 pub mod answer;
 pub mod arcs;
@@ -13,6 +13,7 @@ pub mod pddl_reader;
 pub mod programs;
 pub mod propose;
 pub mod run;
+pub mod sizes;
 pub mod table;
 pub mod text;
 pub mod tokens;
@@ -22,6 +23,7 @@ pub use answer::{Answer, Place, Reason, Refusal};
 use pddl::Pddl;
 use propose::{MAX_WIDTH, SCRATCH_WORDS};
 use run::{Step, STEP_WORDS};
+use sizes::Sizes;
 use table::{Task, TABLE_WORDS};
 
 /// What running answers with a result.
@@ -114,6 +116,11 @@ pub fn propose(table: &[u16], width: u64, proposed: &mut [u16], scratch: &mut [u
     scratch.fill(0);
     propose::propose(&task, width)?.store(proposed);
     Ok(())
+}
+
+/// Answers what the split of a table's task will need.
+pub fn sizes(table: &[u16]) -> Answer<Sizes> {
+    sizes::sizes(&task_of(table)?)
 }
 
 /// Refusal 1: a lent table is shorter than 14,007 words.

@@ -10,6 +10,7 @@ mod proposing;
 mod reading;
 mod running;
 mod shared_runs;
+mod sizing;
 mod split_program;
 mod splitting;
 mod unfold_program;
@@ -31,6 +32,7 @@ fn every_function_is_compared() {
         ("splitter_fold", "folding"),
         ("splitter_write_pddl", "pddl"),
         ("splitter_propose", "proposing"),
+        ("splitter_sizes", "sizing"),
     ] {
         let declared = HEADER.contains(&format!("uint32_t {function}("));
         let compared = MODULES.lines().any(|line| line == format!("mod {module};"));

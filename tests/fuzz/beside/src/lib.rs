@@ -1,4 +1,4 @@
-//! The reference behind the names `reference_read` to `reference_propose`, lent
+//! The reference behind the names `reference_read` to `reference_sizes`, lent
 //! and answered as `include/splitter.h` says, and its programs.
 
 use reference::{programs, Answer};
@@ -185,6 +185,35 @@ pub unsafe extern "C" fn reference_propose(
         from_raw_parts_mut(proposed, proposed_len),
         from_raw_parts_mut(scratch, scratch_len),
     );
+    told(&answer, place)
+}
+
+/// # Safety
+/// As for reading.
+#[no_mangle]
+pub unsafe extern "C" fn reference_sizes(
+    table: *const u16,
+    table_len: usize,
+    place: &mut u64,
+    predicates: &mut u64,
+    schemas: &mut u64,
+    atoms: &mut u64,
+    bytes: &mut u64,
+    before: &mut u64,
+    after: &mut u64,
+) -> u32 {
+    let answer = reference::sizes(from_raw_parts(table, table_len));
+    let sizes = answer.map_or([0; 6], |sizes| {
+        [
+            sizes.predicates,
+            sizes.schemas,
+            sizes.schema_atoms,
+            sizes.text_bytes,
+            sizes.instances_before,
+            sizes.instances_after,
+        ]
+    });
+    [*predicates, *schemas, *atoms, *bytes, *before, *after] = sizes;
     told(&answer, place)
 }
 
