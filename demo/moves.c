@@ -4,51 +4,13 @@
  *
  * TASK is the task's text, PLAN the split steps as `step=` lines (schema, colon, objects). Prints the moves as `step=`
  * lines, the atoms of the state that they leave as `state=` lines, and `goal=1` if the goal is met there, else
- * `goal=0`. A refusal is printed as the call's name, `refused=`, number, colon, place; then the exit status is 1. */
-#include <stdio.h>
-#include <stdlib.h>
+ * `goal=0`. A refusal is printed as reading.h says. */
 #include <string.h>
 
-#include "splitter.h"
+#include "reading.h"
 
 /* How many counts a table begins with; and no step adds more atoms than a schema has. */
 enum { HEAD = 7, MOST_ADDED = 64 };
-
-static void *lend(size_t bytes) {
-    void *lent = calloc(bytes > 0 ? bytes : 1, 1);
-    if (lent == NULL) {
-        fprintf(stderr, "out of memory\n");
-        exit(EXIT_FAILURE);
-    }
-    return lent;
-}
-
-/* The bytes of a file, with a 0 behind them. */
-static char *contents(const char *path, size_t *length) {
-    size_t room = 1 << 16;
-    char *bytes = lend(room);
-    FILE *stream = fopen(path, "rb");
-    if (stream == NULL) {
-        perror(path);
-        exit(EXIT_FAILURE);
-    }
-    *length = 0;
-    for (size_t got; (got = fread(bytes + *length, 1, room - 1 - *length, stream)) > 0;) {
-        *length += got;
-        if (*length == room - 1 && (bytes = realloc(bytes, room *= 2)) == NULL)
-            exit(EXIT_FAILURE);
-    }
-    fclose(stream);
-    bytes[*length] = 0;
-    return bytes;
-}
-
-static void accept(const char *call, uint32_t number, uint64_t place) {
-    if (number != 0) {
-        printf("%s refused=%u:%llu\n", call, (unsigned)number, (unsigned long long)place);
-        exit(EXIT_FAILURE);
-    }
-}
 
 /* The steps of a plan as words, 13 for each `step=` line. */
 static uint16_t *steps_of(const char *plan, size_t length, size_t *count) {
@@ -90,10 +52,8 @@ int main(int count, char **arguments) {
     }
     size_t bytes, plan_bytes, found;
     uint64_t place, split_steps, moves, left, goal;
-    char *text = contents(arguments[1], &bytes), *plan = contents(arguments[2], &plan_bytes);
-    uint16_t *table = lend(SPLITTER_TABLE_WORDS * sizeof *table);
-    accept("splitter_read",
-           splitter_read((const uint8_t *)text, bytes, table, SPLITTER_TABLE_WORDS, &place), place);
+    uint16_t *table = table_of(arguments[1], &bytes);
+    char *plan = contents(arguments[2], &plan_bytes);
 
     uint16_t *split_list = steps_of(plan, plan_bytes, &found);
     size_t words = SPLITTER_STEP_WORDS * found;
@@ -116,7 +76,6 @@ int main(int count, char **arguments) {
     for (const uint16_t *atom = state; atom < state + SPLITTER_RECORD_WORDS * left; atom += SPLITTER_RECORD_WORDS)
         print("state", atom, arities[atom[0]]);
     printf("goal=%llu\n", (unsigned long long)goal);
-    free(text);
     free(plan);
     free(table);
     free(split_list);

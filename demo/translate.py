@@ -39,10 +39,6 @@ class Task:
         """How many parameters the schemas have on average."""
         return sum(schema.parameters for schema in self.schemas) / max(1, len(self.schemas))
 
-    def assignments(self):
-        """How many steps there are by the parameters alone: every object for every parameter."""
-        return sum(self.objects**schema.parameters for schema in self.schemas)
-
     def changing(self):
         """The predicates that some step adds or deletes."""
         return {atom.predicate for schema in self.schemas for atom in schema.add + schema.delete}
