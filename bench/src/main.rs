@@ -6,6 +6,7 @@ mod pddl;
 mod proposing;
 mod reading;
 mod running;
+mod sizing;
 mod splitting;
 mod tasks;
 mod timing;
@@ -18,6 +19,7 @@ fn main() {
     writing::bench();
     pddl::bench();
     splitting::bench();
+    sizing::bench();
     proposing::bench();
     unfolding::bench();
     folding::bench();

@@ -3,12 +3,9 @@
 
 use checks::read_table;
 use differential::splitting::split;
-use generate::tasks::task;
-use generate::{Random, Shape};
-use reference::table::{Task, TABLE_WORDS};
-use reference::tokens;
+use reference::table::TABLE_WORDS;
 
-use crate::tasks::{small, usual, Named};
+use crate::tasks::{large, small, usual};
 use crate::timing::{heading_and_copy, row_and_copy};
 
 fn bench_split(what: &str, table: &[u16]) {
@@ -23,16 +20,6 @@ fn bench_split(what: &str, table: &[u16]) {
         || assert_eq!(split(table, &mut found)[0], 0),
     );
     assert!(found == expected, "{what}");
-}
-
-/// Of random large tasks the one with most atoms whose split is within the
-/// limits.
-fn large() -> Named {
-    let mut random = Random::new(202);
-    let tasks = std::iter::repeat_with(|| task(&mut random, &Shape::LARGE)).take(300);
-    let with_split = tasks.filter(|task| tokens::split(task).is_ok());
-    let largest = with_split.max_by_key(Task::schema_atoms);
-    Named::new("large", &largest.expect("a task with a split"))
 }
 
 /// A schema that tests and deletes so many predicates of one argument: tested in

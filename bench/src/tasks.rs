@@ -42,6 +42,30 @@ pub fn usual() -> Named {
     Named::new("usual", &nearest.expect("a task with a split"))
 }
 
+/// Of random tasks of a shape the one with most atoms whose split is within the
+/// limits.
+fn most_atoms(name: &str, shape: &Shape) -> Named {
+    let mut random = Random::new(202);
+    let tasks = std::iter::repeat_with(|| task(&mut random, shape)).take(300);
+    let with_split = tasks.filter(|task| tokens::split(task).is_ok());
+    let largest = with_split.max_by_key(Task::schema_atoms);
+    Named::new(name, &largest.expect("a task with a split"))
+}
+
+/// A large task with a split.
+pub fn large() -> Named {
+    most_atoms("large", &Shape::LARGE)
+}
+
+/// One whose ground instances 63 bits hold.
+pub fn large_of_few_objects() -> Named {
+    let shape = Shape {
+        objects: 20..=30,
+        ..Shape::LARGE
+    };
+    most_atoms("few objects", &shape)
+}
+
 /// A task at nearly every limit; its text is the longest.
 pub fn largest() -> Named {
     Named::new("largest", &limits::largest())
