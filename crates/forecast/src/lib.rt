@@ -1,6 +1,6 @@
 // What a split will need, found before anything of it is written (document 02, note 6).
 mod bytes;
-pub mod instances;
+mod instances;
 
 use crate::bytes::text_bytes;
 use crate::instances::INSTANCE_LIMIT;

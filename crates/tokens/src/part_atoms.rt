@@ -66,7 +66,7 @@ struct Reached {
 }
 
 // A parameter's number among those of the part.
-pub fn renumbered_in(own: u64, x: Parameter) -> Parameter
+pub(crate) fn renumbered_in(own: u64, x: Parameter) -> Parameter
     requires { ⌜ x .0 < wordBits ⌝ }
     ensures { λ r. ⌜ r .0 ≡ newNumber own (x .0) ⌝ }
 {
