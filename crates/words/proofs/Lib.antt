@@ -9,6 +9,8 @@ pub mod PutWords
 pub mod JoinedWords
 pub mod BitSets
 pub mod SetMembers
+pub mod LowestMembers
+pub mod SetLoops
 pub mod Loops
 pub mod Quarters
 pub mod Comparing

@@ -2,13 +2,13 @@
 use crate::runs::word;
 ghost use Prim.Native.Nat.{ℕ, suc, _-_, _≤_, _<_};
 ghost use mathlib.Core.Path.{_≡_};
-ghost use mathlib.Core.Bool.{true, false, not, _&&_, _||_};
+ghost use mathlib.Core.Bool.{true, false, cond, not, _&&_, _||_};
 ghost use mathlib.Core.List.{map};
 ghost use lib.ListN.{length, getD};
 ghost use lib.Dec.{eqb, ltb};
 ghost use Rattle.words.specs.Lists.{all, any, lastOr, upTo};
 ghost use Rattle.words.specs.Words.{wordsAt};
-ghost use Rattle.words.specs.Sets.{member, members, wordBits};
+ghost use Rattle.words.specs.Sets.{Lowest, Loses, member, members, wordBits};
 
 // The bits of a word of a table, and the set of them all.
 const WORD_BITS: usize = 16;
@@ -53,9 +53,26 @@ pub fn with(set: u64, k: usize) -> u64
 // The set without k.
 pub fn without(set: u64, k: usize) -> u64
     requires { ⌜ k < 64 ⌝ }
-    ensures { λ r. ⌜ ((j : ℕ) → member r j ≡ member set j && not (eqb k j)) ⌝ }
+    ensures { λ r. ⌜ Loses set k r ⌝ }
 {
     set & !(1 << k)
+}
+
+// The lowest number of a set that has one.
+pub fn lowest(set: u64) -> usize
+    requires { ⌜ 0 < set ⌝ }
+    ensures { λ r. ⌜ Lowest set r ⌝ }
+{
+    u64::trailing_zeros(set) as usize
+}
+
+// The set without k, in which the numbers above it close up.
+pub fn closed_up(set: u64, k: usize) -> u64
+    requires { ⌜ k < 64 ⌝ }
+    ensures { λ r. ⌜ ((j : ℕ) → member r j ≡ cond (ltb j k) (member set j) (member set (suc j))) ⌝ }
+{
+    let low = below(k);
+    (set & low) | ((set >> 1) & !low)
 }
 
 // Whether two sets have a number in common.
