@@ -27,7 +27,7 @@ use words::sets::with;
 
 // "at some argument position they hold a declared pair": whether two atoms of one predicate do, by the partners of each
 // parameter.
-fn hold_pair(table: &[u16], i: usize, j: usize, partners: &PartnerSets) -> bool
+pub fn hold_pair(table: &[u16], i: usize, j: usize, partners: &PartnerSets) -> bool
     requires { ⌜ IsSchemaAtom (now table) i ⌝ }
     requires { ⌜ IsSchemaAtom (now table) j ⌝ }
     requires { ⌜ atomIn (now table) i .pred ≡ atomIn (now table) j .pred ⌝ }

@@ -18,7 +18,8 @@ const ROLE_BEFORE: [[bool; SCHEMA_ROLES]; SCHEMA_ROLES] = [
     [false, true, false],
 ];
 
-fn role_before(r: usize, q: usize) -> bool
+// Whether an arc goes from role r to role q.
+pub fn role_before(r: usize, q: usize) -> bool
     requires { ⌜ r < schemaRoles ⌝ }
     requires { ⌜ q < schemaRoles ⌝ }
     ensures { λ b. ⌜ b ≡ roleBefore r q ⌝ }
