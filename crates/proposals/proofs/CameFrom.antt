@@ -1,5 +1,5 @@
 -- Where a merged part was before part b closed up: the parts below b stayed, those from b on were one higher. So no
--- merged part was b alone, no two were the same, and every other part has become one.
+-- merged part was b alone, and no two were the same.
 use Prim.Native.Nat.{ℕ, _+_, _-_, _≤_, _<_}
 use mathlib.Core.Path.{_≡_, refl, sym, _∙_, ap}
 use mathlib.Core.Bool.{Bool, true, false, cond}
@@ -10,7 +10,7 @@ use native.Mathlib.Omega.{arith}
 use native.Mathlib.Numerals.{add-one}
 use lib.Dec.{eqb}
 use borrow.Author.Tests.{eqb-true, eq-eqb, ne-eqb, lt-ltb, le-ltb}
-use Rattle.words.proofs.Lists.{bool-ext, In, here, there, in-empty}
+use Rattle.words.proofs.Lists.{In, here, there, in-empty}
 use Rattle.proposals.specs.Circle.{cameFrom, becoming}
 
 pub came-low : (b q : ℕ) → q < b → cameFrom b q ≡ q
@@ -48,19 +48,6 @@ came-apart b p q d = elim (came b p) [
   | high h e ↦ elim (came b q) [ low k f ↦ omega arith | high k f ↦ omega arith ]
 ]
 
--- so parts may be compared by where they were
-pub came-same : (b p q : ℕ) → eqb (cameFrom b p) (cameFrom b q) ≡ eqb p q
-came-same b p q = bool-ext (eqb (cameFrom b p) (cameFrom b q)) (eqb p q)
-    (λ h. eq-eqb p q (came-apart b p q (eqb-true (cameFrom b p) (cameFrom b q) h)))
-    (λ h. eq-eqb (cameFrom b p) (cameFrom b q) (ap (cameFrom b) (eqb-true p q h)))
-
--- each of n parts but b is one of n - 1 merged ones
-pub came-each : (b n x : ℕ) → b < n → x < n → (x ≡ b → ⊥) → (p : ℕ) × (p < n - 1) × (cameFrom b p ≡ x)
-came-each b n x l m d = elim (decLt x b) [
-  | yes h ↦ (x, omega arith, came-low b x h)
-  | no h ↦ (x - 1, omega arith, let e = came-high b (x - 1) (omega arith) in omega arith)
-]
-
 -- ---- the parts that become a merged one: where it was, and b too if it is a
 pub becoming-both : (a b : ℕ) → becoming a b a ≡ a ∷ b ∷ []
 unfolding becoming
@@ -73,6 +60,10 @@ becoming-other a b q n = rw (ne-eqb q a n) refl
 module _ (a b : ℕ) (l : a < b) where
   pub came-a : cameFrom b a ≡ a
   came-a = came-low b a l
+
+  -- so no other part was there
+  pub came-from-a : (p : ℕ) → cameFrom b p ≡ a → p ≡ a
+  came-from-a p e = came-apart b p a (e ∙ sym came-a)
 
   pub came-becomes : (p : ℕ) → In (cameFrom b p) (becoming a b p)
   unfolding becoming

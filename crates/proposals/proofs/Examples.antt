@@ -71,22 +71,22 @@ pub move-outcome :
 unfolding move proposeOutcome wordsOf withParts lent tableWords scratchWords
 move-outcome = refl
 
--- "22, after 2, for a width above 12 or a shorter scratch"
+-- "22, after 2, for a width above 12 or a shorter scratch": since note 7 one of less than 128 words
 abbrev moveAt : ℕ → ℕ → Outcome Lent
 moveAt width words = proposeOutcome (wordsOf (moveIn (replicate 7 0))) width (lent tableWords) (lent words)
 
-pub move-too-wide : moveAt 13 4096 ≡ record {
+pub move-too-wide : moveAt 13 scratchWords ≡ record {
   told = refused 22 place.Nowhere [];
-  buffer = record { proposed = lent tableWords; scratch = lent 4096 };
+  buffer = record { proposed = lent tableWords; scratch = lent scratchWords };
 }
-unfolding move proposeOutcome wordsOf withParts lent tableWords
+unfolding move proposeOutcome wordsOf withParts lent tableWords scratchWords
 move-too-wide = refl
 
-pub move-short-scratch : moveAt 12 4095 ≡ record {
+pub move-short-scratch : moveAt 12 127 ≡ record {
   told = refused 22 place.Nowhere [];
-  buffer = record { proposed = lent tableWords; scratch = lent 4095 };
+  buffer = record { proposed = lent tableWords; scratch = lent 127 };
 }
-unfolding move proposeOutcome wordsOf withParts lent tableWords
+unfolding move proposeOutcome wordsOf withParts lent tableWords scratchWords
 move-short-scratch = refl
 
 -- ---- parameters that must differ

@@ -29,7 +29,7 @@ use Rattle.task.proofs.TablesByIndex.{Frame, table-frame, used-inside, atom-ins
 use Rattle.task.proofs.TablesPass.{table-words}
 use Rattle.arcs.proofs.Stretches.{schema-stretch}
 use Rattle.proposals.specs.Proposal.{withPart, withParts, proposedParts, proposedSchema, proposedTask}
-use Rattle.proposals.specs.Square.{HaveParts}
+use Rattle.proposals.specs.Scratch.{HaveParts}
 use Rattle.proposals.proofs.ProposedTask.{proposed-length, same-atoms, same-pairs}
 use Rattle.proposals.proofs.FreshRows.{parted-in, schemas-fresh}
 

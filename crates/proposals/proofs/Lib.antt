@@ -20,22 +20,22 @@ pub mod ProposeOutcome
 pub mod WrittenProposal
 pub mod Examples
 -- ---- for the code: the lent buffers
-pub mod Squares
+pub mod Scratches
 pub mod ClearedScratch
 -- ---- a schema's start
 pub mod StartWords
+pub mod StartArcs
 pub mod SchemaStart
 -- ---- the test of a pair, and the search
-pub mod Waiting
-pub mod Sweeps
+pub mod SharedArcs
+pub mod Placing
 pub mod Widths
 pub mod InPlay
 pub mod PairTests
 -- ---- a merge, and the merging
 pub mod Renumbering
-pub mod MergedSets
-pub mod JoinedArcs
-pub mod ClosedRows
+pub mod MergedParameters
+pub mod ClosedArcs
 pub mod MergingTurns
 -- ---- all schemas, and the second table
 pub mod SchemaParts

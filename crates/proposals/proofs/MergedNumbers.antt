@@ -29,12 +29,12 @@ module _ (a b : ℕ) where
   unfolding mergedNumber
   merged-beyond p l = rw (ne-eqb p b (λ e. omega arith), lt-ltb b p l) refl
 
-  data Goes (p : ℕ) : Type 0 where
+  pub data Goes (p : ℕ) : Type 0 where
     stays : p < b → mergedNumber a b p ≡ p → Goes p
     joins : p ≡ b → mergedNumber a b p ≡ a → Goes p
     closes-up : b < p → mergedNumber a b p ≡ p - 1 → Goes p
 
-  goes : (p : ℕ) → Goes p
+  pub goes : (p : ℕ) → Goes p
   goes p = elim (decLt p b) [
     | yes l ↦ stays l (merged-below p l)
     | no l ↦ elim (decLt b p) [

@@ -9,9 +9,10 @@ use lib.ListN.{length}
 use Rattle.words.specs.Lists.{put}
 use Rattle.words.specs.Words.{wordsAt}
 use Rattle.words.proofs.Words.{length-wordsAt}
+use Rattle.task.specs.Limits.{mostAtoms}
 use Rattle.task.specs.Task.{Schema}
 use Rattle.proposals.specs.Proposal.{countOf, merged, firstPair, mergeFrom}
-use Rattle.proposals.specs.Square.{MergesArcs, MergesSets, Named, InPlay}
+use Rattle.proposals.specs.Scratch.{MergesArcs, MergesParameters, Named, InPlay}
 use Rattle.proposals.proofs.MergedNumbers.{merged-length}
 use Rattle.proposals.proofs.InPlay.{in-play-count, in-play-merged}
 use Rattle.proposals.proofs.PartPairs.{pair}
@@ -21,42 +22,41 @@ use Rattle.proposals.proofs.Renumbering.{renumberedAll}
 
 -- at a turn: n of k parts are left, what further merges give is what the merging gives, and only the part numbers of
 -- the k atoms have changed
-pub record Merging (width : ℕ) (s : Schema) (from k : ℕ) (lent : List ℕ) (n : ℕ) (parts square sets : List ℕ) :
+pub record Merging (width : ℕ) (s : Schema) (from k : ℕ) (lent : List ℕ) (n : ℕ) (parts scratch : List ℕ) :
     Type 0 where
-  pub play : InPlay s n (wordsAt parts from k) square sets
+  pub play : InPlay s n (wordsAt parts from k) scratch
   pub same : mergeFrom width s k (wordsAt lent from k) ≡ mergeFrom width s n (wordsAt parts from k)
   pub words : parts ≡ put lent from (wordsAt parts from k)
 
 -- the same of any schema whose parts were in play at first
-abbrev pub MergingAny : ℕ → ℕ → ℕ → List ℕ → List ℕ → List ℕ → ℕ → List ℕ → List ℕ → List ℕ → Type 0
-MergingAny width from k lent square₀ sets₀ n parts square sets =
-    (s : Schema) → Named s → InPlay s k (wordsAt lent from k) square₀ sets₀ →
-    Merging width s from k lent n parts square sets
+abbrev pub MergingAny : ℕ → ℕ → ℕ → List ℕ → List ℕ → ℕ → List ℕ → List ℕ → Type 0
+MergingAny width from k lent scratch₀ n parts scratch =
+    (s : Schema) → Named s → InPlay s k (wordsAt lent from k) scratch₀ → Merging width s from k lent n parts scratch
 
-pub merging-first : (width from k : ℕ) (lent square sets : List ℕ) →
-    MergingAny width from k lent square sets k lent square sets
-merging-first width from k lent square sets s known play = record {
+pub merging-first : (width from k : ℕ) (lent scratch : List ℕ) →
+    MergingAny width from k lent scratch k lent scratch
+merging-first width from k lent scratch s known play = record {
   play = play;
   same = refl;
   words = sym (put-own lent from k);
 }
 
-module _ {width from k : ℕ} {lent square₀ sets₀ : List ℕ} {n : ℕ} {parts square sets : List ℕ}
-    (h : MergingAny width from k lent square₀ sets₀ n parts square sets) where
+module _ {width from k : ℕ} {lent scratch₀ : List ℕ} {n : ℕ} {parts scratch : List ℕ}
+    (h : MergingAny width from k lent scratch₀ n parts scratch) where
   pub merging-turn : (a b : ℕ) → a < b → b < n → from + k ≤ length parts →
-      ((s : Schema) (ps : List ℕ) → Named s → InPlay s n ps square sets → some (pair a b) ≡ firstPair width s ps) →
-      {parts' square' sets' : List ℕ} → parts' ≡ renumberedAll a b from k parts →
-      MergesSets a b n sets sets' → MergesArcs a b n square square' →
-      MergingAny width from k lent square₀ sets₀ (n - 1) parts' square' sets'
-  merging-turn a b l m room found {parts'} {square'} {sets'} e named arcs s known play₀ = record {
+      ((s : Schema) (ps : List ℕ) → Named s → InPlay s n ps scratch → some (pair a b) ≡ firstPair width s ps) →
+      n ≤ mostAtoms → {parts' between after : List ℕ} → parts' ≡ renumberedAll a b from k parts →
+      MergesParameters a b n scratch between → MergesArcs a b n between after →
+      MergingAny width from k lent scratch₀ (n - 1) parts' after
+  merging-turn a b l m room found few {parts'} {between} {after} e named arcs s known play₀ = record {
     play =
-        subst (λ (ps : List ℕ). InPlay s (n - 1) ps square' sets') (sym read)
-        (in-play-merged (g .play) a b l m arcs named);
+        subst (λ (ps : List ℕ). InPlay s (n - 1) ps after) (sym read)
+        (in-play-merged (g .play) a b l m named arcs few);
     same = g .same ∙ (next ∙ ap (mergeFrom width s (n - 1)) (sym read));
     words = over ∙ ap (put lent from) (sym read);
   }
     where
-      g : Merging width s from k lent n parts square sets
+      g : Merging width s from k lent n parts scratch
       g = h s known play₀
 
       ps : List ℕ
@@ -80,8 +80,8 @@ module _ {width from k : ℕ} {lent square₀ sets₀ : List ℕ} {n : ℕ} {par
           ∙ put-again lent from ps (merged a b ps) (length-wordsAt parts from k ∙ sym long))
 
   pub merging-end :
-      ((s : Schema) (ps : List ℕ) → Named s → InPlay s n ps square sets → none ≡ firstPair width s ps) →
-      (s : Schema) → Named s → InPlay s k (wordsAt lent from k) square₀ sets₀ →
+      ((s : Schema) (ps : List ℕ) → Named s → InPlay s n ps scratch → none ≡ firstPair width s ps) →
+      (s : Schema) → Named s → InPlay s k (wordsAt lent from k) scratch₀ →
       (parts ≡ put lent from (mergeFrom width s k (wordsAt lent from k))) ×
       (n ≡ countOf (mergeFrom width s k (wordsAt lent from k)))
   merging-end found s known play₀ =

@@ -17,7 +17,7 @@ use Rattle.arcs.specs.Order.{inPart, givesArc}
 use Rattle.arcs.proofs.Arcs.{Ordered, tested-then-added, tested-then-deleted, deleted-then-added, gives-arc, arc-is}
 use Rattle.proposals.specs.Proposal.{withPart, parted, withParts, ownParts, someOrder}
 use Rattle.proposals.specs.Circle.{arcsOf}
-use Rattle.proposals.specs.Square.{arcsIn, InPlay}
+use Rattle.proposals.specs.Scratch.{arcsIn, InPlay, parametersTo}
 use Rattle.proposals.proofs.RankedParts.{ranked-placeable}
 use Rattle.proposals.proofs.SomeOrder.{some-order-exactly}
 use Rattle.proposals.proofs.Partitions.{GapFree, numbered-gap-free, parted-at, parted-length}
@@ -139,15 +139,16 @@ module _ (s : Schema) where
   -- "The result is accepted by the order rule": so is the start
   pub own-accepted : someOrder (withParts s (ownParts s)) ≡ true
   own-accepted =
-      some-order-exactly own .1 (ranked-placeable (arcsOf own) rank arc-rises (upTo (partCount (own .atoms))))
+      some-order-exactly own .1
+      (ranked-placeable (arcsOf own) rank (upTo (partCount (own .atoms))) (λ p q i j. arc-rises p q))
 
-  -- ---- the square and the sets
-  pub own-in-play : (square sets : List ℕ) →
+  -- ---- the scratch
+  pub own-in-play : (scratch : List ℕ) →
       ((p q : ℕ) → p < length (s .atoms) → q < length (s .atoms) →
-      arcsIn square p q ≡ givesArc (s .pairs) (getD (s .atoms) p noAtom) (getD (s .atoms) q noAtom)) →
-      ((p x : ℕ) → p < length (s .atoms) → member (getD sets p 0) x ≡ names x (getD (s .atoms) p noAtom)) →
-      InPlay s (length (s .atoms)) (ownParts s) square sets
-  own-in-play square sets arcs named = record {
+      arcsIn scratch p q ≡ givesArc (s .pairs) (getD (s .atoms) p noAtom) (getD (s .atoms) q noAtom)) →
+      ((p x : ℕ) → p < length (s .atoms) → member (parametersTo scratch p) x ≡ names x (getD (s .atoms) p noAtom)) →
+      InPlay s (length (s .atoms)) (ownParts s) scratch
+  own-in-play scratch arcs named = record {
     size = own-length;
     numbered = numbered-gap-free .1 own-gap-free;
     arcs = λ p q l m. arcs p q l m ∙ sym (own-arc p q l m);

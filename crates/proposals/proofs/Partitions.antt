@@ -18,7 +18,7 @@ use Rattle.task.specs.Task.{schemaFits}
 use Rattle.task.proofs.Tests.{schema-tests, tests-schema}
 use Rattle.task.proofs.AtomsStand.{noAtom}
 use Rattle.proposals.specs.Proposal.{withPart, parted, withParts, countOf}
-use Rattle.proposals.specs.Square.{Numbered}
+use Rattle.proposals.specs.Scratch.{Numbered}
 
 -- ---- part numbers without a gap
 -- the numbers of n parts, "numbered without a gap"

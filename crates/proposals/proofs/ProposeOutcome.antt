@@ -23,7 +23,7 @@ use Rattle.task.proofs.LongEnough.{too-short, long-enough}
 use Rattle.proposals.specs.declared.TooMany.{TooMany}
 use Rattle.proposals.specs.Proposal.{proposedTask, tooMany}
 use Rattle.proposals.specs.Outcome.{Lent, scratchWords, mostWidth, cleared, settled, proposeOutcome}
-use Rattle.proposals.specs.Square.{manyTold}
+use Rattle.proposals.specs.Scratch.{manyTold}
 
 -- ---- what is settled once the parts are found
 module _ (t : Task) (lent : Lent) where

@@ -25,7 +25,7 @@ use Rattle.arcs.proofs.SchemaEnds.{schema-known}
 use Rattle.arcs.proofs.Stretches.{schema-atoms, schema-stretch, schema-pairs, schema-pair-stretch}
 use Rattle.tokens.proofs.KeptSchemas.{atoms-few}
 use Rattle.proposals.specs.Proposal.{countOf, proposedParts, proposedSchema, proposedTask, tooMany}
-use Rattle.proposals.specs.Square.{HaveParts, Named}
+use Rattle.proposals.specs.Scratch.{HaveParts, Named}
 use Rattle.proposals.proofs.Proposed.{proposed}
 use Rattle.proposals.proofs.ProposedTask.{too-many-exactly}
 use Rattle.words.proofs.PutWords.{words-before, words-put}

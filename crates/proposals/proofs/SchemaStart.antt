@@ -1,5 +1,5 @@
--- A schema of a table when its merging begins: each of its atoms is in its own part, the square has the arcs that two
--- atoms give, and a part has the parameters of its atom. So what the merging promises is the parts proposed.
+-- A schema of a table when its merging begins: each of its atoms is in its own part, the scratch has the arcs that two
+-- atoms give, and the parameters of each. So what the merging promises is the parts proposed.
 use Prim.Native.Nat.{ℕ, _+_, _-_, _≤_, _<_}
 use mathlib.Core.Path.{_≡_, sym, _∙_, ap, ap₂, subst, subst₂}
 use mathlib.Core.List.{List}
@@ -15,7 +15,7 @@ use Rattle.task.proofs.AtomsStand.{noAtom}
 use Rattle.arcs.specs.Order.{givesArc}
 use Rattle.arcs.specs.Stretches.{stretch, stretchIn}
 use Rattle.proposals.specs.Proposal.{ownParts, countOf, mergeFrom, proposedParts}
-use Rattle.proposals.specs.Square.{arcsIn, InPlay}
+use Rattle.proposals.specs.Scratch.{arcsIn, parametersTo, InPlay}
 use Rattle.proposals.proofs.OwnParts.{own-in-play}
 use Rattle.proposals.proofs.Proposed.{proposed}
 use Rattle.words.proofs.PutWords.{words-put, put-again}
@@ -36,14 +36,14 @@ module _ (w : List ℕ) (s : Schema) (from to : ℕ) (atoms : s .atoms ≡ stret
   own-numbers = ap upTo count
 
   -- the numbers, arcs and parameters of its atoms are those of the parts at the start
-  pub stretch-in-play : (pairs : List Pair) → s .pairs ≡ pairs → (square sets : List ℕ) →
+  pub stretch-in-play : (pairs : List Pair) → s .pairs ≡ pairs → (scratch : List ℕ) →
       ((p q : ℕ) → p < to - from → q < to - from →
-      arcsIn square p q ≡ givesArc pairs (atomIn w (from + p)) (atomIn w (from + q))) →
-      ((p x : ℕ) → p < to - from → member (getD sets p 0) x ≡ names x (atomIn w (from + p))) →
-      InPlay s (to - from) (upTo (to - from)) square sets
-  stretch-in-play pairs same square sets arcs named =
-      subst₂ (λ (n : ℕ) (ps : List ℕ). InPlay s n ps square sets) count own-numbers
-      (own-in-play s square sets
+      arcsIn scratch p q ≡ givesArc pairs (atomIn w (from + p)) (atomIn w (from + q))) →
+      ((p x : ℕ) → p < to - from → member (parametersTo scratch p) x ≡ names x (atomIn w (from + p))) →
+      InPlay s (to - from) (upTo (to - from)) scratch
+  stretch-in-play pairs same scratch arcs named =
+      subst₂ (λ (n : ℕ) (ps : List ℕ). InPlay s n ps scratch) count own-numbers
+      (own-in-play s scratch
       (λ p q l m.
       let j : p < to - from = omega (arith, count) in
       let k : q < to - from = omega (arith, count) in
@@ -55,7 +55,7 @@ module _ (w : List ℕ) (s : Schema) (from to : ℕ) (atoms : s .atoms ≡ stret
       named p x k ∙ ap (names x) (sym (at p k))))
 
   -- what the merging promises of parts numbered so is that the parts proposed are put, and how many there are
-  module _ (width : ℕ) (parts numbered square sets after : List ℕ) (left : ℕ) where
+  module _ (width : ℕ) (parts numbered scratch after : List ℕ) (left : ℕ) where
     abbrev own : List ℕ
     own = upTo (to - from)
 
@@ -63,7 +63,7 @@ module _ (w : List ℕ) (s : Schema) (from to : ℕ) (atoms : s .atoms ≡ stret
     mergedTo ps = mergeFrom width s (to - from) ps
 
     abbrev Merges : List ℕ → Type 0
-    Merges ps = InPlay s (to - from) ps square sets →
+    Merges ps = InPlay s (to - from) ps scratch →
         (after ≡ put numbered from (mergedTo ps)) × (left ≡ countOf (mergedTo ps))
 
     all-merged : mergedTo own ≡ proposedParts width s
@@ -73,7 +73,7 @@ module _ (w : List ℕ) (s : Schema) (from to : ℕ) (atoms : s .atoms ≡ stret
     own-long = length-upTo (to - from) ∙ (sym count ∙ sym (proposed width s .size))
 
     pub merged-proposed : from + (to - from) ≤ length parts → numbered ≡ put parts from own →
-        Merges (wordsAt numbered from (to - from)) → InPlay s (to - from) own square sets →
+        Merges (wordsAt numbered from (to - from)) → InPlay s (to - from) own scratch →
         (after ≡ put parts from (proposedParts width s)) × (left ≡ countOf (proposedParts width s))
     merged-proposed room e promise begun =
         let read = ap (λ (w : List ℕ). wordsAt w from (to - from)) e ∙

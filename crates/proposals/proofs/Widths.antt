@@ -18,7 +18,7 @@ use Rattle.task.proofs.Tests.{schema-tests}
 use Rattle.task.proofs.States.{names-in, schemaFits-fits}
 use Rattle.arcs.specs.Order.{inPart}
 use Rattle.proposals.specs.Proposal.{withPart, withParts, together}
-use Rattle.proposals.specs.Square.{Named}
+use Rattle.proposals.specs.Scratch.{Named}
 use Rattle.proposals.proofs.Partitions.{parted-any}
 use Rattle.proposals.proofs.PartNames.{part-names}
 

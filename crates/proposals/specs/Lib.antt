@@ -1,4 +1,4 @@
 pub mod Proposal
 pub mod Circle
 pub mod Outcome
-pub mod Square
+pub mod Scratch

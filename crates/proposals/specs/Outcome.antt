@@ -1,4 +1,4 @@
--- Document 02's note 5: what the entry point `propose` does.
+-- Document 02's notes 5 and 7: what the entry point `propose` does.
 use Rattle.task.specs.declared.Place.the-variants as place
 use Rattle.proposals.specs.declared.ProposeAnswer.the-variants as answer
 use Prim.Native.Nat.{ℕ}
@@ -20,15 +20,15 @@ pub record Lent : Type 0 where
   pub proposed : List ℕ
   pub scratch : List ℕ
 
--- "The lent scratch is a square of 64 by 64 words"; shut, since a list function would count a numeral down
+-- "What is lent falls to 128 words of 64 bits" (note 7); shut, since a list function would count a numeral down
 unfoldable pub scratchWords : ℕ
-scratchWords = 4096
+scratchWords = 128
 
 -- "a width from 0 to 12": a schema has no more parameters
 abbrev pub mostWidth : ℕ
 mostWidth = mostParameters
 
--- ".. and is all 0 after a result or 23"; words behind it stay as found
+-- "again all 0 after a result or 23"; words behind these stay as found
 unfoldable pub cleared : List ℕ → List ℕ
 unfolding over scratchWords
 cleared scratch = over (replicate scratchWords 0) scratch
@@ -46,7 +46,8 @@ settled none t lent = record {
 }
 
 -- `propose`, lent a table, a second one for the result and a scratch: "Given a task and a width from 0 to 12, write its
--- table with fresh parts to a second one". "22, after 2, for a width above 12 or a shorter scratch"
+-- table with fresh parts to a second one". "22, after 2, for a width above 12 or a shorter scratch", and it "reads that
+-- length"
 unfoldable pub proposeOutcome : List ℕ → ℕ → List ℕ → List ℕ → Outcome Lent
 unfolding inOrder refuseUnless longEnough isTable taskOf settled tooMany proposedTask scratchWords
 proposeOutcome table width proposed scratch =

@@ -1,75 +1,88 @@
--- What the contracts of this crate's code speak of: the lent square, in which the arcs between parts are kept; the
--- parts that wait to be placed; and what is known of the parts at each turn of the merging.
-use Prim.Native.Nat.{ℕ, _+_, _-_, _*_, _≤_, _<_}
+-- What the contracts of this crate's code speak of: the lent scratch, in which the arcs between parts and the
+-- parameters of each are kept; two parts that stand as one in the test for a circle; and what is known of the parts at
+-- each turn of the merging.
+use Prim.Native.Nat.{ℕ, _+_, _-_, _≤_, _<_}
 use mathlib.Core.Path.{_≡_}
-use mathlib.Core.Bool.{Bool, true, false, cond, _&&_}
+use mathlib.Core.Bool.{Bool, true, false, cond, not, _&&_, _||_}
 use mathlib.Core.List.{List}
 use mathlib.Core.Option.{Option, none, some}
 use lib.ListN.{length, getD}
 use lib.Dec.{eqb, ltb}
-use Rattle.words.specs.Lists.{all, any, filter, upTo}
+use Rattle.words.specs.Lists.{all, any, upTo}
 use Rattle.words.specs.Words.{wordsAt}
-use Rattle.words.specs.Sets.{member}
+use Rattle.words.specs.Sets.{member, setBits}
 use Rattle.task.specs.Limits.{mostAtoms, mostParameters}
 use Rattle.task.specs.Task.{Schema, Task, names}
 use Rattle.task.specs.Run.{schemaAt}
 use Rattle.task.specs.Turns.{firstAtom}
 use Rattle.arcs.specs.Order.{inPart}
-use Rattle.proposals.specs.declared.merging.Found.{Found}
-use Rattle.proposals.specs.declared.merging.Found.the-variants as found
+use Rattle.proposals.specs.declared.search.Found.{Found}
+use Rattle.proposals.specs.declared.search.Found.the-variants as found
 use Rattle.proposals.specs.declared.TooMany.{TooMany}
 use Rattle.proposals.specs.declared.TooMany.the-variants as many
 use Rattle.proposals.specs.Proposal.{PartPair, withParts, proposedParts}
-use Rattle.proposals.specs.Circle.{Arcs, arcsOf, cameFrom, becoming, mergedArcs, placeable}
+use Rattle.proposals.specs.Circle.{Arcs, arcsOf, becoming, mergedArcs}
 use Rattle.proposals.specs.Outcome.{scratchWords}
 
--- ---- the square
--- "a square of 64 by 64 words", as many as a schema has atoms: up to so many parts are in play
-abbrev pub squareSide : ℕ
-squareSide = mostAtoms
+-- ---- the scratch
+-- "one 64-bit word a part, a bit for each part it has an arc from": there are never more parts than a schema has atoms
+abbrev pub arcsTo : List ℕ → ℕ → ℕ
+arcsTo scratch q = getD scratch q 0
 
--- row q has 1 at p where part p has an arc to part q, else 0
-unfoldable pub arcsIn : List ℕ → Arcs
-arcsIn square p q = eqb (getD square (squareSide * q + p) 0) 1
+-- whether part p has an arc to part q
+abbrev pub arcsIn : List ℕ → Arcs
+arcsIn scratch p q = member (arcsTo scratch q) p
 
--- the words behind the square stay, and there are as many words as before
+-- behind them a word a part, a bit for each of its parameters
+abbrev pub parametersTo : List ℕ → ℕ → ℕ
+parametersTo scratch q = getD scratch (mostAtoms + q) 0
+
+-- the words behind the scratch stay, and there are as many words as before
 pub record KeepsBehind (lent after : List ℕ) : Type 0 where
   pub long : length after ≡ length lent
   pub behind : (i : ℕ) → scratchWords ≤ i → getD after i 0 ≡ getD lent i 0
 
--- one arc of the square is set or unset
-pub record PutsArc (lent : List ℕ) (p q : ℕ) (isArc : Bool) (after : List ℕ) : Type 0 where
-  pub keeps : KeepsBehind lent after
-  pub arcs : (x y : ℕ) → x < squareSide → y < squareSide →
-      arcsIn after x y ≡ cond (eqb x p && eqb y q) isArc (arcsIn lent x y)
+-- so do the words of arcs, or those of parameters
+abbrev pub KeepsArcs : List ℕ → List ℕ → Type 0
+KeepsArcs lent after = (q : ℕ) → q < mostAtoms → arcsTo after q ≡ arcsTo lent q
+
+abbrev pub KeepsParameters : List ℕ → List ℕ → Type 0
+KeepsParameters lent after = (q : ℕ) → q < mostAtoms → parametersTo after q ≡ parametersTo lent q
+
+-- none of n parts has an arc to itself
+abbrev pub NoOwn : ℕ → Arcs → Type 0
+NoOwn n arcs = (p : ℕ) → p < n → arcs p p ≡ false
 
 -- of n parts, a and b are merged: the arcs between the n - 1 parts after that
 pub record MergesArcs (a b n : ℕ) (lent after : List ℕ) : Type 0 where
   pub keeps : KeepsBehind lent after
-  pub arcs : (p q : ℕ) → p < n - 1 → q < n - 1 → arcsIn after p q ≡ mergedArcs a b (arcsIn lent) p q
+  pub parameters : KeepsParameters lent after
+  pub arcs : NoOwn n (arcsIn lent) → (p q : ℕ) → p < n - 1 → q < n - 1 →
+      arcsIn after p q ≡ mergedArcs a b (arcsIn lent) p q
 
--- the same for their sets of parameters
-pub record MergesSets (a b n : ℕ) (sets after : List ℕ) : Type 0 where
-  pub long : length after ≡ length sets
+-- the same for their parameters
+pub record MergesParameters (a b n : ℕ) (lent after : List ℕ) : Type 0 where
+  pub keeps : KeepsBehind lent after
+  pub arcs : KeepsArcs lent after
   pub named : (q x : ℕ) → q < n - 1 →
-      member (getD after q 0) x ≡ any (λ p. member (getD sets p 0) x) (becoming a b q)
+      member (parametersTo after q) x ≡ any (λ p. member (parametersTo lent p) x) (becoming a b q)
 
--- ---- placing merged parts
--- of n merged parts those that wait to be placed, by the unplaced parts before b closed up
-unfoldable pub waiting : ℕ → ℕ → ℕ → List ℕ
-unfolding filter member cameFrom upTo
-waiting b n unplaced = filter (λ q. member unplaced (cameFrom b q)) (upTo n)
+-- ---- two parts that stand as one
+-- the parts that a or b has an arc from, but for the two
+abbrev pub ArcsOfBoth : ℕ → ℕ → Arcs → ℕ → Type 0
+ArcsOfBoth a b arcs joined = (p : ℕ) → member joined p ≡ (arcs p a || arcs p b) && (not (eqb a p) && not (eqb b p))
 
--- the parts that merge are unplaced together
-abbrev pub Joint : ℕ → ℕ → ℕ → Type 0
-Joint a b unplaced = member unplaced a ≡ member unplaced b
+-- the parts that part q has an arc from, where a and b share theirs
+abbrev pub sharedTo : ℕ → ℕ → ℕ → List ℕ → ℕ → ℕ
+sharedTo a b joined scratch q = cond (eqb q a || eqb q b) joined (arcsTo scratch q)
 
--- parts are placed that are free in their turn: whether all can be placed stays the same question, and where none is
--- placed, though some wait, the answer is no
-pub record Sweeps (arcs : Arcs) (waited left : List ℕ) (placed : ℕ) : Type 0 where
-  pub same : placeable arcs left ≡ placeable arcs waited
-  pub counted : placed + length left ≡ length waited
-  pub stuck : placed ≡ 0 → 0 < length waited → placeable arcs waited ≡ false
+-- the same as arcs
+abbrev pub sharedIn : ℕ → ℕ → ℕ → List ℕ → Arcs
+sharedIn a b joined scratch p q = member (sharedTo a b joined scratch q) p
+
+-- whether no unplaced part has an arc to part p
+abbrev pub isFree : Arcs → ℕ → ℕ → Bool
+isFree arcs unplaced p = not (any (λ q. arcs q p && member unplaced q) (upTo setBits))
 
 -- ---- the parts in play
 -- n parts, "numbered without a gap"
@@ -82,13 +95,12 @@ pub record Named (s : Schema) : Type 0 where
   pub few : s .params ≤ mostParameters
   pub known : (x : ℕ) → any (names x) (s .atoms) ≡ true → x < s .params
 
--- n parts of a schema, by the part numbers of its atoms: the square has their arcs, and for each part there is the set
--- of its parameters
-pub record InPlay (s : Schema) (n : ℕ) (ps square sets : List ℕ) : Type 0 where
+-- n parts of a schema, by the part numbers of its atoms: the scratch has their arcs and their parameters
+pub record InPlay (s : Schema) (n : ℕ) (ps scratch : List ℕ) : Type 0 where
   pub size : length ps ≡ length (s .atoms)
   pub numbered : Numbered n ps
-  pub arcs : (p q : ℕ) → p < n → q < n → arcsIn square p q ≡ arcsOf (withParts s ps) p q
-  pub named : (p x : ℕ) → p < n → member (getD sets p 0) x ≡ inPart (withParts s ps .atoms) x p
+  pub arcs : (p q : ℕ) → p < n → q < n → arcsIn scratch p q ≡ arcsOf (withParts s ps) p q
+  pub named : (p x : ℕ) → p < n → member (parametersTo scratch p) x ≡ inPart (withParts s ps .atoms) x p
 
 -- the pair that is found, if there is one
 unfoldable pub pairFound : Found → Option PartPair

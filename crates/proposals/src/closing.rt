@@ -1,78 +1,67 @@
-// The square after a merge: "the merged part takes the lower number and higher ones close up".
-use crate::circle::came_from;
-use crate::square::has_arc;
-use crate::square::put_arc;
-ghost use Prim.Native.Nat.{ℕ, _-_, _≤_, _<_};
+// The scratch after a merge: "the merged part takes the lower number and higher ones close up".
+use crate::circle::arcs_to_both;
+use crate::scratch::arcs_to;
+use crate::scratch::parameters_to;
+use task::limits::MOST_ATOMS;
+use words::sets::closed_up;
+use words::sets::has;
+use words::sets::union;
+use words::sets::with;
+ghost use Prim.Native.Nat.{ℕ, _≤_, _<_};
 ghost use mathlib.Core.Path.{_≡_};
-ghost use mathlib.Core.Bool.{_||_};
 ghost use lib.ListN.{length};
-ghost use Rattle.proposals.specs.Circle.{cameFrom, mergedArcs};
+ghost use Rattle.words.specs.Lists.{any};
+ghost use Rattle.words.specs.Sets.{member};
+ghost use Rattle.task.specs.Limits.{mostAtoms};
+ghost use Rattle.proposals.specs.Circle.{becoming, cameFrom};
 ghost use Rattle.proposals.specs.Outcome.{scratchWords};
-ghost use Rattle.proposals.specs.Square.{squareSide, arcsIn, KeepsBehind, PutsArc, MergesArcs};
+ghost use Rattle.proposals.specs.Scratch.{MergesArcs, MergesParameters};
 
-// There is an arc from part p to part q also where there is one from r to s.
-fn join_arc(square: &mut [u16], p: usize, q: usize, r: usize, s: usize)
-    requires { ⌜ scratchWords ≤ length (now square) ⌝ }
-    requires { ⌜ (p < squareSide) × (q < squareSide) × (r < squareSide) × (s < squareSide) ⌝ }
-    ensures { λ _. ⌜ PutsArc (now (square .entry)) p q
-        (arcsIn (now (square .entry)) p q || arcsIn (now (square .entry)) r s) (now (square .exit)) ⌝ }
+// Where part q was before part b closed up.
+fn came_from(b: usize, q: usize) -> usize
+    requires { ⌜ q < mostAtoms ⌝ }
+    ensures { λ r. ⌜ r ≡ cameFrom b q ⌝ }
 {
-    if has_arc(square, r, s) {
-        put_arc(square, p, q, true);
-    }
+    if q < b { q } else { q + 1 }
 }
 
-// The arcs of part b join those of part a; "Arcs inside a part don't count". The parts that will be left still stand
-// where they came from.
-fn join_arcs(square: &mut [u16], n: usize, a: usize, b: usize)
-    requires { ⌜ scratchWords ≤ length (now square) ⌝ }
-    requires { ⌜ (n ≤ squareSide) × (a < b) × (b < n) ⌝ }
-    ensures { λ _. ⌜ KeepsBehind (now (square .entry)) (now (square .exit)) ⌝ }
-    ensures { λ _. ⌜ ((p q : ℕ) → p < n - 1 → q < n - 1 →
-        arcsIn (now (square .exit)) (cameFrom b p) (cameFrom b q) ≡
-        mergedArcs a b (arcsIn (now (square .entry))) p q) ⌝ }
+// A set of parts, once a and b are merged.
+fn merged_set(set: u64, a: usize, b: usize) -> u64
+    requires { ⌜ (a < b) × (b < mostAtoms) ⌝ }
+    ensures { λ r. ⌜ ((p : ℕ) → member r p ≡ any (member set) (becoming a b p)) ⌝ }
 {
-    let mut x = 0;
-    while x < n {
-        join_arc(square, x, a, x, b);
-        join_arc(square, a, x, b, x);
-        put_arc(square, x, x, false);
-        x += 1;
+    let mut joint = set;
+    if has(set, b) {
+        joint = with(set, a);
     }
+    closed_up(joint, b)
 }
 
-// Row q after part b is gone. What stands before it in the row and in the rows above has its place already.
-fn close_row(square: &mut [u16], n: usize, b: usize, q: usize)
-    requires { ⌜ scratchWords ≤ length (now square) ⌝ }
-    requires { ⌜ (n ≤ squareSide) × (b < n) × (q < n - 1) ⌝ }
-    ensures { λ _. ⌜ KeepsBehind (now (square .entry)) (now (square .exit)) ⌝ }
-    ensures { λ _. ⌜ ((p : ℕ) → p < n - 1 →
-        arcsIn (now (square .exit)) p q ≡ arcsIn (now (square .entry)) (cameFrom b p) (cameFrom b q)) ⌝ }
-    ensures { λ _. ⌜ ((x y : ℕ) → x < squareSide → y < squareSide → (y ≡ q → ⊥) →
-        arcsIn (now (square .exit)) x y ≡ arcsIn (now (square .entry)) x y) ⌝ }
+// The arcs between n parts become those between the n - 1 that are left. What is read in a turn was never written in
+// one before it.
+pub fn merge_arcs(scratch: &mut [u64], n: usize, a: usize, b: usize)
+    requires { ⌜ scratchWords ≤ length (now scratch) ⌝ }
+    requires { ⌜ (n ≤ mostAtoms) × (a < b) × (b < n) ⌝ }
+    ensures { λ _. ⌜ MergesArcs a b n (now (scratch .entry)) (now (scratch .exit)) ⌝ }
 {
-    let row = came_from(b, q);
-    let mut p = 0;
-    if q < b {
-        p = b;
-    }
-    while p + 1 < n {
-        let arc = has_arc(square, came_from(b, p), row);
-        put_arc(square, p, q, arc);
-        p += 1;
-    }
-}
-
-// The arcs between n parts become those between the n - 1 that are left when a and b merge.
-pub fn merge_arcs(square: &mut [u16], n: usize, a: usize, b: usize)
-    requires { ⌜ scratchWords ≤ length (now square) ⌝ }
-    requires { ⌜ (n ≤ squareSide) × (a < b) × (b < n) ⌝ }
-    ensures { λ _. ⌜ MergesArcs a b n (now (square .entry)) (now (square .exit)) ⌝ }
-{
-    join_arcs(square, n, a, b);
+    scratch[a] = arcs_to_both(scratch, a, b);
     let mut q = 0;
     while q + 1 < n {
-        close_row(square, n, b, q);
+        scratch[q] = merged_set(arcs_to(scratch, came_from(b, q)), a, b);
+        q += 1;
+    }
+}
+
+// The same for their parameters: the merged part has those of both.
+pub fn merge_parameters(scratch: &mut [u64], n: usize, a: usize, b: usize)
+    requires { ⌜ scratchWords ≤ length (now scratch) ⌝ }
+    requires { ⌜ (n ≤ mostAtoms) × (a < b) × (b < n) ⌝ }
+    ensures { λ _. ⌜ MergesParameters a b n (now (scratch .entry)) (now (scratch .exit)) ⌝ }
+{
+    scratch[MOST_ATOMS + a] = union(parameters_to(scratch, a), parameters_to(scratch, b));
+    let mut q = b;
+    while q + 1 < n {
+        scratch[MOST_ATOMS + q] = parameters_to(scratch, q + 1);
         q += 1;
     }
 }

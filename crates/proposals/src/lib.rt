@@ -1,21 +1,22 @@
 // A partition proposed for each schema of a task: parts are merged while they stay narrow together and some order of
-// them still complies (document 02, note 5).
+// them still complies (document 02, notes 5 and 7).
 mod circle;
 mod closing;
 mod merging;
 mod schemas;
-pub mod square;
+pub mod scratch;
+mod search;
 mod start;
 mod writing;
 
 use crate::schemas::all_parts;
-use crate::square::SCRATCH_WORDS;
+use crate::scratch::SCRATCH_WORDS;
+use crate::scratch::clear;
 use crate::writing::write_proposed;
 use task::Place;
 use task::limits::MOST_PARAMETERS;
 use task::limits::MOST_SCHEMA_ATOMS;
 use task::limits::TABLE_WORDS;
-use words::putting::fill;
 ghost use mathlib.Core.Path.{_≡_};
 ghost use mathlib.Core.Bool.{true};
 ghost use Prim.Native.Nat.{_≤_};
@@ -45,7 +46,7 @@ fn propose_parts(
     table: &[u16],
     width: usize,
     proposed: &mut [u16],
-    scratch: &mut [u16],
+    scratch: &mut [u64],
 ) -> ProposeAnswer
     requires { ⌜ isTable (now table) ≡ true ⌝ }
     requires { ⌜ tableWords ≤ length (now proposed) ⌝ }
@@ -62,7 +63,7 @@ fn propose_parts(
 {
     let mut parts = [0u16; MOST_SCHEMA_ATOMS];
     let many = all_parts(table, width, &mut parts, scratch);
-    fill(scratch, 0, SCRATCH_WORDS, 0);
+    clear(scratch);
     match many {
         TooMany::At(s) => ProposeAnswer::Refused(23, Place::Schema(s)),
         TooMany::Nowhere => {
@@ -78,7 +79,7 @@ pub fn propose(
     table: &[u16],
     width: u64,
     proposed: &mut [u16],
-    scratch: &mut [u16],
+    scratch: &mut [u64],
 ) -> ProposeAnswer
     ensures told { λ r. ⌜ proposeAnswerTold r ≡
         proposeOutcome (now (table .entry)) width (now (proposed .entry)) (now (scratch .entry)) .told ⌝ }

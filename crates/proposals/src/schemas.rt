@@ -3,8 +3,8 @@ use crate::Parts;
 use crate::TooMany;
 use crate::merging::merge_all;
 use crate::start::number;
-use crate::start::parameters;
 use crate::start::put_arcs;
+use crate::start::put_parameters;
 use arcs::ends::schema_ends;
 use task::limits::MOST_PARTS;
 use task::limits::SCHEMAS;
@@ -21,7 +21,7 @@ ghost use Rattle.task.specs.Table.{taskOf, isTable};
 ghost use Rattle.arcs.specs.Stretches.{IsPairStretch, IsStretch, pairStretchIn, stretchIn};
 ghost use Rattle.proposals.specs.Proposal.{countOf, proposedParts, proposedTask, tooMany};
 ghost use Rattle.proposals.specs.Outcome.{scratchWords};
-ghost use Rattle.proposals.specs.Square.{HaveParts, KeepsBehind, Named, manyTold};
+ghost use Rattle.proposals.specs.Scratch.{HaveParts, KeepsBehind, Named, manyTold};
 
 // The parts of the schema whose atoms are atoms `from` to `to - 1` of the table, and whose pairs are pairs `pair` to
 // `end - 1`. Hands back how many there are.
@@ -33,31 +33,31 @@ fn schema_parts(
     pair: usize,
     end: usize,
     parts: &mut Parts,
-    square: &mut [u16],
+    scratch: &mut [u64],
 ) -> usize
     requires { ⌜ IsStretch (now table) from to ⌝ }
     requires { ⌜ IsPairStretch (now table) pair end ⌝ }
     requires { ⌜ to - from ≤ mostAtoms ⌝ }
     requires { ⌜ length (now parts) ≡ mostSchemaAtoms ⌝ }
-    requires { ⌜ scratchWords ≤ length (now square) ⌝ }
-    ensures { λ _. ⌜ KeepsBehind (now (square .entry)) (now (square .exit)) ⌝ }
+    requires { ⌜ scratchWords ≤ length (now scratch) ⌝ }
+    ensures { λ _. ⌜ KeepsBehind (now (scratch .entry)) (now (scratch .exit)) ⌝ }
     ensures { λ r. ⌜ ((s : Schema) → Named s → s .pairs ≡ pairStretchIn (now (table .entry)) pair end →
         s .atoms ≡ stretchIn (now (table .entry)) from to →
         (now (parts .exit) ≡ put (now (parts .entry)) from (proposedParts width s)) ×
         (r ≡ countOf (proposedParts width s))) ⌝ }
 {
-    put_arcs(table, from, to, pair, end, square);
-    let mut sets = parameters(table, from, to);
+    put_arcs(table, from, to, pair, end, scratch);
+    put_parameters(table, from, to, scratch);
     number(parts, from, to);
-    merge_all(width, from, to, parts, &mut sets, square)
+    merge_all(width, from, to, parts, scratch)
 }
 
 // The parts of all schemas, up to the first that ends with more than 16.
-pub fn all_parts(table: &[u16], width: usize, parts: &mut Parts, square: &mut [u16]) -> TooMany
+pub fn all_parts(table: &[u16], width: usize, parts: &mut Parts, scratch: &mut [u64]) -> TooMany
     requires { ⌜ isTable (now table) ≡ true ⌝ }
     requires { ⌜ length (now parts) ≡ mostSchemaAtoms ⌝ }
-    requires { ⌜ scratchWords ≤ length (now square) ⌝ }
-    ensures { λ _. ⌜ KeepsBehind (now (square .entry)) (now (square .exit)) ⌝ }
+    requires { ⌜ scratchWords ≤ length (now scratch) ⌝ }
+    ensures { λ _. ⌜ KeepsBehind (now (scratch .entry)) (now (scratch .exit)) ⌝ }
     ensures { λ r. ⌜ manyTold r ≡ tooMany (proposedTask width (taskOf (now (table .entry)))) ⌝ }
     ensures { λ r. ⌜ (manyTold r ≡ none →
         HaveParts width (taskOf (now (table .entry))) (length (taskOf (now (table .entry)) .schemas))
@@ -77,7 +77,7 @@ pub fn all_parts(table: &[u16], width: usize, parts: &mut Parts, square: &mut [u
             pair,
             ends.pairs,
             parts,
-            square,
+            scratch,
         );
         if MOST_PARTS < count {
             return TooMany::At(s as u64);

@@ -1,31 +1,42 @@
-// The lent square: in row q, 1 for each part that has an arc to part q, else 0.
+// The lent scratch: first "one 64-bit word a part, a bit for each part it has an arc from", behind these a word a part
+// with a bit for each of its parameters.
 use task::limits::MOST_ATOMS;
-use words::runs::word_at;
 ghost use Prim.Native.Nat.{_≤_, _<_};
 ghost use mathlib.Core.Path.{_≡_};
 ghost use lib.ListN.{length};
-ghost use Rattle.proposals.specs.Outcome.{scratchWords};
-ghost use Rattle.proposals.specs.Square.{squareSide, arcsIn, PutsArc};
+ghost use Rattle.task.specs.Limits.{mostAtoms};
+ghost use Rattle.proposals.specs.Outcome.{cleared, scratchWords};
+ghost use Rattle.proposals.specs.Scratch.{arcsTo, parametersTo};
 
-// "a square of 64 by 64 words": no schema has more atoms, so there are never more parts.
-const SQUARE_SIDE: usize = MOST_ATOMS;
+// "128 words of 64 bits": no schema has more than 64 atoms, so there are never more parts.
+pub const SCRATCH_WORDS: usize = 2 * MOST_ATOMS;
 
-pub const SCRATCH_WORDS: usize = SQUARE_SIDE * SQUARE_SIDE;
-
-// Whether there is an arc from part p to part q.
-pub fn has_arc(square: &[u16], p: usize, q: usize) -> bool
-    requires { ⌜ scratchWords ≤ length (now square) ⌝ }
-    requires { ⌜ (p < squareSide) × (q < squareSide) ⌝ }
-    ensures { λ r. ⌜ r ≡ arcsIn (now (square .entry)) p q ⌝ }
+// The parts that part q has an arc from.
+pub fn arcs_to(scratch: &[u64], q: usize) -> u64
+    requires { ⌜ scratchWords ≤ length (now scratch) ⌝ }
+    requires { ⌜ q < mostAtoms ⌝ }
+    ensures { λ r. ⌜ r ≡ arcsTo (now (scratch .entry)) q ⌝ }
 {
-    word_at(square, SQUARE_SIDE * q + p) == 1
+    scratch[q]
 }
 
-// There is one now, or none.
-pub fn put_arc(square: &mut [u16], p: usize, q: usize, is_arc: bool)
-    requires { ⌜ scratchWords ≤ length (now square) ⌝ }
-    requires { ⌜ (p < squareSide) × (q < squareSide) ⌝ }
-    ensures { λ _. ⌜ PutsArc (now (square .entry)) p q «is_arc» (now (square .exit)) ⌝ }
+// The parameters of part q.
+pub fn parameters_to(scratch: &[u64], q: usize) -> u64
+    requires { ⌜ scratchWords ≤ length (now scratch) ⌝ }
+    requires { ⌜ q < mostAtoms ⌝ }
+    ensures { λ r. ⌜ r ≡ parametersTo (now (scratch .entry)) q ⌝ }
 {
-    square[SQUARE_SIDE * q + p] = is_arc as u16;
+    scratch[MOST_ATOMS + q]
+}
+
+// "again all 0 after a result or 23"
+pub fn clear(scratch: &mut [u64])
+    requires { ⌜ scratchWords ≤ length (now scratch) ⌝ }
+    ensures { λ _. ⌜ now (scratch .exit) ≡ cleared (now (scratch .entry)) ⌝ }
+{
+    let mut i = 0;
+    while i < SCRATCH_WORDS {
+        scratch[i] = 0;
+        i += 1;
+    }
 }

@@ -14,7 +14,7 @@ ghost use Rattle.words.specs.Lists.{over};
 ghost use Rattle.task.specs.Limits.{tableWords};
 ghost use Rattle.task.specs.Table.{taskOf, wordsOf, isTable};
 ghost use Rattle.proposals.specs.Proposal.{proposedTask};
-ghost use Rattle.proposals.specs.Square.{HaveParts};
+ghost use Rattle.proposals.specs.Scratch.{HaveParts};
 
 // Writes the table of the task proposed, whose parts these are.
 pub fn write_proposed(table: &[u16], parts: &Parts, proposed: &mut [u16])

@@ -13,7 +13,7 @@ use Rattle.task.specs.Limits.{tableLength}
 use Rattle.task.specs.Table.{longEnough, isTable}
 use Rattle.task.proofs.LongEnough.{has-table-words}
 use Rattle.proposals.specs.Outcome.{scratchWords, proposeAnswerTold}
-use Rattle.proposals.proofs.ClearedScratch.{has-square, too-small}
+use Rattle.proposals.proofs.ClearedScratch.{has-words, too-few}
 use Rattle.proposals.proofs.ProposeOutcome.{propose-short, propose-no-table, propose-unfit, propose-settles}
 use Rattle.proposals.proofs.ProposeOutcome.{tables-short, tables-long, lent-unfit, lent-fits, known-outcome}
 
@@ -35,8 +35,8 @@ is-table : (c : tie.Else3) → isTable (start (tabled c) .args .table .now) ≡ 
 is-table c = sym (c .before .is-table .ensures) ∙ not-false _ (c .if3 .left)
 
 -- behind 22
-square : (c : tie.Else5) → scratchWords ≤ length (start (tabled (c .before .before)) .args .scratch .now)
-square c = has-square (start (tabled (c .before .before)) .args .scratch .now) (ltb-false _ _ (c .if5 .left))
+scratch : (c : tie.Else5) → scratchWords ≤ length (start (tabled (c .before .before)) .args .scratch .now)
+scratch c = has-words (start (tabled (c .before .before)) .args .scratch .now) (ltb-false _ _ (c .if5 .left))
 
 returns : tie.Need-returns
 unfolding proposeAnswerTold
@@ -70,7 +70,7 @@ returns-3 c =
     (propose-unfit (a .table .now) (a .width) (a .proposed .now) (a .scratch .now) (long e)
     (is-table (c .before))
     (lent-unfit (a .width) (a .scratch .now)
-    (⊎-elim (λ x. inl (x .taken)) (λ x. inr (too-small (a .scratch .now) (ltb-true _ _ (x .1 .taken))))
+    (⊎-elim (λ x. inl (x .taken)) (λ x. inr (too-few (a .scratch .now) (ltb-true _ _ (x .1 .taken))))
     (c .if4 .came))))
     refl refl
 
@@ -78,7 +78,7 @@ propose-parts-requires : tie.Need-propose-parts-requires
 propose-parts-requires c κs =
     let d = c .before .before in
     let e = d .before .before in
-    (is-table e, (has-table-words (start (tabled e) .args .proposed .now) (room (tabled e)), square d))
+    (is-table e, (has-table-words (start (tabled e) .args .proposed .now) (room (tabled e)), scratch d))
 
 returns-4 : tie.Need-returns-4
 unfolding proposeAnswerTold
@@ -90,7 +90,7 @@ returns-4 c =
     let a = start e .args in
     known-outcome
     (propose-settles (a .table .now) (a .width) (a .proposed .now) (a .scratch .now) (long e)
-    (is-table t) (lent-fits (a .width) (a .scratch .now) (d .before .if4 .left) (square d)))
+    (is-table t) (lent-fits (a .width) (a .scratch .now) (d .before .if4 .left) (scratch d)))
     (p .propose-parts .ensures .0) (p .propose-parts .ensures .1)
 
 pub propose-spec : {M : Type 1} → statement M

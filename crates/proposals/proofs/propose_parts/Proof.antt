@@ -1,25 +1,23 @@
--- `proposals::propose_parts` meets its contract: the square is filled with 0 once the parts are found, so the scratch
--- is cleared in either case. Where a schema has too many parts the second table isn't touched; else it is written.
+-- `proposals::propose_parts` meets its contract: the scratch is cleared once the parts are found, and clearing forgets
+-- what they left in it. Where a schema has too many parts the second table isn't touched; else it is written.
 use Rattle.proposals.proofs.propose_parts.Statement.{statement}
 use Rattle.proposals.proofs.propose_parts.Tie as tie
-use Prim.Native.Nat.{_*_}
-use mathlib.Core.Path.{_≡_, refl, ap}
-use native.Mathlib.Omega.{arith}
+use mathlib.Core.Path.{_≡_, refl, _∙_, ap}
 use borrow.Author.Needs.{needs}
 use Rattle.task.specs.Table.{taskOf}
 use Rattle.task.specs.Task.{Task}
 use Rattle.proposals.specs.Proposal.{proposedTask}
 use Rattle.proposals.specs.Outcome.{Lent, cleared, proposeAnswerTold}
-use Rattle.proposals.specs.Square.{squareSide, manyTold}
-use Rattle.proposals.proofs.Squares.{keeps-room}
-use Rattle.proposals.proofs.ClearedScratch.{square-words, filled-cleared}
+use Rattle.proposals.specs.Scratch.{manyTold}
+use Rattle.proposals.proofs.Scratches.{keeps-room}
+use Rattle.proposals.proofs.ClearedScratch.{cleared-same}
 use Rattle.proposals.proofs.ProposeOutcome.{many-settles, none-settles}
 
 -- ---- the paths that are named
 abbrev start : tie.After-all-parts → tie.Start
 start c = c .before .before .before .before .before .before
 
-abbrev found : tie.After-fill → tie.After-all-parts
+abbrev found : tie.After-clear → tie.After-all-parts
 found c = c .before .before .before .before
 
 abbrev task : tie.After-all-parts → Task
@@ -33,17 +31,14 @@ all-parts-requires c κs =
     let s = c .before .before .before .before .before in
     (s .pre .0, (refl, s .pre .1 .1))
 
-fill-requires : tie.Need-fill-requires
-fill-requires c κs =
+clear-requires : tie.Need-clear-requires
+clear-requires c κs =
     let f = c .before .before .before in
-    let e = square-words in
-    omega (arith, keeps-room (f .all-parts .ensures .0) (start f .pre .1 .1))
+    keeps-room (f .all-parts .ensures .0) (start f .pre .1 .1)
 
--- the scratch, once it is filled
-clear : (c : tie.After-fill) → c .fill .last .0 ≡ cleared (lent (found c) .scratch)
-clear c =
-    filled-cleared (squareSide * squareSide) square-words (start (found c) .pre .1 .1)
-    (found c .all-parts .ensures .0) (c .fill .ensures)
+-- the scratch, once it is cleared
+clean : (c : tie.After-clear) → c .clear .last .0 ≡ cleared (lent (found c) .scratch)
+clean c = c .clear .ensures ∙ cleared-same (start (found c) .pre .1 .1) (found c .all-parts .ensures .0)
 
 write-proposed-requires : tie.Need-write-proposed-requires
 write-proposed-requires c κs =
@@ -55,7 +50,7 @@ unfolding proposeAnswerTold
 returns c =
     let f = c .before .before .before .before .before in
     let a = found f in
-    many-settles (task a) (lent a) (clear f) (a .all-parts .ensures .1 .0) (c .before .many .given .1)
+    many-settles (task a) (lent a) (clean f) (a .all-parts .ensures .1 .0) (c .before .many .given .1)
 
 returns-2 : tie.Need-returns-2
 unfolding proposeAnswerTold manyTold
@@ -65,11 +60,11 @@ returns-2 c =
     let f = d .before .before .before .before in
     let a = found f in
     let e = d .enum-told .given .1 in
-    none-settles (task a) (lent a) (clear f) (a .all-parts .ensures .1 .0) e
+    none-settles (task a) (lent a) (clean f) (a .all-parts .ensures .1 .0) e
     (w .write-proposed .ensures (start a .args .width) (a .all-parts .ensures .1 .1 (ap manyTold e)))
 
 pub propose-parts-spec : {M : Type 1} → statement M
 propose-parts-spec =
     tie.close
-    (tie.spec all-parts-requires fill-requires (λ c. search needs) (λ c. search needs) write-proposed-requires
+    (tie.spec all-parts-requires clear-requires (λ c. search needs) (λ c. search needs) write-proposed-requires
     (λ c. search needs) returns (λ c. search needs) (λ c. search needs) returns-2)

@@ -1,55 +1,111 @@
 -- `proposals::circle::no_circle` meets its contract.
--- The invariant: so many merged parts wait, and they can be placed exactly where there is no circle. A sweep places
--- some, so that fewer wait, or tells that none can be. The measure is how many wait.
-use Prim.Native.Nat.{_-_, _≤_}
+-- The invariant: whether the unplaced parts can be placed is the whole question, and those known to be free are so
+-- (`Placing`). The lowest of them is placed, and where none is left they are looked for anew. Where none is found the
+-- unplaced parts tell the answer; it is that of the merged ones (`shared-circle`). The measure is the unplaced parts.
+use Prim.Native.Nat.{_^_, _≤_, _<_}
+use mathlib.Core.Path.{_∙_}
 use native.Mathlib.Omega.{arith}
-use Rattle.proposals.specs.Square.{arcsIn}
-use Rattle.proposals.proofs.Sweeps.{LeftOver, left-all, left-fewer, left-stuck, left-none, placed-most}
+use lib.ListN.{length}
+use Rattle.words.specs.Sets.{members, setBits}
+use Rattle.words.proofs.SetLoops.{fewer-left}
+use Rattle.proposals.specs.Circle.{Arcs}
+use Rattle.proposals.specs.Scratch.{arcsIn, sharedIn}
+use Rattle.proposals.proofs.SharedArcs.{words-share, shared-circle}
+use Rattle.proposals.proofs.Placing.{Left, Placing, left-all, left-fewer, placing-found, placing-on}
+use Rattle.proposals.proofs.Placing.{placing-ends}
 use Rattle.proposals.proofs.circle.no_circle.Statement.{statement}
 use Rattle.proposals.proofs.circle.no_circle.Tie as tie
 
 abbrev Inv-loop : tie.InvT-loop
-Inv-loop square n a b unplaced₀ left₀ unplaced left = LeftOver (arcsIn square) a b (n - 1) unplaced left
+Inv-loop scratch n a b joined unplaced₀ free₀ unplaced free =
+    (unplaced < 2 ^ setBits) × Placing (sharedIn a b joined scratch) n unplaced free
 
 abbrev μ-loop : tie.MeasureT-loop
-μ-loop square n a b unplaced₀ left₀ unplaced left = left
+μ-loop scratch n a b joined unplaced₀ free₀ unplaced free = length (members unplaced setBits)
+
+arcs-to-both-requires : tie.Need-arcs-to-both-requires Inv-loop μ-loop
+arcs-to-both-requires c κs = (c .before .pre .0, (omega arith, omega arith))
+
+-- at first all are left
+all-left : (c : tie.After-up-to Inv-loop μ-loop) →
+    let a = c .before .before .before .args in
+    Left (sharedIn (a .a) (a .b) (c .before .arcs-to-both .result) (a .scratch .now)) (a .n) (c .up-to .result)
+all-left c = left-all _ _ (c .up-to .result) (c .up-to .ensures)
+
+free-parts-requires : tie.Need-free-parts-requires Inv-loop μ-loop
+free-parts-requires c κs =
+    let s = c .before .before .before in
+    (s .pre .0, λ k m. omega (arith, all-left c .below k m))
 
 loop-holds : tie.Need-loop-holds Inv-loop μ-loop
-loop-holds c =
-    let a = c .before .before .args in
-    left-all (arcsIn (a .square .now)) (a .a) (a .b) (a .n) (c .up-to .result) (omega arith) (omega arith)
-    (c .up-to .ensures)
+loop-holds c = (c .before .up-to .ok, placing-found _ _ (all-left (c .before)) _ (c .free-parts .ensures))
 
-sweep-requires : tie.Need-sweep-requires Inv-loop μ-loop
-sweep-requires c κs = (omega arith, ((omega arith, omega arith, omega arith), c .before .loop .inv .joint))
+lowest-requires : tie.Need-lowest-requires Inv-loop μ-loop
+lowest-requires c κs = omega (arith, c .loop-test .taken)
 
-returns : tie.Need-returns Inv-loop μ-loop
-returns c =
-    let swept = c .before .before in
-    left-stuck (swept .before .before .loop .inv) (swept .sweep .result .unplaced) (swept .sweep .ensures .1)
-    (omega arith) (swept .before .loop-test .taken)
+without-requires : tie.Need-without-requires Inv-loop μ-loop
+without-requires c κs = c .lowest .ensures .below
 
--- no more are placed than wait
-few : (c : tie.After-sweep Inv-loop μ-loop) → c .sweep .result .placed ≤ c .before .before .loop .left
-few c = placed-most (c .before .before .loop .inv) (c .sweep .result .unplaced) (c .sweep .ensures .1)
+without-requires-2 : tie.Need-without-requires-2 Inv-loop μ-loop
+without-requires-2 c κs = c .before .lowest .ensures .below
 
-sub-left-2 : tie.Need-sub-left-2 Inv-loop μ-loop
-sub-left-2 c = few (c .before .before .before)
+-- a turn, once its part is placed
+abbrev Placed : Type 0
+Placed = tie.After-without2 Inv-loop μ-loop
 
-loop-less : tie.Need-loop-less Inv-loop μ-loop
-loop-less c = omega (arith, few (c .before .before .before))
+abbrev turn : Placed → tie.At-loop Inv-loop μ-loop
+turn c = c .before .before .before .before
+
+abbrev found : tie.At-loop Inv-loop μ-loop → tie.After-arcs-to-both Inv-loop μ-loop
+found l = l .before .before .before
+
+abbrev start : tie.At-loop Inv-loop μ-loop → tie.Start Inv-loop μ-loop
+start l = found l .before .before
+
+few : (l : tie.At-loop Inv-loop μ-loop) → start l .args .n ≤ setBits
+few l = start l .pre .1 .0
+
+abbrev arcs : tie.At-loop Inv-loop μ-loop → Arcs
+arcs l = sharedIn (start l .args .a) (start l .args .b) (found l .arcs-to-both .result) (start l .args .scratch .now)
+
+left : (c : Placed) → Left (arcs (turn c)) (start (turn c) .args .n) (c .before .without .result)
+left c =
+    left-fewer _ _ (turn c .loop .inv .1) (c .before .before .lowest .ensures) _ (c .before .without .ensures)
+    (few (turn c))
+
+free-parts-requires-2 : tie.Need-free-parts-requires-2 Inv-loop μ-loop
+free-parts-requires-2 c κs =
+    (start (turn (c .before)) .pre .0, λ k m. omega (arith, left (c .before) .below k m, few (turn (c .before))))
+
+less : (c : Placed) →
+    length (members (c .before .without .result) setBits) < length (members (turn c .loop .unplaced) setBits)
+less c =
+    let l = c .before .before .lowest .ensures in
+    fewer-left _ _ _ (c .before .without .ensures) setBits (l .below) (turn c .loop .inv .1 .waits _ (l .is-in) .0)
 
 loop-again : tie.Need-loop-again Inv-loop μ-loop
 loop-again c =
-    let swept = c .before .before .before in
-    left-fewer (swept .before .before .loop .inv) (swept .sweep .result .unplaced) (swept .sweep .ensures .1)
-    (swept .sweep .ensures .0)
+    (c .before .before .before .without .ok, placing-found _ _ (left (c .before .before)) _ (c .free-parts2 .ensures))
 
-returns-2 : tie.Need-returns-2 Inv-loop μ-loop
-returns-2 c = left-none (c .before .loop .inv) (omega arith)
+loop-again-2 : tie.Need-loop-again-2 Inv-loop μ-loop
+loop-again-2 c =
+    let p = c .before in (
+      p .before .without .ok,
+      placing-on _ _ (turn p .loop .inv .1) (p .before .before .lowest .ensures) _ (p .before .without .ensures)
+          (few (turn p)) _ (p .without2 .ensures) (c .if1 .left),
+    )
+
+returns : tie.Need-returns Inv-loop μ-loop
+returns c own =
+    let l = c .before in
+    let a = start l .args in
+    placing-ends _ _ (few l) (l .loop .inv .0) (l .loop .inv .1) (c .loop-test .left) ∙
+    shared-circle (a .a) (a .b) (a .n) (start l .pre .1 .1) (start l .pre .1 .2) (arcsIn (a .scratch .now)) (arcs l) own
+    (words-share (a .a) (a .b) (found l .arcs-to-both .result) (a .scratch .now) (found l .arcs-to-both .ensures))
 
 pub no-circle-spec : {M : Type 1} → statement M
 no-circle-spec =
     tie.close
-    (tie.spec Inv-loop μ-loop (λ c κs. omega arith) (λ c. omega arith) loop-holds sweep-requires returns sub-left-2
-    loop-less loop-again returns-2)
+    (tie.spec Inv-loop μ-loop arcs-to-both-requires (λ c κs. omega arith) free-parts-requires loop-holds lowest-requires
+    without-requires without-requires-2 free-parts-requires-2 (λ c. less (c .before .before)) loop-again
+    (λ c. less (c .before)) loop-again-2 returns)

@@ -19,21 +19,21 @@ use Rattle.task.specs.Turns.{firstAtom, firstPair}
 use Rattle.task.proofs.TableReads.{counts-inside}
 use Rattle.task.proofs.TablesByIndex.{table-frame, schemas-word}
 use Rattle.proposals.specs.Proposal.{countOf, proposedParts}
-use Rattle.proposals.specs.Square.{HaveParts, KeepsBehind, manyTold}
-use Rattle.proposals.proofs.Squares.{keeps-refl, keeps-trans, keeps-room}
+use Rattle.proposals.specs.Scratch.{HaveParts, KeepsBehind, manyTold}
+use Rattle.proposals.proofs.Scratches.{keeps-refl, keeps-trans, keeps-room}
 use Rattle.proposals.proofs.SchemaParts.{FewParts, OfSchema, schema-lies, have-more, few-more, many-here}
 use Rattle.proposals.proofs.SchemaParts.{many-nowhere}
 use Rattle.proposals.proofs.schemas.all_parts.Statement.{statement}
 use Rattle.proposals.proofs.schemas.all_parts.Tie as tie
 
 abbrev Inv-loop : tie.InvT-loop
-Inv-loop table width parts₀ square₀ schemas from₀ pair₀ s₀ parts square from pair s =
+Inv-loop table width parts₀ scratch₀ schemas from₀ pair₀ s₀ parts scratch from pair s =
     (s ≤ schemas) × (from ≡ firstAtom (taskOf table) s) × (pair ≡ firstPair (taskOf table) s) ×
-    (length parts ≡ mostSchemaAtoms) × KeepsBehind square₀ square × HaveParts width (taskOf table) s parts ×
+    (length parts ≡ mostSchemaAtoms) × KeepsBehind scratch₀ scratch × HaveParts width (taskOf table) s parts ×
     FewParts width (taskOf table) s
 
 abbrev μ-loop : tie.MeasureT-loop
-μ-loop table width parts₀ square₀ schemas from₀ pair₀ s₀ parts square from pair s = schemas - s
+μ-loop table width parts₀ scratch₀ schemas from₀ pair₀ s₀ parts scratch from pair s = schemas - s
 
 -- ---- at the loop's head
 abbrev Loop : Type 0
@@ -90,7 +90,7 @@ found c =
     c .schema-parts .ensures .1 (schema (head c)) (l .named) (l .pairs) (l .atoms)
 
 kept : (c : tie.After-schema-parts Inv-loop μ-loop) →
-    KeepsBehind (start (head c) .args .square .now) (c .schema-parts .last .1 .1 .1 .1 .1 .1 .1 .0)
+    KeepsBehind (start (head c) .args .scratch .now) (c .schema-parts .last .1 .1 .1 .1 .1 .1 .1 .0)
 kept c = keeps-trans (head c .loop .inv .4) (c .schema-parts .ensures .0)
 
 -- ---- the needs
@@ -107,7 +107,7 @@ loop-holds c =
       refl,
       refl,
       s .pre .1 .0,
-      keeps-refl (s .args .square .now),
+      keeps-refl (s .args .scratch .now),
       λ s l. absurd (omega arith),
       λ s l. absurd (omega arith),
     )

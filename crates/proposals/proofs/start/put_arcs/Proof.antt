@@ -1,84 +1,94 @@
 -- `proposals::start::put_arcs` meets its contract.
--- The invariant: the arcs from the atoms before i are put (`RowsPut`). It holds again, since a row puts the arcs from
--- atom i and changes no other (`rows-more`). The measure is the atoms left.
-use Prim.Native.Nat.{ℕ, _+_, _-_, _≤_}
-use mathlib.Core.Path.{_≡_, subst}
-use mathlib.Core.Bool.{Bool}
-use mathlib.Core.List.{List}
+-- The invariant: the arcs to all atoms but the rest are put, and none of the rest has the predicate of another atom
+-- (`ArcsPut`). A turn puts those of one predicate, that of the lowest of the rest (`arcs-more`): atoms of different
+-- predicates give no arc. The measure is how many are left, fewer as the lowest is taken.
+use Prim.Native.Nat.{ℕ, _+_, _-_}
+use mathlib.Core.Path.{_∙_, ap}
 use native.Mathlib.Omega.{arith}
-use lib.Dec.{ltb}
+use lib.ListN.{length}
+use borrow.Author.Needs.{needs}
+use Rattle.words.specs.Sets.{member, members, setBits}
+use Rattle.words.proofs.BitSets.{member-zero}
 use Rattle.task.specs.Table.{atomIn}
-use Rattle.arcs.specs.Order.{givesArc}
-use Rattle.arcs.specs.Stretches.{Pairing, pairStretchIn}
+use Rattle.arcs.specs.Stretches.{pairStretchIn}
 use Rattle.arcs.proofs.Partners.{stretch-pairing}
-use Rattle.proposals.specs.Square.{KeepsBehind}
-use Rattle.proposals.proofs.Squares.{keeps-refl, keeps-trans, keeps-room}
-use Rattle.proposals.proofs.StartWords.{RowPut, RowsPut, rows-none, rows-more}
+use Rattle.proposals.proofs.Scratches.{keeps-room}
+use Rattle.proposals.proofs.StartArcs.{ArcsPut, alike-below, alike-same, arcs-none, arcs-fewer, arcs-more}
 use Rattle.proposals.proofs.start.put_arcs.Statement.{statement}
 use Rattle.proposals.proofs.start.put_arcs.Tie as tie
 
--- the arcs between the atoms of a stretch
-abbrev between : List ℕ → ℕ → ℕ → ℕ → ℕ → ℕ → Bool
-between table from pair end p q =
-    givesArc (pairStretchIn table pair end) (atomIn table (from + p)) (atomIn table (from + q))
-
 abbrev Inv-loop : tie.InvT-loop
-Inv-loop table from to pair end square₀ paired partners i₀ square i =
-    (from ≤ i) × (i ≤ to) × KeepsBehind square₀ square ×
-    RowsPut (between table from pair end) (i - from) (to - from) square
+Inv-loop table from to pair end scratch₀ paired partners before rest₀ scratch rest =
+    ArcsPut (pairStretchIn table pair end) (λ p. atomIn table (from + p)) (to - from) rest scratch₀ scratch
 
 abbrev μ-loop : tie.MeasureT-loop
-μ-loop table from to pair end square₀ paired partners i₀ square i = to - i
+μ-loop table from to pair end scratch₀ paired partners before rest₀ scratch rest = length (members rest setBits)
 
 abbrev start : tie.At-loop Inv-loop μ-loop → tie.Start Inv-loop μ-loop
-start l = l .before .before .before .before
+start l = l .before .before .before .before .before .before
+
+-- the turn in which the atoms of a predicate are found
+abbrev turn : tie.After-of-predicate Inv-loop μ-loop → tie.At-loop Inv-loop μ-loop
+turn d = d .before .before .before
+
+abbrev alike : tie.After-of-predicate Inv-loop μ-loop → ℕ
+alike d = d .of-predicate .result
 
 loop-holds : tie.Need-loop-holds Inv-loop μ-loop
 loop-holds c =
-    let s = c .before .before .before in
-    let a = s .args in (
-      omega arith,
-      s .pre .0 .forward,
-      keeps-refl (a .square .now),
-      rows-none (between (a .table .now) (a .from) (a .pair) (a .end)) (a .from) (a .to - a .from) (a .square .now),
-    )
+    let a = c .before .before .before .before .before .args in
+    let w = a .table .now in
+    arcs-none (pairStretchIn w (a .pair) (a .end)) (λ p. atomIn w (a .from + p)) (c .up-to .result) (a .scratch .now)
+    (c .up-to .ensures)
 
-put-from-requires : tie.Need-put-from-requires Inv-loop μ-loop
-put-from-requires c κs =
-    let l = c .before .before .before in
-    let s = start l in
+of-predicate-requires : tie.Need-of-predicate-requires Inv-loop μ-loop
+of-predicate-requires c κs =
+    let l = c .before .before in
+    let p = start l .pre in
+    let below = l .loop .inv .below in
+    (p .0, ((p .1 .1 .0, below (c .lowest .result) (c .lowest .ensures .is-in)), below))
+
+put-among-requires : tie.Need-put-among-requires Inv-loop μ-loop
+put-among-requires c κs =
+    let d = c .before .before .before in
+    let l = turn d in
+    let p = start l .pre in
     let h = l .loop .inv in
-    (s .pre .0, ((h .0, c .before .before .loop-test .taken, s .pre .1 .1 .0), keeps-room (h .2) (s .pre .1 .1 .1)))
+    let k = d .before .lowest .result in
+    let roles = l .before .before .before-roles .ensures in
+    let room = keeps-room (h .keeps) (p .1 .1 .1) in
+    let below = alike-below h k (alike d) (d .of-predicate .ensures) in
+    let same = alike-same h k (alike d) (d .of-predicate .ensures) in
+    (p .0, (p .1 .1 .0, (below, (same, (roles .0, (roles .1, room))))))
+
+loop-less : tie.Need-loop-less Inv-loop μ-loop
+loop-less c =
+    let d = c .before .before .before .before .before .before .before in
+    let low = d .before .lowest in
+    arcs-fewer (turn d .loop .inv) (low .result) (alike d) (d .of-predicate .ensures) (c .minus .result)
+    (c .minus .ensures) (low .ensures)
 
 loop-again : tie.Need-loop-again Inv-loop μ-loop
 loop-again c =
-    let l = c .before .before .before .before .before .before in
-    let h = l .loop in
+    let d = c .before .before .before .before .before .before .before in
+    let l = turn d in
+    let low = d .before .lowest in
+    let put = c .before .before .before .put-among .ensures in
     let a = start l .args in
-    let w = a .table .now in
-    let pairs = pairStretchIn w (a .pair) (a .end) in
-    let e = c .before .before .put-from .ensures in
-    let later = c .before .before .put-from .last .1 .1 .1 .1 .1 .1 .0 in
-    let here : h .i ≡ a .from + (h .i - a .from) = omega arith in
-    let partners = l .before .partners-of in
-    let pairing : Pairing pairs (ltb (a .pair) (a .end)) (partners .result) =
-    stretch-pairing (start l .pre .1 .0) (partners .ensures) in
-    let Row : ℕ → Type 0 = λ (k : ℕ). RowPut (λ q. givesArc pairs (atomIn w k) (atomIn w (a .from + q)))
-    (h .i - a .from) (a .to - a .from) (h .square) later in (
-      omega arith,
-      omega arith,
-      keeps-trans (h .inv .2) (e .0),
-      rows-more (omega arith) (omega arith) (start l .pre .1 .1 .0) (h .inv .3)
-          (subst Row here (record { arcs = e .1 pairs pairing })),
-    )
+    let pairing = stretch-pairing (start l .pre .1 .0) (l .before .before .before .partners-of .ensures) in
+    arcs-more (l .loop .inv) (low .result) (alike d) (d .of-predicate .ensures) (c .minus .result) (c .minus .ensures)
+    (put .0) (put .1 .0) (put .1 .1 (pairStretchIn (a .table .now) (a .pair) (a .end)) pairing)
 
 returns : tie.Need-returns Inv-loop μ-loop
 returns c =
-    let h = c .before .loop in
-    (h .inv .2, λ p q l m. h .inv .3 .arcs p q (omega arith) m)
+    let h = c .before .loop in (
+      h .inv .keeps,
+      λ p q l m. h .inv .arcs p q l m (ap (λ (set : ℕ). member set q) (c .loop-test .left) ∙ member-zero q),
+    )
 
 pub put-arcs-spec : {M : Type 1} → statement M
 put-arcs-spec =
     tie.close
-    (tie.spec Inv-loop μ-loop (λ c κs. c .before .before .pre .1 .0) loop-holds put-from-requires (λ c. omega arith)
-    (λ c. omega arith) loop-again (λ c. c .before .loop .inv .2 .long) returns)
+    (tie.spec Inv-loop μ-loop (λ c κs. search needs) (λ c κs. search needs) (λ c. omega arith) (λ c κs. search needs)
+    loop-holds (λ c κs. omega arith) of-predicate-requires put-among-requires (λ c κs. search needs) loop-less
+    loop-again (λ c. c .before .loop .inv .keeps .long) returns)
