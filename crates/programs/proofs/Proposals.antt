@@ -26,10 +26,10 @@ use Rattle.proposals.proofs.WrittenProposal.{Writes, propose-writes}
 use Rattle.programs.specs.Programs.{refusal, printSettled, printProposal}
 use Rattle.programs.proofs.Answered.{zeros-long}
 
--- a square of zeros, as the program lends it
-pub square-zeros : scratchWords ≤ length {A = ℕ} (replicate 4096 0)
+-- a scratch of zeros, as the program lends it
+pub scratch-zeros : scratchWords ≤ length {A = ℕ} (replicate 128 0)
 unfolding scratchWords
-square-zeros = zeros-long 4096
+scratch-zeros = zeros-long 128
 
 -- words of a table that are printed as the proposal
 pub record Proposal (table : List ℕ) (width : ℕ) (words : List ℕ) : Type 0 where
@@ -53,7 +53,7 @@ module _ (table : List ℕ) (width : ℕ) (out scratch : List ℕ) (is-table : i
       and-both _ _ (le-leb tableWords (length table) (table-long table is-table))
       (le-leb tableWords (length out) out-long)
 
-  -- the square is long enough, so that 22 is the width's alone
+  -- the scratch is long enough, so that 22 is the width's alone
   narrow : (w : Bool) → leb width mostWidth ≡ w → leb width mostWidth && leb scratchWords (length scratch) ≡ w
   narrow true e = and-both _ _ e (le-leb scratchWords (length scratch) room)
   narrow false e = ap (λ (b : Bool). b && leb scratchWords (length scratch)) e

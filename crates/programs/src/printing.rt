@@ -1,6 +1,6 @@
 // What the programs print: a task as text or as PDDL, a split, a proposal or their refusals, and the line of a refusal.
 use proposals::ProposeAnswer;
-use proposals::square::SCRATCH_WORDS;
+use proposals::scratch::SCRATCH_WORDS;
 use task::Place;
 use task::limits::TABLE_WORDS;
 use text::WriteAnswer;
@@ -112,7 +112,7 @@ pub fn put_proposal(table: &[u16], width: u64, out: &mut [u8]) -> usize
         r ⌝ }
 {
     let mut words = [0u16; TABLE_WORDS];
-    let mut scratch = [0u16; SCRATCH_WORDS];
+    let mut scratch = [0; SCRATCH_WORDS];
     match proposals::propose(table, width, &mut words, &mut scratch) {
         ProposeAnswer::Proposed => put_task(&words, out),
         ProposeAnswer::Refused(number, place) => put_refusal(out, number, place),

@@ -12,7 +12,7 @@ pub extern "C" fn splitter_propose(
     table: &[u16],
     width: u64,
     proposed: &mut [u16],
-    scratch: &mut [u16],
+    scratch: &mut [u64],
     place: &mut u64,
 ) -> u32
     ensures { λ r. ⌜ Tells

@@ -5,7 +5,7 @@ use borrow.Author.Needs.{needs}
 use Rattle.proposals.specs.Outcome.{proposeAnswerTold}
 use Rattle.programs.proofs.Answered.{table-zeros}
 use Rattle.programs.proofs.Printed.{prints-same}
-use Rattle.programs.proofs.Proposals.{Proposal, square-zeros, proposal-given, proposal-refused}
+use Rattle.programs.proofs.Proposals.{Proposal, scratch-zeros, proposal-given, proposal-refused}
 use Rattle.programs.proofs.printing.put_proposal.Statement.{statement}
 use Rattle.programs.proofs.printing.put_proposal.Tie as tie
 
@@ -17,7 +17,7 @@ given : (c : tie.After-enum-told) → let k = c .before .before .before .before 
 unfolding proposeAnswerTold
 given c =
     let k = c .before .before .before .before in
-    proposal-given _ _ _ _ (start k .pre .0) table-zeros square-zeros
+    proposal-given _ _ _ _ (start k .pre .0) table-zeros scratch-zeros
     (sym (ap proposeAnswerTold (c .enum-told .given .1)) ∙ k .propose .ensures .0) (k .propose .ensures .1 .0)
 
 put-task-requires : tie.Need-put-task-requires
@@ -36,7 +36,7 @@ returns-2 c =
     let n = c .before .before .before .before .before in
     let k = n .before .before .before .before in
     let told = sym (ap proposeAnswerTold (n .number .given .1)) ∙ k .propose .ensures .0 in
-    prints-same (proposal-refused _ _ _ _ (start k .pre .0) table-zeros square-zeros told)
+    prints-same (proposal-refused _ _ _ _ (start k .pre .0) table-zeros scratch-zeros told)
     (c .before .before .put-refusal .ensures)
 
 pub put-proposal-spec : {M : Type 1} → statement M
