@@ -6,16 +6,34 @@ use checks::inputs::lent_table;
 use generate::Random;
 use reference::table::TABLE_WORDS;
 
+/// What may be lent: bytes, words of 16 bits and words of 64.
+pub trait Element: Copy + Debug + PartialEq {
+    /// What stands before and behind those lent, with no byte 0.
+    const GUARD: Self;
+}
+
+impl Element for u8 {
+    const GUARD: Self = 0xa5;
+}
+
+impl Element for u16 {
+    const GUARD: Self = 0xa5a5;
+}
+
+impl Element for u64 {
+    const GUARD: Self = 0xa5a5_a5a5_a5a5_a5a5;
+}
+
 /// How many elements before and behind the lent ones are watched.
 const GUARDS: usize = 8;
 
 /// Lends a copy from within guards, which must stay, and gives it back with the
 /// answer.
-fn lending<Element: Copy + Debug + From<u8> + PartialEq, const NUMBERS: usize>(
-    lent: &[Element],
-    entry: impl FnOnce(&mut [Element]) -> [u64; NUMBERS],
-) -> ([u64; NUMBERS], Vec<Element>) {
-    let guards = [Element::from(0xa5); GUARDS];
+fn lending<Lent: Element, const NUMBERS: usize>(
+    lent: &[Lent],
+    entry: impl FnOnce(&mut [Lent]) -> [u64; NUMBERS],
+) -> ([u64; NUMBERS], Vec<Lent>) {
+    let guards = [Lent::GUARD; GUARDS];
     let mut around = [&guards, lent, &guards].concat();
     let row = entry(&mut around[GUARDS..GUARDS + lent.len()]);
     let after = around.split_off(GUARDS + lent.len());
@@ -26,24 +44,51 @@ fn lending<Element: Copy + Debug + From<u8> + PartialEq, const NUMBERS: usize>(
 
 /// Requires the same answer and the same elements afterwards of both; the
 /// number of the answer.
-pub fn compare<Element: Copy + Debug + From<u8> + PartialEq, const NUMBERS: usize>(
-    lent: &[Element],
-    reference: impl FnOnce(&mut [Element]) -> [u64; NUMBERS],
-    proved: impl FnOnce(&mut [Element]) -> [u64; NUMBERS],
+pub fn compare<Lent: Element, const NUMBERS: usize>(
+    lent: &[Lent],
+    reference: impl FnOnce(&mut [Lent]) -> [u64; NUMBERS],
+    proved: impl FnOnce(&mut [Lent]) -> [u64; NUMBERS],
     input: impl FnOnce() -> String,
 ) -> u64 {
-    let mut expected = lent.to_vec();
-    let expected_row = reference(&mut expected);
-    let (row, found) = lending(lent, proved);
-    if row == expected_row && found == expected {
+    let nothing: &[u8] = &[];
+    compare_lent_two(
+        (lent, nothing),
+        |lent, _| reference(lent),
+        |lent, _| proved(lent),
+        input,
+    )
+}
+
+/// The same where two slices are lent to be written.
+pub fn compare_lent_two<First: Element, Second: Element, const NUMBERS: usize>(
+    lent: (&[First], &[Second]),
+    reference: impl FnOnce(&mut [First], &mut [Second]) -> [u64; NUMBERS],
+    proved: impl FnOnce(&mut [First], &mut [Second]) -> [u64; NUMBERS],
+    input: impl FnOnce() -> String,
+) -> u64 {
+    let mut expected = (lent.0.to_vec(), lent.1.to_vec());
+    let expected_row = reference(&mut expected.0, &mut expected.1);
+    let mut second = Vec::new();
+    let (row, first) = lending(lent.0, |first| {
+        let (row, left) = lending(lent.1, |second| proved(first, second));
+        second = left;
+        row
+    });
+    if row == expected_row && (&first, &second) == (&expected.0, &expected.1) {
         return row[0];
     }
-    let at = found.iter().zip(&expected).position(|(a, b)| a != b);
     panic!(
-        "{row:?} instead of {expected_row:?}; of {} lent the first that differs is {at:?}; {}",
-        lent.len(),
+        "{row:?} instead of {expected_row:?}; {}, {}; {}",
+        difference(&first, &expected.0),
+        difference(&second, &expected.1),
         input()
     );
+}
+
+/// Where elements first differ from those expected.
+fn difference<Lent: Element>(found: &[Lent], expected: &[Lent]) -> String {
+    let at = found.iter().zip(expected).position(|(a, b)| a != b);
+    format!("of {} lent the first that differs is {at:?}", found.len())
 }
 
 /// Words as they are shown, without the zeros at their end.
