@@ -55,9 +55,9 @@ fn told(task: &Task, width: u64) -> String {
 fn bench_task(name: &str, task: &Task, width: u64) {
     let table = &table(task);
     let atoms = task.schema_atoms();
-    let mut expected = [vec![7; TABLE_WORDS], vec![7; SCRATCH_WORDS]];
+    let mut expected = (vec![7; TABLE_WORDS], vec![7; SCRATCH_WORDS]);
     let mut found = expected.clone();
-    let [proposed, scratch] = &mut expected;
+    let (proposed, scratch) = &mut expected;
     let answer = plain_row(reference::propose(table, width, proposed, scratch));
     row(
         &format!(
@@ -66,14 +66,14 @@ fn bench_task(name: &str, task: &Task, width: u64) {
         ),
         atoms,
         || {
-            let [proposed, scratch] = &mut expected;
+            let (proposed, scratch) = &mut expected;
             assert_eq!(
                 plain_row(reference::propose(table, width, proposed, scratch)),
                 answer
             );
         },
         || {
-            let [proposed, scratch] = &mut found;
+            let (proposed, scratch) = &mut found;
             assert_eq!(propose(table, width, proposed, scratch), answer);
         },
     );

@@ -13,6 +13,17 @@ pub fn unparted(arities: &str, schemas: &[&str]) -> String {
     format!("task=1\nobjects=2\narity={arities}\n{schemas}end=1\n")
 }
 
+/// A task of one schema with so many atoms, three or more: a test and an add of
+/// one parameter, adds of other predicates with it, and last a delete of another
+/// parameter. At width 1 all those adds go to the test. The first add can't, as the
+/// delete would have to stand between, whatever number it has closed up to.
+pub fn barred_by_the_last(atoms: usize) -> String {
+    let others: String = (1..atoms - 2).map(|add| format!(" add={add}:0")).collect();
+    let arities = vec!["1"; atoms - 2].join(",");
+    let schema = format!("schema=2 pre=0:0 add=0:0{others} del=0:1");
+    unparted(&arities, &[&schema])
+}
+
 /// A task of schemas of one parameter with so many tests of it each: at width 0
 /// every atom stays alone, and at width 1 all go together.
 pub fn tests_of_one_parameter(schemas: &[usize]) -> String {

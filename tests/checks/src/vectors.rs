@@ -136,26 +136,50 @@ pub fn pddl_cases(write: impl Fn(&[u16], &mut [u8]) -> Row) {
     });
 }
 
-/// `05-propose.txt`, put to proposing, which is lent a table, a width, a second
-/// table and a scratch.
-pub fn propose_cases(propose: impl Fn(&[u16], u64, &mut [u16], &mut [u16]) -> Row) {
-    each_case("05-propose.txt", |case| {
+/// `07-propose.txt` and `05-propose.txt`, put to proposing, which is lent a table,
+/// a width, a second table and a scratch.
+pub fn propose_cases(propose: impl Fn(&[u16], u64, &mut [u16], &mut [u64]) -> Row) {
+    cases_of_proposing("07-propose.txt", |scratch| scratch, &propose);
+    cases_of_proposing("05-propose.txt", narrow_scratch, &propose);
+}
+
+/// How many words of scratch are lent in place of so many before note 7, when 64
+/// times 64 were needed: too few where those were too few, else with as many to
+/// spare. The answers stay: "the proposed partitions are those of Note 5 for every
+/// task and width".
+fn narrow_scratch(words: usize) -> usize {
+    const BEFORE: usize = 64 * 64;
+    if words < BEFORE {
+        words.min(SCRATCH_WORDS - 1)
+    } else {
+        SCRATCH_WORDS + (words - BEFORE)
+    }
+}
+
+/// The cases of a file whose scratches are lent with this length in place of the
+/// one told.
+fn cases_of_proposing(
+    file: &str,
+    scratch_length: fn(usize) -> usize,
+    propose: impl Fn(&[u16], u64, &mut [u16], &mut [u64]) -> Row,
+) {
+    each_case(file, |case| {
         let [text, changes, width, length, scratch, refusal, place, parts] = case.fields();
         let table = changed_table(text, changes);
         let mut proposed = vec![LENT.into(); number(length)];
-        let mut scratch = vec![LENT.into(); number(scratch)];
-        let mut left = [proposed.clone(), scratch.clone()];
+        let mut scratch = vec![LENT.into(); scratch_length(number(scratch))];
+        let mut left = (proposed.clone(), scratch.clone());
         let found = propose(&table, number(width), &mut proposed, &mut scratch);
         let expected = [refusal, place, "0", "0"].map(number);
         assert_eq!(found, expected, "{}", case.label);
         if refusal == "0" {
             let table = with_parts(&table, parts);
-            left[0][..table.len()].copy_from_slice(&table);
+            left.0[..table.len()].copy_from_slice(&table);
         }
         if matches!(refusal, "0" | "23") {
-            left[1][..SCRATCH_WORDS].fill(0);
+            left.1[..SCRATCH_WORDS].fill(0);
         }
-        assert!([proposed, scratch] == left, "{}", case.label);
+        assert!((proposed, scratch) == left, "{}", case.label);
     });
 }
 

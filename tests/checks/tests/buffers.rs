@@ -4,7 +4,7 @@
 use checks::answers::each_answer;
 use checks::inputs::{junk, lent_state, lent_table, step_words, table_or_damaged, task_and_table};
 use checks::{read_table, report, without_parts};
-use generate::proposing::{any_request, Request};
+use generate::proposing::any_request;
 use generate::sizing::any_sizing_task;
 use generate::split_lists::split_list;
 use generate::tasks::{any_task, task_or_split};
@@ -109,7 +109,7 @@ fn splitting() {
 }
 
 /// "All 0 after a result or 23", else as found.
-fn require_scratch(scratch: &[u16], found: &[u16], number: u64) {
+fn require_scratch(scratch: &[u64], found: &[u64], number: u64) {
     let cleared = if matches!(number, 0 | 23) {
         SCRATCH_WORDS
     } else {
@@ -122,25 +122,22 @@ fn require_scratch(scratch: &[u16], found: &[u16], number: u64) {
 #[test]
 fn proposing() {
     each_answer("proposing", 79, CASES, &[0, 1, 2, 22, 23], |random| {
-        let Request {
-            task,
-            width,
-            scratch,
-        } = any_request(random);
-        let table = table_or_damaged(random, &task);
-        let found = [lent_table(random), junk(random, scratch)];
-        let [mut proposed, mut scratch] = found.clone();
-        let answer = reference::propose(&table, width, &mut proposed, &mut scratch);
-        require_scratch(&scratch, &found[1], number(&answer));
+        let request = any_request(random);
+        let table = table_or_damaged(random, &request.task);
+        let found = lent_table(random);
+        let mut proposed = found.clone();
+        let mut scratch = request.scratch.clone();
+        let answer = reference::propose(&table, request.width, &mut proposed, &mut scratch);
+        require_scratch(&scratch, &request.scratch, number(&answer));
         match answer {
             Ok(()) => {
                 let tasks = [&proposed, &table].map(|words| Task::from_words(words));
                 let [proposed, task] = tasks.map(|task| without_parts(&task.expect("a table")));
                 assert_eq!(proposed, task);
             }
-            Err(_) => assert!(proposed == found[0]),
+            Err(_) => assert!(proposed == found),
         }
-        assert!(proposed.get(TABLE_WORDS..) == found[0].get(TABLE_WORDS..));
+        assert!(proposed.get(TABLE_WORDS..) == found.get(TABLE_WORDS..));
         number(&answer)
     });
 }

@@ -10,12 +10,12 @@ use generate::Random;
 use reference::propose::{propose, MAX_WIDTH, SCRATCH_WORDS};
 use reference::table::{Schema, Task, MAX_PARTS, TABLE_WORDS};
 
-/// What is lent; the second table and the scratch hold sevens.
+/// What is lent; the second table holds sevens.
 struct Lent {
     table: Vec<u16>,
     width: u64,
     proposed: usize,
-    scratch: usize,
+    scratch: Vec<u64>,
 }
 
 /// The answer, and the words of the second table and of the scratch afterwards.
@@ -23,7 +23,7 @@ struct Lent {
 struct Left {
     answer: Row,
     proposed: Vec<u16>,
-    scratch: Vec<u16>,
+    scratch: Vec<u64>,
 }
 
 const FOUND: u16 = 7;
@@ -43,11 +43,9 @@ impl Lent {
         }
     }
 
-    /// What the reference leaves where a width and so many words of scratch are
-    /// lent.
-    fn left_with(&self, width: u64, scratch: usize) -> Left {
+    /// What the reference leaves where this width and this scratch are lent.
+    fn left_with(&self, width: u64, mut scratch: Vec<u64>) -> Left {
         let mut proposed = vec![FOUND; self.proposed];
-        let mut scratch = vec![FOUND; scratch];
         let answer = reference::propose(&self.table, width, &mut proposed, &mut scratch);
         Left {
             answer: plain_row(answer),
@@ -56,17 +54,31 @@ impl Lent {
         }
     }
 
+    /// What the reference leaves where this width is lent.
+    fn left_at(&self, width: u64) -> Left {
+        self.left_with(width, self.scratch.clone())
+    }
+
+    /// What is left where a short scratch is let through.
+    fn left_with_enough(&self) -> Left {
+        let mut scratch = self.scratch.clone();
+        scratch.resize(SCRATCH_WORDS, 0);
+        let mut left = self.left_with(self.width, scratch);
+        left.scratch.truncate(self.scratch.len());
+        left
+    }
+
     /// What is left where 22 is refused first.
     fn refused_by_22(&self) -> Left {
         Left {
             answer: [22, 0, 0, 0],
             proposed: vec![FOUND; self.proposed],
-            scratch: vec![FOUND; self.scratch],
+            scratch: self.scratch.clone(),
         }
     }
 
     fn is_of_22(&self) -> bool {
-        self.width > MAX_WIDTH || self.scratch < SCRATCH_WORDS
+        self.width > MAX_WIDTH || self.scratch.len() < SCRATCH_WORDS
     }
 }
 
@@ -93,7 +105,7 @@ fn dirty_after(number: u64, lent: &Lent, right: Left) -> Left {
         return right;
     }
     Left {
-        scratch: vec![FOUND; lent.scratch],
+        scratch: lent.scratch.clone(),
         ..right
     }
 }
@@ -106,20 +118,47 @@ fn dirty_after_a_result(lent: &Lent, right: Left) -> Left {
     dirty_after(0, lent, right)
 }
 
-/// The scratch is 0 to its end.
-fn cleared_to_the_end(_: &Lent, mut right: Left) -> Left {
+/// Clears so many words, or all where there are fewer.
+fn clear(scratch: &mut [u64], words: usize) {
+    scratch.iter_mut().take(words).for_each(|word| *word = 0);
+}
+
+/// So many words are 0 after a result or 23, those behind them as found.
+fn cleared<const WORDS: usize>(lent: &Lent, mut right: Left) -> Left {
     if matches!(right.number(), 0 | 23) {
-        right.scratch.fill(0);
+        right.scratch.clone_from(&lent.scratch);
+        clear(&mut right.scratch, WORDS);
     }
     right
 }
 
-/// Refusal 22 for the width comes when the scratch has been cleared.
-fn cleared_before_22(_: &Lent, mut right: Left) -> Left {
-    if right.number() == 22 && right.scratch.len() >= SCRATCH_WORDS {
-        right.scratch[..SCRATCH_WORDS].fill(0);
+/// So many low bits of each word are 0, the others as found.
+fn low_bits_cleared<const BITS: usize>(lent: &Lent, mut right: Left) -> Left {
+    for (word, found) in right.scratch.iter_mut().zip(&lent.scratch) {
+        if *word == 0 {
+            *word = found >> BITS << BITS;
+        }
     }
     right
+}
+
+fn cleared_before_22(_: &Lent, mut right: Left) -> Left {
+    if right.number() == 22 {
+        clear(&mut right.scratch, SCRATCH_WORDS);
+    }
+    right
+}
+
+/// Refusal 22 reads another length than 128 words.
+fn needing<const WORDS: usize>(lent: &Lent, right: Left) -> Left {
+    let length = lent.scratch.len();
+    if WORDS <= length && length < SCRATCH_WORDS {
+        lent.left_with_enough()
+    } else if length < WORDS && matches!(right.number(), 0 | 23) {
+        lent.refused_by_22()
+    } else {
+        right
+    }
 }
 
 /// The task is in the second table when its schemas are parted.
@@ -149,7 +188,7 @@ fn after_23(lent: &Lent, right: Left) -> Left {
     if right.number() != 22 || lent.width > MAX_WIDTH {
         return right;
     }
-    let [number, schema, ..] = lent.left_with(lent.width, SCRATCH_WORDS).answer;
+    let [number, schema, ..] = lent.left_with_enough().answer;
     if number == 23 {
         right.refused_by_23(schema as usize)
     } else {
@@ -158,29 +197,16 @@ fn after_23(lent: &Lent, right: Left) -> Left {
 }
 
 fn width_13(lent: &Lent, _: Left) -> Left {
-    lent.left_with(
-        lent.width - u64::from(lent.width == MAX_WIDTH + 1),
-        lent.scratch,
-    )
+    lent.left_at(lent.width - u64::from(lent.width == MAX_WIDTH + 1))
 }
 
 /// A width above 12 is taken for 12.
 fn any_width_above_12(lent: &Lent, _: Left) -> Left {
-    lent.left_with(lent.width.min(MAX_WIDTH), lent.scratch)
+    lent.left_at(lent.width.min(MAX_WIDTH))
 }
 
 fn low_bits_of_the_width(lent: &Lent, _: Left) -> Left {
-    lent.left_with(lent.width & 0xffff, lent.scratch)
-}
-
-/// A word too few passes.
-fn a_shorter_scratch(lent: &Lent, right: Left) -> Left {
-    if lent.scratch != SCRATCH_WORDS - 1 {
-        return right;
-    }
-    let mut left = lent.left_with(lent.width, SCRATCH_WORDS);
-    left.scratch.truncate(lent.scratch);
-    left
+    lent.left_at(lent.width & 0xffff)
 }
 
 /// The number of the last schema that ends with too many parts.
@@ -222,15 +248,21 @@ fn atoms_for_parts(lent: &Lent, right: Left) -> Left {
 }
 
 /// Wrong variants, each with a number of cases that it must reach.
-const WRONG: [(&str, Variant, usize); 15] = [
+const WRONG: [(&str, Variant, usize); 28] = [
     ("scratch left dirty after 23", dirty_after_23, 60),
     (
         "scratch left dirty after a result",
         dirty_after_a_result,
         1500,
     ),
-    ("scratch cleared to its end", cleared_to_the_end, 150),
-    ("scratch cleared before 22", cleared_before_22, 250),
+    ("first 64 words cleared", cleared::<64>, 1500),
+    ("first 127 words cleared", cleared::<127>, 1500),
+    ("129th word cleared too", cleared::<129>, 200),
+    ("scratch cleared to its end", cleared::<{ usize::MAX }>, 200),
+    ("16 bits of each word cleared", low_bits_cleared::<16>, 1500),
+    ("32 bits of each word cleared", low_bits_cleared::<32>, 1500),
+    ("63 bits of each word cleared", low_bits_cleared::<63>, 1500),
+    ("scratch cleared before 22", cleared_before_22, 400),
     ("second table written before 23", written_before_23, 60),
     ("22 before 1", before_1, 100),
     ("22 before 2", before_2, 60),
@@ -238,7 +270,14 @@ const WRONG: [(&str, Variant, usize); 15] = [
     ("width 13 let through", width_13, 60),
     ("any width let through", any_width_above_12, 250),
     ("16 bits of the width", low_bits_of_the_width, 40),
-    ("scratch of 4,095 words let through", a_shorter_scratch, 10),
+    ("scratch of 127 words let through", needing::<127>, 80),
+    ("scratch of 128 words refused", needing::<129>, 1500),
+    ("a word a part let through", needing::<64>, 120),
+    ("length taken for words of 16 bits", needing::<32>, 150),
+    ("length taken for bytes", needing::<16>, 180),
+    ("as many words of 16 bits asked for", needing::<512>, 1500),
+    ("bytes asked for", needing::<1024>, 1500),
+    ("the square asked for", needing::<4096>, 1500),
     ("23 with the last schema", last_of_23, 10),
     ("23 without its schema", without_a_place, 10),
     ("23 for more than 16 atoms", atoms_for_parts, 150),
@@ -250,7 +289,7 @@ fn a_wrong_entry_point_leaves_something_else() {
     let mut others = [0; WRONG.len()];
     for _ in 0..4000 {
         let lent = Lent::any(&mut random);
-        let right = lent.left_with(lent.width, lent.scratch);
+        let right = lent.left_at(lent.width);
         for (other, (_, variant, _)) in others.iter_mut().zip(WRONG) {
             *other += usize::from(variant(&lent, right.clone()) != right);
         }

@@ -1,29 +1,35 @@
 //! Refusals 1, 2, 22 and 23 of proposing, in this order, by hand from document
-//! 02's note 5, and what is left of the words lent.
+//! 02's notes 5 and 7, and what is left of the words lent.
 
 use checks::unparted::{tests_of_one_parameter, unparted};
 use checks::{read_table, MOVE};
+use generate::proposing::SCRATCH_LENGTHS;
 use reference::propose::SCRATCH_WORDS;
 use reference::table::{Task, TABLE_WORDS};
 use reference::{Answer, Place, Reason, Refusal};
 
+/// What the scratch's words hold before the call: low bits and high ones in turn.
+const FOUND: [u64; 2] = [7, 7 << 61];
+
 /// The answer where so many words are lent for the second table and for the
-/// scratch. A result writes the one, and "the scratch's first 4,096 words are 0
-/// after a result or 23"; all else is as found.
+/// scratch. A result writes the one, and the other's first 128 words are "again
+/// all 0 after a result or 23"; all else is as found.
 fn answer(table: &[u16], width: u64, lent: [usize; 2]) -> Answer<()> {
-    let [mut proposed, mut scratch] = lent.map(|length| vec![7; length]);
+    let mut proposed = vec![7; lent[0]];
+    let found: Vec<u64> = FOUND.into_iter().cycle().take(lent[1]).collect();
+    let mut scratch = found.clone();
     let answer = reference::propose(table, width, &mut proposed, &mut scratch);
     let [written, cleared] = match answer {
         Ok(()) => [TABLE_WORDS, SCRATCH_WORDS],
         Err(refusal) if refusal.reason == Reason::TooManyParts => [0, SCRATCH_WORDS],
         Err(_) => [0, 0],
     };
-    let all = |words: &[u16], value: u16| words.iter().all(|word| *word == value);
     let (result, rest) = proposed.split_at(written);
     assert!(result.is_empty() || Task::from_words(result).is_some());
-    assert!(all(rest, 7), "the second table");
+    assert!(rest.iter().all(|word| *word == 7), "the second table");
     let (used, behind) = scratch.split_at(cleared);
-    assert!(all(used, 0) && all(behind, 7), "the scratch");
+    assert!(used.iter().all(|word| *word == 0), "the scratch");
+    assert!(behind == &found[cleared..], "behind the scratch");
     answer
 }
 
@@ -86,7 +92,7 @@ fn sixteen_parts_are_left() {
     assert_eq!(answer(&with_plain(16, 48), 0, ENOUGH), too_many_parts(0));
 }
 
-/// "22 .. for a width above 12 or a shorter scratch."
+/// "22 .. for a width above 12 or a shorter scratch": shorter than 128 words.
 #[test]
 fn refusal_22() {
     let table = table_of(MOVE);
@@ -97,15 +103,19 @@ fn refusal_22() {
             assert_eq!(with(width, scratch), expected, "{width}, {scratch}");
         }
     }
+    let [short, long] = SCRATCH_LENGTHS;
     for width in 0..=12 {
-        for scratch in [0, 1, SCRATCH_WORDS / 2, SCRATCH_WORDS - 1] {
-            assert_eq!(with(width, scratch), expected, "{width}, {scratch}");
+        for scratch in short {
+            assert_eq!(with(width, *scratch), expected, "{width}, {scratch}");
         }
-        assert_eq!(with(width, SCRATCH_WORDS), Ok(()), "{width}");
+        assert_eq!(with(width, 128), Ok(()), "{width}");
+        for scratch in long {
+            assert_eq!(with(width, *scratch), Ok(()), "{width}, {scratch}");
+        }
     }
 }
 
-/// The square is asked for whole, whatever the task has.
+/// The scratch is asked for whole, whatever the task has.
 #[test]
 fn refusal_22_of_a_task_without_schemas() {
     let table = table_of(&unparted("0", &[]));

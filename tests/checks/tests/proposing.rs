@@ -2,7 +2,7 @@
 //! lower and then higher part number; the merged part takes the lower number and
 //! higher ones close up."
 
-use checks::unparted::unparted;
+use checks::unparted::{barred_by_the_last, unparted};
 use checks::{changed_move, read_table, without_parts, MOVE};
 use reference::propose::{propose, SCRATCH_WORDS};
 use reference::table::{Schema, Task, TABLE_WORDS};
@@ -138,6 +138,19 @@ fn circular_merges_wait_or_never_come() {
     proposes("2", barred, 3, &[0, 0, 0]);
     let without_delete = "schema=1 pre=0:0,0 add=0:0,0";
     proposes("2", without_delete, 1, &[0, 0]);
+}
+
+/// Note 7: "a bit for each part it has an arc from". A delete bars with each number
+/// from 63 to 2 as others merge.
+#[test]
+fn a_part_of_any_number_bars() {
+    for atoms in 3..=64 {
+        let mut parts = vec![0; atoms];
+        parts[1] = 1;
+        parts[atoms - 1] = 2;
+        let found = proposal(&barred_by_the_last(atoms), 1);
+        assert_eq!(found, Ok(vec![parts]), "{atoms} atoms");
+    }
 }
 
 /// Tests of p with x, of q with y and of r with z; adds of p with y, of q with z

@@ -11,13 +11,13 @@ extern "C" {
         width: u64,
         proposed: *mut u16,
         proposed_len: usize,
-        scratch: *mut u16,
+        scratch: *mut u64,
         scratch_len: usize,
         place: *mut u64,
     ) -> u32;
 }
 
-pub fn propose(table: &[u16], width: u64, proposed: &mut [u16], scratch: &mut [u16]) -> Row {
+pub fn propose(table: &[u16], width: u64, proposed: &mut [u16], scratch: &mut [u64]) -> Row {
     let mut place = UNWRITTEN;
     // Each pointer goes with the length of its slice, and the number is ours.
     let number = unsafe {

@@ -17,19 +17,20 @@ use crate::tasks::{
     part_freely, push, task, task_of,
 };
 
-/// A task with the width and the number of scratch words that go with it.
+/// A task with the width and the scratch that go with it.
 #[derive(Clone, Debug)]
 pub struct Request {
     pub task: Task,
     pub width: u64,
-    pub scratch: usize,
+    pub scratch: Vec<u64>,
 }
 
 /// Any task, width and scratch; about one of five is refused by 22.
 pub fn any_request(random: &mut Random) -> Request {
     let task = any_proposing_task(random);
     let width = any_width(random, &task);
-    let scratch = any_scratch(random);
+    let length = any_scratch_length(random);
+    let scratch = dirty_words(random, length);
     Request {
         task,
         width,
@@ -56,16 +57,34 @@ fn width_of_an_atom(random: &mut Random, task: &Task) -> u64 {
     arguments.collect::<BTreeSet<_>>().len() as u64
 }
 
-/// Scratches of all lengths: none, a word too few, just enough, more, any.
-pub fn any_scratch(random: &mut Random) -> usize {
+/// Lengths of scratches that are too short, and of longer ones than needed. 16 or
+/// 32 words are 128 bytes or words of 16 bits; 128 words are 512 of 16 bits, or
+/// 1,024 bytes; 4,096 words of 16 bits were needed before note 7.
+pub const SCRATCH_LENGTHS: [&[usize]; 2] = [
+    &[0, 1, 15, 16, 31, 32, 63, 64, 65, 127],
+    &[129, 255, 256, 511, 512, 1023, 1024, 4095, 4096],
+];
+
+/// Just enough words, mostly; else a word too few or one more, a length of those
+/// above, or any.
+fn any_scratch_length(random: &mut Random) -> usize {
+    let [short, long] = SCRATCH_LENGTHS;
     match random.below(24) {
-        0 => 0,
+        0 => random.pick(short),
         1 => SCRATCH_WORDS - 1,
         2 => random.below(SCRATCH_WORDS),
         3 => SCRATCH_WORDS + 1,
         4 => SCRATCH_WORDS + random.below(100),
+        5 => random.pick(long),
         _ => SCRATCH_WORDS,
     }
+}
+
+/// Words of 64 bits, none of them 0; most have no low bits, so that it is seen
+/// where only these are cleared.
+pub fn dirty_words(random: &mut Random, length: usize) -> Vec<u64> {
+    let dirty_word = |_| (random.bits() | 1) << random.below(64);
+    (0..length).map(dirty_word).collect()
 }
 
 /// A task of any kind, most of them small; about one in four has pairs.

@@ -1,9 +1,10 @@
 //! A second implementation of document 01, "Splitting STRIPS action schemas
-//! for station work", and of document 02's notes 1, 2, 4, 5 and 6, with one
-//! module for each section, `pddl` for note 1, `propose` for note 5, `sizes` for
-//! note 6 and the entry points on lent words and bytes here. Note 2 changes the
-//! choice among ready parts in `arcs`; note 4 gives schemas pairs of parameters
-//! that must differ, in every module. Note 3 changes no answer.
+//! for station work", and of document 02's notes 1 to 7, with one module for each
+//! section, `pddl` for note 1, `propose` for note 5, `sizes` for note 6 and the
+//! entry points on lent words and bytes here. Note 2 changes the choice among
+//! ready parts in `arcs`; note 4 gives schemas pairs of parameters that must
+//! differ, in every module. Note 3 changes no answer, and note 7 only what is
+//! lent for proposing.
 
 pub mod answer;
 pub mod arcs;
@@ -104,11 +105,12 @@ pub fn fold(table: &[u16], split_steps: &[u16], out: &mut [u16]) -> Answer<Folde
 }
 
 /// Writes a table's task with proposed parts as a table. The scratch isn't
-/// needed here, and is "all 0 after a result or 23".
-pub fn propose(table: &[u16], width: u64, proposed: &mut [u16], scratch: &mut [u16]) -> Answer<()> {
+/// needed here, and is "again all 0 after a result or 23".
+pub fn propose(table: &[u16], width: u64, proposed: &mut [u16], scratch: &mut [u64]) -> Answer<()> {
     let proposed = lent_table(proposed)?;
     let task = task_of(table)?;
-    // "22, after 2, for a width above 12 or a shorter scratch."
+    // "22, after 2, for a width above 12 or a shorter scratch"; by note 7 it
+    // "reads that length", of words of 64 bits.
     let scratch = scratch.get_mut(..SCRATCH_WORDS);
     let (Some(scratch), 0..=MAX_WIDTH) = (scratch, width) else {
         return Err(Refusal::nowhere(Reason::WidthOrScratch));

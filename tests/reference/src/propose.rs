@@ -1,16 +1,16 @@
 //! Document 02, note 5, "Propose a partition": the procedure as it is told
 //! there, each partition that it tries being built and put to the order rule.
+//! By note 7, "A narrow scratch for proposals", "the proposed partitions are
+//! those of Note 5 for every task and width"; what is lent is narrower.
 
 use crate::answer::{Answer, Place, Reason, Refusal};
 use crate::arcs::{arcs, order, parameters, RULES};
-use crate::table::{
-    PartNumber, Schema, SchemaAtom, Task, MAX_ATOMS_OF_SCHEMA, MAX_PARAMETERS, MAX_PARTS,
-};
+use crate::table::{PartNumber, Schema, SchemaAtom, Task, MAX_PARAMETERS, MAX_PARTS};
 
 /// "A width from 0 to 12."
 pub const MAX_WIDTH: u64 = MAX_PARAMETERS as u64;
-/// "The lent scratch is a square of 64 by 64 words."
-pub const SCRATCH_WORDS: usize = MAX_ATOMS_OF_SCHEMA * MAX_ATOMS_OF_SCHEMA;
+/// Note 7: "What is lent falls to 128 words of 64 bits."
+pub const SCRATCH_WORDS: usize = 128;
 
 /// The task "with fresh parts". Refusal 23: "when a schema ends with more than
 /// 16 parts, with the first such schema".

@@ -1,42 +1,27 @@
 //! Proposing.
 
 use checks::answers::each_answer;
-use checks::inputs::{junk, lent_table, table_or_damaged};
-use checks::report;
+use checks::inputs::table_or_damaged;
 use checks::rows::plain_row;
-use checks::unparted::tests_of_one_parameter;
+use checks::unparted::{barred_by_the_last, tests_of_one_parameter};
 use checks::vectors::propose_cases;
-use differential::beside::{compare, short_or_long, shown};
+use checks::{read_table, report};
+use differential::beside::{compare_lent_two, short_or_long, shown, table_to_write};
 use differential::proposing::propose;
 use generate::differing::any_differing_task;
-use generate::proposing::{any_proposing_task, any_request, any_width, full_task, Request};
+use generate::proposing::{
+    any_proposing_task, any_request, any_width, dirty_words, full_task, Request, SCRATCH_LENGTHS,
+};
 use generate::tasks::{parted_anew, task};
 use generate::{limits, tables, Random, Shape};
 use reference::propose::{MAX_WIDTH, SCRATCH_WORDS};
 use reference::table::{Task, TABLE_WORDS};
 
-/// How many words stand between the second table and the scratch, where they are
-/// lent from one row of words.
-const BETWEEN: usize = 8;
-
-/// The second table, of so many words, and the scratch behind it.
-fn both(lent: &mut [u16], proposed: usize) -> [&mut [u16]; 2] {
-    let (proposed, rest) = lent.split_at_mut(proposed);
-    [proposed, &mut rest[BETWEEN..]]
-}
-
-fn compared(table: &[u16], width: u64, proposed: &[u16], scratch: &[u16]) -> u64 {
-    let lent = [proposed, &[0x5a5a; BETWEEN], scratch].concat();
-    compare(
-        &lent,
-        |lent| {
-            let [proposed, scratch] = both(lent, proposed.len());
-            plain_row(reference::propose(table, width, proposed, scratch))
-        },
-        |lent| {
-            let [proposed, scratch] = both(lent, proposed.len());
-            propose(table, width, proposed, scratch)
-        },
+fn compared(table: &[u16], width: u64, proposed: &[u16], scratch: &[u64]) -> u64 {
+    compare_lent_two(
+        (proposed, scratch),
+        |proposed, scratch| plain_row(reference::propose(table, width, proposed, scratch)),
+        |proposed, scratch| propose(table, width, proposed, scratch),
         || {
             format!(
                 "width {width}, {} and {} words lent, table {}",
@@ -48,10 +33,14 @@ fn compared(table: &[u16], width: u64, proposed: &[u16], scratch: &[u16]) -> u64
     )
 }
 
-/// Compares with words enough.
+/// Compares with words enough. The scratch is found with every bit set, so that one
+/// taken for an arc would be seen.
+fn compared_table(table: &[u16], width: u64) -> u64 {
+    compared(table, width, &[7; TABLE_WORDS], &[u64::MAX; SCRATCH_WORDS])
+}
+
 fn compared_task(task: &Task, width: u64) -> u64 {
-    let table = tables::table(task);
-    compared(&table, width, &[7; TABLE_WORDS], &[7; SCRATCH_WORDS])
+    compared_table(&tables::table(task), width)
 }
 
 #[test]
@@ -65,14 +54,26 @@ fn sound_and_damaged_tables() {
         } = any_request(random);
         let table = table_or_damaged(random, &task);
         let table = short_or_long(random, table);
-        if random.chance(1, 4) {
-            let scratch = junk(random, scratch);
-            compared(&table, width, &lent_table(random), &scratch)
-        } else {
-            let proposed = random.pick(&[TABLE_WORDS, TABLE_WORDS, TABLE_WORDS + 1]);
-            compared(&table, width, &vec![7; proposed], &vec![7; scratch])
-        }
+        compared(&table, width, &table_to_write(random), &scratch)
     });
+}
+
+/// Scratches of all lengths, with 64 parts in play, for a result, for 23, and for a
+/// width too wide.
+#[test]
+fn every_scratch() {
+    let mut random = Random::new(210);
+    let table = read_table(barred_by_the_last(64).as_bytes());
+    let lengths: Vec<usize> = (0..200).chain(SCRATCH_LENGTHS.concat()).collect();
+    for length in &lengths {
+        for (width, expected) in [(1, 0), (0, 23), (13, 22)] {
+            let scratch = dirty_words(&mut random, *length);
+            let number = compared(&table, width, &[7; TABLE_WORDS], &scratch);
+            let expected = if *length < 128 { 22 } else { expected };
+            assert_eq!(number, expected, "{length} words, width {width}");
+        }
+    }
+    report("scratches of all lengths", 3 * lengths.len());
 }
 
 #[test]

@@ -175,7 +175,7 @@ pub unsafe extern "C" fn reference_propose(
     width: u64,
     proposed: *mut u16,
     proposed_len: usize,
-    scratch: *mut u16,
+    scratch: *mut u64,
     scratch_len: usize,
     place: &mut u64,
 ) -> u32 {
