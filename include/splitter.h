@@ -3,9 +3,9 @@
  * Each returns 0 for a result, else the number of its refusal (1 to 24). Every number lent by pointer is written:
  * `place` is the refusal's line (from 1), schema or step (from 0), and 0 with a result or where there is no place;
  * values that have no meaning are 0. These numbers are distinct variables, and none lies in a slice that is lent. A
- * slice is lent as a pointer and the number of its elements, bytes or words of 16 bits, each two bytes, the low one
- * first; none may overlap another that is written. A pointer is never NULL, also where its length is 0.
- * docs/assumptions.md has all that a caller owes.
+ * slice is lent as a pointer and the number of its elements: bytes or words of 16 bits, each two bytes, the low one
+ * first; for the scratch of proposing, words of 64 bits. None may overlap another that is written. A pointer is never
+ * NULL, also where its length is 0. docs/assumptions.md has all that a caller owes.
  *
  * A table is 14,007 words; words lent behind them are neither judged nor touched. It begins with seven counts: objects,
  * predicates, schemas, schema atoms, initial atoms, goal atoms, pairs of parameters that must differ (at most 200).
@@ -21,11 +21,11 @@
 extern "C" {
 #endif
 
-/* The words of a table, of a step, of a state's record and of the scratch that proposing takes. */
+/* The words of a table, of a step and of a state's record; and those of 64 bits of the scratch that proposing takes. */
 #define SPLITTER_TABLE_WORDS 14007
 #define SPLITTER_STEP_WORDS 13
 #define SPLITTER_RECORD_WORDS 5
-#define SPLITTER_SCRATCH_WORDS 4096
+#define SPLITTER_SCRATCH_WORDS 128
 
 /* Reads a text into a table. The whole text is read: it ends where its bytes do.
  *
@@ -78,12 +78,14 @@ uint32_t splitter_write_pddl(const uint16_t *table, size_t table_len, uint8_t *t
  * lower and then higher number, become one; it takes the lower number and higher ones close up. So a part has at most
  * `width` parameters, or is a single atom. Splitting what is proposed never answers 9; 20 and 10 it may.
  *
- * The scratch is 4,096 words, whatever they hold; after a result or 23 they are 0. Words behind them are never touched.
+ * The scratch is 128 words of 64 bits, whatever they hold; after a result or 23 they are 0. Words behind them are never
+ * touched.
+ *
  * Refusals: 1 either table is short, 2 the one to be read is no table, 22 the width is above 12 or the scratch is
  * short, 23 a schema ends with more than 16 parts (place: the first such schema); in this order. Each leaves the
  * proposed table as found, and all but 23 the scratch too. Words behind the proposed table's are never touched. */
 uint32_t splitter_propose(const uint16_t *table, size_t table_len, uint64_t width, uint16_t *proposed,
-                          size_t proposed_len, uint16_t *scratch, size_t scratch_len, uint64_t *place);
+                          size_t proposed_len, uint64_t *scratch, size_t scratch_len, uint64_t *place);
 
 /* Splits the table's task along its parts and writes the split as a table: 14,007 words, zeros behind its last atom. A
  * part that has both parameters of a pair that must differ carries it.

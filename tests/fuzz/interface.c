@@ -7,7 +7,7 @@
 #include "splitter.h"
 #include "traps.h"
 
-enum { TABLE = SPLITTER_TABLE_WORDS, BEHIND = 4, HEADER = 10, MOST_WORDS = 1 << 16 };
+enum { TABLE = SPLITTER_TABLE_WORDS, BEHIND = 4, HEADER = 10, MOST_WORDS = 1 << 16, MOST_SCRATCH = 1 << 10 };
 
 /* Writing a task as text, and as PDDL. */
 typedef uint32_t writer(const uint16_t *, size_t, uint8_t *, size_t, uint64_t *, uint64_t *);
@@ -21,7 +21,7 @@ uint32_t reference_unfold(const uint16_t *, size_t, const uint16_t *, size_t, ui
                           uint64_t *);
 uint32_t reference_fold(const uint16_t *, size_t, const uint16_t *, size_t, uint16_t *, size_t, uint64_t *, uint64_t *,
                         uint64_t *);
-uint32_t reference_propose(const uint16_t *, size_t, uint64_t, uint16_t *, size_t, uint16_t *, size_t, uint64_t *);
+uint32_t reference_propose(const uint16_t *, size_t, uint64_t, uint16_t *, size_t, uint64_t *, size_t, uint64_t *);
 uint32_t reference_sizes(const uint16_t *, size_t, uint64_t *, uint64_t *, uint64_t *, uint64_t *, uint64_t *,
                          uint64_t *, uint64_t *);
 
@@ -50,7 +50,7 @@ static const struct answer unanswered = {77, {88, 99, 111, 122, 133, 144, 155}};
 /* Buffers of the proved code in fenced pages, those of the reference beside them. */
 static struct lent given_text, given_table, given_list, written, scratch;
 static uint16_t task[TABLE + BEHIND], list[MOST_WORDS], beside[MOST_WORDS], records[MOST_WORDS];
-static uint16_t scratch_beside[MOST_WORDS];
+static uint64_t scratch_beside[MOST_SCRATCH];
 
 static uint16_t word(struct input *in) {
     if (in->left < 2) {
@@ -188,21 +188,23 @@ static void fold_steps(const struct input *in) {
     same(&proved, &reference, 2 * in->lent);
 }
 
-/* So many words of scratch as `lent` says. One word tells every width up to 13; another makes it far too wide. */
+/* As many words of scratch as `lent` says, or a rest of it. One word tells every width up to 13; another makes it far
+ * too wide. */
 static void propose_parts(const struct input *in) {
     struct answer proved = unanswered, reference = unanswered;
     uint64_t width = (uint64_t)in->state << 48 | in->records;
+    size_t words = in->lent % (MOST_SCRATCH + 1), bytes = words * sizeof *scratch_beside;
     lend_to_write(NULL, 2 * in->written_table, in->at_front);
-    lend(&scratch, NULL, 2 * in->lent, in->at_front);
-    memcpy(scratch_beside, scratch.bytes, 2 * in->lent);
+    lend(&scratch, NULL, bytes, in->at_front);
+    memcpy(scratch_beside, scratch.bytes, bytes);
     only_read(&given_table, 1);
     proved.number = splitter_propose((uint16_t *)given_table.bytes, in->read_table, width, (uint16_t *)written.bytes,
-                                     in->written_table, (uint16_t *)scratch.bytes, in->lent, proved.values);
+                                     in->written_table, (uint64_t *)scratch.bytes, words, proved.values);
     only_read(&given_table, 0);
-    reference.number = reference_propose(task, in->read_table, width, beside, in->written_table, scratch_beside,
-                                         in->lent, reference.values);
+    reference.number = reference_propose(task, in->read_table, width, beside, in->written_table, scratch_beside, words,
+                                         reference.values);
     same(&proved, &reference, 2 * in->written_table);
-    if (memcmp(scratch.bytes, scratch_beside, 2 * in->lent) != 0)
+    if (memcmp(scratch.bytes, scratch_beside, bytes) != 0)
         fail("both leave the same scratch");
     guards_stand(&scratch);
 }
