@@ -7,6 +7,7 @@ pub mod inputs;
 pub mod needs;
 pub mod orders;
 pub mod pair_arcs;
+pub mod parting;
 pub mod rows;
 pub mod shared_runs;
 pub mod subject;

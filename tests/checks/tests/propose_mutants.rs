@@ -4,12 +4,12 @@
 
 use std::collections::BTreeSet;
 
+use checks::parting::{atom_arcs, proposed_alone, Arcs};
 use checks::{report, shows_in};
 use generate::proposing::{any_proposing_task, any_width};
 use generate::Random;
-use reference::arcs::{arcs, RULES};
-use reference::propose::{propose, MAX_WIDTH};
-use reference::table::{used_arguments, ParameterNumber, PartNumber, Schema, Task, MAX_PARTS};
+use reference::propose::MAX_WIDTH;
+use reference::table::{used_arguments, ParameterNumber, Schema, MAX_PARTS};
 
 const SEED: u64 = 44;
 const TASKS: usize = 2000;
@@ -20,9 +20,6 @@ type Parts = Vec<Vec<usize>>;
 /// Two parts by their numbers, the lower first.
 type Pair = [usize; 2];
 
-/// Arcs between atoms, or between parts.
-type Arcs = BTreeSet<(usize, usize)>;
-
 /// A schema that is parted.
 struct Parting<'a> {
     schema: &'a Schema,
@@ -32,14 +29,6 @@ struct Parting<'a> {
     arcs: Arcs,
     /// The same and those that pairs take away.
     arcs_without_pairs: Arcs,
-}
-
-fn atom_arcs(mut schema: Schema) -> Arcs {
-    for (number, atom) in (0..).zip(&mut schema.atoms) {
-        atom.part = PartNumber(number);
-    }
-    let arcs = arcs(&schema, &RULES).into_iter();
-    arcs.map(|(from, to)| (from.index(), to.index())).collect()
 }
 
 impl<'a> Parting<'a> {
@@ -274,17 +263,6 @@ fn partition(procedure: &Procedure, parting: &Parting) -> Option<Vec<usize>> {
     (parts.len() <= MAX_PARTS).then(|| (0..parting.schema.atoms.len()).map(part_of).collect())?
 }
 
-/// What the reference proposes for a schema by itself.
-fn proposed(schema: &Schema, task: &Task, width: usize) -> Option<Vec<usize>> {
-    let alone = Task {
-        schemas: vec![schema.clone()],
-        ..task.clone()
-    };
-    let proposed = propose(&alone, width as u64).ok()?;
-    let atoms = proposed.schemas[0].atoms.iter();
-    Some(atoms.map(|atom| atom.part.index()).collect())
-}
-
 /// For how many schemas each procedure proposes other parts than the reference.
 fn other_partitions<const COUNT: usize>(procedures: [Procedure; COUNT]) -> [usize; COUNT] {
     let mut random = Random::new(SEED);
@@ -293,7 +271,7 @@ fn other_partitions<const COUNT: usize>(procedures: [Procedure; COUNT]) -> [usiz
         let task = any_proposing_task(&mut random);
         let width = any_width(&mut random, &task).min(MAX_WIDTH) as usize;
         for schema in &task.schemas {
-            let expected = proposed(schema, &task, width);
+            let expected = proposed_alone(schema, &task, width);
             let parting = Parting::of(schema, &task.arities, width);
             for (other, procedure) in others.iter_mut().zip(&procedures) {
                 *other += usize::from(partition(procedure, &parting) != expected);

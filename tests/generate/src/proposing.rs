@@ -6,7 +6,8 @@ use std::collections::BTreeSet;
 use reference::arcs::RULES;
 use reference::propose::{MAX_WIDTH, SCRATCH_WORDS};
 use reference::table::{
-    used_arguments, PartNumber, Role, SchemaAtom, Task, MAX_ATOMS_OF_SCHEMA, MAX_PARAMETERS,
+    used_arguments, LiftedAtom, PartNumber, Role, SchemaAtom, Task, MAX_ATOMS_OF_SCHEMA,
+    MAX_PARAMETERS,
 };
 
 use crate::differing::{any_differing_task, with_pairs};
@@ -119,11 +120,45 @@ pub fn full_task(random: &mut Random) -> Task {
 /// A task of one schema with so many different atoms of these predicates, which
 /// must have that many, in any role.
 pub fn filled_task(random: &mut Random, arities: &[u16], count: usize) -> Task {
+    filled_with(random, arities, count, |random, predicate| {
+        lifted_atom(random, arities, predicate, MAX_PARAMETERS)
+    })
+}
+
+/// A task of one schema with 64, 63 or any number from 33 to 62 atoms, each with
+/// parameters of one group: many parts are in play, and where the width takes a
+/// group in they end as so few that their partition is told.
+pub fn crowded_task(random: &mut Random) -> Task {
+    let fewer = random.within(&(33..=62));
+    let count = random.pick(&[MAX_ATOMS_OF_SCHEMA, 63, fewer, fewer]);
+    let predicates = random.pick(&[1, 2, 3, 5, 8, 16]);
+    let arities: Vec<u16> = (0..predicates)
+        .map(|_| random.within(&(2..=4)) as u16)
+        .collect();
+    let together = random.pick(&[2, 3, 4, 6]);
+    let task = filled_with(random, &arities, count, |random, predicate| {
+        let first = together * random.below(MAX_PARAMETERS / together);
+        let arguments: Vec<usize> = (0..arities[predicate])
+            .map(|_| first + random.below(together))
+            .collect();
+        of_parameters(&arities, predicate, &arguments)
+    });
+    perhaps_with_pairs(random, task)
+}
+
+/// A task of one schema with so many different atoms, made so for a predicate, in
+/// any role.
+fn filled_with(
+    random: &mut Random,
+    arities: &[u16],
+    count: usize,
+    atom_of: impl Fn(&mut Random, usize) -> LiftedAtom,
+) -> Task {
     let mut atoms = Vec::new();
     while atoms.len() < count {
         let role = random.pick(&Role::ALL);
         let predicate = random.below(arities.len());
-        let atom = lifted_atom(random, arities, predicate, MAX_PARAMETERS);
+        let atom = atom_of(random, predicate);
         push(&mut atoms, role, PartNumber(0), atom);
     }
     Task {

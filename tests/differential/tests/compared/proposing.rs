@@ -10,7 +10,8 @@ use differential::beside::{compare_lent_two, short_or_long, shown, table_to_writ
 use differential::proposing::propose;
 use generate::differing::any_differing_task;
 use generate::proposing::{
-    any_proposing_task, any_request, any_width, dirty_words, full_task, Request, SCRATCH_LENGTHS,
+    any_proposing_task, any_request, any_width, crowded_task, dirty_words, full_task, Request,
+    SCRATCH_LENGTHS,
 };
 use generate::tasks::{parted_anew, task};
 use generate::{limits, tables, Random, Shape};
@@ -100,6 +101,25 @@ fn many_atoms() {
         let width = random.below(8) as u64;
         compared_task(&task, width)
     });
+}
+
+/// Up to 64 parts in play, whose arcs decide what is proposed, at every width.
+#[test]
+fn crowded_schemas() {
+    let mut random = Random::new(211);
+    let [tasks, mut proposals] = [24, 0];
+    for _ in 0..tasks {
+        let task = crowded_task(&mut random);
+        let answers = (0..=MAX_WIDTH).map(|width| compared_task(&task, width));
+        proposals += answers.filter(|number| *number == 0).count();
+    }
+    report("crowded tasks at every width", tasks);
+    report("their proposals", proposals);
+    assert!(proposals > 5 * tasks);
+    for atoms in 3..=64 {
+        let table = read_table(barred_by_the_last(atoms).as_bytes());
+        assert_eq!(compared_table(&table, 1), 0);
+    }
 }
 
 /// Also one task at every width, and with other parts.
