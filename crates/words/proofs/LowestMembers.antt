@@ -4,13 +4,15 @@ use Prim.Native.Nat.{ℕ, zero, suc, _+_, _-_, _/_, _%_, _^_, _<_}
 use mathlib.Core.Path.{_≡_, refl, sym, _∙_, ap, ap₂}
 use mathlib.Core.Bool.{Bool, true, false, cond, not, _&&_, _||_}
 use native.Mathlib.Omega.{arith}
+use native.Mathlib.Decide.{decLt}
 use native.Mathlib.Nat.{div-one, pow-suc}
 use lib.Count.{trailingZeros, under}
 use lib.Bits.{bitAnd, bitOr}
 use lib.Dec.{eqb, ltb}
 use lib.Pow.{shr-shr}
-use borrow.Author.Tests.{eq-eqb, ne-eqb}
-use Rattle.words.specs.Sets.{Lowest, member, setBits}
+use borrow.Author.Tests.{eqb-true, eq-eqb, ne-eqb}
+use Rattle.words.specs.Sets.{Loses, Lowest, member, setBits}
+use Rattle.words.proofs.Lists.{bool-ext, both-ft}
 use Rattle.words.proofs.BitSets.{member-or, member-and}
 use Rattle.words.proofs.SetMembers.{member-minus}
 
@@ -56,6 +58,64 @@ pub lowest-is : (set : ℕ) → set < 2 ^ setBits → 0 < set → Lowest set (tr
 lowest-is set l z =
     let (b, m) = is-member setBits set l z in
     record { below = b; is-in = m; least = none-lower setBits set }
+
+-- ---- the set without it
+-- no two numbers are the lowest
+lowest-one : {set p q : ℕ} → Lowest set p → Lowest set q → p ≡ q
+lowest-one {set} {p} {q} l m = elim (decLt p q) [
+  | yes h ↦ absurd (both-ft (l .is-in) (m .least p h))
+  | no h ↦ elim (decLt q p) [ yes k ↦ absurd (both-ft (m .is-in) (l .least q k)) | no k ↦ omega arith ]
+]
+
+eqb-higher : (p k : ℕ) → eqb p k ≡ eqb (suc p) (suc k)
+eqb-higher p k = bool-ext (eqb p k) (eqb (suc p) (suc k))
+    (λ h. eq-eqb (suc p) (suc k) (ap suc (eqb-true p k h)))
+    (λ h. let e = eqb-true (suc p) (suc k) h in eq-eqb p k (omega arith))
+
+-- one less: a digit that is 0 borrows from those above it
+half-less : (x : ℕ) → 0 < x → x % 2 ≡ 0 → (x - 1) / 2 ≡ x / 2 - 1
+half-less x z e = omega arith
+
+twice : (b : Bool) → b && b ≡ b && true
+twice true = refl
+twice false = refl
+
+-- the code's `set & (set - 1)`
+loses-lowest : (n x : ℕ) → x < 2 ^ n → 0 < x → (k : ℕ) →
+    member (bitAnd x (x - 1)) k ≡ member x k && not (eqb (trailingZeros n x) k)
+unfolding trailingZeros
+loses-lowest zero x l z k = absurd (omega arith)
+loses-lowest (suc n) x l z k =
+    member-and x (x - 1) k ∙ go (x % 2) refl k (λ s t j.
+    sym (member-and (x / 2) (x / 2 - 1) j) ∙ loses-lowest n (x / 2) s t j)
+  where
+    -- both numbers by their lowest digit and their halves
+    go : (d : ℕ) → x % 2 ≡ d → (k : ℕ) →
+        (x / 2 < 2 ^ n → 0 < x / 2 → (j : ℕ) →
+        member (x / 2) j && member (x / 2 - 1) j ≡ member (x / 2) j && not (eqb (trailingZeros n (x / 2)) j)) →
+        member x k && member (x - 1) k ≡ member x k && not (eqb (under d (trailingZeros n (x / 2))) k)
+    go zero e zero rest = rw (member-first x ∙ ne-eqb (x % 2) 1 (λ o. omega arith)) refl
+    go zero e (suc j) rest =
+        let p = pow-suc 2 n in
+        ap₂ (λ (b c : Bool). b && c) (sym (member-half x j))
+        (sym (member-half (x - 1) j) ∙ ap (λ (y : ℕ). member y j) (half-less x z e))
+        ∙ (rest (omega arith) (omega arith) j
+        ∙ ap₂ (λ (b c : Bool). b && not c) (member-half x j) (eqb-higher (trailingZeros n (x / 2)) j))
+    go (suc d) e zero rest =
+        ap (λ (b : Bool). member x 0 && b) (member-first (x - 1) ∙ ne-eqb ((x - 1) % 2) 1 (λ o. omega arith))
+    go (suc d) e (suc j) rest =
+        let o : (x - 1) / 2 ≡ x / 2 = omega arith in
+        let same : member (x - 1) (suc j) ≡ member x (suc j) =
+        sym (member-half (x - 1) j) ∙ (ap (λ (y : ℕ). member y j) o ∙ member-half x j) in
+        ap (λ (b : Bool). member x (suc j) && b) same
+        ∙ (twice (member x (suc j))
+        ∙ ap (λ (b : Bool). member x (suc j) && not b) (sym (ne-eqb 0 (suc j) (λ q. omega arith))))
+
+pub lowest-lost : (set : ℕ) → set < 2 ^ setBits → 0 < set → (p : ℕ) → Lowest set p →
+    Loses set p (bitAnd set (set - 1))
+lowest-lost set l z p h k =
+    loses-lowest setBits set l z k ∙
+    ap (λ (q : ℕ). member set k && not (eqb q k)) (lowest-one (lowest-is set l z) h)
 
 -- ---- the numbers above k, closed up
 -- the code's `(set & low) | ((set >> 1) & !low)`, where low has the numbers below k

@@ -1,5 +1,5 @@
--- Loops in which a set grows by the numbers that a test takes: over the numbers of another set, the lowest first, or over
--- all below a bound. In each turn one number has its turn; over a set it is taken out of those left, so that fewer are.
+-- Loops in which a set grows by the numbers that a test takes: over the numbers of another set, the lowest first, or
+-- over all below a bound. Over a set the lowest number left is taken out in each turn, so that fewer are left.
 use Prim.Native.Nat.{ℕ, _+_, _-_, _<_}
 use mathlib.Core.Path.{_≡_, refl, sym, _∙_, ap}
 use mathlib.Core.Bool.{Bool, true, false, not, _&&_, _||_, and-true, or-true}

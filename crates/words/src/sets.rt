@@ -66,6 +66,14 @@ pub fn lowest(set: u64) -> usize
     u64::trailing_zeros(set) as usize
 }
 
+// The set without its lowest number, for which that need not be known.
+pub fn without_lowest(set: u64) -> u64
+    requires { ⌜ 0 < set ⌝ }
+    ensures { λ r. ⌜ ((p : ℕ) → Lowest set p → Loses set p r) ⌝ }
+{
+    set & (set - 1)
+}
+
 // The set without k, in which the numbers above it close up.
 pub fn closed_up(set: u64, k: usize) -> u64
     requires { ⌜ k < 64 ⌝ }
