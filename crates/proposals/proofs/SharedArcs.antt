@@ -2,7 +2,7 @@
 -- there is none between them, the parts can all be placed exactly where they can be once the two are merged. A merged
 -- part takes the lower rank of the two, and each of the two takes that of the merged part.
 use Prim.Native.Nat.{ℕ, _-_, _≤_, _<_}
-use mathlib.Core.Path.{_≡_, refl, sym, _∙_, ap, subst}
+use mathlib.Core.Path.{_≡_, refl, sym, _∙_, ap, ap₂, subst}
 use mathlib.Core.Bool.{Bool, true, false, cond, not, _&&_, _||_}
 use mathlib.Core.List.{List}
 use mathlib.Core.Logic.{_⊎_, inl, inr}
@@ -11,12 +11,16 @@ use native.Mathlib.Decide.{ℕ-discrete, decLe}
 use lib.Dec.{eqb}
 use borrow.Author.Tests.{eqb-true, eqb-false, eq-eqb, ne-eqb, not-true}
 use Rattle.words.specs.Lists.{any, upTo}
-use Rattle.words.specs.Sets.{member}
+use Rattle.words.specs.Sets.{Loses, member, setBits}
 use Rattle.words.proofs.Lists.{and-left, and-right, and-both, or-cases, or-left, or-right, both-ft, bool-ext}
+use Rattle.words.proofs.Lists.{false-if}
+use Rattle.words.proofs.Ranges.{or-false}
+use Rattle.words.proofs.Words.{and-false}
+use Rattle.words.proofs.SetLoops.{gone, left-in, others-stay}
 use Rattle.words.proofs.Lists.{any-in, in-any, in-upTo, upTo-in}
 use Rattle.proposals.specs.Proposal.{mergedNumber}
 use Rattle.proposals.specs.Circle.{Arcs, becoming, cameFrom, mergedArcs, noCircle}
-use Rattle.proposals.specs.Scratch.{ArcsOfBoth, NoOwn, arcsIn, arcsTo, sharedIn, sharedTo}
+use Rattle.proposals.specs.Scratch.{ArcsOfBoth, NoOwn, arcsIn, arcsTo, isFree, sharedIn, sharedTo}
 use Rattle.proposals.proofs.CameFrom.{came-becomes, becomes}
 use Rattle.proposals.proofs.MergedNumbers.{stays, joins, closes-up, goes, merged-below, merged-higher}
 use Rattle.proposals.proofs.MergedNumbers.{becoming-goes, goes-becoming, becoming-small}
@@ -28,6 +32,13 @@ pub record Shares (a b : ℕ) (arcs shared : Arcs) : Type 0 where
   pub to-both : (x y : ℕ) → (y ≡ a) ⊎ (y ≡ b) → shared x y ≡ (arcs x a || arcs x b) && (not (eqb a x) && not (eqb b x))
   pub to-other : (x y : ℕ) → (y ≡ a → ⊥) → (y ≡ b → ⊥) → shared x y ≡ arcs x y
 
+-- one of the two, or neither
+one-of : (a b y : ℕ) → ((y ≡ a) ⊎ (y ≡ b)) ⊎ ((y ≡ a → ⊥) × (y ≡ b → ⊥))
+one-of a b y = elim (ℕ-discrete y a) [
+  | yes e ↦ inl (inl e)
+  | no d ↦ elim (ℕ-discrete y b) [ yes e ↦ inl (inr e) | no e ↦ inr (d, e) ]
+]
+
 -- ---- the words that the test reads
 module _ (a b joined : ℕ) (scratch : List ℕ) where
   -- the two that merge have the joined set, and any other part its own word
@@ -37,6 +48,66 @@ module _ (a b joined : ℕ) (scratch : List ℕ) where
 
   pub shared-own : {q : ℕ} → (q ≡ a → ⊥) → (q ≡ b → ⊥) → sharedTo a b joined scratch q ≡ arcsTo scratch q
   shared-own {q} d e = rw (ne-eqb q a d, ne-eqb q b e) refl
+
+  -- ---- which of them are free
+  -- where no unplaced part is in the joined set the two are, else neither is
+  joined-free : (unplaced : ℕ) {met : Bool} → met ≡ any (λ q. member joined q && member unplaced q) (upTo setBits) →
+      {p : ℕ} → (p ≡ a) ⊎ (p ≡ b) → isFree (sharedIn a b joined scratch) unplaced p ≡ not met
+  joined-free unplaced e {p} k =
+      ap not (ap (λ (w : ℕ). any (λ q. member w q && member unplaced q) (upTo setBits)) (shared-joined k) ∙ sym e)
+
+  own-free : (unplaced : ℕ) {p : ℕ} → (p ≡ a → ⊥) → (p ≡ b → ⊥) →
+      isFree (sharedIn a b joined scratch) unplaced p ≡ isFree (arcsIn scratch) unplaced p
+  own-free unplaced c d =
+      ap (λ (w : ℕ). not (any (λ q. member w q && member unplaced q) (upTo setBits))) (shared-own c d)
+
+  -- the free ones of the others, each by its own word, are all where the two aren't free; else the two join them
+  module _ (unplaced less others free : ℕ) (no-a : Loses unplaced a less) (no-b : Loses less b others)
+      (told : (p : ℕ) → member free p ≡ member others p && isFree (arcsIn scratch) unplaced p) {met : Bool}
+      (e : met ≡ any (λ q. member joined q && member unplaced q) (upTo setBits)) where
+    neither-of : {p : ℕ} → (p ≡ a) ⊎ (p ≡ b) → member others p ≡ false
+    neither-of {p} (inl k) = false-if (member others p) (λ m.
+        both-ft (ap (member less) (sym k) ∙ left-in less b others no-b p m) (gone unplaced a less no-a))
+    neither-of {p} (inr k) = ap (member others) k ∙ gone less b others no-b
+
+    any-other : {p : ℕ} → (p ≡ a → ⊥) → (p ≡ b → ⊥) → member others p ≡ member unplaced p
+    any-other {p} c d =
+        others-stay less b others no-b p (λ o. d (sym o)) ∙ others-stay unplaced a less no-a p (λ o. c (sym o))
+
+    -- of those that are neither
+    told-other : {p : ℕ} → (p ≡ a → ⊥) → (p ≡ b → ⊥) →
+        member free p ≡ member unplaced p && isFree (sharedIn a b joined scratch) unplaced p
+    told-other {p} c d = told p ∙ ap₂ (λ (s t : Bool). s && t) (any-other c d) (sym (own-free unplaced c d))
+
+    pub free-without : met ≡ true → (p : ℕ) →
+        member free p ≡ member unplaced p && isFree (sharedIn a b joined scratch) unplaced p
+    free-without t p = elim (one-of a b p) [
+      | inl k ↦
+          told p ∙ (ap (λ (s : Bool). s && isFree (arcsIn scratch) unplaced p) (neither-of k) ∙
+          sym (ap (λ (s : Bool). member unplaced p && s) (joined-free unplaced e k ∙ ap not t) ∙
+          and-false (member unplaced p)))
+      | inr (c, d) ↦ told-other c d
+    ]
+
+    pub free-with : met ≡ false → (two all : ℕ) →
+        ((p : ℕ) → member two p ≡ member unplaced p && not (member others p)) →
+        ((p : ℕ) → member all p ≡ member free p || member two p) → (p : ℕ) →
+        member all p ≡ member unplaced p && isFree (sharedIn a b joined scratch) unplaced p
+    free-with t two all more join p = join p ∙ elim (one-of a b p) [
+      | inl k ↦
+          ap₂ (λ (s t : Bool). s || t)
+          (told p ∙ ap (λ (s : Bool). s && isFree (arcsIn scratch) unplaced p) (neither-of k))
+          (more p ∙ ap (λ (s : Bool). member unplaced p && not s) (neither-of k)) ∙
+          sym (ap (λ (s : Bool). member unplaced p && s) (joined-free unplaced e k ∙ ap not t))
+      | inr (c, d) ↦
+          ap₂ (λ (s t : Bool). s || t) (told-other c d)
+          (more p ∙ (ap (λ (s : Bool). member unplaced p && not s) (any-other c d) ∙ never (member unplaced p))) ∙
+          or-false (member unplaced p && isFree (sharedIn a b joined scratch) unplaced p)
+    ]
+      where
+        never : (u : Bool) → u && not u ≡ false
+        never true = refl
+        never false = refl
 
   -- so they have such arcs
   pub words-share : ArcsOfBoth a b (arcsIn scratch) joined → Shares a b (arcsIn scratch) (sharedIn a b joined scratch)
@@ -119,12 +190,6 @@ module _ (a b n : ℕ) (l : a < b) (m : b < n) (arcs shared : Arcs) (own : NoOwn
       }
 
   -- ---- a shared arc is one between merged parts
-  one-of : (y : ℕ) → ((y ≡ a) ⊎ (y ≡ b)) ⊎ ((y ≡ a → ⊥) × (y ≡ b → ⊥))
-  one-of y = elim (ℕ-discrete y a) [
-    | yes e ↦ inl (inl e)
-    | no d ↦ elim (ℕ-discrete y b) [ yes e ↦ inl (inr e) | no e ↦ inr (d, e) ]
-  ]
-
   -- x is neither of the two and has an arc to one of them
   shared-both : (x y : ℕ) → (y ≡ a) ⊎ (y ≡ b) → shared x y ≡ true →
       (z : ℕ) × ((z ≡ a) ⊎ (z ≡ b)) × (arcs x z ≡ true) × ((x ≡ a) ⊎ (x ≡ b) → ⊥)
@@ -143,7 +208,7 @@ module _ (a b n : ℕ) (l : a < b) (m : b < n) (arcs shared : Arcs) (own : NoOwn
       neither c d (inr f) = eqb-false b x d (sym f)
 
   shared-merged : (x y : ℕ) → x < n → shared x y ≡ true → merged (number x) (number y) ≡ true
-  shared-merged x y i e = elim (one-of y) [
+  shared-merged x y i e = elim (one-of a b y) [
     | inl k ↦
         let (z, o, f, apart) = shared-both x y k e in
         let same : number z ≡ number y = a-goes z o ∙ sym (a-goes y k) in
@@ -157,7 +222,7 @@ module _ (a b n : ℕ) (l : a < b) (m : b < n) (arcs shared : Arcs) (own : NoOwn
   -- ---- an arc between merged parts is a shared one, to each of the parts that became the second
   merged-shared : (x y : ℕ) → arcs x y ≡ true → (number x ≡ number y → ⊥) → (z : ℕ) → number z ≡ number y →
       shared x z ≡ true
-  merged-shared x y e d z s = elim (one-of y) [
+  merged-shared x y e d z s = elim (one-of a b y) [
     | inl k ↦
         h .to-both x z (goes-to-a z (s ∙ a-goes y k)) ∙
         and-both _ _ (either k) (and-both _ _ (other k a (inl refl)) (other k b (inr refl)))

@@ -3,19 +3,21 @@
 use crate::scratch::arcs_to;
 use words::sets::lowest;
 use words::sets::meet;
+use words::sets::minus;
 use words::sets::union;
 use words::sets::up_to;
 use words::sets::with;
 use words::sets::without;
+use words::sets::without_lowest;
 ghost use Prim.Native.Nat.{ℕ, _-_, _≤_, _<_};
 ghost use mathlib.Core.Path.{_≡_};
 ghost use mathlib.Core.Bool.{_&&_};
 ghost use lib.ListN.{length};
-ghost use Rattle.words.specs.Sets.{SetBelow, member};
+ghost use Rattle.words.specs.Sets.{member};
 ghost use Rattle.task.specs.Limits.{mostAtoms};
 ghost use Rattle.proposals.specs.Circle.{mergedArcs, noCircle};
 ghost use Rattle.proposals.specs.Outcome.{scratchWords};
-ghost use Rattle.proposals.specs.Scratch.{ArcsOfBoth, NoOwn, arcsIn, isFree, sharedIn, sharedTo};
+ghost use Rattle.proposals.specs.Scratch.{ArcsOfBoth, NoOwn, arcsIn, isFree, sharedIn};
 
 // The parts that a or b has an arc from, but for the two.
 pub fn arcs_to_both(scratch: &[u64], a: usize, b: usize) -> u64
@@ -27,35 +29,27 @@ pub fn arcs_to_both(scratch: &[u64], a: usize, b: usize) -> u64
     without(without(both, a), b)
 }
 
-// The parts that part q has an arc from, where a and b share theirs.
-fn shared_to(scratch: &[u64], a: usize, b: usize, joined: u64, q: usize) -> u64
-    requires { ⌜ scratchWords ≤ length (now scratch) ⌝ }
-    requires { ⌜ q < mostAtoms ⌝ }
-    ensures { λ r. ⌜ r ≡ sharedTo a b joined (now (scratch .entry)) q ⌝ }
-{
-    if q == a || q == b {
-        return joined;
-    }
-    arcs_to(scratch, q)
-}
-
-// "parts that no unplaced part has an arc to"
+// "parts that no unplaced part has an arc to"; a and b are free together, by the parts that either has an arc from.
 fn free_parts(scratch: &[u64], a: usize, b: usize, joined: u64, unplaced: u64) -> u64
     requires { ⌜ scratchWords ≤ length (now scratch) ⌝ }
-    requires { ⌜ SetBelow mostAtoms unplaced ⌝ }
+    requires { ⌜ (a < mostAtoms) × (b < mostAtoms) ⌝ }
     ensures { λ r. ⌜ ((p : ℕ) →
         member r p ≡ member unplaced p && isFree (sharedIn a b joined (now (scratch .entry))) unplaced p) ⌝ }
 {
+    let others = without(without(unplaced, a), b);
     let mut free = 0;
-    let mut rest = unplaced;
+    let mut rest = others;
     while rest != 0 {
         let p = lowest(rest);
-        rest = without(rest, p);
-        if !meet(shared_to(scratch, a, b, joined, p), unplaced) {
+        rest = without_lowest(rest);
+        if !meet(arcs_to(scratch, p), unplaced) {
             free = with(free, p);
         }
     }
-    free
+    if meet(joined, unplaced) {
+        return free;
+    }
+    union(free, minus(unplaced, others))
 }
 
 // Whether n parts have no circle of arcs once a and b are merged: "the next ready part is its lowest set bit in the set
@@ -72,7 +66,7 @@ pub fn no_circle(scratch: &[u64], n: usize, a: usize, b: usize) -> bool
     while free != 0 {
         let p = lowest(free);
         unplaced = without(unplaced, p);
-        free = without(free, p);
+        free = without_lowest(free);
         if free == 0 {
             free = free_parts(scratch, a, b, joined, unplaced);
         }

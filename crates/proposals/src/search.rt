@@ -5,7 +5,7 @@ use words::sets::lowest;
 use words::sets::size;
 use words::sets::union;
 use words::sets::with;
-use words::sets::without;
+use words::sets::without_lowest;
 ghost use Prim.Native.Nat.{ℕ, _≤_, _<_};
 ghost use mathlib.Core.Path.{_≡_};
 ghost use mathlib.Core.Bool.{true, false, _&&_};
@@ -76,7 +76,7 @@ fn first_with(scratch: &[u64], n: usize, width: usize, a: usize, others: u64) ->
         if can_merge(scratch, n, width, a, b) {
             return b;
         }
-        rest = without(rest, b);
+        rest = without_lowest(rest);
     }
     n
 }
@@ -92,7 +92,7 @@ pub fn first_pair(scratch: &[u64], n: usize, width: usize) -> Found
     let mut rest = narrow_parts(scratch, n, width);
     while rest != 0 {
         let a = lowest(rest);
-        rest = without(rest, a);
+        rest = without_lowest(rest);
         let b = first_with(scratch, n, width, a, rest);
         if b < n {
             return Found::Pair(a, b);

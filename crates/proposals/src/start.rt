@@ -16,7 +16,7 @@ use words::sets::lowest;
 use words::sets::minus;
 use words::sets::up_to;
 use words::sets::with;
-use words::sets::without;
+use words::sets::without_lowest;
 ghost use Prim.Native.Nat.{ℕ, _+_, _-_, _≤_, _<_};
 ghost use mathlib.Core.Path.{_≡_};
 ghost use mathlib.Core.Bool.{true, false, not, _&&_};
@@ -85,7 +85,7 @@ fn of_predicate(table: &[u16], from: usize, to: usize, set: u64, q: usize) -> u6
     let mut rest = set;
     while rest != 0 {
         let p = lowest(rest);
-        rest = without(rest, p);
+        rest = without_lowest(rest);
         if predicate(table, from + p) == named {
             alike = with(alike, p);
         }
@@ -115,7 +115,7 @@ fn holding_none(
     let mut rest = set;
     while rest != 0 {
         let p = lowest(rest);
-        rest = without(rest, p);
+        rest = without_lowest(rest);
         if !hold_pair(table, from + p, from + q, partners) {
             apart = with(apart, p);
         }
@@ -183,7 +183,7 @@ fn put_among(
     let mut rest = alike;
     while rest != 0 {
         let q = lowest(rest);
-        rest = without(rest, q);
+        rest = without_lowest(rest);
         scratch[q] = arcs_among(table, from, to, alike, q, before, paired, partners);
     }
 }

@@ -33,9 +33,7 @@ all-left : (c : tie.After-up-to Inv-loop μ-loop) →
 all-left c = left-all _ _ (c .up-to .result) (c .up-to .ensures)
 
 free-parts-requires : tie.Need-free-parts-requires Inv-loop μ-loop
-free-parts-requires c κs =
-    let s = c .before .before .before in
-    (s .pre .0, λ k m. omega (arith, all-left c .below k m))
+free-parts-requires c κs = (c .before .before .before .pre .0, (omega arith, omega arith))
 
 loop-holds : tie.Need-loop-holds Inv-loop μ-loop
 loop-holds c = (c .before .up-to .ok, placing-found _ _ (all-left (c .before)) _ (c .free-parts .ensures))
@@ -46,12 +44,9 @@ lowest-requires c κs = omega (arith, c .loop-test .taken)
 without-requires : tie.Need-without-requires Inv-loop μ-loop
 without-requires c κs = c .lowest .ensures .below
 
-without-requires-2 : tie.Need-without-requires-2 Inv-loop μ-loop
-without-requires-2 c κs = c .before .lowest .ensures .below
-
 -- a turn, once its part is placed
 abbrev Placed : Type 0
-Placed = tie.After-without2 Inv-loop μ-loop
+Placed = tie.After-without-lowest Inv-loop μ-loop
 
 abbrev turn : Placed → tie.At-loop Inv-loop μ-loop
 turn c = c .before .before .before .before
@@ -75,7 +70,8 @@ left c =
 
 free-parts-requires-2 : tie.Need-free-parts-requires-2 Inv-loop μ-loop
 free-parts-requires-2 c κs =
-    (start (turn (c .before)) .pre .0, λ k m. omega (arith, left (c .before) .below k m, few (turn (c .before))))
+    let s = start (turn (c .before)) in
+    (s .pre .0, (omega (arith, s .pre .1), omega (arith, s .pre .1)))
 
 less : (c : Placed) →
     length (members (c .before .without .result) setBits) < length (members (turn c .loop .unplaced) setBits)
@@ -92,7 +88,7 @@ loop-again-2 c =
     let p = c .before in (
       p .before .without .ok,
       placing-on _ _ (turn p .loop .inv .1) (p .before .before .lowest .ensures) _ (p .before .without .ensures)
-          (few (turn p)) _ (p .without2 .ensures) (c .if1 .left),
+          (few (turn p)) _ (p .without-lowest .ensures _ (p .before .before .lowest .ensures)) (c .if1 .left),
     )
 
 returns : tie.Need-returns Inv-loop μ-loop
@@ -107,5 +103,5 @@ pub no-circle-spec : {M : Type 1} → statement M
 no-circle-spec =
     tie.close
     (tie.spec Inv-loop μ-loop arcs-to-both-requires (λ c κs. omega arith) free-parts-requires loop-holds lowest-requires
-    without-requires without-requires-2 free-parts-requires-2 (λ c. less (c .before .before)) loop-again
+    without-requires (λ c κs. omega arith) free-parts-requires-2 (λ c. less (c .before .before)) loop-again
     (λ c. less (c .before)) loop-again-2 returns)

@@ -40,17 +40,16 @@ known c =
 can-merge-requires : tie.Need-can-merge-requires Inv-loop μ-loop
 can-merge-requires c κs = (start c .pre .0, (start c .pre .1 .0, known c .0, known c .1))
 
-without-requires : tie.Need-without-requires Inv-loop μ-loop
-without-requires c κs = c .before .before .lowest .ensures .below
-
 loop-less : tie.Need-loop-less Inv-loop μ-loop
-loop-less c = lowest-fewer (c .before .before .before .lowest .ensures) _ (c .without .ensures)
+loop-less c =
+    let l = c .before .before .before .lowest .ensures in
+    lowest-fewer l _ (c .without-lowest .ensures _ l)
 
 loop-again : tie.Need-loop-again Inv-loop μ-loop
 loop-again c =
     let tried = c .before .before in
-    trying-next _ _ _ (tried .before .before .before .loop .inv) (tried .before .lowest .ensures) _
-    (c .without .ensures)
+    let l = tried .before .lowest .ensures in
+    trying-next _ _ _ (tried .before .before .before .loop .inv) l _ (c .without-lowest .ensures _ l)
     (λ s ps known play. sym (c .before .if1 .left) ∙ tried .can-merge .ensures s ps known play)
 
 returns : tie.Need-returns Inv-loop μ-loop
@@ -75,5 +74,5 @@ returns-2 c =
 pub first-with-spec : {M : Type 1} → statement M
 first-with-spec =
     tie.close
-    (tie.spec Inv-loop μ-loop loop-holds lowest-requires can-merge-requires returns without-requires loop-less
-    loop-again returns-2)
+    (tie.spec Inv-loop μ-loop loop-holds lowest-requires can-merge-requires returns (λ c κs. omega arith)
+    loop-less loop-again returns-2)

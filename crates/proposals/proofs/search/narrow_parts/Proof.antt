@@ -51,7 +51,8 @@ loop-again c =
     let Next : ℕ → Type 0 = TakenBelow (isNarrow (a .width) (a .n) (a .scratch .now)) (turn .loop .p + 1) in (
       omega arith,
       ⊎-elim
-          (λ w. subst Next (sym (w .2)) (taken-joins (turn .loop .p) refl h (size ∙ le-leb _ _ (w .0 .taken)) (w .1 .ensures)))
+          (λ w. subst Next (sym (w .2)) (taken-joins (turn .loop .p) refl h
+          (size ∙ le-leb _ _ (w .0 .taken)) (w .1 .ensures)))
           (λ w. subst Next (sym (w .1)) (taken-passes (turn .loop .p) refl h
           (size ∙ lt-leb (c .before .size .result) (a .width) (omega arith))))
           (c .if1 .came),

@@ -7,7 +7,7 @@ use mathlib.Core.Bool.{Bool, true, not}
 use mathlib.Core.List.{List}
 use native.Mathlib.Omega.{arith}
 use lib.ListN.{length}
-use Rattle.words.specs.Sets.{member, members, setBits}
+use Rattle.words.specs.Sets.{Loses, member, members, setBits}
 use Rattle.words.proofs.SetLoops.{Chosen, chosen-none, chosen-takes, chosen-passes, chosen-all, lowest-fewer, left-in}
 use Rattle.task.specs.Task.{Pair}
 use Rattle.task.specs.Table.{atomIn}
@@ -36,15 +36,21 @@ start c = c .before .before .before .before
 low-in : (c : tie.After-lowest Inv-loop μ-loop) → member (start c .args .set) (c .lowest .result) ≡ true
 low-in c = c .before .before .loop .inv .0 (c .lowest .result) (c .lowest .ensures .is-in)
 
-left : (c : tie.After-without Inv-loop μ-loop) (k : ℕ) → member (c .without .result) k ≡ true →
+-- the lowest of the rest is out
+out : (c : tie.After-without-lowest Inv-loop μ-loop) →
+    Loses (c .before .before .before .loop .rest) (c .before .lowest .result) (c .without-lowest .result)
+out c = c .without-lowest .ensures _ (c .before .lowest .ensures)
+
+left : (c : tie.After-without-lowest Inv-loop μ-loop) (k : ℕ) → member (c .without-lowest .result) k ≡ true →
     member (start (c .before) .args .set) k ≡ true
 left c k m =
     let h = c .before .before .before .loop in
-    h .inv .0 k (left-in (h .rest) (c .before .lowest .result) (c .without .result) (c .without .ensures) k m)
+    h .inv .0 k (left-in (h .rest) (c .before .lowest .result) (c .without-lowest .result) (out c) k m)
 
-fewer : (c : tie.After-without Inv-loop μ-loop) →
-    length (members (c .without .result) setBits) < length (members (c .before .before .before .loop .rest) setBits)
-fewer c = lowest-fewer (c .before .lowest .ensures) (c .without .result) (c .without .ensures)
+fewer : (c : tie.After-without-lowest Inv-loop μ-loop) →
+    length (members (c .without-lowest .result) setBits) <
+    length (members (c .before .before .before .loop .rest) setBits)
+fewer c = lowest-fewer (c .before .lowest .ensures) (c .without-lowest .result) (out c)
 
 -- what is told of the lowest
 abbrev test : tie.Start Inv-loop μ-loop → List Pair → ℕ → Bool
@@ -82,7 +88,7 @@ loop-again c =
       left turn,
       λ pairs h.
           chosen-takes (turn .before .before .before .loop .inv .1 pairs h) (turn .before .lowest .ensures)
-          (turn .without .result) (turn .without .ensures)
+          (turn .without-lowest .result) (out turn)
           (sym (told (c .before .before) pairs h) ∙ c .before .if1 .taken) (c .with .ensures),
     )
 
@@ -92,7 +98,7 @@ loop-again-2 c =
       left turn,
       λ pairs h.
           chosen-passes (turn .before .before .before .loop .inv .1 pairs h) (turn .before .lowest .ensures)
-          (turn .without .result) (turn .without .ensures)
+          (turn .without-lowest .result) (out turn)
           (sym (told (c .before) pairs h) ∙ c .if1 .left),
     )
 
@@ -102,6 +108,6 @@ returns c pairs h p = chosen-all (c .before .loop .inv .1 pairs h) (c .loop-test
 pub holding-none-spec : {M : Type 1} → statement M
 holding-none-spec =
     tie.close
-    (tie.spec Inv-loop μ-loop loop-holds (λ c κs. omega arith) (λ c κs. c .lowest .ensures .below) add-hold-pair
+    (tie.spec Inv-loop μ-loop loop-holds (λ c κs. omega arith) (λ c κs. omega arith) add-hold-pair
     (λ c. omega arith) hold-pair-requires (λ c κs. c .before .before .before .lowest .ensures .below)
     (λ c. fewer (c .before .before .before)) loop-again (λ c. fewer (c .before .before)) loop-again-2 returns)

@@ -9,7 +9,7 @@ use native.Mathlib.Omega.{arith}
 use lib.ListN.{length}
 use lib.Dec.{eqb}
 use borrow.Author.Tests.{eq-eqb, ne-eqb}
-use Rattle.words.specs.Sets.{member, members, setBits}
+use Rattle.words.specs.Sets.{Loses, member, members, setBits}
 use Rattle.words.proofs.SetLoops.{Chosen, chosen-none, chosen-takes, chosen-passes, chosen-all, lowest-fewer}
 use Rattle.task.specs.Table.{atomIn}
 use Rattle.arcs.proofs.Stretches.{atom-row}
@@ -37,9 +37,15 @@ below c =
     let l = c .before .before in
     start l .pre .1 .1 (c .lowest .result) (l .loop .inv .left (c .lowest .result) (c .lowest .ensures .is-in))
 
-fewer : (c : tie.After-without Inv-loop μ-loop) →
-    length (members (c .without .result) setBits) < length (members (c .before .before .before .loop .rest) setBits)
-fewer c = lowest-fewer (c .before .lowest .ensures) (c .without .result) (c .without .ensures)
+-- the lowest of the rest is out
+out : (c : tie.After-without-lowest Inv-loop μ-loop) →
+    Loses (c .before .before .before .loop .rest) (c .before .lowest .result) (c .without-lowest .result)
+out c = c .without-lowest .ensures _ (c .before .lowest .ensures)
+
+fewer : (c : tie.After-without-lowest Inv-loop μ-loop) →
+    length (members (c .without-lowest .result) setBits) <
+    length (members (c .before .before .before .loop .rest) setBits)
+fewer c = lowest-fewer (c .before .lowest .ensures) (c .without-lowest .result) (out c)
 
 predicate-requires : tie.Need-predicate-requires Inv-loop μ-loop
 predicate-requires c κs =
@@ -62,15 +68,15 @@ predicate-requires-2 c κs =
 loop-again : tie.Need-loop-again Inv-loop μ-loop
 loop-again c =
     let turn = c .before .before .before in
-    chosen-takes (turn .before .before .before .loop .inv) (turn .before .lowest .ensures) (turn .without .result)
-    (turn .without .ensures) (eq-eqb _ _ (sym (c .before .before .predicate2 .ensures) ∙ c .before .if1 .taken))
+    chosen-takes (turn .before .before .before .loop .inv) (turn .before .lowest .ensures) _ (out turn)
+    (eq-eqb _ _ (sym (c .before .before .predicate2 .ensures) ∙ c .before .if1 .taken))
     (c .with .ensures)
 
 loop-again-2 : tie.Need-loop-again-2 Inv-loop μ-loop
 loop-again-2 c =
     let turn = c .before .before in
-    chosen-passes (turn .before .before .before .loop .inv) (turn .before .lowest .ensures) (turn .without .result)
-    (turn .without .ensures) (ne-eqb _ _ (λ e. c .if1 .left (c .before .predicate2 .ensures ∙ e)))
+    chosen-passes (turn .before .before .before .loop .inv) (turn .before .lowest .ensures) _ (out turn)
+    (ne-eqb _ _ (λ e. c .if1 .left (c .before .predicate2 .ensures ∙ e)))
 
 returns : tie.Need-returns Inv-loop μ-loop
 returns c p =
@@ -83,6 +89,6 @@ pub of-predicate-spec : {M : Type 1} → statement M
 of-predicate-spec =
     tie.close
     (tie.spec Inv-loop μ-loop (λ c. omega arith) predicate-requires loop-holds (λ c κs. omega arith)
-    (λ c κs. c .lowest .ensures .below) add-predicate-2 predicate-requires-2
+    (λ c κs. omega arith) add-predicate-2 predicate-requires-2
     (λ c κs. c .before .before .before .lowest .ensures .below) (λ c. fewer (c .before .before .before)) loop-again
     (λ c. fewer (c .before .before)) loop-again-2 returns)

@@ -8,7 +8,7 @@ use mathlib.Core.Bool.{Bool, false, _&&_}
 use mathlib.Core.List.{List}
 use native.Mathlib.Omega.{arith}
 use lib.ListN.{length}
-use Rattle.words.specs.Sets.{member, members, setBits}
+use Rattle.words.specs.Sets.{Loses, member, members, setBits}
 use Rattle.words.proofs.BitSets.{member-zero}
 use Rattle.words.proofs.SetLoops.{lowest-fewer}
 use Rattle.task.specs.Task.{Pair}
@@ -56,17 +56,22 @@ slice-write-scratch c =
     let l = low .before .before in
     arcs-inside (keeps-room (l .loop .inv .keeps) (start l .pre .1 .1 .1 .1 .1 .1)) (low .lowest .ensures .below)
 
+-- the lowest of the rest is out
+out : (c : tie.After-without-lowest Inv-loop μ-loop) →
+    Loses (c .before .before .before .loop .rest) (c .before .lowest .result) (c .without-lowest .result)
+out c = c .without-lowest .ensures _ (c .before .lowest .ensures)
+
 loop-less : tie.Need-loop-less Inv-loop μ-loop
 loop-less c =
     let less = c .before in
-    lowest-fewer (less .before .lowest .ensures) (less .without .result) (less .without .ensures)
+    lowest-fewer (less .before .lowest .ensures) (less .without-lowest .result) (out less)
 
 loop-again : tie.Need-loop-again Inv-loop μ-loop
 loop-again c =
     let less = c .before in
     let l = less .before .before .before in
-    among-more (start l .pre .1 .1 .1 .1 .1 .1) (l .loop .inv) (less .before .lowest .ensures) (less .without .result)
-    (less .without .ensures) (c .arcs-among .result) (c .arcs-among .ensures)
+    among-more (start l .pre .1 .1 .1 .1 .1 .1) (l .loop .inv) (less .before .lowest .ensures) _ (out less)
+    (c .arcs-among .result) (c .arcs-among .ensures)
 
 returns : tie.Need-returns Inv-loop μ-loop
 returns c =
@@ -78,5 +83,5 @@ returns c =
 pub put-among-spec : {M : Type 1} → statement M
 put-among-spec =
     tie.close
-    (tie.spec Inv-loop μ-loop loop-holds (λ c κs. omega arith) (λ c κs. c .lowest .ensures .below) arcs-among-requires
+    (tie.spec Inv-loop μ-loop loop-holds (λ c κs. omega arith) (λ c κs. omega arith) arcs-among-requires
     (λ c. omega arith) slice-write-scratch loop-less loop-again (λ c. c .before .loop .inv .keeps .long) returns)
