@@ -52,7 +52,7 @@ loop-again c =
       omega arith,
       ⊎-elim
           (λ w. subst Next (sym (w .2)) (taken-joins (turn .loop .p) refl h
-          (size ∙ le-leb _ _ (w .0 .taken)) (w .1 .ensures)))
+          (size ∙ le-leb (c .before .size .result) (a .width) (omega (arith, w .0 .taken))) (w .1 .ensures)))
           (λ w. subst Next (sym (w .1)) (taken-passes (turn .loop .p) refl h
           (size ∙ lt-leb (c .before .size .result) (a .width) (omega arith))))
           (c .if1 .came),

@@ -55,7 +55,10 @@ role-of-requires : tie.Need-role-of-requires Inv-loop μ-loop
 role-of-requires c κs = stretch-atom (start (c .before) .pre .0) (c .before .loop .i) (c .loop-test .taken)
 
 role-before-requires : tie.Need-role-before-requires Inv-loop μ-loop
-role-before-requires c κs = (c .role-of .ensures .1, start (c .before .before) .pre .1 .1)
+role-before-requires c κs =
+    let known = c .role-of .ensures .1 in
+    let given = start (c .before .before) .pre .1 .1 in
+    (omega arith, omega arith)
 
 loop-again : tie.Need-loop-again Inv-loop μ-loop
 loop-again c =
