@@ -1,4 +1,6 @@
 // A task as planners that read PDDL take it: a domain and a problem.
+#![tactic(auto)]
+
 mod actions;
 mod atoms;
 mod names;

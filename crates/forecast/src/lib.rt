@@ -1,4 +1,6 @@
 // What a split will need, found before anything of it is written (document 02, note 6).
+#![tactic(auto)]
+
 mod bytes;
 mod instances;
 

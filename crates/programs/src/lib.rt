@@ -1,5 +1,7 @@
 // What the programs print, as functions of their input bytes: `split`, `unfold`, `pddl` and `propose` read, call these,
 // and write.
+#![tactic(auto)]
+
 mod inputs;
 mod plans;
 mod printing;

@@ -1,5 +1,7 @@
 // A partition proposed for each schema of a task: parts are merged while they stay narrow together and some order of
 // them still complies (document 02, notes 5 and 7).
+#![tactic(auto)]
+
 mod circle;
 mod closing;
 mod merging;

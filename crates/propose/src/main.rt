@@ -1,5 +1,6 @@
 // The program `propose`: the width as its argument, a task on standard input; it prints the task with the partitions
 // proposed, or `refused=` number, colon, place, and "takes the first 65,536 bytes of an input".
+#![tactic(auto)]
 ghost use Rattle.io.specs.Counts.{IsPrefixLen};
 
 use libc::{STDIN_FILENO, STDOUT_FILENO};

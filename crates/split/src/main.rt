@@ -1,5 +1,7 @@
 // The program `split`: it "prints the split of the task on standard input, or `refused=` number, colon, place", and
 // "takes the first 65,536 bytes of an input".
+#![tactic(auto)]
+
 use libc::{STDIN_FILENO, STDOUT_FILENO};
 use programs::{TEXT_BYTES, split_text};
 

@@ -1,5 +1,7 @@
 // The entry points for a C host, on slices and numbers, a module each; include/splitter.h declares them. Each answers 0
 // for a result, else the refusal's number, and writes the place and the values where it is lent numbers for them.
+#![tactic(auto)]
+
 pub mod fold;
 pub mod propose;
 pub mod read;

@@ -1,5 +1,6 @@
 // The program `unfold`: it "reads the files `task` and `plan` .. and prints the unfolding", and "takes the first 65,536
 // bytes of an input".
+#![tactic(auto)]
 ghost use Rattle.io.specs.Counts.{IsPrefixLen};
 
 use libc::STDOUT_FILENO;

@@ -6,7 +6,7 @@ use borrow.Author.Rules.{rules}
 use Rattle.words.proofs.runs.word.Statement.{statement}
 use Rattle.words.proofs.runs.word.Tie as tie
 
-cast-result : tie.Need-overflow-cast-result
+cast-result : tie.Need-overflow_cast-result
 cast-result c = omega (arith, c.shared-slice-known.given c.before.args.i)
 
 returns : tie.Need-returns

@@ -10,7 +10,7 @@ use Rattle.words.proofs.BitSets.{bit_is, member-ones}
 use Rattle.words.proofs.sets.below.Statement.{statement}
 use Rattle.words.proofs.sets.below.Tie as tie
 
-sub-result : tie.Need-overflow-sub-result
+sub-result : tie.Need-overflow_sub-result
 sub-result c = subst (λ (x : ℕ). 1 ≤ x) (sym (bit_is c.args.n c.requires)) (pow_pos c.args.n)
 
 returns : tie.Need-returns

@@ -4,7 +4,7 @@ use Rattle.words.proofs.SetMembers.{size-counted, size_small}
 use Rattle.words.proofs.sets.size.Statement.{statement}
 use Rattle.words.proofs.sets.size.Tie as tie
 
-cast-result : tie.Need-overflow-cast-result
+cast-result : tie.Need-overflow_cast-result
 cast-result c = omega (arith, size_small c.args.set)
 
 returns : tie.Need-returns
