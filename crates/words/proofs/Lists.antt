@@ -101,7 +101,7 @@ module _ {A : Type 0} where
   in-append (y ∷ xs) (here e) = inl (here e)
   in-append (y ∷ xs) (there h) = elim (in-append xs h) [ inl k ↦ inl (there k) | inr k ↦ inr k ]
 
-  pub all_in : (p : A → Bool) {xs : List A} → all p xs ≡ true → {x : A} → In x xs → p x ≡ true
+  pub all_in : (p : A → Bool) {x : A} {xs : List A} → all p xs ≡ true → In x xs → p x ≡ true
   unfolding all
   all_in p h (here {y = y} {ys = ys} e) = ap p e ∙ and_left (p y) (all p ys) h
   all_in p h (there {y = y} {ys = ys} k) = all_in p (and_right (p y) (all p ys) h) k
@@ -128,12 +128,12 @@ module _ {A : Type 0} where
   any-in p (x ∷ xs) h = elim (or_cases (p x) (any p xs) h)
       [ inl e ↦ (x, here refl, e) | inr k ↦ let (y, i, e) = any-in p xs k in (y, there i, e) ]
 
-  pub in-any : (p : A → Bool) {xs : List A} {x : A} → In x xs → p x ≡ true → any p xs ≡ true
+  pub in-any : (p : A → Bool) {x : A} {xs : List A} → In x xs → p x ≡ true → any p xs ≡ true
   unfolding any
   in-any p (here {y = y} {ys = ys} e) h = or_left (p y) (any p ys) (ap p (sym e) ∙ h)
   in-any p (there {y = y} {ys = ys} k) h = or_right (p y) (any p ys) (in-any p k h)
 
-  pub in-filter : (p : A → Bool) {xs : List A} {x : A} → In x xs → p x ≡ true → In x (filter p xs)
+  pub in-filter : (p : A → Bool) {x : A} {xs : List A} → In x xs → p x ≡ true → In x (filter p xs)
   unfolding filter keep_if
   in-filter p (here e) h = rw (ap p (sym e) ∙ h) (here e)
   in-filter p {x = x} (there {y = y} {ys = ys} k) h = go (p y) (in-filter p k h)
@@ -144,6 +144,7 @@ module _ {A : Type 0} where
 
   pub filter-in : (p : A → Bool) (xs : List A) (x : A) → In x (filter p xs) → In x xs × (p x ≡ true)
   unfolding filter keep_if
+  filter-in p [] x h = elim h [ ]
   filter-in p (y ∷ ys) x h = go (p y) refl (filter-in p ys) h
     where
       go : (b : Bool) → p y ≡ b → ((z : A) → In z (filter p ys) → In z ys × (p z ≡ true)) →
@@ -185,6 +186,7 @@ module _ {A B : Type 0} where
   in_map f (there k) = there (in_map f k)
 
   pub map-in : (f : A → B) (xs : List A) (y : B) → In y (map f xs) → (x : A) × In x xs × (y ≡ f x)
+  map-in f [] y x' = elim x' [ ]
   map-in f (x ∷ xs) y (here e) = (x, here refl, e)
   map-in f (x ∷ xs) y (there k) = let (z, i, e) = map-in f xs y k in (z, there i, e)
 
@@ -236,6 +238,7 @@ in-up_from s (suc n) i h k = elim
 
 pub up_from-in : (s n i : ℕ) → In i (up_from s n) → (s ≤ i) × (i < s + n)
 unfolding up_from
+up_from-in s zero i x' = elim x' [ ]
 up_from-in s (suc n) i (here e) = (omega arith, omega arith)
 up_from-in s (suc n) i (there k) = let (a, b) = up_from-in (suc s) n i k in (omega arith, omega arith)
 
@@ -310,6 +313,7 @@ less-less_list (same {x = x} {y = y} {xs = xs} {ys = ys} e h) =
     or_right (ltb x y) _ (and_both _ _ (eq-eqb x y e) (less-less_list h))
 
 pub less-irrefl : (xs : List ℕ) → Less xs xs → ⊥
+less-irrefl [] x' = elim x' [ ]
 less-irrefl (x ∷ xs) (smaller h) = omega arith
 less-irrefl (x ∷ xs) (same e h) = less-irrefl xs h
 

@@ -116,6 +116,7 @@ module _ (f : ℕ → ℕ) where
   -- of numbers that stand once, a test for equality picks one
   pub pick-one : (q : ℕ) {xs : List ℕ} → Once xs → In q xs → total (λ i. cond (eqb q i) (f i) 0) xs ≡ f q
   unfolding sum
+  pick-one q once-nil x3 = elim x3 [ ]
   pick-one q (once-cons {x = x} {xs = xs} n h) (here e) =
       let z = pick-none q xs (λ i. n (in-eq (sym e) i)) in
       let d = ap f e in

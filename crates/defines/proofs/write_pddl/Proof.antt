@@ -43,14 +43,14 @@ unfolding write_answer_told
 returns-2 c =
     let s = c.before.before.before.before.before in
     both (pddl-no-table (table s) (text s) (long-enough (table s) c.before.before.if1.false)
-    (sym c.before.is-table.ensures ∙ not-true _ c.if2.true))
+    (sym c.before.is-table.ensures ∙ c.if2.true))
 
 -- behind refusal 2, and behind 18
 abbrev start : tie.Else2 → tie.Start
 start c = c.before.before.before.before.before
 
 tabled : (c : tie.Else2) → is_table (table (start c)) ≡ true
-tabled c = sym c.before.is-table.ensures ∙ not-false _ c.if2.false
+tabled c = sym c.before.is-table.ensures ∙ c.if2.false
 
 has-room-requires : tie.Need-has-room-requires
 has-room-requires c κs = tabled c
@@ -60,13 +60,13 @@ unfolding write_answer_told
 returns-3 c =
     let e = c.before.before in
     both (pddl-too-long (table (start e)) (text (start e)) (tabled e)
-    (sym c.before.has_room.ensures ∙ not-true _ c.if3.true))
+    (sym c.before.has_room.ensures ∙ c.if3.true))
 
 abbrev past : tie.Else3 → tie.Else2
 past c = c.before.before
 
 room : (c : tie.Else3) → leb (length (written (start (past c)))) (length (text (start (past c)))) ≡ true
-room c = sym c.before.has_room.ensures ∙ not-false _ c.if3.false
+room c = sym c.before.has_room.ensures ∙ c.if3.false
 
 put-pddl-requires : tie.Need-put-pddl-requires
 put-pddl-requires c κs = (tabled (past c.before), leb-true _ _ (room c.before))

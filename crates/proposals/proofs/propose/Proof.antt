@@ -32,7 +32,7 @@ long : (c : tie.Else2) →
 long c = tables-long (start c).args.table.now (start c).args.proposed.now c.before.if1.false (room c)
 
 is-table : (c : tie.Else3) → is_table (start (tabled c)).args.table.now ≡ true
-is-table c = sym c.before.is-table.ensures ∙ not-false _ c.if3.false
+is-table c = sym c.before.is-table.ensures ∙ c.if3.false
 
 -- behind 22
 scratch : (c : tie.Else5) → scratch_words ≤ length (start (tabled c.before.before)).args.scratch.now
@@ -58,7 +58,7 @@ returns-2 c =
     let a = (start e).args in
     known-outcome
     (propose-no-table a.table.now a.width a.proposed.now a.scratch.now (long e)
-    (sym c.before.is-table.ensures ∙ not-true _ c.if3.true))
+    (sym c.before.is-table.ensures ∙ c.if3.true))
     refl refl
 
 returns-3 : tie.Need-returns-3

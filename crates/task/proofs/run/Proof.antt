@@ -21,7 +21,7 @@ abbrev start : tie.After-bad-step → tie.Start
 start c = c.before.before.before.before.before.before.before
 
 table : (c : tie.Else2) → is_table c.before.before.before.before.before.before.args.table.now ≡ true
-table c = sym c.before.is-table.ensures ∙ not-false c.before.is-table.result c.if2.false
+table c = sym c.before.is-table.ensures ∙ c.if2.false
 
 good : (c : tie.After-enum-told) →
     bad_step (task_of (start c.before.before).args.table.now) (start c.before.before).args.steps.now ≡
@@ -44,7 +44,7 @@ returns-2 : tie.Need-returns-2
 unfolding run_answer_told
 returns-2 c =
     let a = c.before.before.before.before.before.before.args in
-    let t = sym c.before.is-table.ensures ∙ not-true c.before.is-table.result c.if2.true in
+    let t = sym c.before.is-table.ensures ∙ c.if2.true in
     both (run-no-table a.table.now a.steps.now a.state.now a.records (long c.before.before) t)
 
 bad-step-requires : tie.Need-bad-step-requires
@@ -67,7 +67,7 @@ unfolding run_answer_told
 returns-4 c =
     let b = c.before.before.before.before.before in
     let a = (start b).args in
-    let s = sym c.before.is_state.ensures ∙ not-true c.before.is_state.result c.if3.true in
+    let s = sym c.before.is_state.ensures ∙ c.if3.true in
     let l = long b.before.before.before in
     let g = good c.before.before.before in
     both (run-no-state a.table.now a.steps.now a.state.now a.records l (table b.before) g s)
@@ -75,7 +75,7 @@ returns-4 c =
 state : (c : tie.Else3) →
     let a = (start c.before.before.before.before.before).args in
     is_state (task_of a.table.now) a.state.now a.records ≡ true
-state c = sym c.before.is_state.ensures ∙ not-false c.before.is_state.result c.if3.false
+state c = sym c.before.is_state.ensures ∙ c.if3.false
 
 run-steps-requires : tie.Need-run-steps-requires
 run-steps-requires c κs =

@@ -24,13 +24,13 @@ unfolding write_answer_told
 returns-2 c =
     let a = c.before.before.before.before.before.args in
     let long = long-enough a.table.now c.before.before.if1.false in
-    let t = sym c.before.is-table.ensures ∙ not-true c.before.is-table.result c.if2.true in
+    let t = sym c.before.is-table.ensures ∙ c.if2.true in
     both (write-no-table a.table.now a.text.now long t)
 
 write-task-requires : tie.Need-write-task-requires
 write-task-requires c κs =
     let t = c.before.before in
-    sym t.is-table.ensures ∙ not-false t.is-table.result c.before.if2.false
+    sym t.is-table.ensures ∙ c.before.if2.false
 
 pub write_spec : {M : Type 1} → statement M
 write_spec =

@@ -47,7 +47,7 @@ returns-2 : tie.Need-returns-2
 returns-2 c = λ pairs h.
     let s = c.before.before.before.before.before.before in
     sym (no-arc pairs (first s) (second s)
-    (sym (s.requires.1.1 (second s).role) ∙ (sym c.before.has-role.ensures ∙ not-true _ c.if2.true)))
+    (sym (s.requires.1.1 (second s).role) ∙ (sym c.before.has-role.ensures ∙ c.if2.true)))
 
 -- ---- one predicate, and roles in order
 abbrev start : tie.Else2 → tie.Start
@@ -61,7 +61,7 @@ same c =
 in-order : (c : tie.Else2) → role_before (first (start c)).role (second (start c)).role ≡ true
 in-order c =
     sym ((start c).requires.1.1 (second (start c)).role)
-    ∙ (sym c.before.has-role.ensures ∙ not-false _ c.if2.false)
+    ∙ (sym c.before.has-role.ensures ∙ c.if2.false)
 
 hold-pair-requires : tie.Need-hold-pair-requires
 hold-pair-requires c κs =

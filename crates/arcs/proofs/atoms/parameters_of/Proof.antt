@@ -43,7 +43,7 @@ argument-requires c κs =
 loop-again : tie.Need-loop-preserved invariant-loop decreases-loop
 loop-again c =
     let turn = c.before.before.before in (
-      c.with.type-inv,
+      c.with.type_inv,
       set_more turn.before.loop.invariant.1 turn.loop-test.true
           (with_number _ _ _ c.with.ensures c.before.before.argument.ensures.0),
     )

@@ -24,7 +24,7 @@ returns c =
     let s = c.before.before.before in (
       s.requires.1.1.1,
       λ pairs h.
-          no-arc-joins pairs (first s) (second s) (c.before.gives-arc.ensures pairs h) (not-true _ c.if1.true)
+          no-arc-joins pairs (first s) (second s) (c.before.gives-arc.ensures pairs h) c.if1.true
           s.args.before.now,
     )
 
@@ -40,7 +40,7 @@ returns-2 c =
       length-set sets to.result.0 c.with.result ∙ s.requires.1.1.1,
       λ pairs h.
           arc-joins pairs (first s) (second s) (given.before.gives-arc.ensures pairs h)
-          (not-false _ given.if1.false) sets c.with.result from.result.0 to.result.0 from.ensures.0
+          given.if1.false sets c.with.result from.result.0 to.result.0 from.ensures.0
           to.ensures.0 (omega arith) tested.if2.true c.with.ensures,
     )
 

@@ -33,12 +33,12 @@ returns c = λ t S f g.
     let start = d.before.before.before in
     let l = d.loop-test.true in
     sym (bad-step-at (split_task t) start.args.steps.now d.before.loop.i (omega arith)
-    (d.before.loop.invariant t S f g) (sym (c.before.is-split-step.ensures t S f) ∙ not-true _ c.if1.true))
+    (d.before.loop.invariant t S f g) (sym (c.before.is-split-step.ensures t S f) ∙ c.if1.true))
 
 loop-again : tie.Need-loop-preserved invariant-loop decreases-loop
 loop-again c = λ t S f g.
     below_more _ _ (c.before.before.before.loop.invariant t S f g)
-    (sym (c.before.is-split-step.ensures t S f) ∙ not-false _ c.if1.false)
+    (sym (c.before.is-split-step.ensures t S f) ∙ c.if1.false)
 
 returns-2 : tie.Need-returns-2 invariant-loop decreases-loop
 unfolding bad_step_found

@@ -52,7 +52,7 @@ are-within-requires c κs =
     (s.requires.0, omega arith)
 
 returns : tie.Need-returns
-returns c = told c.before false (not-true _ c.if1.true)
+returns c = told c.before false c.if1.true
 
 -- past the first test, with the count of pairs
 abbrev passed : tie.After-wide2 → tie.Else1

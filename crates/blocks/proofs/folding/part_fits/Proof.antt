@@ -150,7 +150,7 @@ returns-3 c = λ t os ps K A l m.
     let d = c.before in
     let s = start (tested d) in
     sym (part-not-step K.blocks K.origin (words s) s.args.i s.args.s l s.args.j m
-    (sym (told d t os K A (l, m)) ∙ not-true _ c.if3.true))
+    (sym (told d t os K A (l, m)) ∙ c.if3.true))
 
 -- ---- the objects decide
 abbrev begun : tie.Else3 → tie.Start
@@ -180,7 +180,7 @@ returns-4 c = λ t os ps K A l m.
     ∙ (part-agrees K a.s a.j _ l m (number_is (numbered (tested d)) t os K l) (words s) (step_size * a.i)
     (step_size * place s)
     ∙ sym (part_same K.blocks K.origin (words s) a.i a.s l a.j m (here (tested d) t os K l)
-    (sym (told d t os K A (l, m)) ∙ not-false _ o.before.if3.false)))
+    (sym (told d t os K A (l, m)) ∙ o.before.if3.false)))
 
 pub part-fits-spec : {M : Type 1} → statement M
 part-fits-spec =

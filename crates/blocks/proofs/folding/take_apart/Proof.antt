@@ -133,7 +133,7 @@ stands : (c : On) (t : Task) (os ps : List ℕ) → let d = c.before.before in l
     Begins s t →
     is_part t s.args.steps.now os (at (turn d)) (schema (opened d).before)
     d.before.loop.j ≡ true
-stands c t os ps K A B = sym (told c.before t os ps K A B) ∙ not-false _ c.if3.false
+stands c t os ps K A B = sym (told c.before t os ps K A B) ∙ c.if3.false
 
 not-past : (c : On) → let d = c.before.before in
     d.before.loop.i < length (from (turn d)).args.steps.now / step_size
@@ -192,7 +192,7 @@ loop-again c =
       λ t os ps K A m.
           let q = (opened d).count_of.ensures ∙ K.blocks.count (schema (opened d).before) m in
           below_more _ _ (l.invariant.3 t os ps K A m)
-          (sym (c.before.part-fits.ensures t os ps K A m (omega arith)) ∙ not-false _ c.if3.false),
+          (sym (c.before.part-fits.ensures t os ps K A m (omega arith)) ∙ c.if3.false),
     )
 
 -- ---- a block is complete
@@ -251,7 +251,7 @@ returns-3 c = λ t os ps K A B.
     let q = position d t os ps K A B in
     found-broken K B (b.before.list.inv.2 t os ps K A B) (not-ended b) (schema o) (begins o) l.j (omega arith)
     (l.invariant.3 t os ps K A (known o t os ps K A B)) l.i l.invariant.1 q
-    (sym (told c.before t os ps K A B) ∙ not-true _ c.if3.true)
+    (sym (told c.before t os ps K A B) ∙ c.if3.true)
 
 pub take-apart-spec : {M : Type 1} → statement M
 take-apart-spec =

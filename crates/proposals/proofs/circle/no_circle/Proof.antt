@@ -36,7 +36,7 @@ free-parts-requires : tie.Need-free-parts-requires invariant-loop decreases-loop
 free-parts-requires c κs = (c.before.before.before.requires.0, (omega arith, omega arith))
 
 loop-holds : tie.Need-loop-init invariant-loop decreases-loop
-loop-holds c = (c.before.up-to.type-inv, placing-found _ _ (all-left c.before) _ c.free-parts.ensures)
+loop-holds c = (c.before.up-to.type_inv, placing-found _ _ (all-left c.before) _ c.free-parts.ensures)
 
 lowest-requires : tie.Need-lowest-requires invariant-loop decreases-loop
 lowest-requires c κs = omega (arith, c.loop-test.true)
@@ -81,12 +81,12 @@ less c =
 
 loop-again : tie.Need-loop-preserved invariant-loop decreases-loop
 loop-again c =
-    (c.before.before.before.without.type-inv, placing-found _ _ (left c.before.before) _ c.free-parts2.ensures)
+    (c.before.before.before.without.type_inv, placing-found _ _ (left c.before.before) _ c.free-parts2.ensures)
 
 loop-again-2 : tie.Need-loop-preserved-2 invariant-loop decreases-loop
 loop-again-2 c =
     let p = c.before in (
-      p.before.without.type-inv,
+      p.before.without.type_inv,
       placing-on _ _ (turn p).loop.invariant.1 p.before.before.lowest.ensures _ p.before.without.ensures
           (few (turn p)) _ (p.without-lowest.ensures _ p.before.before.lowest.ensures) c.if1.false,
     )

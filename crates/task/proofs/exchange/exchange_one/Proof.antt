@@ -41,7 +41,7 @@ row : (e : tie.Else1) → let r = e.before in
     let a = (entry r).args in
     let k = r.before.before.row-for.result in
     (k < a.n) × (row_number a.state.now k ≡ get_or a.numbers.now a.k 0)
-row e = e.before.is_row.ensures.found (not-false _ e.if1.false)
+row e = e.before.is_row.ensures.found e.if1.false
 
 -- ---- and once the next missing add is looked for
 abbrev held : tie.After-first-new → tie.Else1
@@ -74,7 +74,7 @@ returns : tie.Need-returns
 returns c = λ t g u h.
     let r = c.before in
     let told = row-holds (known r u) r.before.before.row-for.ensures r.is_row.ensures in
-    not_there (passed (entry r) u h) _ (sym told ∙ not-true _ c.if1.true)
+    not_there (passed (entry r) u h) _ (sym told ∙ c.if1.true)
 
 absent-requires : tie.Need-absent-requires
 absent-requires c κs = let (t, g, u) = (begun c).requires.1 in few-before u (inside c)
@@ -83,7 +83,7 @@ returns-2 : tie.Need-returns-2
 returns-2 c = λ t g u h.
     let f = c.before.before in
     is-add (passed (begun f) u h) _ (f.first-new.ensures t g u) (known (held f).before u)
-    c.before.absent.ensures (not-true _ c.if2.true)
+    c.before.absent.ensures c.if2.true
 
 replace-requires : tie.Need-replace-requires
 replace-requires c κs =
@@ -105,7 +105,7 @@ returns-3 c = λ t g u h.
     let f = a.before in
     let first = f.first-new.ensures t g u in
     let r = (held f).before in
-    replaced-by (passed (begun f) u h) _ first _ (known r u) a.absent.ensures (not-false _ e.if2.false) less
+    replaced-by (passed (begun f) u h) _ first _ (known r u) a.absent.ensures e.if2.false less
     (row-replaced (known r u) (new f u less) (first.new less) (row (held f)) (first.place less)
     out.replace.ensures out.replace.auto.0)
 
@@ -126,7 +126,7 @@ returns-4 c = λ t g u h.
     let f = a.before in
     let r = (held f).before in
     goes-alone (passed (begun f) u h) _ (f.first-new.ensures t g u) _ _ (known r u) a.absent.ensures
-    (not-false _ e.if2.false)
+    e.if2.false
     (row_out (known r u) (row_is r.is_row.ensures (not-false _ (held f).if1.false)) out.remove-row.ensures
     out.remove-row.auto.0)
 

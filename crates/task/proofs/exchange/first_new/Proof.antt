@@ -45,7 +45,7 @@ returns c =
       within = so.1;
       hold = held_all g _ _ _ (so.2 t g u);
       new = λ l. sym (atom-found u (add-inside u turn.if1.true) c.before.before.find.ensures
-          c.before.is_row.ensures) ∙ not-true _ c.if2.true;
+          c.before.is_row.ensures) ∙ c.if2.true;
       place = λ l. c.before.before.find.ensures;
     }
 
@@ -56,7 +56,7 @@ loop-again c =
       omega arith,
       omega arith,
       λ t g u. held_more g (so.2 t g u) (sym (atom-found u (add-inside u turn.if1.true)
-          c.before.before.find.ensures c.before.is_row.ensures) ∙ not-false _ c.if2.false),
+          c.before.before.find.ensures c.before.is_row.ensures) ∙ c.if2.false),
     )
 
 returns-2 : tie.Need-returns-2 invariant-loop decreases-loop

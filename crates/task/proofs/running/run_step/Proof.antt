@@ -69,7 +69,7 @@ grounded c = c.before.before.before.before.before
 
 hold : (c : tie.Else1) → let g = grounded c in
     AllHold (task g) (atoms g) 0 (spans g).adds (entry g).args.state.now (entry g).args.n
-hold c = sym (c.before.all_hold.ensures _ _ (way (grounded c))) ∙ not-false _ c.if1.false
+hold c = sym (c.before.all_hold.ensures _ _ (way (grounded c))) ∙ c.if1.false
 
 -- ---- the answers
 role-end-requires : tie.Need-role-end-requires
@@ -99,7 +99,7 @@ returns : tie.Need-returns
 unfolding Turned
 returns c =
     let g = c.before.before.before.before.before in (
-      (applies-so (parted (spread g)) _ (c.before.all_hold.ensures _ _ (way g)) (not-true _ c.if1.true), refl),
+      (applies-so (parted (spread g)) _ (c.before.all_hold.ensures _ _ (way g)) c.if1.true, refl),
       g.ground-all.ensures.0,
     )
 
@@ -116,8 +116,8 @@ returns-2 c =
     let g = grounded e in
     let p = parted (spread g) in (
       (
-        applies-so p _ (e.before.all_hold.ensures _ _ (way g)) (not-false _ e.if1.false),
-        fits-so p _ _ _ (c.before.has_room.ensures _ _ (way g) (hold e)) (not-true _ c.if2.true),
+        applies-so p _ (e.before.all_hold.ensures _ _ (way g)) e.if1.false,
+        fits-so p _ _ _ (c.before.has_room.ensures _ _ (way g) (hold e)) c.if2.true,
         refl,
       ),
       g.ground-all.ensures.0,
@@ -132,7 +132,7 @@ exchange-requires c κs =
       atoms g,
       way g,
       room-enough (parted (spread g)) _ _ _ (roomy.before.has_room.ensures _ _ (way g) (hold e))
-          (not-false _ roomy.if2.false),
+          roomy.if2.false,
     )
 
 returns-3 : tie.Need-returns-3
@@ -144,8 +144,8 @@ returns-3 c =
     let g = grounded e in
     let p = parted (spread g) in (
       (
-        applies-so p _ (e.before.all_hold.ensures _ _ (way g)) (not-false _ e.if1.false),
-        fits-so p _ _ _ (roomy.before.has_room.ensures _ _ (way g) (hold e)) (not-false _ roomy.if2.false),
+        applies-so p _ (e.before.all_hold.ensures _ _ (way g)) e.if1.false,
+        fits-so p _ _ _ (roomy.before.has_room.ensures _ _ (way g) (hold e)) roomy.if2.false,
         next-kept p _ _ _ _ (x.exchange.ensures _ _ (way g)),
       ),
       g.ground-all.ensures.0,

@@ -74,7 +74,7 @@ returns-2 c =
     let start = c.before.before.before.before.before.before.before.before.before.before in
     sym (record-objects (T start) (well start) (W start) start.args.i c.before.before.before.arity.result
     c.before.before.object-count.result (counted c.before.before.before)
-    c.before.before.object-count.ensures (sym c.before.are-objects.ensures ∙ not-true _ c.if2.true))
+    c.before.before.object-count.ensures (sym c.before.are-objects.ensures ∙ c.if2.true))
 
 add-are-zero-2 : tie.Need-overflow-add-are-zero-2
 add-are-zero-2 c = let n = few c.before.before.before in omega arith
@@ -92,7 +92,7 @@ returns-3 c =
     c.are-zero.ensures ∙ sym (record-zeros (T start) (well start) (W start) start.args.i
     after.before.before.before.arity.result after.before.before.object-count.result
     (counted after.before.before.before) after.before.before.object-count.ensures
-    (known (else₁ after)) (sym after.before.are-objects.ensures ∙ not-false _ after.if2.false))
+    (known (else₁ after)) (sym after.before.are-objects.ensures ∙ after.if2.false))
 
 pub is-record-spec : {M : Type 1} → statement M
 is-record-spec =

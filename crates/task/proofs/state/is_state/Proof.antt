@@ -51,7 +51,7 @@ returns-2 c =
     let start = c.before.before.before.before.before.before.before in
     sym (no_record (T start) (well start) (W start) start.args.records c.before.before.before.loop.i
     (omega arith)
-    (sym c.before.is-record.ensures ∙ not-true _ c.if2.true))
+    (sym c.before.is-record.ensures ∙ c.if2.true))
 
 returns-3 : tie.Need-returns-3 invariant-loop decreases-loop
 returns-3 c =
@@ -61,7 +61,7 @@ returns-3 c =
     let e : suc (i - 1) ≡ i = omega arith in
     sym (not-ascending (T start) (well start) (W start) start.args.records (i - 1) (omega arith)
     (ap (λ (k : ℕ). less_list (words_at (W start) (5 * (i - 1)) 5) (words_at (W start) (5 * k) 5)) e ∙
-    (sym c.before.record-less.ensures ∙ not-true _ c.if4.true)))
+    (sym c.before.record-less.ensures ∙ c.if4.true)))
 
 loop-again : tie.Need-loop-preserved invariant-loop decreases-loop
 loop-again c =
@@ -69,7 +69,7 @@ loop-again c =
     let at-loop = c.before.before.before.before in (
       omega arith,
       more_rows (T start) (W start) at-loop.loop.i at-loop.loop.invariant.1
-          (sym c.before.before.is-record.ensures ∙ not-false _ c.before.if2.false)
+          (sym c.before.before.is-record.ensures ∙ c.before.if2.false)
           (λ l. ⊎_elim (λ w. sym w.1.ensures ∙ not-false _ w.2.left) (λ w. absurd (omega arith))
           c.if3.branch),
     )

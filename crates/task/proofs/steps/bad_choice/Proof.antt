@@ -40,7 +40,7 @@ returns : tie.Need-returns invariant-loop decreases-loop
 unfolding ChoiceTold
 returns c =
     let at-loop = c.before.before.before.before in
-    let none = not-true c.before.is-choice.result c.if1.true in (
+    let none = c.if1.true in (
       omega arith,
       choice-none (words at-loop) (list at-loop) at-loop.loop.i c.before.is-choice.ensures.0 none,
       at-loop.loop.invariant.1,
@@ -50,7 +50,7 @@ loop-again : tie.Need-loop-preserved invariant-loop decreases-loop
 loop-again c =
     let at-loop = c.before.before.before.before in
     let w = words at-loop in
-    let choice = not-false c.before.is-choice.result c.if1.false in
+    let choice = c.if1.false in
     let told = choice-known w (list at-loop) at-loop.loop.i c.before.is-choice.ensures.0 choice in
     (omega arith, below_more _ _ at-loop.loop.invariant.1 (c.before.is-choice.ensures.1 choice, told))
 

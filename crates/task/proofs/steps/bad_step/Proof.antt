@@ -101,14 +101,14 @@ returns-2 c =
     let first = looked at-loop in
     let e = end_is at-loop in
     let l = end-within (words first) (list first) _ _ (told first) in
-    let none = not-true c.before.keep_apart.result c.if2.true in
+    let none = c.if2.true in
     sym (bad-step-at (task_of (words first)) (list first) at-loop.loop.i (omega arith) at-loop.loop.invariant.1
     ((known c.before.before.before).1 ∙ (sym (rows c.before) ∙ none)))
 
 loop-again : tie.Need-loop-preserved invariant-loop decreases-loop
 loop-again c =
     let at-loop = c.before.before.before.before in
-    let apart = not-false c.before.keep_apart.result c.if2.false in (
+    let apart = c.if2.false in (
       omega arith,
       below_more _ _ at-loop.loop.invariant.1
           ((known c.before.before.before).1 ∙ (sym (rows c.before) ∙ apart)),

@@ -47,7 +47,7 @@ returns c =
     all-fails at.loop.invariant k.before.before.before.loop-test.true
     (own_row given.rows.now given.base given.steps.now (given.at + 1) given.schema at.loop.i
     (sym k.before.before.word.ensures.0 ∙ k.before.if1.true) ∙
-    (sym k.differ-at.ensures ∙ not-true _ c.if2.true))
+    (sym k.differ-at.ensures ∙ c.if2.true))
 
 loop-again : tie.Need-loop-preserved invariant-loop decreases-loop
 loop-again c =

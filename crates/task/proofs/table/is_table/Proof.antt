@@ -68,16 +68,16 @@ atoms_are c =
 
 -- the tests that are passed, and what they leave known
 counts-pass : (c : tie.Else1) → every (count_tests (words (start₁ c.before))) ≡ true
-counts-pass c = sym c.before.counts-fit.ensures ∙ not-false _ c.if1.false
+counts-pass c = sym c.before.counts-fit.ensures ∙ c.if1.false
 
 arities-pass : (c : tie.Else2) → arities_fit (words (start₂ c.before)) ≡ true
-arities-pass c = sym c.before.arities-fit.ensures ∙ not-false _ c.if2.false
+arities-pass c = sym c.before.arities-fit.ensures ∙ c.if2.false
 
 pairs-pass : (c : tie.Else3) → PairNumbers (words (start₃ c.before)) ≡ true
-pairs-pass c = sym (pairs-are c.before) ∙ not-false _ c.if3.false
+pairs-pass c = sym (pairs-are c.before) ∙ c.if3.false
 
 atoms-pass : (c : tie.Else4) → AtomNumbers (words (start₄ c.before)) ≡ true
-atoms-pass c = sym (atoms_are c.before) ∙ not-false _ c.if4.false
+atoms-pass c = sym (atoms_are c.before) ∙ c.if4.false
 
 room : (c : tie.Else2) → Roomy (words (start₂ c.before))
 room c =
@@ -251,9 +251,9 @@ returns-8 c =
       arities = arities-pass arities;
       pair-numbers = pairs-pass pairs;
       numbers = atoms-pass numbers;
-      schemas = sym schemas.before.schemas-fit.ensures ∙ not-false _ schemas.if5.false;
-      init = sym (initial-is initial.before) ∙ not-false _ initial.if6.false;
-      goal = sym (goal-is behind.before) ∙ not-false _ behind.if7.false;
+      schemas = sym schemas.before.schemas-fit.ensures ∙ schemas.if5.false;
+      init = sym (initial-is initial.before) ∙ initial.if6.false;
+      goal = sym (goal-is behind.before) ∙ behind.if7.false;
       rest = h;
     }))
 

@@ -51,7 +51,7 @@ is_one : (s : tie.Else2) →
     is_choice (task_of (table (line s))) (step_of (schema (line s)) (found (line s)).ns) ≡ true
 is_one s =
     let f = found (line s) in
-    sym (s.before.is-choice.ensures f.ns f.listed) ∙ not-false _ s.if2.false
+    sym (s.before.is-choice.ensures f.ns f.listed) ∙ s.if2.false
 
 kept : (s : tie.Else2) → StepKept (schema (line s)) (count (line s)) (objects (line s))
 kept s =
@@ -88,7 +88,7 @@ returns-3 c =
     let f = found l in
     let t = task_of (table l) in
     let few = c.before.before.before.if1.false in
-    let wrong = sym (c.before.is-choice.ensures f.ns f.listed) ∙ not-true _ c.if2.true in
+    let wrong = sym (c.before.is-choice.ensures f.ns f.listed) ∙ c.if2.true in
     λ xs e. (
       λ n next.
           turn-refused step_line _ (take_plan_line t xs) _ _ f.is n next 5

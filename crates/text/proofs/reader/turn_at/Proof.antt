@@ -35,15 +35,14 @@ returns-2 c =
     let key = found c.before.before.before in (
       untouched _,
       λ d h. none-refused d _ (next-refused d _ key.key _ key.is
-          (ap₂ may_stand (sym h.phase) key.numbered ∙ (sym c.before.allowed.ensures ∙ not-true _
-          c.if1.true))),
+          (ap₂ may_stand (sym h.phase) key.numbered ∙ (sym c.before.allowed.ensures ∙ c.if1.true))),
     )
 
 body-turn-requires : tie.Need-body-turn-requires
 body-turn-requires c κs =
     let k = c.before.before.before.before in (
       moved-placed (start k).requires.0 (found k).moved,
-      ((start k).requires.1, sym c.before.before.allowed.ensures ∙ not-false _ c.before.if1.false),
+      ((start k).requires.1, sym c.before.before.allowed.ensures ∙ c.before.if1.false),
     )
 
 returns-3 : tie.Need-returns-3
@@ -55,7 +54,7 @@ returns-3 c =
     let args = (start k).args in
     let bs = args.text.now in
     let body = k.key.given.0.1.0 in
-    let may = sym allows.before.allowed.ensures ∙ not-false _ allows.if1.false in (
+    let may = sym allows.before.allowed.ensures ∙ allows.if1.false in (
       done.ensures.0,
       λ d h.
           turned-at bs args.from body d (next_line d (rest bs args.from)) (read_body key.key (rest bs body))

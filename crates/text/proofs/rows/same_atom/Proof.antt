@@ -11,12 +11,12 @@ use Rattle.text.proofs.rows.same_atom.Tie as tie
 
 returns : tie.Need-returns
 unfolding row_same
-returns c = sym (rw (sym c.before.same-words.ensures ∙ not-true _ c.if1.true) refl)
+returns c = sym (rw (sym c.before.same-words.ensures ∙ c.if1.true) refl)
 
 returns-2 : tie.Need-returns-2
 unfolding row_same
 returns-2 c = c.same-words2.ensures ∙
-    sym (rw (sym c.before.before.same-words.ensures ∙ not-false _ c.before.if1.false) refl)
+    sym (rw (sym c.before.before.same-words.ensures ∙ c.before.if1.false) refl)
 
 pub same-atom-spec : {M : Type 1} → statement M
 same-atom-spec =

@@ -23,7 +23,7 @@ unfolding write_answer_told
 returns c =
     let start = c.before.before.before.before in
     let none = outcome-none start.args.table.now start.args.text.now start.requires
-    (sym c.before.has_room.ensures ∙ not-true _ c.if1.true) in
+    (sym c.before.has_room.ensures ∙ c.if1.true) in
     both none
 
 abbrev start : tie.Else1 → tie.Start
@@ -31,7 +31,7 @@ start c = c.before.before.before.before
 
 room : (c : tie.Else1) →
     leb (length (write (task_of (start c).args.table.now))) (length (start c).args.text.now) ≡ true
-room c = sym c.before.has_room.ensures ∙ not-false _ c.if1.false
+room c = sym c.before.has_room.ensures ∙ c.if1.false
 
 write-text-requires : tie.Need-write-text-requires
 write-text-requires c κs = (start c.before).requires

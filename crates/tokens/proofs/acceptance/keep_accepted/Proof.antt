@@ -31,7 +31,7 @@ abbrev start : tie.Else2 → tie.Start
 start c = begun c.before.before
 
 table : (c : tie.Else2) → is_table (start c).args.table.now ≡ true
-table c = sym c.before.is-table.ensures ∙ not-false c.before.is-table.result c.if2.false
+table c = sym c.before.is-table.ensures ∙ c.if2.false
 
 -- where the parts were kept
 abbrev tested : tie.After-keep-parts → tie.Else2
@@ -82,7 +82,7 @@ returns-2 : tie.Need-returns-2
 unfolding AcceptanceTold
 returns-2 c =
     let e = c.before.before in
-    let t = sym c.before.is-table.ensures ∙ not-true c.before.is-table.result c.if2.true in
+    let t = sym c.before.is-table.ensures ∙ c.if2.true in
     refused-no-table (begun e).args.table.now (long e) t
 
 keep-parts-requires : tie.Need-keep-parts-requires
@@ -121,7 +121,7 @@ returns-5 c =
     let d = settled (asker p) in
     let k = keeper d in
     let e = tested k in
-    let over = sym z.sizes-of.ensures.within ∙ not-true z.sizes-of.result.within c.if3.true in
+    let over = sym z.sizes-of.ensures.within ∙ c.if3.true in
     let large = found-large (task_of (words k)) (none-circular d) (none-parted p) over in
     refused-ten (words k) (long e.before.before) (table e) large
 
@@ -133,7 +133,7 @@ returns-6 c =
     let d = settled (asker p) in
     let k = keeper d in
     let e = tested k in
-    let within = sym z.sizes-of.ensures.within ∙ not-false z.sizes-of.result.within c.if3.false in
+    let within = sym z.sizes-of.ensures.within ∙ c.if3.false in
     record {
       long = long e.before.before;
       table = table e;

@@ -48,7 +48,7 @@ returns-4 c =
       le-leb a.predicates most_predicates c.before.before.before.if1.false,
       le-leb a.schemas most_schemas c.before.before.if2.false,
       le-leb a.atoms most_schema_atoms c.before.if3.false,
-      not-true a.few c.if4.true,
+      c.if4.true,
     ) refl
 
 returns-5 : tie.Need-returns-5
@@ -59,7 +59,7 @@ returns-5 c =
       le-leb a.predicates most_predicates c.before.before.before.before.if1.false,
       le-leb a.schemas most_schemas c.before.before.before.if2.false,
       le-leb a.atoms most_schema_atoms c.before.before.if3.false,
-      not-false a.few c.before.if4.false,
+      c.before.if4.false,
       lt-leb a.initial most_initial c.if5.true,
     ) refl
 
@@ -71,7 +71,7 @@ returns-6 c =
       le-leb a.predicates most_predicates c.before.before.before.before.before.if1.false,
       le-leb a.schemas most_schemas c.before.before.before.before.if2.false,
       le-leb a.atoms most_schema_atoms c.before.before.before.if3.false,
-      not-false a.few c.before.before.if4.false,
+      c.before.before.if4.false,
       le-leb a.initial most_initial c.before.if5.false,
       lt-leb a.goal most_goal c.if6.true,
     ) refl
@@ -84,7 +84,7 @@ returns-7 c =
       le-leb a.predicates most_predicates c.before.before.before.before.before.if1.false,
       le-leb a.schemas most_schemas c.before.before.before.before.if2.false,
       le-leb a.atoms most_schema_atoms c.before.before.before.if3.false,
-      not-false a.few c.before.before.if4.false,
+      c.before.before.if4.false,
       le-leb a.initial most_initial c.before.if5.false,
       le-leb a.goal most_goal c.if6.false,
     ) (sym (and-true (leb a.pairs most_pairs)))

@@ -71,7 +71,7 @@ loop-again c =
     let d = c.before in
     let h = (turn d).before.loop in (
       omega (arith, (turn d).loop-test.true),
-      below_more _ _ h.inv.1 (sym d.pairs-kept.ensures ∙ not-false _ c.if1.false),
+      below_more _ _ h.inv.1 (sym d.pairs-kept.ensures ∙ c.if1.false),
     )
 
 returns-2 : tie.Need-returns-2 invariant-loop decreases-loop

@@ -87,7 +87,7 @@ returns c =
     let a = (start l).args in
     let test = c.before.is-of-role in
     answered l (λ m e. both-ft (eq-eqb a.role (atom_in a.table.now l.loop.i).role (sym e))
-    (sym test.ensures ∙ not-true test.result c.if1.true))
+    (sym test.ensures ∙ c.if1.true))
 
 part-of-requires : tie.Need-part-of-requires invariant-loop decreases-loop
 part-of-requires c κs = known c.before.before.before c.before.before.loop-test.true
@@ -108,7 +108,7 @@ in-role : (c : tie.Joined2 invariant-loop decreases-loop) →
 in-role c =
     let else = c.before.before.before.before in
     let test = else.before.is-of-role in
-    eqb-true (start (turn c)).args.role _ (sym test.ensures ∙ not-false test.result else.if1.false)
+    eqb-true (start (turn c)).args.role _ (sym test.ensures ∙ else.if1.false)
 
 -- so its part decides
 same-part : (r a p b : ℕ) → r ≡ a → p ≡ b → eqb r a && eqb p b ≡ true

@@ -179,7 +179,7 @@ returns c =
     let l = (turn d).before in
     let s = l.loop.s in
     let f = d.order-of.result in
-    let e = told_none (task l) s f (told d) (not-true f.found c.if1.true) in
+    let e = told_none (task l) s f (told d) c.if1.true in
     (sym (circular-here (task l) s l.loop.inv.4.taken (known (turn d)) e), λ z. absurd (no_none (sym z)))
 
 keep-count-requires : tie.Need-keep-count-requires invariant-loop decreases-loop
@@ -193,7 +193,7 @@ keep-order-requires c κs =
     let d = ordered c.before in
     let l = (turn d).before in
     let n = d.order-of.ensures.1.0 in
-    let yes = not-false d.order-of.result.found c.before.before.before.if1.false in
+    let yes = c.before.before.before.if1.false in
     let inside = found_inside (words l) (is-table l) l.loop.s (known (turn d)) d.order-of.result (told d) yes
     (omega (arith, n.0, n.1)) in (
       omega (arith, l.loop.inv.1),

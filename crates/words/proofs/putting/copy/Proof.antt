@@ -12,21 +12,21 @@ use Rattle.words.proofs.Puts.{puts_word, words_more}
 use Rattle.words.proofs.putting.copy.Statement.{statement}
 use Rattle.words.proofs.putting.copy.Tie as tie
 
-abbrev invariant-loop : tie.invariant-loop
-invariant-loop table from count out₀ at k₀ out k =
+abbrev invariant-loop-k : tie.invariant-loop-k
+invariant-loop-k table from count out₀ at k₀ out k =
     (k ≤ count) × (length out ≡ length out₀) × Puts out₀ at (words_at table from k) out (at + k)
 
-abbrev decreases-loop : tie.decreases-loop
-decreases-loop table from count out₀ at k₀ out k = count - k
+abbrev decreases-loop-k : tie.decreases-loop-k
+decreases-loop-k table from count out₀ at k₀ out k = count - k
 
-loop-holds : tie.Need-loop-init invariant-loop decreases-loop
+loop-holds : tie.Need-loop-k-init invariant-loop-k decreases-loop-k
 unfolding words_at
 loop-holds c = (omega arith, refl, record { words = refl; place = refl })
 
-loop-again : tie.Need-loop-preserved invariant-loop decreases-loop
+loop-again : tie.Need-loop-k-preserved invariant-loop-k decreases-loop-k
 loop-again c =
     let a = c.before.before.before.before.before.args in
-    let h = c.before.before.loop in
+    let h = c.before.before.loop-k in
     let w = a.table.now in
     let v = c.word_at.result in (
       omega arith,
@@ -37,13 +37,13 @@ loop-again c =
           (a.at + (h.k + 1)) (omega arith),
     )
 
-same_length : tie.Need-same-length invariant-loop decreases-loop
-same_length c = c.before.loop.invariant.1
+same_length : tie.Need-shape_of-out invariant-loop-k decreases-loop-k
+same_length c = c.before.loop-k.invariant.1
 
-returns : tie.Need-returns invariant-loop decreases-loop
+returns : tie.Need-returns invariant-loop-k decreases-loop-k
 returns c =
     let a = c.before.before.before.before.args in
-    let h = c.before.loop in
+    let h = c.before.loop-k in
     let e : h.k ≡ a.count = omega arith in
     subst (λ (n : ℕ). Puts a.out.now a.at (words_at a.table.now a.from n) h.out (a.at + n)) e
     h.invariant.2
@@ -51,5 +51,5 @@ returns c =
 pub copy_spec : {M : Type 1} → statement M
 copy_spec =
     tie.close
-    (tie.spec invariant-loop decreases-loop loop-holds (λ c. omega arith) (λ c κs. omega arith) (λ c. omega arith) (λ c. omega arith)
+    (tie.spec invariant-loop-k decreases-loop-k loop-holds (λ c. omega arith) (λ c κs. omega arith) (λ c. omega arith) (λ c. omega arith)
     (λ c. omega arith) (λ c. omega arith) (λ c. omega arith) loop-again (λ c. omega arith) same_length returns)

@@ -11,30 +11,30 @@ use Rattle.words.proofs.Loops.{AllLeft, all-between, all_more, all-fails, all-en
 use Rattle.words.proofs.runs.all_below.Statement.{statement}
 use Rattle.words.proofs.runs.all_below.Tie as tie
 
-abbrev invariant-loop : tie.invariant-loop
-invariant-loop table from to bound i₀ i =
+abbrev invariant-loop-i : tie.invariant-loop-i
+invariant-loop-i table from to bound i₀ i =
     AllLeft (λ k. ltb (get_or table k 0) bound) to (all (λ a. ltb a bound) (words_at table from (to - from))) i
 
-abbrev decreases-loop : tie.decreases-loop
-decreases-loop table from to bound i₀ i = to - i
+abbrev decreases-loop-i : tie.decreases-loop-i
+decreases-loop-i table from to bound i₀ i = to - i
 
-loop-holds : tie.Need-loop-init invariant-loop decreases-loop
+loop-holds : tie.Need-loop-i-init invariant-loop-i decreases-loop-i
 loop-holds c = let given = c.before.args in
     all-between (λ a. ltb a given.bound) given.table.now given.from given.to
 
-returns : tie.Need-returns invariant-loop decreases-loop
-returns c = all-fails c.before.before.before.loop.invariant c.before.before.loop-test.true
-    (rw (← c.before.word.ensures.0) (le-ltb _ _ c.if1.true))
+returns : tie.Need-returns-then-bound-word invariant-loop-i decreases-loop-i
+returns c = all-fails c.before.before.before.loop-i.invariant c.before.before.loop-i-test.true
+    (rw (← c.before.word.ensures.0) (le-ltb _ _ c.if-bound-word.true))
 
-loop-again : tie.Need-loop-preserved invariant-loop decreases-loop
-loop-again c = all_more c.before.before.before.loop.invariant c.before.before.loop-test.true
-    (rw (← c.before.word.ensures.0) (lt-ltb _ _ c.if1.false))
+loop-again : tie.Need-loop-i-preserved invariant-loop-i decreases-loop-i
+loop-again c = all_more c.before.before.before.loop-i.invariant c.before.before.loop-i-test.true
+    (rw (← c.before.word.ensures.0) (lt-ltb _ _ c.if-bound-word.false))
 
-returns-2 : tie.Need-returns-2 invariant-loop decreases-loop
-returns-2 c = all-ends c.before.loop.invariant c.loop-test.false
+returns-2 : tie.Need-returns invariant-loop-i decreases-loop-i
+returns-2 c = all-ends c.before.loop-i.invariant c.loop-i-test.false
 
-pub all-below-spec : {M : Type 1} → statement M
-all-below-spec =
+pub all_below_spec : {M : Type 1} → statement M
+all_below_spec =
     tie.close
-    (tie.spec invariant-loop decreases-loop loop-holds (λ c κs. omega arith) returns (λ c. omega arith) (λ c. omega arith) loop-again
+    (tie.spec invariant-loop-i decreases-loop-i loop-holds (λ c κs. omega arith) returns (λ c. omega arith) (λ c. omega arith) loop-again
     returns-2)

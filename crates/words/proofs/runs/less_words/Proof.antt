@@ -9,33 +9,33 @@ use Rattle.words.proofs.Comparing.{LessLeft, less-start, less-more, less-decides
 use Rattle.words.proofs.runs.less_words.Statement.{statement}
 use Rattle.words.proofs.runs.less_words.Tie as tie
 
-abbrev invariant-loop : tie.invariant-loop
-invariant-loop table left right n k₀ k = LessLeft table left right n k
+abbrev invariant-loop-k : tie.invariant-loop-k
+invariant-loop-k table left right n k₀ k = LessLeft table left right n k
 
-abbrev decreases-loop : tie.decreases-loop
-decreases-loop table left right n k₀ k = n - k
+abbrev decreases-loop-k : tie.decreases-loop-k
+decreases-loop-k table left right n k₀ k = n - k
 
-loop-holds : tie.Need-loop-init invariant-loop decreases-loop
+loop-holds : tie.Need-loop-k-init invariant-loop-k decreases-loop-k
 loop-holds c = less-start
 
-returns : tie.Need-returns invariant-loop decreases-loop
+returns : tie.Need-returns-then-x-y invariant-loop-k decreases-loop-k
 returns c =
     let turn = c.before.before.before in
-    let x = c.before.before.word.ensures.0 in
-    let y = c.before.word2.ensures.0 in
-    ap₂ ltb x y ∙ less-decides turn.before.loop.invariant turn.loop-test.true (λ e. c.if1.true (x ∙ (e ∙ sym y)))
+    let x = c.before.before.word-x.ensures.0 in
+    let y = c.before.word-y.ensures.0 in
+    ap₂ ltb x y ∙ less-decides turn.before.loop-k.invariant turn.loop-k-test.true (λ e. c.if-x-y.true (x ∙ (e ∙ sym y)))
 
-loop-again : tie.Need-loop-preserved invariant-loop decreases-loop
+loop-again : tie.Need-loop-k-preserved invariant-loop-k decreases-loop-k
 loop-again c =
     let turn = c.before.before.before in
-    less-more turn.before.loop.invariant turn.loop-test.true
-    (sym c.before.before.word.ensures.0 ∙ (c.if1.false ∙ c.before.word2.ensures.0))
+    less-more turn.before.loop-k.invariant turn.loop-k-test.true
+    (sym c.before.before.word-x.ensures.0 ∙ (c.if-x-y.false ∙ c.before.word-y.ensures.0))
 
-returns-2 : tie.Need-returns-2 invariant-loop decreases-loop
-returns-2 c = less-ends c.before.loop.invariant c.loop-test.false
+returns-2 : tie.Need-returns invariant-loop-k decreases-loop-k
+returns-2 c = less-ends c.before.loop-k.invariant c.loop-k-test.false
 
-pub less-words-spec : {M : Type 1} → statement M
-less-words-spec =
+pub less_words_spec : {M : Type 1} → statement M
+less_words_spec =
     tie.close
-    (tie.spec invariant-loop decreases-loop loop-holds (λ c. omega arith) (λ c κs. omega arith) (λ c. omega arith)
+    (tie.spec invariant-loop-k decreases-loop-k loop-holds (λ c. omega arith) (λ c κs. omega arith) (λ c. omega arith)
     (λ c κs. omega arith) returns (λ c. omega arith) (λ c. omega arith) loop-again returns-2)

@@ -13,41 +13,41 @@ use Rattle.words.proofs.Quarters.{FourZero, four-joined, quarters-zero}
 use Rattle.words.proofs.runs.quarters_zero.Statement.{statement}
 use Rattle.words.proofs.runs.quarters_zero.Tie as tie
 
-abbrev invariant-loop : tie.invariant-loop
-invariant-loop table from quarter second third fourth joined₀ k₀ joined k =
+abbrev invariant-loop-k : tie.invariant-loop-k
+invariant-loop-k table from quarter second third fourth joined₀ k₀ joined k =
     all (FourZero table from second third fourth) (up_from 0 (quarter - 0)) ≡
     eqb joined 0 && all (FourZero table from second third fourth) (up_from k (quarter - k))
 
-abbrev decreases-loop : tie.decreases-loop
-decreases-loop table from quarter second third fourth joined₀ k₀ joined k = quarter - k
+abbrev decreases-loop-k : tie.decreases-loop-k
+decreases-loop-k table from quarter second third fourth joined₀ k₀ joined k = quarter - k
 
-loop-holds : tie.Need-loop-init invariant-loop decreases-loop
+loop-holds : tie.Need-loop-k-init invariant-loop-k decreases-loop-k
 loop-holds c = refl
 
-loop-again : tie.Need-loop-preserved invariant-loop decreases-loop
+loop-again : tie.Need-loop-k-preserved invariant-loop-k decreases-loop-k
 loop-again c =
     let third = c.before in
     let second = third.before in
     let first = second.before in
     let at = first.before.before in
     let given = at.before.before.args in
-    all-joins (FourZero given.table.now given.from _ _ _) _ _ (eqb at.loop.joined 0) at.loop.invariant
-    first.before.loop-test.true
-    (four-joined at.loop.joined first.word_at.ensures second.word-at2.ensures third.word-at3.ensures
-    c.word-at4.ensures)
+    all-joins (FourZero given.table.now given.from _ _ _) _ _ (eqb at.loop-k.joined 0) at.loop-k.invariant
+    first.before.loop-k-test.true
+    (four-joined at.loop-k.joined first.word_at.ensures second.word_at-in-loop-k.ensures third.word_at-in-loop-k-2.ensures
+    c.word_at-in-loop-k-3.ensures)
 
-returns : tie.Need-returns invariant-loop decreases-loop
+returns : tie.Need-returns invariant-loop-k decreases-loop-k
 returns c =
     let at = c.before in
     let given = at.before.before.args in
-    all-joined (FourZero given.table.now given.from _ _ _) _ _ (eqb at.loop.joined 0) at.loop.invariant
-    c.loop-test.false ∙
+    all-joined (FourZero given.table.now given.from _ _ _) _ _ (eqb at.loop-k.joined 0) at.loop-k.invariant
+    c.loop-k-test.false ∙
     quarters-zero given.table.now given.from given.quarter
 
-pub quarters-zero-spec : {M : Type 1} → statement M
-quarters-zero-spec =
+pub quarters_zero_spec : {M : Type 1} → statement M
+quarters_zero_spec =
     tie.close
-    (tie.spec invariant-loop decreases-loop (λ c. omega arith) (λ c. omega arith) (λ c. omega arith) loop-holds
+    (tie.spec invariant-loop-k decreases-loop-k (λ c. omega arith) (λ c. omega arith) (λ c. omega arith) loop-holds
     (λ c. omega arith) (λ c κs. omega arith) (λ c. omega arith) (λ c κs. omega arith) (λ c. omega arith)
     (λ c κs. omega arith) (λ c. omega arith) (λ c κs. omega arith) (λ c. omega arith) (λ c. omega arith) loop-again
     returns)

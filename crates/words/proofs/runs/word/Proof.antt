@@ -7,10 +7,10 @@ use Rattle.words.proofs.runs.word.Statement.{statement}
 use Rattle.words.proofs.runs.word.Tie as tie
 
 cast-result : tie.Need-overflow_cast-result
-cast-result c = omega (arith, c.shared-slice-known.given c.before.args.i)
+cast-result c = omega (arith, c.shared_slice_known-1.given c.before.args.i)
 
 returns : tie.Need-returns
-returns c = (refl, omega (arith, c.shared-slice-known.given c.before.args.i))
+returns c = (refl, omega (arith, c.shared_slice_known-1.given c.before.args.i))
 
-pub word-spec : {M : Type 1} → statement M
-word-spec = tie.close (tie.spec (λ c. search rules) (λ c. search rules) cast-result returns)
+pub word_spec : {M : Type 1} → statement M
+word_spec = tie.close (tie.spec (λ c. search rules) (λ c. search rules) cast-result returns)

@@ -16,5 +16,5 @@ sub-result c = subst (λ (x : ℕ). 1 ≤ x) (sym (bit_is c.args.n c.requires)) 
 returns : tie.Need-returns
 returns c = λ k. ap (λ (x : ℕ). member (x - 1) k) (bit_is c.args.n c.requires) ∙ member-ones c.args.n k
 
-pub below-spec : {M : Type 1} → statement M
-below-spec = tie.close (tie.spec (λ c. search rules) sub-result returns)
+pub below_spec : {M : Type 1} → statement M
+below_spec = tie.close (tie.spec (λ c. search rules) sub-result returns)

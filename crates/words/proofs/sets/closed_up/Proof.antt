@@ -7,7 +7,7 @@ use Rattle.words.proofs.sets.closed_up.Tie as tie
 returns : tie.Need-returns
 returns c = λ j.
     let a = c.before.args in
-    member-closed a.set c.below.result a.k j c.before.ranges.set.fits c.below.type-inv c.below.ensures
+    member-closed a.set c.below-low.result a.k j c.before.ranges.set.fits c.below-low.type_inv c.below-low.ensures
 
-pub closed-up-spec : {M : Type 1} → statement M
-closed-up-spec = tie.close (tie.spec (λ c κs. search rules) returns)
+pub closed_up_spec : {M : Type 1} → statement M
+closed_up_spec = tie.close (tie.spec (λ c κs. search rules) returns)

@@ -6,5 +6,5 @@ use Rattle.words.proofs.sets.common.Tie as tie
 returns : tie.Need-returns
 returns c = λ k. member-and c.args.a c.args.b k
 
-pub common-spec : {M : Type 1} → statement M
-common-spec = tie.close (tie.spec returns)
+pub common_spec : {M : Type 1} → statement M
+common_spec = tie.close (tie.spec returns)

@@ -12,5 +12,5 @@ returns : tie.Need-returns
 unfolding member
 returns c = ap (λ (x : ℕ). eqb x 1) (and_mask (c.args.set / 2 ^ c.args.k) 1)
 
-pub has-spec : {M : Type 1} → statement M
-has-spec = tie.close (tie.spec (λ c. search rules) returns)
+pub has_spec : {M : Type 1} → statement M
+has_spec = tie.close (tie.spec (λ c. search rules) returns)

@@ -8,5 +8,5 @@ use Rattle.words.proofs.sets.lowest.Tie as tie
 returns : tie.Need-returns
 returns c = lowest-is c.args.set c.ranges.set.fits c.requires
 
-pub lowest-spec : {M : Type 1} → statement M
-lowest-spec = tie.close (tie.spec (λ c. omega (arith, trailing_le 64 c.args.set)) returns)
+pub lowest_spec : {M : Type 1} → statement M
+lowest_spec = tie.close (tie.spec (λ c. omega (arith, trailing_le 64 c.args.set)) returns)

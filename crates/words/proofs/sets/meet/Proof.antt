@@ -6,5 +6,5 @@ use Rattle.words.proofs.sets.meet.Tie as tie
 returns : tie.Need-returns
 returns c = common-member c.args.a c.args.b c.ranges.a.fits
 
-pub meet-spec : {M : Type 1} → statement M
-meet-spec = tie.close (tie.spec returns)
+pub meet_spec : {M : Type 1} → statement M
+meet_spec = tie.close (tie.spec returns)

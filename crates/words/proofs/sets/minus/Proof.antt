@@ -6,5 +6,5 @@ use Rattle.words.proofs.sets.minus.Tie as tie
 returns : tie.Need-returns
 returns c = λ k. member-minus c.args.a c.args.b k c.ranges.a.fits c.ranges.b.fits
 
-pub minus-spec : {M : Type 1} → statement M
-minus-spec = tie.close (tie.spec returns)
+pub minus_spec : {M : Type 1} → statement M
+minus_spec = tie.close (tie.spec returns)

@@ -24,5 +24,5 @@ returns c = λ e k l.
     let a = c.args in
     member-beyond a.set a.p k (below_power a.set a.p (eqb-true (a.set / 2 ^ a.p) 0 e)) l
 
-pub none-from-spec : {M : Type 1} → statement M
-none-from-spec = tie.close (tie.spec (λ c. search rules) returns)
+pub none_from_spec : {M : Type 1} → statement M
+none_from_spec = tie.close (tie.spec (λ c. search rules) returns)

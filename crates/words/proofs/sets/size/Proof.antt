@@ -10,5 +10,5 @@ cast-result c = omega (arith, size_small c.args.set)
 returns : tie.Need-returns
 returns c = (size-counted c.args.set, size_small c.args.set)
 
-pub size-spec : {M : Type 1} → statement M
-size-spec = tie.close (tie.spec cast-result returns)
+pub size_spec : {M : Type 1} → statement M
+size_spec = tie.close (tie.spec cast-result returns)

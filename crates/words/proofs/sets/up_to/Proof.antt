@@ -6,8 +6,8 @@ use Rattle.words.proofs.BitSets.{member-ones}
 use Rattle.words.proofs.sets.up_to.Statement.{statement}
 use Rattle.words.proofs.sets.up_to.Tie as tie
 
-returns : tie.Need-returns
-returns c = λ k. member-ones 64 k ∙ ap (ltb k) (sym c.if1.true)
+returns : tie.Need-returns-then-n-eq64
+returns c = λ k. member-ones 64 k ∙ ap (ltb k) (sym c.if-n-eq64.true)
 
-pub up-to-spec : {M : Type 1} → statement M
-up-to-spec = tie.close (tie.spec returns (λ c κs. search rules) (λ c. search rules))
+pub up_to_spec : {M : Type 1} → statement M
+up_to_spec = tie.close (tie.spec returns (λ c κs. search rules) (λ c. search rules))

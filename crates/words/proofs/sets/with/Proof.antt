@@ -7,5 +7,5 @@ use Rattle.words.proofs.sets.with.Tie as tie
 returns : tie.Need-returns
 returns c = λ j. member-with c.args.set c.args.k j c.requires
 
-pub with-spec : {M : Type 1} → statement M
-with-spec = tie.close (tie.spec (λ c. search rules) returns)
+pub with_spec : {M : Type 1} → statement M
+with_spec = tie.close (tie.spec (λ c. search rules) returns)

@@ -7,5 +7,5 @@ use Rattle.words.proofs.sets.without.Tie as tie
 returns : tie.Need-returns
 returns c = λ j. member-without c.args.set c.args.k j c.ranges.set.fits c.requires
 
-pub without-spec : {M : Type 1} → statement M
-without-spec = tie.close (tie.spec (λ c. search rules) returns)
+pub without_spec : {M : Type 1} → statement M
+without_spec = tie.close (tie.spec (λ c. search rules) returns)

@@ -7,5 +7,5 @@ use Rattle.words.proofs.sets.without_lowest.Tie as tie
 returns : tie.Need-returns
 returns c = lowest-lost c.args.set c.ranges.set.fits c.requires
 
-pub without-lowest-spec : {M : Type 1} → statement M
-without-lowest-spec = tie.close (tie.spec (λ c. omega arith) returns)
+pub without_lowest_spec : {M : Type 1} → statement M
+without_lowest_spec = tie.close (tie.spec (λ c. omega arith) returns)

@@ -6,5 +6,5 @@ use Rattle.words.proofs.sets.word_union.Tie as tie
 returns : tie.Need-returns
 returns c = λ k. member-or c.args.a c.args.b k
 
-pub word-union-spec : {M : Type 1} → statement M
-word-union-spec = tie.close (tie.spec returns)
+pub word_union_spec : {M : Type 1} → statement M
+word_union_spec = tie.close (tie.spec returns)

@@ -43,13 +43,13 @@ returns c =
     (omega (arith, c.before.word.ensures.0, c.before.before.predicate.ensures))
 
 returns-2 : tie.Need-returns-2
-returns-2 c = and-fails _ (parts c.before.before) (sym c.before.all-below.ensures ∙ not-true _ c.if2.true)
+returns-2 c = and-fails _ (parts c.before.before) (sym c.before.all-below.ensures ∙ c.if2.true)
 
 returns-3 : tie.Need-returns-3
 returns-3 c =
     let below = c.before.before.all-below.ensures in
     c.zeros.ensures ∙ sym (and-more (parts c.before.before.before)
-    (sym below ∙ not-false _ c.before.if2.false))
+    (sym below ∙ c.before.if2.false))
 
 pub atom-fits-spec : {M : Type 1} → statement M
 atom-fits-spec =

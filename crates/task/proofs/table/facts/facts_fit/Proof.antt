@@ -15,7 +15,7 @@ returns : tie.Need-returns
 returns c =
     let given = c.before.before.before.args in
     and-fails _ (facts-words given.table.now given.wanted given.first (given.end - given.first))
-    (sym c.before.each-fact-fits.ensures ∙ not-true _ c.if1.true)
+    (sym c.before.each-fact-fits.ensures ∙ c.if1.true)
 
 facts-ascend-requires : tie.Need-facts-ascend-requires
 facts-ascend-requires c κs =
@@ -27,7 +27,7 @@ facts-ascend-requires c κs =
         start.requires.1,
         λ i a b. fact-known w given.wanted i
             (all_from (fact_words_fit w given.wanted) given.first (given.end - given.first)
-            (sym c.before.each-fact-fits.ensures ∙ not-false _ c.if1.false) i a (omega arith)),
+            (sym c.before.each-fact-fits.ensures ∙ c.if1.false) i a (omega arith)),
       ),
     )
 
@@ -36,7 +36,7 @@ returns-2 c =
     let given = c.before.before.before.before.args in
     c.facts-ascend.ensures ∙
     sym (and-more (facts-words given.table.now given.wanted given.first (given.end - given.first))
-    (sym c.before.before.each-fact-fits.ensures ∙ not-false _ c.before.if1.false))
+    (sym c.before.before.each-fact-fits.ensures ∙ c.before.if1.false))
 
 pub facts-fit-spec : {M : Type 1} → statement M
 facts-fit-spec = tie.close (tie.spec (λ c κs. search rules) returns facts-ascend-requires returns-2)

@@ -14,7 +14,7 @@ returns : tie.Need-returns
 returns c =
     let given = c.before.before.before.args in
     and-fails _ (pairs-fit given.params (pairs_in given.table.now given.first (given.end - given.first)))
-    (sym c.before.each-pair-fits.ensures ∙ not-true _ c.if1.true)
+    (sym c.before.each-pair-fits.ensures ∙ c.if1.true)
 
 returns-2 : tie.Need-returns-2
 returns-2 c =
@@ -22,7 +22,7 @@ returns-2 c =
     c.pairs-ascend.ensures ∙
     sym (and-more
     (pairs-fit given.params (pairs_in given.table.now given.first (given.end - given.first)))
-    (sym c.before.before.each-pair-fits.ensures ∙ not-false _ c.before.if1.false))
+    (sym c.before.before.each-pair-fits.ensures ∙ c.before.if1.false))
 
 pub pairs-fit-spec : {M : Type 1} → statement M
 pairs-fit-spec = tie.close (tie.spec (λ c κs. search rules) returns (λ c κs. search rules) returns-2)

@@ -14,7 +14,7 @@ returns c =
     let given = start.args in
     unseen given.table.now given.end given.i given.behind start.requires.1.1.1.1.1
     (ap (member given.behind) (sym start.requires.1.1.1.1.0) ∙
-    (sym c.before.has.ensures ∙ not-true _ c.if1.true))
+    (sym c.before.has.ensures ∙ c.if1.true))
 
 pub repeats-spec : {M : Type 1} → statement M
 repeats-spec =

@@ -88,7 +88,7 @@ known c i l m =
     let start = start₃ c.before in
     let n = c.before.before.before.before.before.before.before.params_of.result in
     args-fit-known (words start) n i (all_from (arg_words_fit (words start) n) start.args.first (many start)
-    (sym c.before.atoms-fit.ensures ∙ not-false _ c.if5.false) i l (omega arith))
+    (sym c.before.atoms-fit.ensures ∙ c.if5.false) i l (omega arith))
 
 returns : tie.Need-returns
 returns c =
@@ -103,32 +103,32 @@ returns-3 : tie.Need-returns-3
 returns-3 c = let start = start₁ c.before.before.before in fails start 2 (lt-leb (many start) 64 (omega arith))
 
 returns-4 : tie.Need-returns-4
-returns-4 c = fails (start₂ c.before) 3 (sym c.before.roles-ascend.ensures ∙ not-true _ c.if4.true)
+returns-4 c = fails (start₂ c.before) 3 (sym c.before.roles-ascend.ensures ∙ c.if4.true)
 
 returns-5 : tie.Need-returns-5
-returns-5 c = fails (start₃ c.before) 4 (sym (args_are c.before) ∙ not-true _ c.if5.true)
+returns-5 c = fails (start₃ c.before) 4 (sym (args_are c.before) ∙ c.if5.true)
 
 atoms-differ-requires : tie.Need-atoms-differ-requires
 atoms-differ-requires c κs =
     let start = start₃ c.before in
     let roles = c.before.before in
-    let rise = sym roles.before.roles-ascend.ensures ∙ not-false _ roles.if4.false in
+    let rise = sym roles.before.roles-ascend.ensures ∙ roles.if4.false in
     (start.pre.0, ((omega arith, omega arith), (known c, rise)))
 
 returns-6 : tie.Need-returns-6
-returns-6 c = fails (start₄ c.before) 5 (sym c.before.atoms-differ.ensures ∙ not-true _ c.if6.true)
+returns-6 c = fails (start₄ c.before) 5 (sym c.before.atoms-differ.ensures ∙ c.if6.true)
 
 all-named-requires : tie.Need-all-named-requires
 all-named-requires c κs =
     let args = c.before.before in
-    let fit = sym args.before.atoms-fit.ensures ∙ not-false _ args.if5.false in
+    let fit = sym args.before.atoms-fit.ensures ∙ args.if5.false in
     ((start₄ c.before).requires.0, ((omega arith, omega arith), fit))
 
 returns-7 : tie.Need-returns-7
-returns-7 c = fails (start₅ c.before) 6 (sym (named-are c.before) ∙ not-true _ c.if7.true)
+returns-7 c = fails (start₅ c.before) 6 (sym (named-are c.before) ∙ c.if7.true)
 
 returns-8 : tie.Need-returns-8
-returns-8 c = fails (start₆ c.before) 7 (sym c.before.parts-fit.ensures ∙ not-true _ c.if8.true)
+returns-8 c = fails (start₆ c.before) 7 (sym c.before.parts-fit.ensures ∙ c.if8.true)
 
 pairs-fit-requires : tie.Need-pairs-fit-requires
 pairs-fit-requires c κs = let start = start₆ c.before in (start.pre.0, start.pre.1.1.0)
@@ -147,11 +147,11 @@ returns-9 c =
     (met-more (le-leb (params_in (words start) start.args.s) 12 (omega arith))
     (met-more (le-leb 1 (many start) (omega arith))
     (met-more (le-leb (many start) 64 (omega arith))
-    (met-more (sym roles.before.roles-ascend.ensures ∙ not-false _ roles.if4.false)
-    (met-more (sym (args_are args.before) ∙ not-false _ args.if5.false)
-    (met-more (sym apart.before.atoms-differ.ensures ∙ not-false _ apart.if6.false)
-    (met-more (sym (named-are named.before) ∙ not-false _ named.if7.false)
-    (met-more (sym parts.before.parts-fit.ensures ∙ not-false _ parts.if8.false) met-none)))))))) ∙
+    (met-more (sym roles.before.roles-ascend.ensures ∙ roles.if4.false)
+    (met-more (sym (args_are args.before) ∙ args.if5.false)
+    (met-more (sym apart.before.atoms-differ.ensures ∙ apart.if6.false)
+    (met-more (sym (named-are named.before) ∙ named.if7.false)
+    (met-more (sym parts.before.parts-fit.ensures ∙ parts.if8.false) met-none)))))))) ∙
     sym (whole start)))
 
 pub schema-fits-spec : {M : Type 1} → statement M

@@ -138,7 +138,7 @@ schema-fits-requires c κs =
 returns : tie.Need-returns invariant-loop decreases-loop
 returns c =
     let turn = c.before.before.before.before.before.before in
-    all-fails turn.before.loop.invariant.1.1 turn.loop-test.true (fit c.before ∙ not-true _ c.if1.true)
+    all-fails turn.before.loop.invariant.1.1 turn.loop-test.true (fit c.before ∙ c.if1.true)
 
 loop-again : tie.Need-loop-preserved invariant-loop decreases-loop
 loop-again c =
@@ -153,7 +153,7 @@ loop-again c =
       (
         cut-next (schema_number_in w) (head_in w).schemas (head_in w).schema_atoms (start at).requires.1.1
             at.loop.first s atoms.run-end2.result at.loop.invariant.1.0 (atoms-run atoms),
-        all_more at.loop.invariant.1.1 turn.loop-test.true (fit c.before ∙ not-false _ c.if1.false),
+        all_more at.loop.invariant.1.1 turn.loop-test.true (fit c.before ∙ c.if1.false),
       ),
     )
 

@@ -54,7 +54,7 @@ put : (p : tie.After-put-row) (d : Draft) (ns : List ℕ) → Holds d (before p)
     AtomPut d (start p).args.counts (start p).args.role (start p).args.predicate ns (after p)
 put p d ns h s =
     atom-put h (start p).requires.1.0 (few (fitting p)).if1.false (total (fitting p)) (fitting p).fits2.ensures
-    (not-false _ p.before.before.before.before.if3.false) (start p).requires.1.1 s
+    p.before.before.before.before.if3.false (start p).requires.1.1 s
     p.before.before.before.next_row.ensures p.put-row.ensures
 
 -- ---- and once it is looked for among the rows before
@@ -90,7 +90,7 @@ returns-3 c =
       untouched _,
       λ d ns h s. atom-misfits d _ _ ns (let e = h.atoms in omega arith)
           (let e = h.atoms in let q = h.closed in omega arith)
-          (sym (atom-fits h f.fits2.ensures (entry f).requires.1.1 s) ∙ not-true _ c.if3.true),
+          (sym (atom-fits h f.fits2.ensures (entry f).requires.1.1 s) ∙ c.if3.true),
     )
 
 put-row-requires : tie.Need-put-row-requires
@@ -98,7 +98,7 @@ put-row-requires c κs =
     let f = c.before.before.before.before in
     let h = (entry f).requires.0.holds in
     let fits = f.fits2.ensures in
-    let told = not-false _ c.before.before.before.if3.false in
+    let told = c.before.before.before.if3.false in
     let room = in_table (inside f) h.long in
     let row = c.before.before.next_row.ensures in
     let role = (entry f).requires.1.0.known in

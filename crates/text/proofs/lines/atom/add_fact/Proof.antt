@@ -66,7 +66,7 @@ put : (p : tie.After-put-row) (d : Draft) (ns : List ℕ) → Given p d ns →
     (after p)
 put p d ns (h, s) =
     fact-put (start p).args.kind h (start p).requires.1.0 (known p).facts.ensures (below (fitting p))
-    (fitting p).fits2.ensures (not-false _ p.before.before.before.if2.false)
+    (fitting p).fits2.ensures p.before.before.before.if2.false
     (start p).requires.1.1 s p.before.before.next_row.ensures p.put-row.ensures
 
 -- ---- and once it is compared with the row before
@@ -100,7 +100,7 @@ returns-2 c =
     let f = c.before in (
       untouched _,
       λ d ns h s. misfit-refused (entry f).args.kind h (facts f).facts.ensures _ ns (below f)
-          (sym (fact-fits h f.fits2.ensures (entry f).requires.1.1 s) ∙ not-true _ c.if2.true),
+          (sym (fact-fits h f.fits2.ensures (entry f).requires.1.1 s) ∙ c.if2.true),
     )
 
 put-row-requires : tie.Need-put-row-requires
@@ -108,7 +108,7 @@ put-row-requires c κs =
     let f = c.before.before.before in
     let h = (entry f).requires.0.holds in
     let fits = f.fits2.ensures in
-    let told = not-false _ c.before.before.if2.false in
+    let told = c.before.before.if2.false in
     let room = in_table (inside f) h.long in
     let row = c.before.next_row.ensures in
     let role = (place f).known in (
@@ -131,14 +131,14 @@ returns-3 : tie.Need-returns-3
 returns-3 c =
     let p = written c.before in (
       touched p,
-      λ d ns h s. (put p d ns (h, s)).unordered (sym (order c.before d ns (h, s)) ∙ not-true _ c.if4.true),
+      λ d ns h s. (put p d ns (h, s)).unordered (sym (order c.before d ns (h, s)) ∙ c.if4.true),
     )
 
 returns-4 : tie.Need-returns-4
 returns-4 c =
     let p = written c.before in (
       touched p,
-      λ d ns h s. (put p d ns (h, s)).taken (sym (order c.before d ns (h, s)) ∙ not-false _ c.if4.false),
+      λ d ns h s. (put p d ns (h, s)).taken (sym (order c.before d ns (h, s)) ∙ c.if4.false),
     )
 
 returns-5 : tie.Need-returns-5

@@ -47,7 +47,7 @@ returns-5 c =
     let three = lower found in
     let two = roomy three in
     λ d ns h s. not_behind h s (start two).pre.1 (counted two).if1.left two.if2.left three.if3.left
-    found.before.if4.false (sym (found.follows.ensures d h) ∙ not-true _ c.if5.true)
+    found.before.if4.false (sym (found.follows.ensures d h) ∙ c.if5.true)
 
 returns-6 : tie.Need-returns-6
 returns-6 c =
@@ -55,7 +55,7 @@ returns-6 c =
     let three = lower found in
     let two = roomy three in
     λ d ns h s. pair-passes h s (start two).pre.1 (counted two).if1.left two.if2.left three.if3.left
-    found.before.if4.false (sym (found.follows.ensures d h) ∙ not-false _ c.if5.false)
+    found.before.if4.false (sym (found.follows.ensures d h) ∙ c.if5.false)
 
 pub check-pair-spec : {M : Type 1} → statement M
 check-pair-spec =

@@ -65,7 +65,7 @@ returns-3 c =
     let list = read (lists c.before) in (
       untouched _,
       λ d h. line_refused arity_line d _ _ _ list.is 4
-          (arity-too-high d list.ns (low c.before ∙ not-true _ c.if2.true)),
+          (arity-too-high d list.ns (low c.before ∙ c.if2.true)),
     )
 
 put-words-requires : tie.Need-put-words-requires
@@ -73,7 +73,7 @@ put-words-requires c κs =
     let b = c.before.before.before in
     let size = (heard (lists b)).numbers.auto.1.1.0 in
     let few = b.before.before.if1.false in
-    let all-below = sym b.all-below.ensures ∙ not-false _ c.before.before.if2.false in
+    let all-below = sym b.all-below.ensures ∙ c.before.before.if2.false in
     let long = (start (lists b)).requires.1.0.holds.long in
     let z = table_words-is in (
       omega arith,
@@ -91,7 +91,7 @@ returns-4 c =
     let many = list.listed.counted in
     let size = (heard (lists b)).numbers.auto.1.1.0 in
     let few = b.before.before.if1.false in
-    let fits = low b ∙ not-false _ c.before.before.before.before.before.if2.false in
+    let fits = low b ∙ c.before.before.before.before.before.if2.false in
     let put = c.before.before.put-words.ensures in (
       inside-touched (omega arith) put,
       λ d h. record {

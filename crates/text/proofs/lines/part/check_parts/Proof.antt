@@ -45,7 +45,7 @@ module _ (c : tie.After-all-below) (d : Draft) (ns : List ℕ)
   same = let e = h.atoms in let n = s.counted in let q = c.before.if3.false in omega arith
 
   all-named : all_named d.current ≡ true
-  all-named = named (tested c) d h ∙ not-false _ c.before.before.before.if2.false
+  all-named = named (tested c) d h ∙ c.before.before.before.if2.false
 
   kept : take (start c).args.count (start c).args.parts.now ≡ ns
   kept =
@@ -70,41 +70,41 @@ all-named-requires c κs =
     λ i l. rw c.first-row.ensures (row_in h (omega arith) i l)
 
 returns-2 : tie.Need-returns-2
-returns-2 c = λ d ns h s. not_named d ns (some c.before d h) (named c.before d h ∙ not-true _ c.if2.true)
+returns-2 c = λ d ns h s. not_named d ns (some c.before d h) (named c.before d h ∙ c.if2.true)
 
 returns-3 : tie.Need-returns-3
 returns-3 c =
     let names = c.before.before.before in
-    λ d ns h s. wrong-length d ns (some names d h) (named names d h ∙ not-false _ c.before.before.if2.false)
+    λ d ns h s. wrong-length d ns (some names d h) (named names d h ∙ c.before.before.if2.false)
     (λ q. c.if3.true (let e = h.atoms in let n = s.counted in omega arith))
 
 returns-4 : tie.Need-returns-4
 returns-4 c =
     let t = c.before in
     λ d ns h s. part-high d ns (some (tested t) d h) (all-named t d ns h s) (same t d ns h s)
-    (low t d ns h s ∙ not-true _ c.if4.true)
+    (low t d ns h s ∙ c.if4.true)
 
 without-gap-requires : tie.Need-without-gap-requires
 without-gap-requires c κs =
     let few = (start c.before).requires.0.holds.few.atoms in
     let size = (start c.before).requires.1 in
     let same = c.before.before.if3.false in
-    (omega arith, sym c.before.all-below.ensures ∙ not-false _ c.if4.false)
+    (omega arith, sym c.before.all-below.ensures ∙ c.if4.false)
 
 returns-5 : tie.Need-returns-5
 returns-5 c =
     let t = c.before.before.before in
     λ d ns h s. part-gap d ns (some (tested t) d h) (all-named t d ns h s) (same t d ns h s)
-    (low t d ns h s ∙ not-false _ c.before.before.if4.false)
-    (ap no_gap_in (sym (kept t d ns h s)) ∙ (sym c.before.without-gap.ensures ∙ not-true _ c.if5.true))
+    (low t d ns h s ∙ c.before.before.if4.false)
+    (ap no_gap_in (sym (kept t d ns h s)) ∙ (sym c.before.without-gap.ensures ∙ c.if5.true))
 
 returns-6 : tie.Need-returns-6
 returns-6 c =
     let t = c.before.before.before in
     λ d ns h s.
-    let below = low t d ns h s ∙ not-false _ c.before.before.if4.false in (
+    let below = low t d ns h s ∙ c.before.before.if4.false in (
       parts-close d ns (some (tested t) d h) (all-named t d ns h s) (same t d ns h s) below
-          (ap no_gap_in (sym (kept t d ns h s)) ∙ (sym c.before.without-gap.ensures ∙ not-false _ c.if5.false)),
+          (ap no_gap_in (sym (kept t d ns h s)) ∙ (sym c.before.without-gap.ensures ∙ c.if5.false)),
       same t d ns h s,
       below,
     )
