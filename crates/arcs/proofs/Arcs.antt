@@ -15,7 +15,7 @@ use Rattle.task.specs.Task.{Atom, Pair, precondition, addition, deletion}
 use Rattle.arcs.specs.Order.{role_before, are_pair, hold_pair, gives_arc, arc}
 use Rattle.task.proofs.States.{KeepsApart}
 use Rattle.words.proofs.Lists.{no_ft, both-ft, false-if, and_left, and_right, and_both, or_cases, or_left, or_right}
-use Rattle.words.proofs.Lists.{In, in-empty, any-in, in-any, get_d_map}
+use Rattle.words.proofs.Lists.{In, in-empty, any-in, in-any, get_or-map}
 
 -- ---- the role rule
 -- "from precondition to add, precondition to delete, delete to add"
@@ -132,7 +132,7 @@ module _ (pairs : List Pair) where
       false-if (hold_pair pairs xs ys) (λ h. let (i, a, b, p) = hold-found xs ys h in go i a b p)
     where
       at : (i : ℕ) → i < length xs → i < length ys → v (get_or xs i 0) ≡ v (get_or ys i 0)
-      at i a b = sym (get_d_map v xs i 0 0 a) ∙ ap (λ zs. get_or zs i 0) e ∙ get_d_map v ys i 0 0 b
+      at i a b = sym (get_or-map v xs i 0 0 a) ∙ ap (λ zs. get_or zs i 0) e ∙ get_or-map v ys i 0 0 b
 
       go : (i : ℕ) → i < length xs → i < length ys → IsPair pairs (get_or xs i 0) (get_or ys i 0) → ⊥
       go i a b (lower-first q k l h) = apart q k (ap v l ∙ at i a b ∙ sym (ap v h))

@@ -13,7 +13,7 @@ use Rattle.task.specs.Task.{Atom, schema_roles, schema_fits, no_schema}
 use Rattle.task.specs.Run.{schema_at}
 use Rattle.words.specs.Words.{words_at}
 use Rattle.task.specs.Table.{atom_in, schema_number_in, task_of, is_table}
-use Rattle.words.proofs.Lists.{In, all_in, in-get_d, length-up_from, get_d_map, get_d-up_from}
+use Rattle.words.proofs.Lists.{In, all_in, in-get_or, length-up_from, get_or-map, get_or-up_from}
 use Rattle.task.proofs.Tests.{schema-tests, task-tests}
 use Rattle.task.proofs.AtomsStand.{no_atom}
 use Rattle.task.proofs.Tables.{of-table}
@@ -30,7 +30,7 @@ pub schema-fits : (w : List ℕ) → is_table w ≡ true → (s : ℕ) → s < l
 unfolding schema_at
 schema-fits w h s l =
     let t = task_of w in
-    all_in (schema_fits t.arities) (task-tests t (of-table w h).0).fit (in-get_d t.schemas s no_schema l)
+    all_in (schema_fits t.arities) (task-tests t (of-table w h).0).fit (in-get_or t.schemas s no_schema l)
 
 module _ (w : List ℕ) (i : ℕ) (is : IsSchemaAtom w i) where
   -- an atom of a schema of the task
@@ -53,7 +53,7 @@ module _ (w : List ℕ) (i : ℕ) (is : IsSchemaAtom w i) where
         known = let x = lies.known in omega arith;
         atom = subst (λ (a : Atom). In a (schema_at t s).atoms)
             (sym (ap (atom_in w) (sym e) ∙ atom-at w fr s (i - first_atom t s) lies.known l))
-            (in-get_d (schema_at t s).atoms (i - first_atom t s) no_atom l);
+            (in-get_or (schema_at t s).atoms (i - first_atom t s) no_atom l);
       }
 
   fits : schema_fits (task_of w).arities (schema_at (task_of w) (schema_number_in w i)) ≡ true
@@ -87,7 +87,7 @@ module _ (w : List ℕ) (i : ℕ) (is : IsSchemaAtom w i) where
   few-arguments =
       let t = task_of w in
       ((table-frame w is.table).sizes.schema (schema_at t (schema_number_in w i))
-      (in-get_d t.schemas (schema_number_in w i) no_schema placed.known) (atom_in w i) placed.atom).short
+      (in-get_or t.schemas (schema_number_in w i) no_schema placed.known) (atom_in w i) placed.atom).short
 
   -- ---- where its arguments stand
   pub argument-count : length (atom_in w i).args ≡ arity_in w (atom_in w i).pred
@@ -102,5 +102,5 @@ module _ (w : List ℕ) (i : ℕ) (is : IsSchemaAtom w i) where
       let ks = up_from (atom_base w i + 4) n in
       let e : length (atom_in w i).args ≡ length ks = length-map ks (λ (j : ℕ). get_or w j 0) in
       let m = length-up_from (atom_base w i + 4) n in
-      get_d_map (λ (j : ℕ). get_or w j 0) ks k 0 0 (omega arith) ∙
-      ap (λ (j : ℕ). get_or w j 0) (get_d-up_from (atom_base w i + 4) n k 0 (omega arith))
+      get_or-map (λ (j : ℕ). get_or w j 0) ks k 0 0 (omega arith) ∙
+      ap (λ (j : ℕ). get_or w j 0) (get_or-up_from (atom_base w i + 4) n k 0 (omega arith))

@@ -14,7 +14,7 @@ use borrow.Author.Tests.{eqb-true, eq-eqb}
 use Rattle.words.specs.Lists.{any, up_to}
 use Rattle.task.specs.Task.{Atom, Pair, Schema, part_count}
 use Rattle.arcs.specs.Order.{arc, NoOrderComplies, ready, next_part, cons_to, place, order_from, order_of}
-use Rattle.words.proofs.Lists.{both-ft, In, here, there, in-eq, in-empty, any-in, in-any, get_d-in, up_to-in}
+use Rattle.words.proofs.Lists.{both-ft, In, here, there, in-eq, in-empty, any-in, in-any, get_or-in, up_to-in}
 use Rattle.words.proofs.Lists.{length-up_to}
 use Rattle.arcs.proofs.Arcs.{arc-self}
 use Rattle.arcs.proofs.Best.{next-none}
@@ -30,7 +30,7 @@ module _ (pairs : List Pair) (atoms : List Atom) where
   first-free : (p : ℕ) (o : List ℕ) → NoneBack (p ∷ o) → (q : ℕ) → In q (p ∷ o) → arc pairs atoms q p ≡ false
   first-free p o h q (here e) = ap (λ q. arc pairs atoms q p) e ∙ arc-self pairs atoms p
   first-free p o h q (there i) =
-      let (k, l, e) = get_d-in 0 i in
+      let (k, l, e) = get_or-in 0 i in
       ap (λ q. arc pairs atoms q p) (sym e) ∙ h 0 (suc k) (omega arith) (omega arith)
 
   -- of the unplaced parts, the one that such an order puts first is ready

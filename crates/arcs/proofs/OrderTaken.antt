@@ -16,7 +16,7 @@ use Rattle.task.specs.Task.{Atom, Pair, Schema, part_count}
 use Rattle.task.proofs.SchemaWords.{part_small}
 use Rattle.arcs.specs.Order.{arc, OrderOfParts, Complies, ready, next_part, cons_to, place, order_from, order_of}
 use Rattle.words.proofs.Lists.{both-ft, bool_cases, false-if, In, here, there, in-eq, any-in, in-any, in-filter}
-use Rattle.words.proofs.Lists.{in-get_d, get_d-in, in-up_to, length-up_to}
+use Rattle.words.proofs.Lists.{in-get_or, get_or-in, in-up_to, length-up_to}
 use Rattle.task.proofs.States.{KeepsApart}
 use Rattle.arcs.proofs.Arcs.{Ordered, SameGround, same-ground-arc, arc-is}
 use Rattle.arcs.proofs.Best.{next-ready}
@@ -92,7 +92,7 @@ module _ {pairs : List Pair} {atoms : List Atom} where
   taken-later : {n : ℕ} {p : ℕ} {unplaced o : List ℕ} → Taken pairs atoms n (others p unplaced) o → (k : ℕ) →
       k < length o → In (get_or o k 0) unplaced × (p ≡ get_or o k 0 → ⊥)
   taken-later {p = p} {unplaced = us} {o = o} h k l =
-      others-in p us (get_or o k 0) (taken_in h (get_or o k 0) (in-get_d o k 0 l))
+      others-in p us (get_or o k 0) (taken_in h (get_or o k 0) (in-get_or o k 0 l))
 
   taken-complies : {n : ℕ} {unplaced o : List ℕ} → Taken pairs atoms n unplaced o →
       (i j : ℕ) → i < j → j < length o → arc pairs atoms (get_or o j 0) (get_or o i 0) ≡ false
@@ -150,7 +150,7 @@ pub atom-placed : (s : Schema) (o : List ℕ) → OrderOfParts s o → (a : Atom
     (i : ℕ) × (i < length o) × (get_or o i 0 ≡ a.part)
 atom-placed s o h a i =
     let (p, k, e) = any-in (eqb a.part) o (h.placed a.part (part_small i)) in
-    get_d-in 0 (in-eq (eqb-true a.part p e) k)
+    get_or-in 0 (in-eq (eqb-true a.part p e) k)
 
 -- where objects keep the pairs apart, no atom of a later part tests what an earlier part changes, or deletes what it
 -- adds

@@ -11,7 +11,7 @@ use lib.Dec.{eqb, ltb}
 use borrow.Author.Tests.{leb-true, ltb-false}
 use Rattle.words.specs.Lists.{any, up_to}
 use Rattle.words.specs.Sets.{member}
-use Rattle.words.proofs.Lists.{bool-ext, any-in, in-any, in-get_d, in-up_to, up_to-in}
+use Rattle.words.proofs.Lists.{bool-ext, any-in, in-any, in-get_or, in-up_to, up_to-in}
 use Rattle.words.proofs.Ranges.{any_last}
 use Rattle.words.proofs.Loops.{AnyLeft, any-up-to}
 use Rattle.task.specs.Layout.{head_in}
@@ -47,7 +47,7 @@ pair_small w h i l =
     let fits = schema-fits w h s (omega (arith, lies.known)) in
     let few = leb-true (schema_at t s).params most_parameters (schema-tests t.arities (schema_at t s) fits).params in
     let q = (schema_fits-fits t.arities (schema_at t s) fits).pairs (get_or (schema_at t s).pairs k no_pair)
-    (in-get_d (schema_at t s).pairs k no_pair b) in
+    (in-get_or (schema_at t s).pairs k no_pair b) in
     subst (PairFits most_parameters) (sym (ap (pair_in w) (sym e) ∙ pair-at w fr s k lies.known b))
     (record { ascends = q.ascends; known = omega (arith, q.known) })
 

@@ -11,7 +11,7 @@ use borrow.Author.Tests.{eqb-true, eq-eqb}
 use Rattle.words.specs.Lists.{any, up_to}
 use Rattle.task.specs.Task.{precondition, addition, deletion, schema_roles}
 use Rattle.words.proofs.Lists.{and_left, and_right, and_both, both-ft, bool-ext, false-if, any-in, in-any, in-up_to}
-use Rattle.words.proofs.Lists.{get_d-mapped}
+use Rattle.words.proofs.Lists.{get_or-mapped}
 use Rattle.arcs.specs.Order.{role_before}
 use Rattle.arcs.proofs.Arcs.{Ordered, tested-then-added, tested-then-deleted, deleted-then-added, role-rule}
 
@@ -30,8 +30,8 @@ pub each-entry : (table : List (List Bool)) → table ≡ rule_table → (r q : 
 unfolding rule_table rule_row up_to
 each-entry table e r q l m =
     ap (λ (rows : List (List Bool)). get_or (get_or rows r []) q false) e
-    ∙ (ap (λ (row : List Bool). get_or row q false) (get_d-mapped rule_row 0 schema_roles r [] l)
-    ∙ (get_d-mapped (role_before (0 + r)) 0 schema_roles q false m ∙ ap₂ role_before (zero-add r) (zero-add q)))
+    ∙ (ap (λ (row : List Bool). get_or row q false) (get_or-mapped rule_row 0 schema_roles r [] l)
+    ∙ (get_or-mapped (role_before (0 + r)) 0 schema_roles q false m ∙ ap₂ role_before (zero-add r) (zero-add q)))
 
 -- the roles that come after one are among the three
 pub listed-after : (r x : ℕ) → any (λ q. eqb q x && role_before r q) (up_to schema_roles) ≡ role_before r x

@@ -13,7 +13,7 @@ use Rattle.task.specs.Task.{Atom, Schema, Task, part_count, schema_fits, no_sche
 use Rattle.task.specs.Run.{schema_at}
 use Rattle.task.specs.Table.{atom_in, schema_number_in, task_of, is_table}
 use Rattle.task.specs.WordTests.{Roomy}
-use Rattle.words.proofs.Lists.{In, all_in, in-get_d, map-in, map-append, up_from-in, up_from-append, tabulate}
+use Rattle.words.proofs.Lists.{In, all_in, in-get_or, map-in, map-append, up_from-in, up_from-append, tabulate}
 use Rattle.words.proofs.Lists.{sum-take-rises}
 use Rattle.task.proofs.Tests.{schema-tests, task-tests}
 use Rattle.task.proofs.AtomsStand.{no_atom}
@@ -44,8 +44,8 @@ part-below w i a =
     let l : k < length (schema_at t s).atoms = omega arith in
     let e : start_of t s + k ≡ i = omega arith in
     let q = ap (λ (x : Atom). x.part) (ap (atom_in w) (sym e) ∙ atom-at w fr s k lies.known l) in
-    let p = part_small (in-get_d (schema_at t s).atoms k no_atom l) in
-    let i = in-get_d t.schemas s no_schema (omega arith) in
+    let p = part_small (in-get_or (schema_at t s).atoms k no_atom l) in
+    let i = in-get_or t.schemas s no_schema (omega arith) in
     let f = all_in (schema_fits t.arities) (task-tests t (of-table w a.table).0).fit i in
     let b = leb-true (part_count (schema_at t s).atoms) 16 (schema-tests t.arities (schema_at t s) f).parts in
     omega arith

@@ -14,7 +14,7 @@ use task::limits::{ADDITION, DELETION, MOST_PARTS, PRECONDITION};
 use words::sets::with;
 
 // What atoms of a role have arcs to in a stretch: the roles after it, and an end from which on no atom has one of them.
-#[derive(Drop)]
+#[derive(Clone, Copy)]
 struct Reach {
     after: u64,
     end: usize,

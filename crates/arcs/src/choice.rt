@@ -11,7 +11,7 @@ use task::Part;
 use words::sets;
 
 // A part that is ready, or none: then the parts left stand in a circle.
-#[derive(Drop)]
+#[derive(Clone, Copy)]
 pub enum Choice {
     Ready(Part),
     Circular,

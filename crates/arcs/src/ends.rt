@@ -9,7 +9,7 @@ use task::table::schemas::run_end;
 use words::runs::word;
 
 // Where the atoms of a schema end, and where its pairs do.
-#[derive(Drop)]
+#[derive(Clone, Copy)]
 pub struct Ends {
     pub atoms: usize,
     pub pairs: usize,

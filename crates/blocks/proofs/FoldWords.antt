@@ -15,9 +15,9 @@ use borrow.Author.Tests.{eqb-true, eq-eqb}
 use Rattle.words.specs.Lists.{up_to, eq_list}
 use Rattle.words.specs.Sets.{member, members}
 use Rattle.words.specs.Words.{words_at}
-use Rattle.words.proofs.Lists.{no_ft, and_left, and_right, and_both, false-if, both-ft, In, in-get_d, in-eq, in-any}
-use Rattle.words.proofs.Lists.{any-in, get_d_map, get_d-mapped, length-up_to, eq_list-eq, eq_list-refl, map_same}
-use Rattle.words.proofs.Words.{get_d-words_at, length-words_at}
+use Rattle.words.proofs.Lists.{no_ft, and_left, and_right, and_both, false-if, both-ft, In, in-get_or, in-eq, in-any}
+use Rattle.words.proofs.Lists.{any-in, get_or-map, get_or-mapped, length-up_to, eq_list-eq, eq_list-refl, map_same}
+use Rattle.words.proofs.Words.{get_or-words_at, length-words_at}
 use Rattle.task.specs.Limits.{step_size}
 use Rattle.task.specs.Task.{Task}
 use Rattle.task.specs.Run.{Step, schema_at, param_count, step_in, step_at, is_step_at, steps_in}
@@ -67,7 +67,7 @@ module _ (t : Task) (steps : List ℕ) where
       let z : 0 + i ≡ i = omega arith in
       drop-cons ys i no_step (omega arith)
       ∙ ap (λ (x : Step). x ∷ drop (suc i) ys)
-      (get_d-mapped (step_at (split_task t) steps) 0 (length steps / step_size) i no_step l
+      (get_or-mapped (step_at (split_task t) steps) 0 (length steps / step_size) i no_step l
       ∙ ap (step_at (split_task t) steps) z)
 
   pub step-none : (i : ℕ) → length steps / step_size ≤ i → drop i ys ≡ []
@@ -87,7 +87,7 @@ module _ {t : Task} {kept origins : List ℕ} (K : BlocksKept t kept)
   unfolding up_to
   gathered-at p m =
       let z : 0 + p ≡ p = omega arith in
-      get_d-mapped from 0 (param_count t s) p 0 m ∙ ap from z
+      get_or-mapped from 0 (param_count t s) p 0 m ∙ ap from z
 
   pub gathered-size : length x.objects ≡ (schema_at t s).params
   unfolding param_count
@@ -120,7 +120,7 @@ module _ {t : Task} {kept origins : List ℕ} (K : BlocksKept t kept)
     unfolding param_count
     own-object k n none_before =
         let p = get_or ps k 0 in
-        let a = in-get_d ps k 0 n in
+        let a = in-get_or ps k 0 n in
         let e = O.first s p j l (let q = param-small t s j p a in let r = K.few-params s in omega arith)
         (let c = K.count s l in omega arith) (part-has p a) none_before in
         let w = part-params K s j l m 12 (omega arith) in
@@ -159,12 +159,12 @@ module _ {t : Task} {kept origins : List ℕ} (K : BlocksKept t kept)
           go (inl e) =
               let c = param_count (split_task t) (get_or steps (step_size * (i + j)) 0) in
               let d = length-words_at steps (step_size * (i + j) + 1) c in
-              get_d-words_at steps (step_size * (i + j) + 1) c k (omega (arith, size))
+              get_or-words_at steps (step_size * (i + j) + 1) c k (omega (arith, size))
               ∙ sym (own-object k n (not-before p e))
           go (inr e) =
               sym (eqb-true (get_or x.objects p 0) (get_or y.objects k 0)
               (sym (ap (λ (o : Option ℕ). agrees o (get_or y.objects k 0)) e) ∙ a))
-              ∙ gathered-at p (param-small t s j p (in-get_d ps k 0 n))
+              ∙ gathered-at p (param-small t s j p (in-get_or ps k 0 n))
 
       pub fitting : y ≡ part_step t x j
       unfolding fits_at part_step
@@ -173,7 +173,7 @@ module _ {t : Task} {kept origins : List ℕ} (K : BlocksKept t kept)
           let e : y.objects ≡ (part_step t x j).objects =
           ext_get_or 0 y.objects (objects_in steps origins (step_size * i) s ps)
           (sym size ∙ sym (length-map ps from))
-          (λ k n. same-at k (omega (arith, size)) ∙ sym (get_d_map from ps k 0 0 (omega (arith, size))))
+          (λ k n. same-at k (omega (arith, size)) ∙ sym (get_or-map from ps k 0 0 (omega (arith, size))))
           ∙ sym part-objects in
           λ k. record { schema = d k; objects = e k }
 

@@ -17,7 +17,7 @@ use Rattle.task.specs.Run.{Step, is_step, schema_at}
 use Rattle.arcs.specs.Order.{OrderOfParts, Complies, order_of}
 use Rattle.tokens.specs.Split.{has, parts, own, orders, split_task, split_as, split}
 use Rattle.blocks.specs.Blocks.{params_at}
-use Rattle.words.proofs.Lists.{and_left, and_right, and_both, In, in-append, all_in, in_all, in-eq, any-in, get_d-in}
+use Rattle.words.proofs.Lists.{and_left, and_right, and_both, In, in-append, all_in, in_all, in-eq, any-in, get_or-in}
 use Rattle.task.proofs.States.{IsStep, is_step-is, is-is_step, WellFormed, well_formed-is}
 use Rattle.arcs.proofs.OrderTaken.{EachOnce, order-taken, order-once, atom-placed}
 use Rattle.tokens.proofs.Places.{atom-has, params-in}
@@ -111,7 +111,7 @@ module _ {t t' : Task} (G : Given t t') {s : ℕ} (l : s < length t.schemas) whe
   pair-placed q i =
       let (p, m, a, b) = pair-part (schema_at t s) (G.kept s l) q i in
       let (r, k, e) = any-in (eqb p) (orders t s) (order-of-parts.placed p m) in
-      let (j, n, d) = get_d-in 0 (in-eq (eqb-true p r e) k) in (
+      let (j, n, d) = get_or-in 0 (in-eq (eqb-true p r e) k) in (
         j,
         n,
         subst (λ p. has (schema_at t s) q.lower p ≡ true) (sym d) a,

@@ -17,10 +17,10 @@ use Rattle.words.specs.Lists.{up_to, index_of}
 use Rattle.task.specs.Task.{Task}
 use Rattle.task.specs.Run.{Step, schema_at}
 use Rattle.tokens.specs.Split.{has, orders, params_of, first_of}
-use Rattle.words.proofs.Lists.{and_left, and_right, In, here, there, in-get_d, get_d-in, map-in, get_d_map, map_same}
+use Rattle.words.proofs.Lists.{and_left, and_right, In, here, there, in-get_or, get_or-in, map-in, get_or-map, map_same}
 use Rattle.words.proofs.Lists.{map-append, up_to-suc, up_to-in}
 use Rattle.task.proofs.States.{IsChoice}
-use Rattle.tokens.proofs.Places.{index-small, index-get_d}
+use Rattle.tokens.proofs.Places.{index-small, index-get_or}
 use Rattle.blocks.specs.Blocks.{params_at, part_step, beginner, Stage, outside, inside, begun, stage_for}
 use Rattle.blocks.specs.Blocks.{fits_at, completed}
 use Rattle.blocks.proofs.FoldBlock.{param-small}
@@ -47,7 +47,7 @@ module _ (t : Task) where
     count = length-map b or_zero ∙ size;
     small = λ o i.
         let (c, k, e) = map-in or_zero b o i in
-        let (p, l, d) = get_d-in none k in
+        let (p, l, d) = get_or-in none k in
         subst (λ o. o < t.objects) (sym e) (object c p d);
   }
     where
@@ -91,8 +91,8 @@ module _ {t : Task} {s j : ℕ} {b : Bound} {pre : List Step} (h : Inside t s j 
       ext_get_or 0 y.objects (map given-by ps) (sym n ∙ sym (length-map ps given-by))
       (λ i l.
       let m : i < length ps = omega arith in
-      sym (get_d_map given-by ps i 0 0 m ∙ ap (λ k. get_or y.objects k 0)
-      (index-get_d (λ x. has (schema_at t s) x (get_or (orders t s) j 0)) 0 (schema_at t s).params i m)))
+      sym (get_or-map given-by ps i 0 0 m ∙ ap (λ k. get_or y.objects k 0)
+      (index-get_or (λ x. has (schema_at t s) x (get_or (orders t s) j 0)) 0 (schema_at t s).params i m)))
 
   -- ---- what is bound after it
   after_is : after ≡ bind b ps (map given-by ps)
@@ -130,8 +130,8 @@ module _ {t : Task} {s j : ℕ} {b : Bound} {pre : List Step} (h : Inside t s j 
       same = map_same (λ p. get_or (map or_zero b) p 0) (λ p. get_or (map or_zero after) p 0) (params_at t s i) (λ p m.
           let (o, e) = h.found p i l m in
           let q : p < length b = rw h.size (param-small t s i p m) in
-          get_d_map or_zero b p none 0 q ∙ ap or_zero (e ∙ sym (after-old p o e)) ∙
-          sym (get_d_map or_zero after p none 0 (rw after-size q)))
+          get_or-map or_zero b p none 0 q ∙ ap or_zero (e ∙ sym (after-old p o e)) ∙
+          sym (get_or-map or_zero after p none 0 (rw after-size q)))
 
   part-here : y ≡ part_step t (candidate t s j b y) j
   unfolding part_step completed or_zero
@@ -139,7 +139,7 @@ module _ {t : Task} {s j : ℕ} {b : Bound} {pre : List Step} (h : Inside t s j 
     where
       same : y.objects ≡ map (λ p. get_or (map or_zero after) p 0) ps
       same = objects-are ∙ map_same given-by (λ p. get_or (map or_zero after) p 0) ps (λ p m.
-          sym (get_d_map or_zero after p none 0 (rw after-size (ps-small p m)) ∙ ap or_zero (after-new p m)))
+          sym (get_or-map or_zero after p none 0 (rw after-size (ps-small p m)) ∙ ap or_zero (after-new p m)))
 
   -- the steps so far and y are the first parts of the candidate's block
   pub parts-so-far : pre ++ (y ∷ []) ≡ map (part_step t (candidate t s j b y)) (up_to (suc j))
@@ -155,7 +155,7 @@ module _ {t : Task} {s j : ℕ} {b : Bound} {pre : List Step} (h : Inside t s j 
     given-small : (p : ℕ) → In p ps → given-by p < t.objects
     given-small p i =
         let n = fits-length b ps y.objects fits-objects in
-        objects (given-by p) (in-get_d y.objects (index_of p ps) 0 (omega (arith, index-small i)))
+        objects (given-by p) (in-get_or y.objects (index_of p ps) 0 (omega (arith, index-small i)))
 
     after_small : (p o : ℕ) → get_or after p none ≡ some o → o < t.objects
     after_small p o e = elim (in-or-not p ps) [

@@ -17,7 +17,7 @@ use Rattle.task.specs.Run.{Step, schema_at, step_in, step_at, steps_in, param_co
 use Rattle.words.proofs.Lists.{bool-ext, false-if, In, here, there, in-eq, any-in, in-any, in-filter, filter-in}
 use Rattle.words.proofs.Lists.{map_same, up_to-in, up_from-in, up_from-append, filter-append, filter_none}
 use Rattle.task.proofs.States.{is_step-is}
-use Rattle.words.proofs.Words.{get_d-words_at}
+use Rattle.words.proofs.Words.{get_or-words_at}
 use Rattle.task.proofs.StepWords.{step-here}
 use Rattle.task.proofs.BadSteps.{good-steps}
 use Rattle.words.specs.Sets.{member, members}
@@ -130,7 +130,7 @@ module _ {t : Task} {steps kept : List ℕ} (K : StepsKept t steps kept) where
       let b : map read (members set 12) ≡ map given (filter mine (up_to n)) =
       ap (map read) (members-are set n 12 mine (K.blocks.few-params s) (λ x. K.blocks.params s j x k m))
       ∙ map_same read given (filter mine (up_to n)) (λ p q.
-      sym (get_d-words_at steps (step_size * i + 1) n p (up_to-in n p (filter-in mine (up_to n) p q).0))) in
+      sym (get_or-words_at steps (step_size * i + 1) n p (up_to-in n p (filter-in mine (up_to n) p q).0))) in
       λ r. record { schema = a r; objects = b r }
 
   block-is : (i : ℕ) → i < length steps / step_size →

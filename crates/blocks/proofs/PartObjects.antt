@@ -13,8 +13,8 @@ use lib.Dec.{eqb}
 use Rattle.words.specs.Lists.{all, keep_if, up_to, up_from, eq_list}
 use Rattle.words.specs.Words.{words_at}
 use Rattle.words.specs.Sets.{member, members}
-use Rattle.words.proofs.Lists.{in-get_d, filter-in, up_to-in, get_d_map, tabulate}
-use Rattle.words.proofs.Words.{length-words_at, get_d-words_at}
+use Rattle.words.proofs.Lists.{in-get_or, filter-in, up_to-in, get_or-map, tabulate}
+use Rattle.words.proofs.Words.{length-words_at, get_or-words_at}
 use Rattle.words.proofs.SetMembers.{members-more, size_none, size-more}
 use Rattle.words.proofs.Sums.{one}
 use Rattle.blocks.specs.FoldCode.{origin_place, object_in, objects_in, agrees_at, given_objects}
@@ -75,7 +75,7 @@ pub in-set : (own n k : ℕ) → k < length (members own n) →
     (get_or (members own n) k 0 < n) × (member own (get_or (members own n) k 0) ≡ true)
 unfolding members
 in-set own n k l =
-    let (i, m) = filter-in (member own) (up_to n) _ (in-get_d (members own n) k 0 l) in
+    let (i, m) = filter-in (member own) (up_to n) _ (in-get_or (members own n) k 0 l) in
     (up_to-in n _ i, m)
 
 -- ---- the objects that a part gives are its block's
@@ -99,10 +99,10 @@ module _ (origins places : List ℕ) (own s number : ℕ) (placed : (p : ℕ) �
       let block : ℕ → ℕ = object_in steps places begin number in
       let a : map given (up_to n) ≡ words_at steps (at + 1) (length ps) =
       tabled given n (words_at steps (at + 1) (length ps)) (length-words_at steps (at + 1) (length ps) ∙ sym e)
-      (λ k l. sym (get_d-words_at steps (at + 1) (length ps) k (omega arith))) in
+      (λ k l. sym (get_or-words_at steps (at + 1) (length ps) k (omega arith))) in
       let b : map block (up_to n) ≡ objects_in steps origins begin s ps =
       tabled block n (objects_in steps origins begin s ps)
       (length-map ps (object_in steps origins begin s) ∙ sym e)
       (λ k l. ap (λ (i : ℕ). get_or steps (begin + i) 0) (place_at k (omega arith))
-      ∙ sym (get_d_map (object_in steps origins begin s) ps k 0 0 (omega arith))) in
+      ∙ sym (get_or-map (object_in steps origins begin s) ps k 0 0 (omega arith))) in
       same-mapped given block (up_to n) ∙ ap₂ eq_list a b

@@ -8,7 +8,7 @@ use lib.ListN.{length}
 use borrow.Author.Tests.{leb-true}
 use Rattle.task.specs.Task.{Task, part_count, schema_fits, well_formed, no_schema}
 use Rattle.task.specs.Run.{Step, schema_at, is_step}
-use Rattle.words.proofs.Lists.{every-at, all_in, in-get_d}
+use Rattle.words.proofs.Lists.{every-at, all_in, in-get_or}
 use Rattle.task.proofs.Tests.{schema-tests, task-tests}
 use Rattle.task.proofs.States.{is_step-is}
 use Rattle.tokens.specs.Split.{parts, orders, split_task, split_as, limit_tests, within_limits, split, first_of}
@@ -41,7 +41,7 @@ module _ (t : Task) (well : well_formed t ≡ true) (accepted : split t ≡ spli
     pub few-parts : length (orders t s) ≤ 16
     unfolding parts schema_at
     few-parts =
-        let i = in-get_d t.schemas s no_schema l in
+        let i = in-get_or t.schemas s no_schema l in
         let f = all_in (schema_fits t.arities) (task-tests t well).fit i in
         let b = leb-true (part_count (schema_at t s).atoms) 16 (schema-tests t.arities (schema_at t s) f).parts in
         omega (arith, part-count G l)

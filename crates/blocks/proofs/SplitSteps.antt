@@ -15,7 +15,7 @@ use Rattle.task.specs.Task.{Task}
 use Rattle.task.specs.Table.{task_of}
 use Rattle.task.specs.Run.{Step, is_step, schema_at}
 use Rattle.words.proofs.Lists.{In, in-append, all_in, in_all, map-in, in_map, up_to-in, in-up_to}
-use Rattle.task.proofs.States.{IsChoice, KeepsApart, object_at, IsStep, choice-step, is_step-is, is-is_step, get_d-small}
+use Rattle.task.proofs.States.{IsChoice, KeepsApart, object_at, IsStep, choice-step, is_step-is, is-is_step, get_or-small}
 use Rattle.tokens.specs.Split.{own, split_schema, orders, split_task, split_as, split, first_of}
 use Rattle.tokens.proofs.Places.{in_params}
 use Rattle.tokens.proofs.Accepted.{split-is}
@@ -61,7 +61,7 @@ module _ {t t' : Task} (G : Given t t') where
         let (a, b) = in_params (schema_at t x.schema) p (get_or (orders t x.schema) j 0) k in
         subst (λ o. o < t'.objects) (sym e)
         (subst (λ n. get_or x.objects p 0 < n) (sym (ap (λ u. u.objects) G.is))
-        (get_d-small t.objects x.objects p (rw h.count a) h.small));
+        (get_or-small t.objects x.objects p (rw h.count a) h.small));
     apart = λ r i.
         part_apart x h j r (subst (λ z. In r z.pairs) (part-schema x.schema j h.known l) i);
   }

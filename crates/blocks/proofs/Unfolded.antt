@@ -8,7 +8,7 @@ use lib.ListN.{length, get_or}
 use Rattle.words.specs.Lists.{sum, up_to, up_from}
 use Rattle.task.specs.Task.{Task}
 use Rattle.task.specs.Run.{Step}
-use Rattle.words.proofs.Lists.{get_d_map, map_same, append-concat_map, length-concat_map, length-up_to, get_d-up_to}
+use Rattle.words.proofs.Lists.{get_or-map, map_same, append-concat_map, length-concat_map, length-up_to, get_or-up_to}
 use Rattle.task.proofs.States.{IsStep}
 use Rattle.task.proofs.StepWords.{no_step}
 use Rattle.tokens.specs.Split.{orders}
@@ -26,8 +26,8 @@ module _ (t : Task) where
   unfolding block
   block-part x j l =
       let n = length-up_to (parts_of t x) in
-      get_d_map (part_step t x) (up_to (parts_of t x)) j 0 no_step (omega arith)
-      ∙ ap (part_step t x) (get_d-up_to (parts_of t x) j 0 l)
+      get_or-map (part_step t x) (up_to (parts_of t x)) j 0 no_step (omega arith)
+      ∙ ap (part_step t x) (get_or-up_to (parts_of t x) j 0 l)
 
   -- "Unfolding writes the blocks one after another"
   pub unfold-append : (xs ys : List Step) → unfold_steps t (xs ++ ys) ≡ unfold_steps t xs ++ unfold_steps t ys

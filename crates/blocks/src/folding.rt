@@ -49,14 +49,14 @@ type Pairs = [u16; PAIR_WORDS];
 
 // What a list is taken apart into: so many steps; or the step that fits no block is told, or the step count where the
 // last block is unfinished.
-#[derive(Drop)]
+#[derive(Clone, Copy)]
 pub enum Taken {
     Whole(u64),
     Misfit(u64),
 }
 
 // How it is judged: by the first step that is none of the split, or else by what it is taken apart into.
-#[derive(Drop)]
+#[derive(Clone, Copy)]
 pub enum Judged {
     Whole(u64),
     Misfit(u64),

@@ -17,10 +17,10 @@ use Rattle.task.specs.Run.{Step, schema_at, applies, next}
 use Rattle.tokens.specs.Split.{has, params_of, first_position, par_token, own, later_here, split_schema, orders, split_task}
 use Rattle.tokens.specs.Split.{first_of}
 use Rattle.blocks.specs.Blocks.{params_at, part_step}
-use Rattle.words.proofs.Lists.{bool_cases, In, in-get_d, map-in, map_same, up_to-in, length-up_to, get_d_map, get_d-up_to}
+use Rattle.words.proofs.Lists.{bool_cases, In, in-get_or, map-in, map_same, up_to-in, length-up_to, get_or-map, get_or-up_to}
 use Rattle.words.proofs.Lists.{map-append, up_to-suc}
 use Rattle.task.proofs.States.{applies-in, IsChoice, IsStep}
-use Rattle.tokens.proofs.Places.{in_params, params-in, At, at-first, index-small, index-get_d}
+use Rattle.tokens.proofs.Places.{in_params, params-in, At, at-first, index-small, index-get_or}
 use Rattle.tokens.proofs.Ground.{single, a-par}
 use Rattle.tokens.proofs.Predicates.{par-high, par-fixes}
 use Rattle.blocks.proofs.Numbers.{split-schema}
@@ -78,8 +78,8 @@ module _ {t t' : Task} (s₀ : List Fact) {x : Step} (hx : IsChoice t x) (j : �
 
   merged-object : (p : ℕ) → p < sx.params → object_of (merged t x j y) p ≡ choose t x j y p
   merged-object p h =
-      get_d_map (choose t x j y) (up_to sx.params) p 0 0 (rw length-up_to h) ∙
-      ap (choose t x j y) (get_d-up_to sx.params p 0 h)
+      get_or-map (choose t x j y) (up_to sx.params) p 0 0 (rw length-up_to h) ∙
+      ap (choose t x j y) (get_or-up_to sx.params p 0 h)
 
   merged-mine : (p : ℕ) → In p (mine t x j) → object_of (merged t x j y) p ≡ given_by t x j y p
   merged-mine p i =
@@ -128,9 +128,9 @@ module _ {t t' : Task} (s₀ : List Fact) {x : Step} (hx : IsChoice t x) (j : �
     where
       go : (b : Bool) → has sx p (get_or ox j 0) ≡ b → cond b (given_by t x j y p) (object_of x p) < t.objects
       go true e =
-          y-small (given_by t x j y p) (in-get_d y.objects (index_of p (mine t x j)) 0
+          y-small (given_by t x j y p) (in-get_or y.objects (index_of p (mine t x j)) 0
           (omega (arith, y-count, index-small (has-mine p h e))))
-      go false e = hx.small (object_of x p) (in-get_d x.objects p 0 (omega (arith, hx.count)))
+      go false e = hx.small (object_of x p) (in-get_or x.objects p 0 (omega (arith, hx.count)))
 
   pub merged-choice : IsChoice t (merged t x j y)
   merged-choice = record {
@@ -174,9 +174,9 @@ module _ {t t' : Task} (s₀ : List Fact) {x : Step} (hx : IsChoice t x) (j : �
           (length-map (mine t x j) (object_of (merged t x j y)) ∙ sym y-count)
           (λ i l.
           let m : i < length (mine t x j) = rw length-map at l in
-          get_d_map (object_of (merged t x j y)) (mine t x j) i 0 0 m ∙
-          merged-mine (get_or (mine t x j) i 0) (in-get_d (mine t x j) i 0 m) ∙
-          ap (λ k. get_or y.objects k 0) (index-get_d (λ z. has sx z (get_or ox j 0)) 0 sx.params i m))
+          get_or-map (object_of (merged t x j y)) (mine t x j) i 0 0 m ∙
+          merged-mine (get_or (mine t x j) i 0) (in-get_or (mine t x j) i 0 m) ∙
+          ap (λ k. get_or y.objects k 0) (index-get_or (λ z. has sx z (get_or ox j 0)) 0 sx.params i m))
 
   pub merged-parts : (pre : List Step) → pre ≡ map (part_step t x) (up_to j) →
       pre ++ (y ∷ []) ≡ map (part_step t (merged t x j y)) (up_to (suc j))

@@ -13,7 +13,7 @@ use Rattle.task.specs.Task.{Task}
 use Rattle.task.specs.Run.{Step, schema_at}
 use Rattle.tokens.specs.Split.{own, orders, first_of}
 use Rattle.blocks.specs.Blocks.{params_at, part_step, block, unfold_steps}
-use Rattle.words.proofs.Lists.{In, length-up_to, append-same-length, get_d_map, get_d-up_to}
+use Rattle.words.proofs.Lists.{In, length-up_to, append-same-length, get_or-map, get_or-up_to}
 use Rattle.task.proofs.States.{IsChoice, is_choice-is, IsStep, step-choice}
 use Rattle.blocks.proofs.Numbers.{first-inj, part-objects, length-block, take-block}
 use Rattle.correspondence.specs.SharedRuns.{StepsOf, ProperBeginning, TakenApart}
@@ -71,8 +71,8 @@ module _ {t t' : Task} (G : Given t t') where
 
       part_at : (w : Step) (i : ℕ) → i < length (orders t w.schema) → get_or (block t w) i no-step ≡ part_step t w i
       part_at w i l =
-          get_d_map (part_step t w) (up_to (length (orders t w.schema))) i 0 no-step (rw length-up_to l) ∙
-          ap (part_step t w) (get_d-up_to (length (orders t w.schema)) i 0 l)
+          get_or-map (part_step t w) (up_to (length (orders t w.schema))) i 0 no-step (rw length-up_to l) ∙
+          ap (part_step t w) (get_or-up_to (length (orders t w.schema)) i 0 l)
 
       part_same : (i : ℕ) → i < length (orders t x.schema) → part_step t x i ≡ part_step t z i
       part_same i l = sym (part_at x i l) ∙ ap (λ zs. get_or zs i no-step) h ∙ part_at z i (rw (← e) l)

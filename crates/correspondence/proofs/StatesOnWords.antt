@@ -18,7 +18,7 @@ use Rattle.task.specs.Table.{task_of}
 use Rattle.task.specs.Run.{record_words, state_words, record_at, state_in, room_in, is_state, holds, ran, left, run_told}
 use Rattle.task.specs.Run.{run_done}
 use Rattle.tokens.specs.Split.{procnone, free, split_task}
-use Rattle.words.proofs.Lists.{In, here, there, in-eq, in_left, in_right, in_all, in-get_d, get_d-in, append-concat_map}
+use Rattle.words.proofs.Lists.{In, here, there, in-eq, in_left, in_right, in_all, in-get_or, get_or-in, append-concat_map}
 use Rattle.words.proofs.Lists.{map-append, up_to-suc, append-same-length, Less, smaller, same}
 use Rattle.task.proofs.Tests.{tests-fact}
 use Rattle.task.proofs.States.{key, Asc, asc-nil, asc-cons, asc-ascending, Fits, State, facts_fit-state, fitting-args_fit}
@@ -201,7 +201,7 @@ module _ {table split : List ℕ} (A : AcceptedSplit table split) where
     row i l =
         let short = state-short t' A.split-well-formed e st in
         let f = get_or e i no_fact in
-        words_at-is w (5 * i) 5 (record_words f) (length-record_words f (short f (in-get_d e i no_fact l)))
+        words_at-is w (5 * i) 5 (record_words f) (length-record_words f (short f (in-get_or e i no_fact l)))
         (at-record w e short (λ k m.
         let z : 0 + k ≡ k = omega arith in
         ap (λ j. get_or w j 0) z ∙ get_or-append (state_words e) (replicate (n - length (state_words e)) 0) 0 k m) i l)
@@ -211,9 +211,9 @@ module _ {table split : List ℕ} (A : AcceptedSplit table split) where
     procnone-left = (
       λ (i, l, q).
           let f = get_or e i no_fact in
-          let j = in-get_d e i no_fact l in
+          let j = in-get_or e i no_fact l in
           in-holds (in-eq (sym (record-free f (st.fit f j) (sym (row i l) ∙ q))) j),
       λ h.
-          let (i, l, q) = get_d-in no_fact (holds-in e (free t) h) in
+          let (i, l, q) = get_or-in no_fact (holds-in e (free t) h) in
           (i, l, row i l ∙ ap record_words q ∙ procnone-words table),
     )

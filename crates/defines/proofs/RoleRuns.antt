@@ -9,7 +9,7 @@ use native.Mathlib.Omega.{arith}
 use native.Mathlib.Decide.{dec_lt}
 use lib.ListN.{length, length-append, length-map}
 use Rattle.words.specs.Lists.{up_from}
-use Rattle.words.proofs.Lists.{In, all_in, in-get_d, in_map, in-up_from, length-up_from, up_from-append}
+use Rattle.words.proofs.Lists.{In, all_in, in-get_or, in_map, in-up_from, length-up_from, up_from-append}
 use Rattle.words.proofs.Lists.{map-append, append-same-length}
 use Rattle.task.specs.Layout.{head_in, goals_from, atom_total, params_in}
 use Rattle.task.specs.Task.{Atom, Task, precondition, addition, deletion, initial, goal_role, schema_fits, no_schema}
@@ -128,7 +128,7 @@ module _ (w : List ℕ) (h : is_table w ≡ true) (s : ℕ) (l : s < (head_in w)
   unfolding schema_at
   by-role =
       let fits = all_in (schema_fits task.arities) (task-tests task (of-table w h).0).fit
-      (in-get_d task.schemas s no_schema known) in
+      (in-get_or task.schemas s no_schema known) in
       by-roles atoms (schema-tests task.arities (schema_at task s) fits).roles
 
   listed : map (atom_in w) (up_from first (length atoms)) ≡ atoms

@@ -8,7 +8,7 @@ use native.Mathlib.Omega.{arith}
 use lib.Dec.{eqb, leb}
 use borrow.Author.Tests.{eqb-true, ne_eqb}
 use Rattle.words.specs.Lists.{filter, keep_if}
-use Rattle.words.proofs.Lists.{and_right, In, get_d-in, filter-in, filter_none, map-append}
+use Rattle.words.proofs.Lists.{and_right, In, get_or-in, filter-in, filter_none, map-append}
 use Rattle.task.specs.Task.{Atom, roles_ascend, precondition, addition, deletion}
 use Rattle.task.specs.Run.{of_role}
 use Rattle.task.proofs.AtomsStand.{no_atom}
@@ -25,7 +25,7 @@ none-lower : (a : Atom) (rest : List Atom) → roles_ascend (a ∷ rest) ≡ tru
     of_role r rest ≡ []
 unfolding of_role
 none-lower a rest h r l = filter_none (λ b. eqb r b.role) rest (λ b i. ne_eqb r b.role (λ e.
-    let (j, m, q) = get_d-in no_atom i in
+    let (j, m, q) = get_or-in no_atom i in
     let s = roles-places (a ∷ rest) h 0 (suc j) (omega arith) (omega arith) in
     let t = ap (λ (c : Atom). c.role) q in
     omega arith))

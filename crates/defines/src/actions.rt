@@ -42,7 +42,7 @@ fn put_head(text: &mut [u8], at: usize, schema: u16, params: u16) -> usize
 }
 
 // How far the writer is: the place behind what it put, and the first atom and the first pair that it has not put.
-#[derive(Drop)]
+#[derive(Clone, Copy)]
 struct Acted {
     at: usize,
     atom: usize,

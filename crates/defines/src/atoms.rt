@@ -15,7 +15,7 @@ use text::put::{number_size, put_byte, put_bytes, put_number};
 use words::runs::{wide, word};
 
 // How far the writer is: the place behind what it put, and the first atom that it has not put.
-#[derive(Drop)]
+#[derive(Clone, Copy)]
 pub struct Reached {
     pub at: usize,
     pub atom: usize,

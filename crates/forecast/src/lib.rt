@@ -18,7 +18,7 @@ use tokens::measure::Sizes;
 use words::runs::word;
 
 // "its sizes: predicates, schemas, schema atoms, text bytes, and the ground instances before and after".
-#[derive(Drop)]
+#[derive(Clone, Copy)]
 pub struct Forecast {
     pub predicates: u64,
     pub schemas: u64,
@@ -29,7 +29,7 @@ pub struct Forecast {
 }
 
 // What asking for the sizes answers.
-#[derive(Drop)]
+#[derive(Clone, Copy)]
 pub enum SizesAnswer {
     Counted(Forecast),
     Refused(u32, Place),

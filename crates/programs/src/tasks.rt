@@ -11,7 +11,7 @@ use task::limits::TABLE_WORDS;
 use text::ReadAnswer;
 
 // What is made of a task: its split as text, the task as PDDL, or with the partitions proposed for a width.
-#[derive(Drop)]
+#[derive(Clone, Copy)]
 pub enum Form {
     Split,
     Pddl,

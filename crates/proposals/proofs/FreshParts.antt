@@ -14,7 +14,7 @@ use Rattle.words.specs.Putting.{Puts}
 use Rattle.words.specs.Words.{words_at}
 use Rattle.words.proofs.Lists.{In, map-in, map-map, length-padded}
 use Rattle.words.proofs.Puts.{put-over, puts-length}
-use Rattle.words.proofs.Words.{At, at-move, get_d-words_at, length-words_at}
+use Rattle.words.proofs.Words.{At, at-move, get_or-words_at, length-words_at}
 use Rattle.task.specs.Layout.{Head, head_block, head_in, goals_from, params_base, rows_base, words_used, facts_base, pair_base}
 use Rattle.task.specs.Layout.{atom_base}
 use Rattle.task.specs.Limits.{table_length, table_words, head_words, atom_size}
@@ -90,7 +90,7 @@ module _ (w : List ℕ) {lent copied : List ℕ} {next : ℕ} (room : table_word
       let n = length-words_at w 0 table_words in
       ap (λ (xs : List ℕ). get_or xs j 0) copied_is ∙
       (get_or-append (words_at w 0 table_words) (drop table_words lent) 0 j (omega arith) ∙
-      (get_d-words_at w 0 table_words j l ∙ ap (λ (i : ℕ). get_or w i 0) z))
+      (get_or-words_at w 0 table_words j l ∙ ap (λ (i : ℕ). get_or w i 0) z))
 
   copied_behind : drop table_words copied ≡ drop table_words lent
   copied_behind =
@@ -174,7 +174,7 @@ module _ {w parts lent copied after : List ℕ} {next i : ℕ} (table : is_table
       let next = start-suc w fr s (omega arith) in
       let within = (schema-stretch w table s (omega arith)).known in
       f.put (start_of t s + k) (omega arith) ∙
-      (sym (get_d-words_at parts (start_of t s) (length (schema_at t s).atoms) k x) ∙
+      (sym (get_or-words_at parts (start_of t s) (length (schema_at t s).atoms) k x) ∙
       ap (λ (ps : List ℕ). get_or ps k 0) (have s l))
 
   atoms-stand : At after (atom_base w 0) (schemas_from 0 t'.schemas)

@@ -6,7 +6,7 @@ use mathlib.Core.List.{List, [], ◌∷◌, map}
 use native.Mathlib.Omega.{arith}
 use lib.ListN.{length, get_or}
 use Rattle.words.specs.Lists.{concat_map, sum}
-use Rattle.words.proofs.Lists.{In, here, there, in-get_d, get_d-in, length-padded}
+use Rattle.words.proofs.Lists.{In, here, there, in-get_or, get_or-in, length-padded}
 use Rattle.words.proofs.Words.{At, at_left, at_right, at-move, at_join, length-rows, at_row, join-rows}
 use Rattle.task.specs.Limits.{most_arity, atom_size}
 use Rattle.task.specs.Task.{Atom, Schema, schema_atoms, no_schema}
@@ -19,9 +19,9 @@ use Rattle.proposals.proofs.Partitions.{parted-length, parted-at}
 pub parted-in : (atoms : List Atom) (ps : List ℕ) (x : Atom) → In x (parted atoms ps) →
     (p : ℕ) × (a : Atom) × In a atoms × (x ≡ with_part p a)
 parted-in atoms ps x i =
-    let (k, l, e) = get_d-in no_atom i in
+    let (k, l, e) = get_or-in no_atom i in
     let n = parted-length atoms ps in
-    (get_or ps k 0, get_or atoms k no_atom, in-get_d atoms k no_atom (omega arith), sym e ∙ parted-at atoms ps k (omega arith))
+    (get_or ps k 0, get_or atoms k no_atom, in-get_or atoms k no_atom (omega arith), sym e ∙ parted-at atoms ps k (omega arith))
 
 -- ---- a row, those of a schema, those of all schemas
 module _ (w after : List ℕ) where
@@ -58,7 +58,7 @@ module _ (w after : List ℕ) where
       join-rows (atom_words s) atom_size after b (parted atoms ps) no_atom (even s atoms ps short) (λ k l.
       let m : k < length atoms = omega arith in
       let a : Atom = get_or atoms k no_atom in
-      let j : In a atoms = in-get_d atoms k no_atom m in
+      let j : In a atoms = in-get_or atoms k no_atom m in
       subst (λ (x : Atom). At after (b + atom_size * k) (atom_words s x)) (sym (parted-at atoms ps k m))
       (row_fresh (b + atom_size * k) s (get_or ps k 0) a (short a j) (λ r. same k r m) (part k m)
       (at_row (atom_words s) atom_size w b atoms no_atom (λ x i. length-atom_words s x (short x i)) at k m)))

@@ -11,7 +11,7 @@ use native.Mathlib.Omega.{arith}
 use lib.ListN.{length, get_or}
 use lib.Dec.{eqb, leb}
 use borrow.Author.Tests.{eqb-true, eqb-false, leb-true, leb-false}
-use Rattle.words.proofs.Lists.{and_left, and_right, and_both, In, here, there, in-empty, first-none, get_d_map}
+use Rattle.words.proofs.Lists.{and_left, and_right, and_both, In, here, there, in-empty, first-none, get_or-map}
 use Rattle.task.specs.Task.{Schema}
 use Rattle.arcs.specs.Order.{NoOrderComplies}
 use Rattle.tokens.specs.Split.{params_of}
@@ -44,7 +44,7 @@ module _ (a b : ℕ) (l : a < b) (ps : List ℕ) (q : ℕ) (n : q ≡ a → ⊥)
   came-from k m e =
       only (subst (λ (rs : List ℕ). In (get_or ps k 0) rs) (becoming-other a b q n)
       (goes-becoming a b l q (get_or ps k 0)
-      (sym (get_d_map (merged_number a b) ps k 0 0 (omega (arith, merged-length a b ps))) ∙ e)))
+      (sym (get_or-map (merged_number a b) ps k 0 0 (omega (arith, merged-length a b ps))) ∙ e)))
     where
       only : {p : ℕ} → In p (came_from b q ∷ []) → p ≡ came_from b q
       only (here f) = f

@@ -10,7 +10,7 @@ use lib.ListN.{length, get_or}
 use lib.Dec.{eqb}
 use Rattle.words.specs.Lists.{up_to}
 use Rattle.words.specs.Sets.{member}
-use Rattle.words.proofs.Lists.{bool-ext, In, in-eq, in-get_d, get_d-in, in-up_to, up_to-in, get_d-up_to, length-up_to}
+use Rattle.words.proofs.Lists.{bool-ext, In, in-eq, in-get_or, get_or-in, in-up_to, up_to-in, get_or-up_to, length-up_to}
 use Rattle.task.specs.Task.{Atom, Schema, names, part_count, precondition, deletion}
 use Rattle.task.proofs.AtomsStand.{no_atom}
 use Rattle.arcs.specs.Order.{in_part, gives_arc}
@@ -52,7 +52,7 @@ module _ (s : Schema) where
   -- atom i is in part i
   pub own-part : (i : ℕ) → i < length s.atoms → get_or (own_parts s) i 0 ≡ i
   unfolding own_parts
-  own-part i l = get_d-up_to (length s.atoms) i 0 l
+  own-part i l = get_or-up_to (length s.atoms) i 0 l
 
   -- ---- the atoms
   own-atom : (k : ℕ) → k < length s.atoms → get_or own.atoms k no_atom ≡ with_part k (atom_at k)
@@ -63,13 +63,13 @@ module _ (s : Schema) where
   unfolding with_parts
   own_in k l =
       in-eq (sym (own-atom k l))
-      (in-get_d (parted s.atoms (own_parts s)) k no_atom (omega (arith, parted-length s.atoms (own_parts s))))
+      (in-get_or (parted s.atoms (own_parts s)) k no_atom (omega (arith, parted-length s.atoms (own_parts s))))
 
   -- the one atom of part p
   own_is : (c : Atom) → In c own.atoms → (p : ℕ) → c.part ≡ p → c ≡ with_part p (atom_at p)
   unfolding with_parts with_part
   own_is c i p d =
-      let (k, l, e) = get_d-in no_atom i in
+      let (k, l, e) = get_or-in no_atom i in
       let m = parted-length s.atoms (own_parts s) in
       let g : c ≡ with_part k (atom_at k) = sym e ∙ own-atom k (omega arith) in
       g ∙ ap (λ (p : ℕ). with_part p (atom_at p)) (sym (ap (λ (z : Atom). z.part) g) ∙ d)

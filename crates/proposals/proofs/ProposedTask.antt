@@ -11,7 +11,7 @@ use lib.ListN.{length, length-map}
 use lib.Dec.{ltb, leb}
 use borrow.Author.Tests.{ltb-true, ltb-false, lt-ltb, le-ltb, le-leb}
 use Rattle.words.specs.Lists.{sum, first, up_to}
-use Rattle.words.proofs.Lists.{In, in_all, all_in, get_d-in, map-in, get_d_map, in-up_to, first-none, false-if}
+use Rattle.words.proofs.Lists.{In, in_all, all_in, get_or-in, map-in, get_or-map, in-up_to, first-none, false-if}
 use Rattle.words.proofs.Ascending.{no_none}
 use Rattle.task.specs.Limits.{most_parts, most_schema_atoms, most_pairs}
 use Rattle.task.specs.Task.{Schema, Task, no_schema, schema_fits, well_formed, schema_atoms, schema_pairs, part_count}
@@ -48,7 +48,7 @@ module _ (width : ℕ) (t : Task) where
   proposed_at : (k : ℕ) → k < length t.schemas →
       schema_at (proposed_task width t) k ≡ proposed_schema width (schema_at t k)
   unfolding proposed_task schema_at
-  proposed_at k l = get_d_map (proposed_schema width) t.schemas k no_schema no_schema l
+  proposed_at k l = get_or-map (proposed_schema width) t.schemas k no_schema no_schema l
 
   -- schema k is that of the task with the parts proposed for it
   proposed-schema : (k : ℕ) → k < length t.schemas →
@@ -156,7 +156,7 @@ module _ (width : ℕ) (t : Task) where
   unfolding schema_at
   all_fit h few s' i =
       let (s, j, e) = map-in (proposed_schema width) t.schemas s' i in
-      let (k, l, f) = get_d-in no_schema j in
+      let (k, l, f) = get_or-in no_schema j in
       ap (schema_fits t.arities) e ∙ fits-again s (all_in (schema_fits t.arities) (task-tests t h).fit j)
       (subst (λ (s : Schema). part_count (proposed_schema width s).atoms ≤ most_parts) f (few-parts few k l))
 

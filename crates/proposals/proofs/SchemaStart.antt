@@ -8,7 +8,7 @@ use lib.ListN.{length, get_or, length-map}
 use Rattle.words.specs.Lists.{put, up_from, up_to}
 use Rattle.words.specs.Words.{words_at}
 use Rattle.words.specs.Sets.{member}
-use Rattle.words.proofs.Lists.{get_d-mapped, length-up_from, length-up_to}
+use Rattle.words.proofs.Lists.{get_or-mapped, length-up_from, length-up_to}
 use Rattle.task.specs.Task.{Atom, Pair, Schema, names}
 use Rattle.task.specs.Table.{atom_in}
 use Rattle.task.proofs.AtomsStand.{no_atom}
@@ -29,7 +29,7 @@ module _ (w : List ℕ) (s : Schema) (from to : ℕ) (atoms : s.atoms ≡ stretc
 
   at : (p : ℕ) → p < to - from → get_or s.atoms p no_atom ≡ atom_in w (from + p)
   unfolding stretch
-  at p l = ap (λ (bs : List Atom). get_or bs p no_atom) atoms ∙ get_d-mapped (atom_in w) from (to - from) p no_atom l
+  at p l = ap (λ (bs : List Atom). get_or bs p no_atom) atoms ∙ get_or-mapped (atom_in w) from (to - from) p no_atom l
 
   own-numbers : own_parts s ≡ up_to (to - from)
   unfolding own_parts

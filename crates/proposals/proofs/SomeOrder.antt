@@ -12,7 +12,7 @@ use lib.ListN.{length, get_or}
 use lib.Dec.{eqb}
 use borrow.Author.Tests.{eqb-true, eq-eqb}
 use Rattle.words.specs.Lists.{up_to}
-use Rattle.words.proofs.Lists.{no_tf, no_ft, bool-ext, In, here, there, in-eq, any-in, in-any, in-get_d, get_d-in}
+use Rattle.words.proofs.Lists.{no_tf, no_ft, bool-ext, In, here, there, in-eq, any-in, in-any, in-get_or, get_or-in}
 use Rattle.words.proofs.Lists.{in-up_to, up_to-in, length-up_to}
 use Rattle.words.proofs.Ascending.{Ascend, ascend-up_to, ascend-filter, others, in-others, others-in, others-fewer}
 use Rattle.words.proofs.Ascending.{others-one-less}
@@ -42,7 +42,7 @@ module _ (arcs : Arcs) (own : (p : ℕ) → arcs p p ≡ false) where
       from : (q : ℕ) → In q (p ∷ o) → arcs q p ≡ false
       from q (here e) = ap (λ x. arcs x p) e ∙ own p
       from q (there i) =
-          let (k, l, e) = get_d-in 0 i in
+          let (k, l, e) = get_or-in 0 i in
           ap (λ x. arcs x p) (sym e) ∙ h 0 (suc k) (omega arith) (omega arith)
 
       later : (q : ℕ) → (p ≡ q → ⊥) → In q (p ∷ o) → In q o
@@ -83,7 +83,7 @@ placed-order {arcs} (place-next {p = p} {us = us} i f k) a =
         complies : NoneBack arcs (p ∷ o)
         complies i zero l m = absurd (omega arith)
         complies zero (suc j) l m =
-            free-no-arc arcs us p f (get_or o j 0) (from (get_or o j 0) (there (in-get_d o j 0 (omega arith))))
+            free-no-arc arcs us p f (get_or o j 0) (from (get_or o j 0) (there (in-get_or o j 0 (omega arith))))
         complies (suc i) (suc j) l m = h.complies i j (omega arith) (omega arith)
 
 -- ---- the orders of a schema

@@ -27,14 +27,14 @@ use task::limits::{MOST_PARAMETERS, MOST_SCHEMA_ATOMS, TABLE_WORDS};
 type Parts = [u16; MOST_SCHEMA_ATOMS];
 
 // "the first such schema" of those that end with more than 16 parts, if there is one.
-#[derive(Drop)]
+#[derive(Clone, Copy)]
 pub enum TooMany {
     At(u64),
     Nowhere,
 }
 
 // What proposing answers.
-#[derive(Drop)]
+#[derive(Clone, Copy)]
 pub enum ProposeAnswer {
     Proposed,
     Refused(u32, Place),
@@ -50,15 +50,17 @@ fn propose_parts(
     requires table_value { is_table table.now ≡ true }
     requires table_words_in_bounds { table_words ≤ length proposed.old }
     requires scratch_words_in_bounds { scratch_words ≤ length scratch.old }
-    ensures* told { do
-      let t = proposed_task width (task_of table.now)
-      ⌜ propose_answer_told result ≡
-          (settled (too_many t) t (record { proposed = proposed.entry.now; scratch = scratch.old })).told ⌝ }
-    ensures* lent { do
-      let t = proposed_task width (task_of table.now)
-      ⌜ record { proposed = proposed.exit.now; scratch = scratch.new } ≡
+    ensures told {
+        let t = proposed_task width (task_of table.now) in
+        propose_answer_told result ≡
+          (settled (too_many t) t (record { proposed = proposed.entry.now; scratch = scratch.old })).told
+    }
+    ensures lent {
+        let t = proposed_task width (task_of table.now) in
+        record { proposed = proposed.exit.now; scratch = scratch.new } ≡
           (settled (too_many t) t
-          (record { proposed = proposed.entry.now; scratch = scratch.old })).buffer ⌝ }
+          (record { proposed = proposed.entry.now; scratch = scratch.old })).buffer
+    }
 {
     let mut parts = [0u16; MOST_SCHEMA_ATOMS];
     let many = all_parts(table, width, &mut parts, scratch);

@@ -13,7 +13,7 @@ use crate::scratch::parameters_to;
 use words::sets::{lowest, size, union, with, without_lowest};
 
 // "the first such pair", if there is one.
-#[derive(Drop)]
+#[derive(Clone, Copy)]
 pub enum Found {
     Pair(usize, usize),
     Nowhere,

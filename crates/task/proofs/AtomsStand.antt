@@ -13,7 +13,7 @@ use Rattle.task.specs.Layout.{arity_in, atom_base}
 use Rattle.task.specs.Limits.{head_words, atom_size}
 use Rattle.task.specs.Task.{Atom, Fact, Schema, Task, args_fit, schema_fits}
 use Rattle.task.specs.Table.{atom_in, schema_number_in, fact_in, atom_words, fact_words}
-use Rattle.words.proofs.Lists.{In, in-get_d, all_in, length-padded}
+use Rattle.words.proofs.Lists.{In, in-get_or, all_in, length-padded}
 use Rattle.words.proofs.Words.{At, at_left, at_right, words_at-at}
 use Rattle.task.proofs.States.{args_fit-fitting}
 use Rattle.task.proofs.Tests.{schema-tests, fits, fact-tests, TaskTests}
@@ -33,7 +33,7 @@ pub sized : (n : ℕ) (arities : List ℕ) (p : ℕ) (args : List ℕ) → all (
     args_fit arities n p args ≡ true → Sized arities p args
 sized n arities p args h k =
     let c = args_fit-fitting n arities p args k in
-    let l = leb-true (get_or arities p 0) 4 (all_in (λ n. leb n 4) h (in-get_d arities p 0 c.known)) in
+    let l = leb-true (get_or arities p 0) 4 (all_in (λ n. leb n 4) h (in-get_or arities p 0 c.known)) in
     let e = c.count in
     record { known = c.known; count = c.count; short = omega arith }
 

@@ -73,6 +73,7 @@ module _ (v : ℕ → ℕ) where
   pub bind-new : (b : Bound) (ps : List ℕ) (p : ℕ) → ((q : ℕ) → In q ps → q < length b) → In p ps →
       get_or (bind b ps (map v ps)) p none ≡ some (v p)
   unfolding bind
+  bind-new b [] p l x'' = elim x'' [ ]
   bind-new b (q ∷ ps) p l (here e) =
       bind-known (set b q (some (v q))) ps p (λ r i. rw length-set (l r (there i)))
       (set_new b q p (l q (here refl)) e)
@@ -104,6 +105,7 @@ fits-length b (p ∷ ps) (o ∷ os) h = ap suc (fits-length b ps os (and_right (
 pub fits-agrees : (v : ℕ → ℕ) (b : Bound) (ps : List ℕ) → fits b ps (map v ps) ≡ true →
     (p : ℕ) → In p ps → agrees (get_or b p none) (v p) ≡ true
 unfolding fits
+fits-agrees v b [] h p x'' = elim x'' [ ]
 fits-agrees v b (q ∷ ps) h p (here e) =
     ap (λ p. agrees (get_or b p none) (v p)) e ∙ and_left (agrees (get_or b q none) (v q)) _ h
 fits-agrees v b (q ∷ ps) h p (there i) = fits-agrees v b ps (and_right (agrees (get_or b q none) (v q)) _ h) p i

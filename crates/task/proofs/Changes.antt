@@ -11,7 +11,7 @@ use Rattle.words.specs.Lists.{any, filter, keep_if}
 use Rattle.task.specs.Task.{Fact, fact_less, fact_eq}
 use Rattle.task.specs.Run.{holds, insert, insert_all, remove_all}
 use Rattle.words.proofs.Lists.{both-ft, bool-ext, and_left, and_right, and_both, or_cases, or_left, or_right, In, here}
-use Rattle.words.proofs.Lists.{there, in-filter, filter-in, get_d-in, filter-all}
+use Rattle.words.proofs.Lists.{there, in-filter, filter-in, get_or-in, filter-all}
 use Rattle.task.proofs.States.{
   fact_eq-eq,
   holds-in,
@@ -87,7 +87,7 @@ inserted-holds fs s f = bool-ext (holds (insert_all fs s) f) (holds fs f || hold
 -- ---- lengths
 pub remove-held : (f : Fact) (s : List Fact) → Asc s → holds s f ≡ true → length (remove_all (f ∷ []) s) + 1 ≡ length s
 remove-held f s a h =
-    let (k, l, e) = get_d-in no_fact (holds-in s f h) in
+    let (k, l, e) = get_or-in no_fact (holds-in s f h) in
     let q = ap length (remove-place f s a k l e) in
     let z = length_without k s l in
     omega arith

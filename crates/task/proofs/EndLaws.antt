@@ -31,7 +31,7 @@ use Rattle.task.specs.Run.{
 }
 use Rattle.task.specs.Turns.{ended_as, records_left}
 use Rattle.words.proofs.Words.{length-words_at}
-use Rattle.words.proofs.Lists.{get_d-mapped}
+use Rattle.words.proofs.Lists.{get_or-mapped}
 use Rattle.task.proofs.Rows.{room-words}
 use Rattle.task.proofs.StateWords.{state-here, length-state_in}
 
@@ -44,7 +44,7 @@ words-taken w m l =
     ext_get_or 0 (words_at w 0 m) (take m w) (a ∙ sym b) (λ k x.
     let z : 0 + k ≡ k = omega arith in
     let y : k < m = omega arith in
-    get_d-mapped (λ k. get_or w k 0) 0 m k 0 y ∙ (ap (λ (j : ℕ). get_or w j 0) z ∙ sym (get_or-take m w k 0 y)))
+    get_or-mapped (λ k. get_or w k 0) 0 m k 0 y ∙ (ap (λ (j : ℕ). get_or w j 0) z ∙ sym (get_or-take m w k 0 y)))
 
 pub state-fills : (t : Task) (w : List ℕ) (n : ℕ) → is_state t w n ≡ true → 5 * n ≤ length w
 state-fills t w n h = room-words w n (state-here t w n h).room

@@ -11,7 +11,7 @@ use Rattle.task.specs.Task.{Fact}
 use Rattle.task.specs.Table.{fact_in, task_of, is_table}
 use Rattle.task.specs.Run.{holds, is_state, goal_met}
 use Rattle.task.specs.Records.{record_number, Known}
-use Rattle.words.proofs.Lists.{In, in-eq, in-get_d}
+use Rattle.words.proofs.Lists.{In, in-eq, in-get_or}
 use Rattle.words.proofs.Ranges.{all_map}
 use Rattle.words.proofs.Loops.{AllLeft}
 use Rattle.task.proofs.States.{fitting-args_fit, well_formed-is}
@@ -31,7 +31,7 @@ goal-known w state n k number h s l m e =
     let j : ℕ = k - (goals_from w) in
     let z : goals_from w + j ≡ k = omega arith in
     let q : f ≡ get_or t.goal j no_fact = ap (fact_in w) (sym z) ∙ goal-at w fr j (omega arith) in
-    let i : In f t.goal = in-eq q (in-get_d t.goal j no_fact (omega arith)) in
+    let i : In f t.goal = in-eq q (in-get_or t.goal j no_fact (omega arith)) in
     record {
       task = wf;
       state = s;

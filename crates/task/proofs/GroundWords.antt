@@ -19,7 +19,7 @@ use Rattle.task.specs.Table.{atom_in, schema_number_in, fact_in, task_of, is_tab
 use Rattle.task.specs.Run.{Step, schema_at, ground, is_step, param_count, step_in, step_at, step_words, is_step_at}
 use Rattle.task.specs.Records.{in_base, record_number}
 use Rattle.task.specs.Spans.{ground_at, ground_from, argument_in, AtomOf, SpanOf, NumbersOf}
-use Rattle.words.proofs.Lists.{and_left, and_right, In, all_in, in-eq, in-get_d, get_d_map, get_d-mapped}
+use Rattle.words.proofs.Lists.{and_left, and_right, In, all_in, in-eq, in-get_or, get_or-map, get_or-mapped}
 use Rattle.task.proofs.Tests.{schema-tests, task-tests}
 use Rattle.task.proofs.States.{Fits, fitting-args_fit, IsStep, is_step-is, WellFormed, well_formed-is, ground-fits}
 use Rattle.task.proofs.AtomsStand.{no_atom}
@@ -55,7 +55,7 @@ unfolding step_at step_in words_at
 step-object t steps i p l =
     let n = param_count t (get_or steps (step_size * i) 0) in
     let e = length-words_at steps (step_size * i + 1) n in
-    get_d-mapped (λ k. get_or steps k 0) (step_size * i + 1) n p 0 (omega arith)
+    get_or-mapped (λ k. get_or steps k 0) (step_size * i + 1) n p 0 (omega arith)
 
 -- ---- atoms of a schema
 pub atom-in-schema : (w : List ℕ) → is_table w ≡ true → (k : ℕ) → k < (head_in w).schema_atoms →
@@ -71,7 +71,7 @@ atom-in-schema w h k l =
     let j : ℕ = k - start_of t m in
     let z : start_of t m + j ≡ k = omega arith in
     let q : j < length (schema_at t m).atoms = omega arith in
-    in-eq (ap (atom_in w) (sym z) ∙ atom-at w fr m j c.known q) (in-get_d (schema_at t m).atoms j no_atom q)
+    in-eq (ap (atom_in w) (sym z) ∙ atom-at w fr m j c.known q) (in-get_or (schema_at t m).atoms j no_atom q)
 
 -- ---- four arguments
 padded-four : (xs : List ℕ) → length xs ≤ 4 → padded 4 xs ≡ get_or xs 0 0 ∷ get_or xs 1 0 ∷ get_or xs 2 0 ∷ get_or xs 3 0 ∷ []
@@ -95,8 +95,8 @@ unfolding words_at
 mapped_at g w a n j = elim (dec_lt j n) [
   | yes l ↦
       let e = length-words_at w a n in
-      get_d_map g (words_at w a n) j 0 0 (omega arith) ∙
-      (ap g (get_d-mapped (λ k. get_or w k 0) a n j 0 l) ∙
+      get_or-map g (words_at w a n) j 0 0 (omega arith) ∙
+      (ap g (get_or-mapped (λ k. get_or w k 0) a n j 0 l) ∙
       ap (λ (b : Bool). cond b (g (get_or w (a + j) 0)) 0) (sym (lt-ltb j n l)))
   | no l ↦
       let e = length-words_at w a n in
@@ -156,8 +156,8 @@ module _ (w steps : List ℕ) (i k : ℕ) (o : AtomOf w steps i k) where
       let f = (formed.schema x.schema is-step.known).fit (atom_in w k) own-atom in
       let c = is-step.count in
       let n = length-words_at w (b + 4) arity in
-      let e : get_or (atom_in w k).args j 0 ≡ get_or w (b + 4 + j) 0 = get_d-mapped (λ k. get_or w k 0) (b + 4) arity j 0 l in
-      let z = f.small (get_or (atom_in w k).args j 0) (in-get_d (atom_in w k).args j 0 (omega arith)) in
+      let e : get_or (atom_in w k).args j 0 ≡ get_or w (b + 4 + j) 0 = get_or-mapped (λ k. get_or w k 0) (b + 4) arity j 0 l in
+      let z = f.small (get_or (atom_in w k).args j 0) (in-get_or (atom_in w k).args j 0 (omega arith)) in
       omega arith
 
   params-few : length x.objects ≤ 12
@@ -166,7 +166,7 @@ module _ (w steps : List ℕ) (i k : ℕ) (o : AtomOf w steps i k) where
       let c = task-tests t (of-table w o.tabled).0 in
       let s = get_or t.schemas x.schema no_schema in
       let q = schema-tests t.arities s
-      (all_in (schema_fits t.arities) c.fit (in-get_d t.schemas x.schema no_schema is-step.known)) in
+      (all_in (schema_fits t.arities) c.fit (in-get_or t.schemas x.schema no_schema is-step.known)) in
       let l = leb-true s.params 12 q.params in
       let e = is-step.count in
       omega arith
@@ -235,7 +235,7 @@ fact-argument : (w : List ℕ) → is_table w ≡ true → (k : ℕ) → k < ato
     get_or (fact_in w k).args j 0 ≡ get_or w (atom_base w k + 4 + j) 0
 unfolding fact_in atom_in words_at
 fact-argument w h k l j m = elim (dec_lt j arity) [
-  | yes x ↦ get_d-mapped (λ k. get_or w k 0) (b + 4) arity j 0 x
+  | yes x ↦ get_or-mapped (λ k. get_or w k 0) (b + 4) arity j 0 x
   | no x ↦
       let n = length-words_at w (b + 4) arity in
       get_or-eq_default (words_at w (b + 4) arity) 0 (omega arith) ∙

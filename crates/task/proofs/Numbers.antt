@@ -12,7 +12,7 @@ use borrow.Author.Tests.{leb-true}
 use Rattle.words.specs.Lists.{padded}
 use Rattle.task.specs.Task.{Fact, Task, well_formed}
 use Rattle.task.specs.Records.{in_base, record_number}
-use Rattle.words.proofs.Lists.{In, here, there, in-empty, in-append, all_in, in-get_d, Less, shorter, smaller, same}
+use Rattle.words.proofs.Lists.{In, here, there, in-empty, in-append, all_in, in-get_or, Less, shorter, smaller, same}
 use Rattle.words.proofs.Lists.{less-total, before, equal, after, length-padded}
 use Rattle.task.proofs.Tests.{task-tests}
 use Rattle.task.proofs.States.{key, key-inj, Fits}
@@ -64,7 +64,7 @@ slight t h f c =
     let d = task-tests t h in
     let l = leb-true t.objects 1000 d.objects in
     let m = leb-true (get_or t.arities f.pred 0) 4
-    (all_in (λ n. leb n 4) d.arities (in-get_d t.arities f.pred 0 c.known)) in
+    (all_in (λ n. leb n 4) d.arities (in-get_or t.arities f.pred 0 c.known)) in
     let e = c.count in
     record { short = omega arith; small = λ o i. let z = c.small o i in omega arith }
 

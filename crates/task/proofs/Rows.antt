@@ -12,9 +12,9 @@ use Rattle.task.specs.Task.{Fact, Task, facts_fit, well_formed}
 use Rattle.words.specs.Words.{words_at}
 use Rattle.task.specs.Run.{record_words, state_words, record_at, state_in, room_in, is_state}
 use Rattle.task.specs.Records.{record_number, number_at, row_number, RowsAscend, Keeps}
-use Rattle.words.proofs.Lists.{in_all, in-get_d, Less, tabulate, length-padded}
+use Rattle.words.proofs.Lists.{in_all, in-get_or, Less, tabulate, length-padded}
 use Rattle.task.proofs.Tests.{fits, tests-fact}
-use Rattle.task.proofs.States.{key, Asc, asc-cons, asc-ascending, fitting-args_fit, Fits, State, facts_fit-state}
+use Rattle.task.proofs.States.{key, Asc, asc-nil, asc-cons, asc-ascending, fitting-args_fit, Fits, State, facts_fit-state}
 use Rattle.words.proofs.Words.{At, at-move, words_at-at, at-words_at}
 use Rattle.task.proofs.AtomsStand.{no_fact}
 use Rattle.task.proofs.RecordWords.{length-record_words, record-in}
@@ -56,7 +56,7 @@ module _ (t : Task) (wf : well_formed t ≡ true) where
         state = st;
         rows = λ k j l m.
             let f = get_or s k no_fact in
-            let q = length-record_words f (short s st f (in-get_d s k no_fact l)) in
+            let q = length-record_words f (short s st f (in-get_or s k no_fact l)) in
             at-record w s (short s st) whole k l j (omega arith);
         count = len;
         room = room-words w n c.room;
@@ -66,14 +66,14 @@ module _ (t : Task) (wf : well_formed t ≡ true) where
       At w (5 * k) (record_words (get_or s k no_fact))
   row-stands w s c r k l j m =
       let f = get_or s k no_fact in
-      let five = length-record_words f (short s c f (in-get_d s k no_fact l)) in
+      let five = length-record_words f (short s c f (in-get_or s k no_fact l)) in
       r k j l (omega arith)
 
   pub record-read : (w : List ℕ) (s : List Fact) → State t s → Rows w s → (k : ℕ) → k < length s →
       record_at t w k ≡ get_or s k no_fact
   record-read w s c r k l =
       let f = get_or s k no_fact in
-      record-in t w k f (c.fit f (in-get_d s k no_fact l)).count (row-stands w s c r k l)
+      record-in t w k f (c.fit f (in-get_or s k no_fact l)).count (row-stands w s c r k l)
 
   pub kept-facts : (w : List ℕ) (n : ℕ) (s : List Fact) → Kept t w n s → state_in t w n ≡ s
   unfolding state_in up_to
@@ -137,13 +137,14 @@ row-number w s r k l c =
 -- facts of an ascending list, by place
 pub asc-places : {s : List Fact} → Asc s → (i j : ℕ) → i < j → j < length s →
     Less (key (get_or s i no_fact)) (key (get_or s j no_fact))
+asc-places asc-nil i j l m = elim m [ ]
 asc-places (asc-cons {f = f} {s = s} b h) i zero l m = absurd (omega arith)
-asc-places (asc-cons {f = f} {s = s} b h) zero (suc j) l m = b (get_or s j no_fact) (in-get_d s j no_fact (omega arith))
+asc-places (asc-cons {f = f} {s = s} b h) zero (suc j) l m = b (get_or s j no_fact) (in-get_or s j no_fact (omega arith))
 asc-places (asc-cons {f = f} {s = s} b h) (suc i) (suc j) l m = asc-places h i j (omega arith) (omega arith)
 
 module _ (t : Task) (wf : well_formed t ≡ true) (w : List ℕ) (n : ℕ) (s : List Fact) (c : Kept t w n s) where
   pub fact-fits : (k : ℕ) → k < n → Fits t (get_or s k no_fact)
-  fact-fits k l = c.state.fit (get_or s k no_fact) (in-get_d s k no_fact (let e = c.count in omega arith))
+  fact-fits k l = c.state.fit (get_or s k no_fact) (in-get_or s k no_fact (let e = c.count in omega arith))
 
   pub number-row : (k : ℕ) → k < n → row_number w k ≡ record_number (get_or s k no_fact)
   number-row k l = row-number w s c.rows k (let e = c.count in omega arith)

@@ -10,7 +10,7 @@ use lib.ListN.{length, get_or}
 use Rattle.words.specs.Lists.{filter, keep_if}
 use Rattle.task.specs.Task.{Fact, Task, fact_less, fact_eq}
 use Rattle.task.specs.Run.{holds, insert, remove_all}
-use Rattle.words.proofs.Lists.{false-if, In, here, there, in-empty, in-eq, filter-in, in-get_d, Less, less_list-less}
+use Rattle.words.proofs.Lists.{false-if, In, here, there, in-empty, in-eq, filter-in, in-get_or, Less, less_list-less}
 use Rattle.words.proofs.Lists.{less-less_list, less-irrefl, less-trans, filter-all}
 use Rattle.task.proofs.States.{
   key,
@@ -112,7 +112,7 @@ remove-place f (g ∷ s) (asc-cons b a) zero l e =
 remove-place f (g ∷ s) (asc-cons b a) (suc k) l e =
     let m : k < length s = omega arith in
     ap (λ (c : Bool). keep_if c g (filter (apart f) s))
-    (other-apart f g (λ q. less-apart (b (get_or s k no_fact) (in-get_d s k no_fact m)) (e ∙ sym q))) ∙
+    (other-apart f g (λ q. less-apart (b (get_or s k no_fact) (in-get_or s k no_fact m)) (e ∙ sym q))) ∙
     ap {B = List Fact} (λ (x : List Fact). g ∷ x) (remove-place f s a k m e)
 
 pub insert-present : (f : Fact) (s : List Fact) → Asc s → In f s → insert f s ≡ s

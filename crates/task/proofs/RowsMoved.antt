@@ -11,7 +11,7 @@ use Rattle.words.specs.Lists.{padded}
 use Rattle.task.specs.Task.{Fact, Task, well_formed}
 use Rattle.task.specs.Run.{insert, remove_all, record_words}
 use Rattle.task.specs.Records.{in_base, record_number, row_number, LowerBound, MovedDown, MovedUp, Written}
-use Rattle.words.proofs.Lists.{In, in-eq, in-get_d, get_d-in, length-padded}
+use Rattle.words.proofs.Lists.{In, in-eq, in-get_or, get_or-in, length-padded}
 use Rattle.task.proofs.States.{Fits}
 use Rattle.task.proofs.AtomsStand.{no_fact}
 use Rattle.task.proofs.Numbers.{Small, small-padded, Slight, slight, number-fact, number-before}
@@ -69,10 +69,10 @@ record-digits p (a ∷ b ∷ c ∷ d ∷ []) number l s e w at out h j m = go j 
     ds : (number / 1099511627776 ≡ p) × (number / 1073741824 % 1024 ≡ a) × (number / 1048576 % 1024 ≡ b) ×
         (number / 1024 % 1024 ≡ c) × (number % 1024 ≡ d)
     ds = digits p a b c d number
-        (s a (in-get_d (a ∷ b ∷ c ∷ d ∷ []) 0 0 (omega arith)))
-        (s b (in-get_d (a ∷ b ∷ c ∷ d ∷ []) 1 0 (omega arith)))
-        (s c (in-get_d (a ∷ b ∷ c ∷ d ∷ []) 2 0 (omega arith)))
-        (s d (in-get_d (a ∷ b ∷ c ∷ d ∷ []) 3 0 (omega arith)))
+        (s a (in-get_or (a ∷ b ∷ c ∷ d ∷ []) 0 0 (omega arith)))
+        (s b (in-get_or (a ∷ b ∷ c ∷ d ∷ []) 1 0 (omega arith)))
+        (s c (in-get_or (a ∷ b ∷ c ∷ d ∷ []) 2 0 (omega arith)))
+        (s d (in-get_or (a ∷ b ∷ c ∷ d ∷ []) 3 0 (omega arith)))
         (sym e)
 
     go : (j : ℕ) → j < 5 → get_or out (at + j) 0 ≡ get_or (p ∷ a ∷ b ∷ c ∷ d ∷ []) j 0
@@ -125,11 +125,11 @@ module _ (t : Task) (wf : well_formed t ≡ true) (w : List ℕ) (n : ℕ) (s : 
       (sym (number-row t wf w n s c k l) ∙ (q ∙ sym e))
 
   pub row_in : (k : ℕ) → k < n → row_number w k ≡ number → In f s
-  row_in k l q = in-eq (sym (row-fact k l q)) (in-get_d s k no_fact (let z = c.count in omega arith))
+  row_in k l q = in-eq (sym (row-fact k l q)) (in-get_or s k no_fact (let z = c.count in omega arith))
 
   pub in_row : In f s → (k : ℕ) × (k < n) × (row_number w k ≡ number)
   in_row i =
-      let (k, l, q) = get_d-in no_fact i in
+      let (k, l, q) = get_or-in no_fact i in
       let m : k < n = (let z = c.count in omega arith) in
       (k, m, number-row t wf w n s c k m ∙ (ap record_number q ∙ e))
 

@@ -13,7 +13,7 @@ use Rattle.task.specs.Layout.{head_in}
 use Rattle.task.specs.Task.{Atom, Task, schema_fits, roles_ascend, no_schema}
 use Rattle.task.specs.Table.{atom_in, schema_number_in, task_of, is_table}
 use Rattle.task.specs.Run.{schema_at}
-use Rattle.words.proofs.Lists.{and_left, and_right, all_in, in-get_d, tabulate}
+use Rattle.words.proofs.Lists.{and_left, and_right, all_in, in-get_or, tabulate}
 use Rattle.task.proofs.Tests.{SchemaTests, schema-tests, task-tests}
 use Rattle.task.proofs.AtomsStand.{no_atom}
 use Rattle.task.proofs.Tables.{start_of, of-table}
@@ -90,7 +90,7 @@ module _ (w : List ℕ) (h : is_table w ≡ true) (s : ℕ) (l : s < (head_in w)
       let c = task-tests t (of-table w h).0 in
       let n = schemas-word w (table-frame w h) in
       schema-tests t.arities (get_or t.schemas s no_schema)
-      (all_in (schema_fits t.arities) c.fit (in-get_d t.schemas s no_schema (omega arith)))
+      (all_in (schema_fits t.arities) c.fit (in-get_or t.schemas s no_schema (omega arith)))
 
   roles-ascend : roles_ascend atoms ≡ true
   unfolding schema_at

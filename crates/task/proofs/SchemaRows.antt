@@ -12,7 +12,7 @@ use lib.Dec.{eqb}
 use Rattle.words.specs.Lists.{filter, concat_map, sum, up_to, up_from}
 use Rattle.task.specs.Task.{Schema, no_schema}
 use Rattle.task.specs.Table.{rows_from, naming}
-use Rattle.words.proofs.Lists.{In, here, there, in-get_d, map-in, get_d_map, get_d-mapped, length-up_from, up_from-in}
+use Rattle.words.proofs.Lists.{In, here, there, in-get_or, map-in, get_or-map, get_or-mapped, length-up_from, up_from-in}
 use Rattle.words.proofs.Lists.{tabulate, sum-take-rises}
 use Rattle.words.proofs.Words.{At, at_left, at-move, at_right, at_join, length-rows, at_row, join-rows}
 use Rattle.task.proofs.Numbered.{Numbered, no_block, block, numbered-make, filter-numbered, Blocks, blocks}
@@ -78,7 +78,7 @@ module _ {Row : Type 0} (words : ℕ → Row → List ℕ) (rows : Schema → Li
       let all : At w from (concat_map (words m) (rows s)) =
       subst (λ (n : ℕ). At w from (concat_map (words n) (rows s))) z (at-schema w b 0 ss h a m l) in
       at-move w (from + size * k) (b + size * (first_row rows ss m + k)) (words m (get_or (rows s) k none)) (omega arith)
-      (at_row (words m) size w from (rows s) none (λ r i. h s (in-get_d ss m no_schema l) r i m) all k x)
+      (at_row (words m) size w from (rows s) none (λ r i. h s (in-get_or ss m no_schema l) r i m) all k x)
 
 -- ---- which rows name a schema
 module _ {Row : Type 0} (rows : Schema → List Row) (none : Row) (number : ℕ → ℕ) (row : ℕ → Row)
@@ -101,7 +101,7 @@ module _ {Row : Type 0} (rows : Schema → List Row) (none : Row) (number : ℕ 
     pub lies : (i : ℕ) → i < total → Lies (first_row rows ss) number schemas i
 
   count-is : (m : ℕ) → m < length ss → get_or (row_counts rows ss) m 0 ≡ length (rows (get_or ss m no_schema))
-  count-is m l = get_d_map (λ (s : Schema). length (rows s)) ss m no_schema 0 l
+  count-is m l = get_or-map (λ (s : Schema). length (rows s)) ss m no_schema 0 l
 
   counted : length (row_counts rows ss) ≡ length ss
   counted = length-map ss (λ (s : Schema). length (rows s))
@@ -221,7 +221,7 @@ module _ {Row : Type 0} (words : ℕ → Row → List ℕ) (rows : Schema → Li
           at-move w (base (i + j)) (base i + size * j) (words (number (i + j)) (row (i + j))) (step i j)
           (stands (i + j) (omega arith)) in
           subst (λ (x : List ℕ). At w (base i + size * j) x)
-          (ap₂ words (e j m) (sym (get_d-mapped row i k j none m))) a
+          (ap₂ words (e j m) (sym (get_or-mapped row i k j none m))) a
 
   runs-words : {n i : ℕ} {cs : List ℕ} → Numbered number n i cs → i + sum cs ≤ count →
       ((m : ℕ) → m < length cs → rows (f (n + m)) ≡ map row (up_from (i + sum (take m cs)) (get_or cs m 0))) →

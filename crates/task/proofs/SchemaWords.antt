@@ -36,7 +36,7 @@ parts-few atoms n e l =
     ap (λ (m : ℕ). all (has_part atoms) (up_to m)) (sym e)
 
 -- every part is below the count
-pub part_small : {atoms : List Atom} {a : Atom} → In a atoms → a.part < part_count atoms
+pub part_small : {a : Atom} {atoms : List Atom} → In a atoms → a.part < part_count atoms
 unfolding part_count
 part_small (here e) = let q = ap (λ a. a.part) e in omega arith
 part_small (there k) = let q = part_small k in omega arith

@@ -16,7 +16,7 @@ use Rattle.task.specs.Task.{Task, schema_fits, no_schema}
 use Rattle.task.specs.Table.{atom_in, schema_number_in, task_of, is_table}
 use Rattle.task.specs.Run.{schema_at}
 use Rattle.task.specs.Turns.{Starts, RoleEnds}
-use Rattle.words.proofs.Lists.{all_in, in-get_d, sum-take-rises}
+use Rattle.words.proofs.Lists.{all_in, in-get_or, sum-take-rises}
 use Rattle.words.proofs.Loops.{run_more}
 use Rattle.task.proofs.Tests.{schema-tests, task-tests}
 use Rattle.task.proofs.AtomsStand.{counts}
@@ -43,7 +43,7 @@ module _ (w : List ℕ) (h : is_table w ≡ true) where
       let n = schemas-word w fr in
       let c = task-tests t (of-table w h).0 in
       let q = schema-tests t.arities (get_or t.schemas s no_schema)
-      (all_in (schema_fits t.arities) c.fit (in-get_d t.schemas s no_schema (omega arith))) in
+      (all_in (schema_fits t.arities) c.fit (in-get_or t.schemas s no_schema (omega arith))) in
       let m = leb-true 1 (length (get_or t.schemas s no_schema).atoms) q.some-atom in
       omega arith
 

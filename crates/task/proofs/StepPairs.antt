@@ -16,8 +16,8 @@ use Rattle.task.specs.Task.{Pair, Schema, no_schema}
 use Rattle.task.specs.Table.{pair_in, pair_number_in, pair_words, pairs_from, task_of, is_table, naming, schema_in}
 use Rattle.task.specs.Run.{differ, schema_at, param_count}
 use Rattle.task.specs.StepTests.{row_schema, row_pair, words_differ, apart_at, PairsFew}
-use Rattle.words.proofs.Lists.{In, here, there, in_map, in-filter, in-up_to, get_d-mapped}
-use Rattle.words.proofs.Words.{At, at-move, get_d-words_at}
+use Rattle.words.proofs.Lists.{In, here, there, in_map, in-filter, in-up_to, get_or-mapped}
+use Rattle.words.proofs.Words.{At, at-move, get_or-words_at}
 use Rattle.task.proofs.SchemaRows.{Reads, first_row, row-stands, rows-indices, rows_are, row_lies}
 use Rattle.task.proofs.PairsStand.{no_pair, pair_counts, pairs-even}
 use Rattle.task.proofs.Tables.{of-table, places}
@@ -47,8 +47,8 @@ differ-words steps at n (q ∷ qs) h =
     let a = f.ascends in
     let b = f.known in
     ap₂ ◌&&◌
-    (ap₂ (λ (x y : ℕ). not (eqb x y)) (get_d-words_at steps at n q.lower (omega arith))
-    (get_d-words_at steps at n q.higher (omega arith)))
+    (ap₂ (λ (x y : ℕ). not (eqb x y)) (get_or-words_at steps at n q.lower (omega arith))
+    (get_or-words_at steps at n q.higher (omega arith)))
     (differ-words steps at n qs (λ r i. h r (there i)))
 
 -- ---- rows of the pairs of some schemas
@@ -117,7 +117,7 @@ module _ (w : List ℕ) (h : is_table w ≡ true) where
   unfolding schema_at task_of up_to
   pairs-named s l =
       let z : 0 + s ≡ s = omega arith in
-      ap (λ (x : Schema). x.pairs) (get_d-mapped (schema_in w) 0 (head_in w).schemas s no_schema l) ∙
+      ap (λ (x : Schema). x.pairs) (get_or-mapped (schema_in w) 0 (head_in w).schemas s no_schema l) ∙
       ap (λ (n : ℕ). (schema_in w n).pairs) z
 
   -- pair i has "the lower first", and both are parameters of its schema

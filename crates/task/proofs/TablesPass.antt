@@ -15,7 +15,7 @@ use Rattle.task.specs.Limits.{table_words}
 use Rattle.task.specs.Run.{schema_at}
 use Rattle.task.specs.Table.{pair_in, pair_number_in, atom_in, schema_number_in, task_of, atom_words, is_table}
 use Rattle.task.specs.Task.{Atom, Fact, Schema, no_schema, initial, goal_role}
-use Rattle.words.proofs.Lists.{all_in, in-get_d}
+use Rattle.words.proofs.Lists.{all_in, in-get_or}
 use Rattle.words.proofs.Words.{At, at_right}
 use Rattle.task.proofs.Tests.{task-tests}
 use Rattle.task.proofs.SchemaRows.{numbers-rise}
@@ -65,8 +65,8 @@ module _ (w : List ℕ) (fr : Frame w) where
             atom = atom;
             stands = subst (λ (j : ℕ). Stands w j s atom) z
                 (schema-stands w (task_of w) fr.sizes fr.tabled s k (omega arith) x);
-            size = fr.sizes.schema sc (in-get_d (task_of w).schemas s no_schema (omega arith)) atom
-                (in-get_d sc.atoms k no_atom x);
+            size = fr.sizes.schema sc (in-get_or (task_of w).schemas s no_schema (omega arith)) atom
+                (in-get_or sc.atoms k no_atom x);
           }
 
       in-init : (k i : ℕ) → i ≡ (head_in w).schema_atoms + k → k < (head_in w).initial_atoms → Placed w i
@@ -77,7 +77,7 @@ module _ (w : List ℕ) (fr : Frame w) where
             number = 0;
             atom = fact_atom initial f;
             stands = rw e (init-stands w (task_of w) fr.sizes fr.tabled k (omega arith));
-            size = fr.sizes.init f (in-get_d (task_of w).init k no_fact (omega arith));
+            size = fr.sizes.init f (in-get_or (task_of w).init k no_fact (omega arith));
           }
 
       in-goal : (k i : ℕ) → i ≡ goals_from w + k → k < (head_in w).goal_atoms → Placed w i
@@ -88,7 +88,7 @@ module _ (w : List ℕ) (fr : Frame w) where
             number = 0;
             atom = fact_atom goal_role f;
             stands = rw e (goal-stands w (task_of w) fr.sizes fr.tabled k (omega arith));
-            size = fr.sizes.goal f (in-get_d (task_of w).goal k no_fact (omega arith));
+            size = fr.sizes.goal f (in-get_or (task_of w).goal k no_fact (omega arith));
           }
 
 pub unused-words : (w : List ℕ) (i s : ℕ) (a : Atom) → At w (atom_base w i) (atom_words s a) → (k : ℕ) →
@@ -127,7 +127,7 @@ table-words w h =
       inside = used-inside w fr;
       arity = λ p l. rw (← arity-at w fr p l)
           (leb-true (get_or (task_of w).arities p 0) 4
-          (all_in (λ n. leb n 4) c.arities (in-get_d (task_of w).arities p 0 (omega arith))));
+          (all_in (λ n. leb n 4) c.arities (in-get_or (task_of w).arities p 0 (omega arith))));
       known = λ i l. let p = placed w fr i l in rw p.stands.atom (let z = p.size.known in omega arith);
       unused = λ i k l m x.
           let p = placed w fr i l in

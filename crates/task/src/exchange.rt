@@ -11,14 +11,14 @@ use crate::records::{find, is_row, remove_row, replace, row_for};
 use crate::spans::{Numbers, Rows, Spans, absent, insert_rest};
 
 // How many records there are, and the first add that may still be missing.
-#[derive(Drop)]
+#[derive(Clone, Copy)]
 pub struct Exchanged {
     pub left: usize,
     pub next: usize,
 }
 
 // An add of a step that does not hold: its place among the numbers, and the row before which it is to come.
-#[derive(Drop)]
+#[derive(Clone, Copy)]
 pub struct New {
     pub atom: usize,
     pub row: usize,

@@ -33,7 +33,7 @@ use crate::{Place, RunAnswer};
 use words::runs::word;
 
 // What a step does: it runs and leaves so many records, a precondition is missing, or the next state is outgrown.
-#[derive(Drop)]
+#[derive(Clone, Copy)]
 pub enum Turn {
     Ran(usize),
     Missing,
@@ -41,7 +41,7 @@ pub enum Turn {
 }
 
 // How a list ends: it ran to the end, or stopped at a step; each with the records left.
-#[derive(Drop)]
+#[derive(Clone, Copy)]
 pub enum Ended {
     Ran(usize),
     Missing(usize, usize),

@@ -25,7 +25,7 @@ pub type Rows = [usize; MOST_ATOMS];
 
 // A step's ground atoms by role, as places among their numbers: the preconditions stand first, then come the adds, and
 // the deletes up to the end.
-#[derive(Drop)]
+#[derive(Clone, Copy)]
 pub struct Spans {
     pub adds: usize,
     pub deletes: usize,

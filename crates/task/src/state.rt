@@ -17,11 +17,10 @@ use words::runs::wide;
 pub fn is_record(table: &[u16], state: &[u16], i: usize) -> bool
     requires table_value { is_table table.now ≡ true }
     requires record_size_in_bounds { record_size * i + record_size ≤ length state.now }
-    ensures* { do
-      let t = task_of table.now
-      let w = state.now
-      ⌜ result ≡ args_fit t.arities t.objects (record_at t w i).pred (record_at t w i).args &&
-          eq_list (words_at w (record_size * i) record_size) (record_words (record_at t w i)) ⌝ }
+    ensures { let t = task_of table.now in
+        let w = state.now in
+        result ≡ args_fit t.arities t.objects (record_at t w i).pred (record_at t w i).args &&
+        eq_list (words_at w (record_size * i) record_size) (record_words (record_at t w i)) }
 {
     let at = RECORD_SIZE * i;
     let predicate = state[at];

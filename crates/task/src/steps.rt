@@ -81,12 +81,11 @@ fn differ_at(rows: &[u16], row: usize, steps: &[u16], at: usize) -> bool
     requires pair_size_in_bounds { row + pair_size ≤ length rows.now }
     requires row_bound { (get_or rows.now (row + 1) 0 < most_parameters) × (get_or rows.now (row + 2) 0 < most_parameters) }
     requires step_size_in_bounds { at + step_size ≤ length steps.now }
-    ensures* { do
-      let words = rows.now
-      ⌜ result ≡ words_differ steps.now (at + 1) (record {
-        lower = get_or words (row + 1) 0;
-        higher = get_or words (row + 2) 0;
-      }) ⌝ }
+    ensures { let words = rows.now in
+        result ≡ words_differ steps.now (at + 1) (record {
+          lower = get_or words (row + 1) 0;
+          higher = get_or words (row + 2) 0;
+        }) }
 {
     let lower = word(rows, row + LOWER);
     let higher = word(rows, row + HIGHER);
@@ -127,9 +126,8 @@ fn is_choice(table: &[u16], steps: &[u16], i: usize, limits: &Limits) -> bool
     requires table_value { is_table table.now ≡ true }
     requires i_in_bounds { step_size * i ≤ length steps.now }
     requires limits_value { limits.now ≡ limits_for (task_of table.now).objects }
-    ensures* i_value { do
-      let w = table.now
-      ⌜ is_step_at (task_of w) steps.now i ≡ result && rows_apart w steps.now i ⌝ }
+    ensures i_value { let w = table.now in
+        is_step_at (task_of w) steps.now i ≡ result && rows_apart w steps.now i }
     ensures step_size_in_bounds { result ≡ true → step_size * i + step_size ≤ length steps.now }
 {
     let at = STEP_SIZE * i;

@@ -11,7 +11,7 @@ use Rattle.task.specs.Limits.{table_words, head_words, atom_size, table_length}
 use Rattle.words.specs.Lists.{any, concat_map, joined, sum, up_to}
 use Rattle.task.specs.Task.{Atom, Fact, args_fit, same_atom, schema_atoms}
 use Rattle.task.specs.Table.{atom_words, fact_words, schemas_from}
-use Rattle.words.proofs.Lists.{In, all_in, in-get_d, append-concat_map}
+use Rattle.words.proofs.Lists.{In, all_in, in-get_or, append-concat_map}
 use Rattle.words.proofs.Words.{at-move, at_join, at_row, length-rows}
 use Rattle.words.proofs.JoinedWords.{length-joined, concat-stands}
 use Rattle.task.proofs.AtomsStand.{Sized, sized, length-atom_words, length-facts}
@@ -191,7 +191,7 @@ module _ {d : Draft} {w : List ℕ} {c : Counts} (h : Holds d w c) (r p : ℕ) (
       (same_atom new)
       d.current.atoms new c.atoms h.atoms (λ i l.
       let b = get_or d.current.atoms i new in
-      let size : Sized d.task.arities b.pred b.args = atom-sized h b (in-get_d d.current.atoms i new l) in
+      let size : Sized d.task.arities b.pred b.args = atom-sized h b (in-get_or d.current.atoms i new l) in
       let n = h.atoms in
       let e = length-atom_words S b size.short in
       same_rows after (row_at c) (rows_at c.predicates + atom_size * c.closed + atom_size * i) S new b fits.short

@@ -13,7 +13,7 @@ use Rattle.task.specs.Limits.{atom_size, table_length}
 use Rattle.task.specs.Task.{Fact, Schema, args_fit, no_schema}
 use Rattle.task.specs.Table.{atom_words, fact_words, schemas_from}
 use Rattle.words.specs.Words.{words_at}
-use Rattle.words.proofs.Lists.{In, all_in, in-get_d, append-concat_map}
+use Rattle.words.proofs.Lists.{In, all_in, in-get_or, append-concat_map}
 use Rattle.words.proofs.Words.{at-move, at_row}
 use Rattle.words.proofs.JoinedWords.{concat-stands}
 use Rattle.task.proofs.AtomsStand.{Sized, sized, length-atom_words, length-facts, fact_atom, fact_words-is}
@@ -142,7 +142,7 @@ module _ {d : Draft} {w after : List ℕ} {c : Counts} (h : Holds d w c) (facts 
       (fact_words facts.role g) place
       (at_row (fact_words facts.role) atom_size w (rows_at c.predicates + atom_size * (total - facts.read)) fs f
       (length-facts d.task facts.role fs fs-sized) known.stand k (omega arith)) in
-      let eight = length-facts d.task facts.role fs fs-sized g (in-get_d fs k f (omega arith)) in
+      let eight = length-facts d.task facts.role fs fs-sized g (in-get_or fs k f (omega arith)) in
       let z : row_at c - 6 ≡ (row_at c - atom_size) + 2 = omega arith in
       ap (λ (i : ℕ). less_list (words_at after i 6) (words_at after (row_at c + 2) 6)) z ∙
       (less-rows (λ q. get_or d.task.arities q 0) after (row_at c - atom_size) (row_at c) facts.role g f size.short
@@ -157,7 +157,7 @@ module _ {d : Draft} {w after : List ℕ} {c : Counts} (h : Holds d w c) (facts 
 
       fact-size : (k : ℕ) → k < length fs →
           Sized d.task.arities (get_or fs k (fact_of p ns)).pred (get_or fs k (fact_of p ns)).args
-      fact-size k l = fs-sized (get_or fs k (fact_of p ns)) (in-get_d fs k (fact_of p ns) l)
+      fact-size k l = fs-sized (get_or fs k (fact_of p ns)) (in-get_or fs k (fact_of p ns) l)
 
       new-size : length (fact_words facts.role (fact_of p ns)) ≡ atom_size
       new-size =

@@ -11,7 +11,7 @@ use borrow.Author.Tests.{le-leb, lt-leb, eq-eqb, ne_eqb}
 use Rattle.words.specs.Lists.{all, any, up_to}
 use Rattle.task.specs.Limits.{head_words, atom_size, table_length}
 use Rattle.task.specs.Task.{Atom, names, part_count, no_gap, all_named}
-use Rattle.words.proofs.Lists.{In, here, there, in-get_d}
+use Rattle.words.proofs.Lists.{In, here, there, in-get_or}
 use Rattle.task.proofs.AtomsStand.{Sized}
 use Rattle.text.specs.Reading.{go_on, refuse}
 use Rattle.text.specs.Text.{Draft, with_parts, close_schema}
@@ -65,7 +65,7 @@ module _ {d : Draft} {w : List ℕ} {c : Counts} (h : Holds d w c) where
 
   size-at : (i : ℕ) → i < length d.current.atoms →
       Sized d.task.arities (get_or d.current.atoms i no_atom).pred (get_or d.current.atoms i no_atom).args
-  size-at i l = atom-sized h (get_or d.current.atoms i no_atom) (in-get_d d.current.atoms i no_atom l)
+  size-at i l = atom-sized h (get_or d.current.atoms i no_atom) (in-get_or d.current.atoms i no_atom l)
 
   pub row_in : table_length ≤ length w → (i : ℕ) → i < c.atoms → RowIn w (first + atom_size * i)
   row_in long i l =

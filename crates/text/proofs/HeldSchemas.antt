@@ -10,7 +10,7 @@ use Rattle.words.specs.Lists.{all, concat_map, joined, sum}
 use Rattle.task.specs.Limits.{head_words, atom_size, table_length}
 use Rattle.task.specs.Task.{Atom, Schema, schema_atoms, schema_pairs, with_atoms}
 use Rattle.task.specs.Table.{pair_words, atom_words, rows_from, schemas_from}
-use Rattle.words.proofs.Lists.{In, in-get_d, get_d-in, map-append, sum-append, length-padded}
+use Rattle.words.proofs.Lists.{In, in-get_or, get_or-in, map-append, sum-append, length-padded}
 use Rattle.words.proofs.Words.{At, at-move, at_join, length-rows, join-rows}
 use Rattle.words.proofs.JoinedWords.{concat-stands}
 use Rattle.task.proofs.AtomsStand.{Sized, length-atom_words}
@@ -130,12 +130,12 @@ module _ {d : Draft} {w mid : List ℕ} {c : Counts} (h : Holds d w c) (ps kept 
 
   closed-size : (x : Atom) → In x closed_atoms → length (atom_words S x) ≡ atom_size
   closed-size x i =
-      let (k, l, e) = get_d-in no_atom i in
+      let (k, l, e) = get_or-in no_atom i in
       let n = length-closed d.task d.current ps same in
       let m : k < length d.current.atoms = omega arith in
       let a = get_or d.current.atoms k no_atom in
       let size : Sized d.task.arities a.pred a.args = atom-sized h a
-      (in-get_d d.current.atoms k no_atom m) in
+      (in-get_or d.current.atoms k no_atom m) in
       let q : x.args ≡ a.args =
       ap (λ (y : Atom). y.args) (sym e ∙ parts_at d.current.atoms ps k no_atom same m) in
       length-atom_words S x (subst (λ (xs : List ℕ). length xs ≤ 4) (sym q) size.short)
@@ -147,7 +147,7 @@ module _ {d : Draft} {w mid : List ℕ} {c : Counts} (h : Holds d w c) (ps kept 
       let m : i < length d.current.atoms = omega arith in
       let a = get_or d.current.atoms i no_atom in
       let size : Sized d.task.arities a.pred a.args = atom-sized h a
-      (in-get_d d.current.atoms i no_atom m) in
+      (in-get_or d.current.atoms i no_atom m) in
       subst (λ (x : Atom). At last (first + atom_size * i) (atom_words S x)) (sym
       (parts_at d.current.atoms ps i no_atom same m))
       (row-parted w last (first + atom_size * i) S a (get_or ps i 0) size.short (atom-stands h i no_atom m)

@@ -14,7 +14,7 @@ use lib.ListN.{get_or, length-append}
 use lib.Dec.{eqb}
 use borrow.Author.Tests.{eqb-true, eqb-false, eq-eqb, ne_eqb, not-true}
 use Rattle.words.specs.Lists.{all, any}
-use Rattle.words.proofs.Lists.{In, here, there, and_left, and_right, all_in, any-in, in-any, in-get_d, both-ft, no_ft}
+use Rattle.words.proofs.Lists.{In, here, there, and_left, and_right, all_in, any-in, in-any, in-get_or, both-ft, no_ft}
 use Rattle.text.specs.Lines.{Taken, Reader, and_then, or_else, after, read_key, read_line, bytes, equals}
 use Rattle.text.specs.Text.{Key, task, objects, arity, schema, differ, pre, add, del, part, init, goal, end}
 use Rattle.text.specs.Text.{key_name, Phase, at_task, at_objects, at_arity, between, in_differ, in_pre, in_add, in_del}
@@ -129,7 +129,7 @@ pub key-of-number : (j k : Key) → key_number j ≡ key_number k → j ≡ k
 key-of-number j k e = sym (numbered j) ∙ (ap (λ (n : ℕ). get_or every_key n task) e ∙ numbered k)
 
 every-key : (k : Key) → In k every_key
-every-key k = subst (λ (x : Key). In x every_key) (numbered k) (in-get_d every_key (key_number k) task (small k))
+every-key k = subst (λ (x : Key). In x every_key) (numbered k) (in-get_or every_key (key_number k) task (small k))
   where
     small : (k : Key) → key_number k < 12
     small task = omega arith

@@ -15,7 +15,7 @@ use Rattle.task.specs.Limits.{step_size}
 use Rattle.task.specs.Task.{Task, well_formed}
 use Rattle.task.specs.Table.{task_of, is_table}
 use Rattle.task.specs.Run.{Step, schema_at, is_choice, step_words, param_count, step_at, steps_in}
-use Rattle.words.proofs.Lists.{in-get_d, all_in, append-concat_map, tabulate}
+use Rattle.words.proofs.Lists.{in-get_or, all_in, append-concat_map, tabulate}
 use Rattle.task.proofs.Tests.{task-tests}
 use Rattle.task.proofs.Tables.{of-table}
 use Rattle.words.proofs.Puts.{take-over}
@@ -88,7 +88,7 @@ step_kept w table s count kept ns size listed h =
       few = omega arith;
       enough = omega arith;
       small = λ k l.
-          let o = is.small (get_or ns k 0) (in-get_d ns k 0 (omega arith)) in
+          let o = is.small (get_or ns k 0) (in-get_or ns k 0 (omega arith)) in
           let e = listed.held k (omega arith) (omega arith) in
           omega arith;
     }
@@ -182,7 +182,7 @@ module _ (t : Task) (well : well_formed t ≡ true) (xs : List Step) (choices : 
   choice-back k l =
       let w = concat_map step_words xs in
       let x = get_or xs k no_step in
-      step-in w (param_count t) k x (is_choice-is t x (all_in (is_choice t) choices (in-get_d xs k no_step l))).count
+      step-in w (param_count t) k x (is_choice-is t x (all_in (is_choice t) choices (in-get_or xs k no_step l))).count
       (at-step w xs all-sized (λ j m. let z : 0 + j ≡ j = omega arith in ap (λ (i : ℕ). get_or w i 0) z) k l)
 
   pub choices-written : steps_in t (concat_map step_words xs) ≡ xs

@@ -14,7 +14,7 @@ use Rattle.task.specs.Task.{Atom, Fact, same_atom, fact_less, names}
 use Rattle.words.specs.Words.{words_at}
 use Rattle.task.specs.Table.{atom_words, fact_words}
 use Rattle.task.specs.Run.{record_words}
-use Rattle.words.proofs.Lists.{get_d-in, in-get_d, any-in, in-any, in-up_to, up_to-in, false-if, both-ft, length-padded}
+use Rattle.words.proofs.Lists.{get_or-in, in-get_or, any-in, in-any, in-up_to, up_to-in, false-if, both-ft, length-padded}
 use Rattle.words.proofs.Words.{At, at_left, words_at-is}
 use Rattle.words.proofs.Comparing.{eq-padded}
 use Rattle.task.proofs.RecordOrder.{fact_less-words}
@@ -31,10 +31,10 @@ any-index q p xs d n e h = bool_eq (any q (up_to n)) (any p xs)
     (λ t.
     let (i, j, k) = any-in q (up_to n) t in
     let l = up_to-in n i j in
-    in-any p (in-get_d xs i d (omega arith)) (sym (h i (omega arith)) ∙ k))
+    in-any p (in-get_or xs i d (omega arith)) (sym (h i (omega arith)) ∙ k))
     (λ t.
     let (x, j, k) = any-in p xs t in
-    let (i, l, q') = get_d-in d j in
+    let (i, l, q') = get_or-in d j in
     in-any q (in-up_to n i (omega arith)) (h i l ∙ (ap p q' ∙ k)))
 
 -- ---- the words of a row

@@ -12,7 +12,7 @@ use Rattle.words.specs.Lists.{all, padded}
 use Rattle.task.specs.Limits.{head_words, atom_size}
 use Rattle.task.specs.Task.{args_fit}
 use Rattle.task.specs.Table.{atom_words}
-use Rattle.words.proofs.Lists.{no_ft, all_in, in-get_d}
+use Rattle.words.proofs.Lists.{no_ft, all_in, in-get_or}
 use Rattle.words.proofs.Words.{and-false, each_first, past_end}
 use Rattle.text.specs.ReadCode.{Listed, Fitting, PartsPut, Words, bare_atom}
 
@@ -52,7 +52,7 @@ module _ (w : List ℕ) (predicates bound p : ℕ) (kept : List ℕ) (count : �
   too-many l m = record {
     is = λ arities ns e a low four s. wrong-count l arities ns (λ q.
         let c = s.counted in
-        let few = leb-true (get_or arities p 0) 4 (all_in (λ n. leb n 4) low (in-get_d arities p 0 (omega arith))) in
+        let few = leb-true (get_or arities p 0) 4 (all_in (λ n. leb n 4) low (in-get_or arities p 0 (omega arith))) in
         omega arith);
     known = not-told;
     enough = not-told;

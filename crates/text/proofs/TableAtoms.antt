@@ -12,7 +12,7 @@ use Rattle.task.specs.Layout.{head_in, goals_from, atom_total, atom_base}
 use Rattle.task.specs.Task.{Atom, Task, roles_ascend, schema_fits, no_schema}
 use Rattle.task.specs.Run.{schema_at}
 use Rattle.task.specs.Table.{atom_in, task_of, is_table}
-use Rattle.words.proofs.Lists.{and_left, and_right, In, here, there, all_in, in-get_d}
+use Rattle.words.proofs.Lists.{and_left, and_right, In, here, there, all_in, in-get_or}
 use Rattle.task.proofs.Tests.{schema-tests, task-tests}
 use Rattle.task.proofs.AtomsStand.{no_atom}
 use Rattle.task.proofs.Tables.{start_of, of-table, init-stands, goal-stands}
@@ -63,10 +63,10 @@ module _ (w : List ℕ) (table : is_table w ≡ true) where
   schema-role s k l h =
       let n = schemas-word w frame in
       let tests = task-tests t (of-table w table).0 in
-      let is = in-get_d t.schemas s no_schema (omega arith) in
+      let is = in-get_or t.schemas s no_schema (omega arith) in
       let c = schema-tests t.arities (schema_at t s) (all_in (schema_fits t.arities) tests.fit is) in
       subst (λ (a : Atom). a.role ≤ 2) (sym (atom-at w frame s k l h))
-      (each-role (in-get_d (schema_at t s).atoms k no_atom h) c.roles)
+      (each-role (in-get_or (schema_at t s).atoms k no_atom h) c.roles)
 
   pub init-role : (i : ℕ) → i < (head_in w).initial_atoms → get_or w (atom_base w ((head_in w).schema_atoms + i) + 1) 0 ≡ 3
   unfolding atom_in

@@ -3,28 +3,28 @@
 ghost use Rattle.text.specs.ReadCode.{Placed, start_cursor, DigitAt, NumberAt, WordAt, EndAt};
 ghost use Rattle.std.specs.Prelude.{◌≡◌};
 
-#[derive(Drop)]
+#[derive(Clone, Copy)]
 pub struct Cursor {
     pub at: usize,
     pub line: u64,
 }
 
 // The digit at a cursor, and the cursor behind it.
-#[derive(Drop)]
+#[derive(Clone, Copy)]
 pub enum Digit {
     Of(u32, Cursor),
     Missing,
 }
 
 // The number at a cursor, and the cursor behind it.
-#[derive(Drop)]
+#[derive(Clone, Copy)]
 pub enum Number {
     Of(u32, Cursor),
     Missing,
 }
 
 // The cursor behind some bytes that stand at another.
-#[derive(Drop)]
+#[derive(Clone, Copy)]
 pub enum Behind {
     At(Cursor),
     Missing,

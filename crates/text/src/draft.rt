@@ -8,7 +8,7 @@ use crate::cursor::Cursor;
 use crate::keys::{GOAL, INIT, TASK};
 use task::limits;
 
-#[derive(Drop)]
+#[derive(Clone, Copy)]
 pub struct Counts {
     pub phase: u16,
     pub objects: u16,
@@ -27,14 +27,14 @@ pub struct Counts {
 }
 
 // The ground atoms are of two kinds, one a key: `init` and `goal`.
-#[derive(Drop)]
+#[derive(Clone, Copy)]
 pub enum Kind {
     Initial,
     Goal,
 }
 
 // The ground atoms of a kind: their role, how many are read, and the most there may be.
-#[derive(Drop)]
+#[derive(Clone, Copy)]
 pub struct Facts {
     pub role: u32,
     pub read: usize,
@@ -42,7 +42,7 @@ pub struct Facts {
 }
 
 // What a line does: reading goes on at the next line, has come to its end, or is refused.
-#[derive(Drop)]
+#[derive(Clone, Copy)]
 pub enum Turn {
     GoOn(Counts, Cursor),
     Finish(Cursor),
@@ -50,7 +50,7 @@ pub enum Turn {
 }
 
 // A check passes, or refuses with a number.
-#[derive(Drop)]
+#[derive(Clone, Copy)]
 pub enum Check {
     Passes,
     Refuses(u32),

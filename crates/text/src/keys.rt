@@ -31,7 +31,7 @@ pub const GOAL: u16 = 10;
 pub const END: u16 = 11;
 
 // A key's number, and the cursor at its body.
-#[derive(Drop)]
+#[derive(Clone, Copy)]
 pub enum Keyed {
     Of(u16, Cursor),
     Missing,

@@ -78,7 +78,7 @@ fn write_pairs(text: &mut [u8], at: usize, table: &[u16], base: usize, m: usize)
 }
 
 // The rows of a schema: where its pairs begin and how many there are, and the same of its atoms.
-#[derive(Drop)]
+#[derive(Clone, Copy)]
 struct Rows {
     pair: usize,
     pairs: usize,

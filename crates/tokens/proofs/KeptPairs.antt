@@ -6,7 +6,7 @@ use mathlib.Core.Bool.{Bool, true, ◌&&◌}
 use mathlib.Core.List.{List}
 use lib.ListN.{length, get_or}
 use Rattle.words.specs.Lists.{all, any, up_to}
-use Rattle.words.proofs.Lists.{bool-ext, any-in, in-any, in-get_d, get_d-in, in-up_to, up_to-in}
+use Rattle.words.proofs.Lists.{bool-ext, any-in, in-any, in-get_or, get_or-in, in-up_to, up_to-in}
 use Rattle.words.proofs.Loops.{AllLeft, AnyLeft, all-mapped, any-up-to}
 use Rattle.task.specs.Task.{Pair, Schema}
 use Rattle.task.specs.Run.{schema_at}
@@ -41,13 +41,13 @@ module _ {w : List ℕ} {s : ℕ} {kept : List ℕ} (K : SchemaKept w s kept) wh
     by-positions = bool-ext (any (has_both schema q) (up_to (parts schema))) (any carried_at (up_to (length order)))
         (λ h.
         let (p, i, e) = any-in (has_both schema q) (up_to (parts schema)) h in
-        let (j, l, d) = get_d-in 0 ((kept-order K).all-placed p i) in
+        let (j, l, d) = get_or-in 0 ((kept-order K).all-placed p i) in
         in-any carried_at (in-up_to (length order) j l)
         (carries-both j l ∙ subst (λ (p : ℕ). has_both schema q p ≡ true) (sym d) e))
         (λ h.
         let (j, i, e) = any-in carried_at (up_to (length order)) h in
         let l = up_to-in (length order) j i in
-        in-any (has_both schema q) ((kept-order K).from (get_or order j 0) (in-get_d order j 0 l))
+        in-any (has_both schema q) ((kept-order K).from (get_or order j 0) (in-get_or order j 0 l))
         (sym (carries-both j l) ∙ e))
 
     -- what a loop over the positions begins with

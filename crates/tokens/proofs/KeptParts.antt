@@ -6,14 +6,14 @@ use native.Mathlib.Omega.{arith}
 use native.Mathlib.Decide.{dec_lt}
 use lib.ListN.{length, get_or}
 use Rattle.task.specs.declared.Part.{Part}
-use Rattle.words.proofs.Lists.{get_d_map}
+use Rattle.words.proofs.Lists.{get_or-map}
 use Rattle.tokens.specs.Acceptance.{part_at, OrderKept}
 use Rattle.task.specs.Limits.{most_schema_atoms}
 use Rattle.tokens.specs.Kept.{kept_words, order_place, own_place, part_word, own_word, with_part}
 use Rattle.tokens.proofs.KeptRows.{part-long, other-stays, part-put, own_put}
 
 pub part-is : (parts : List Part) (j : ℕ) → j < length parts → (get_or parts j (record { 0 = 0 })).0 ≡ part_at parts j
-part-is parts j l = sym (get_d_map (λ (p : Part). p.0) parts j (record { 0 = 0 }) 0 l)
+part-is parts j l = sym (get_or-map (λ (p : Part). p.0) parts j (record { 0 = 0 }) 0 l)
 
 module _ (from : ℕ) (parts : List Part) (named kept₀ : List ℕ) where
   pub order-none : OrderKept from 0 parts named kept₀ kept₀

@@ -12,7 +12,7 @@ use Rattle.task.specs.Layout.{head_in}
 use Rattle.task.specs.Task.{schema_fits, Task}
 use Rattle.task.specs.Run.{schema_at}
 use Rattle.task.specs.Table.{task_of, atom_in}
-use Rattle.words.proofs.Lists.{in-get_d}
+use Rattle.words.proofs.Lists.{in-get_or}
 use Rattle.task.proofs.AtomsStand.{no_atom}
 use Rattle.task.proofs.SchemaAtoms.{role-rises}
 use Rattle.task.proofs.Tests.{SchemaTests, schema-tests}
@@ -126,6 +126,6 @@ module _ {w : List ℕ} {s : ℕ} {kept : List ℕ} (K : SchemaKept w s kept) wh
   unfolding parts
   count-some =
       let b = leb-true 1 (length (schema_at t s).atoms) tests.some-atom in
-      let p = part_small (in-get_d (schema_at t s).atoms 0 no_atom b) in
+      let p = part_small (in-get_or (schema_at t s).atoms 0 no_atom b) in
       let e = count-parts in
       omega arith

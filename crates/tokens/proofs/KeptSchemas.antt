@@ -19,7 +19,7 @@ use Rattle.task.specs.Task.{Atom, Task, schema_atoms, schema_pairs, part_count}
 use Rattle.task.specs.Run.{schema_at}
 use Rattle.task.specs.Table.{task_of, is_table}
 use Rattle.task.specs.declared.Part.{Part}
-use Rattle.words.proofs.Lists.{get_d_map, in-get_d, up_to-in, filter_none}
+use Rattle.words.proofs.Lists.{get_or-map, in-get_or, up_to-in, filter_none}
 use Rattle.words.proofs.Lists.{map-append, sum-append, up_to-suc, in-eq, in_map, any-in, all_in, length-up_to}
 use Rattle.words.proofs.Ascending.{ascend-up_to, covered-few}
 use Rattle.task.proofs.Tests.{has_part, schema-tests, task-tests}
@@ -68,7 +68,7 @@ found_part : (f : Order) (j : ℕ) → f.count ≤ length f.parts → j < f.coun
     get_or (parts_found f) j 0 ≡ part_at f.parts j
 found_part f j l k =
     let n = length-take-le f.count f.parts l in
-    get_d_map (λ (p : Part). p.0) (take f.count f.parts) j (record { 0 = 0 }) 0 (omega arith) ∙
+    get_or-map (λ (p : Part). p.0) (take f.count f.parts) j (record { 0 = 0 }) 0 (omega arith) ∙
     ap (λ (p : Part). p.0) (get_or-take f.count f.parts j (record { 0 = 0 }) k) ∙
     part-is f.parts j (omega arith)
 
@@ -94,7 +94,7 @@ module _ (t : Task) (s : ℕ) (f : Order) (told : order_told f ≡ order_of (sch
   found-small e l b j k =
       let n = found-count f l in
       let laws = order_of-laws (schema_at t s) (parts_found f) (told-some e) in
-      let i = in-get_d (parts_found f) j 0 (omega arith) in
+      let i = in-get_or (parts_found f) j 0 (omega arith) in
       let m = up_to-in (part_count (schema_at t s).atoms) (get_or (parts_found f) j 0) (laws.from _ i) in
       omega (arith, found_part f j l k)
 

@@ -15,7 +15,7 @@ use Rattle.task.specs.Task.{Atom, Pair, Task, precondition, addition, deletion}
 use Rattle.task.specs.Run.{schema_at, of_role}
 use Rattle.tokens.specs.Split.{has, params_of, first_position, parts, procnone, token, own, old_atoms, required}
 use Rattle.tokens.specs.Split.{has_both, own_pairs, lone, later_here, pars, split_schema}
-use Rattle.words.proofs.Lists.{and_both, In, in-get_d, filter-in, up_to-in, length-up_to, filter-all, filter_none}
+use Rattle.words.proofs.Lists.{and_both, In, in-get_or, filter-in, up_to-in, length-up_to, filter-all, filter_none}
 use Rattle.words.proofs.Lists.{map-keeps}
 use Rattle.task.proofs.SchemaWords.{part_small}
 use Rattle.tokens.proofs.Places.{atom-has}
@@ -54,7 +54,7 @@ module _ (t : Task) (s : ℕ) (o : List ℕ) (P : PartOf t s o 0) (alone : lengt
   first-part : get_or o 0 0 ≡ 0
   unfolding parts
   first-part =
-      let l = up_to-in (parts (schema_at t s)) (get_or o 0 0) (P.order.from (get_or o 0 0) (in-get_d o 0 0 P.inside)) in
+      let l = up_to-in (parts (schema_at t s)) (get_or o 0 0) (P.order.from (get_or o 0 0) (in-get_or o 0 0 P.inside)) in
       omega (arith, P.order.size)
 
   every-part : (a : Atom) → In a (schema_at t s).atoms → a.part ≡ get_or o 0 0

@@ -14,12 +14,12 @@ use Rattle.task.specs.Task.{Atom, Schema, Task, schema_fits}
 use Rattle.task.specs.Run.{schema_at, of_role}
 use Rattle.tokens.specs.Split.{has, params_of, first_position, last_position, parts, par_count, procnone, token, own}
 use Rattle.tokens.specs.Split.{old_atoms, required, handed_on, first_here, last_here, later_here, pars, split_task}
-use Rattle.words.proofs.Lists.{and_right, In, here, there, in-empty, in-get_d, map-in, up_to-in}
+use Rattle.words.proofs.Lists.{and_right, In, here, there, in-empty, in-get_or, map-in, up_to-in}
 use Rattle.task.proofs.Tests.{SchemaTests, schema-tests}
 use Rattle.task.proofs.States.{Fitting, SchemaFits, schema_fits-fits}
 use Rattle.words.proofs.Ascending.{Once, once-up_from, once-filter}
 use Rattle.arcs.proofs.OrderTaken.{OrderOf}
-use Rattle.tokens.proofs.Places.{index-small, get_d-index, atom-has, in_params, params-in, At, first-at, last-at}
+use Rattle.tokens.proofs.Places.{index-small, get_or-index, atom-has, in_params, params-in, At, first-at, last-at}
 use Rattle.tokens.proofs.AtomLists.{SameAtom, Apart, apart_cons, distinct_apart, apart-append, apart-filter}
 use Rattle.tokens.proofs.AtomLists.{apart-map, apart-once}
 use Rattle.tokens.proofs.RoleAtoms.{renumber, atoms_here, par_atom, role_atoms, an-old, the-token, of-parameter}
@@ -33,7 +33,7 @@ undo : (own xs : List ℕ) → ((x : ℕ) → In x xs → In x own) →
     map (λ i. get_or own i 0) (map (λ x. index_of x own) xs) ≡ xs
 undo own [] h = refl
 undo own (x ∷ xs) h =
-    ap₂ (λ (y : ℕ) (ys : List ℕ). y ∷ ys) (get_d-index (h x (here refl))) (undo own xs (λ y i. h y (there i)))
+    ap₂ (λ (y : ℕ) (ys : List ℕ). y ∷ ys) (get_or-index (h x (here refl))) (undo own xs (λ y i. h y (there i)))
 
 renumber-fixes : (own xs ys : List ℕ) → ((x : ℕ) → In x xs → In x own) → ((y : ℕ) → In y ys → In y own) →
     map (λ x. index_of x own) xs ≡ map (λ x. index_of x own) ys → xs ≡ ys
@@ -75,7 +75,7 @@ module _ (t : Task) (s : ℕ) (o : List ℕ) (j : ℕ) (P : PartOf t s o j) wher
       (P.order.once i k h b.inside) b.found a.found
     where
       placed : (i : ℕ) → i < length o → get_or o i 0 < parts old
-      placed i l = up_to-in (parts old) (get_or o i 0) (P.order.from (get_or o i 0) (in-get_d o i 0 l))
+      placed i l = up_to-in (parts old) (get_or o i 0) (P.order.from (get_or o i 0) (in-get_or o i 0 l))
 
   mine-at : (x : ℕ) → In x mine → (x < old.params) × At old o x j
   unfolding own

@@ -17,12 +17,12 @@ use Rattle.task.specs.Task.{addition, deletion}
 use Rattle.task.specs.Run.{schema_at}
 use Rattle.tokens.specs.Split.{has, params_of, token, own, required, handed_on, lone, first_here, last_here}
 use Rattle.tokens.specs.Split.{later_here, split_schema, split_task}
-use Rattle.words.proofs.Lists.{In, in-empty, in-append, in_all, in-any, in-eq, in-get_d, in_map, up_to-in, length-up_to}
+use Rattle.words.proofs.Lists.{In, in-empty, in-append, in_all, in-any, in-eq, in-get_or, in_map, up_to-in, length-up_to}
 use Rattle.words.proofs.Lists.{some-length}
 use Rattle.task.proofs.Tests.{tests-schema, has_part}
 use Rattle.task.proofs.States.{Fitting, fitting-args_fit, in-names}
 use Rattle.words.proofs.Ascending.{filter-le}
-use Rattle.tokens.proofs.Places.{index-get_d, has-atom, in_params}
+use Rattle.tokens.proofs.Places.{index-get_or, has-atom, in_params}
 use Rattle.tokens.proofs.AtomLists.{Apart, apart_distinct, apart-append, roles-append, role-small, one-part}
 use Rattle.tokens.proofs.RoleAtoms.{renumber, an-old, the-token, to-role, part-is, pre_atoms, add_atoms, del_atoms}
 use Rattle.tokens.proofs.RoleAtoms.{of-pre, of-add, of-del, of-schema, in-schema, pre-role, add-role, del-role}
@@ -104,8 +104,8 @@ module _ (t : Task) (s : ℕ) (o : List ℕ) (j : ℕ) (P : PartOf t s o j) wher
   unfolding split_schema own params_of up_to
   part-params = record {
     named = λ x l.
-        let (a, i, n) = own-named (get_or (own t s o j) x 0) (in-get_d (own t s o j) x 0 l) in
-        (a, i, in-eq (sym (index-get_d (λ x. has (schema_at t s) x (get_or o j 0)) 0 (schema_at t s).params x l)) n);
+        let (a, i, n) = own-named (get_or (own t s o j) x 0) (in-get_or (own t s o j) x 0 l) in
+        (a, i, in-eq (sym (index-get_or (λ x. has (schema_at t s) x (get_or o j 0)) 0 (schema_at t s).params x l)) n);
     small = λ a i. (schema-fits a i).small;
   }
 

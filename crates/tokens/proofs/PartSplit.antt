@@ -21,7 +21,7 @@ use Rattle.tokens.specs.Writing.{new_number, renumbered, old_in, par_in, old_wor
 use Rattle.tokens.specs.Writing.{PlaceOf, TokensOf}
 use Rattle.tokens.specs.declared.part_atoms.PartPlace.{PartPlace}
 use Rattle.words.proofs.Sums.{filter-filter}
-use Rattle.tokens.proofs.Places.{index-get_d, in_params}
+use Rattle.tokens.proofs.Places.{index-get_or, in_params}
 use Rattle.tokens.proofs.RoleAtoms.{renumber, atoms_here, par_atom, role_atoms, here-atom, pre_atoms, add_atoms}
 use Rattle.tokens.proofs.RoleAtoms.{del_atoms, schema-atoms}
 use Rattle.tokens.proofs.PartRoles.{PartOf, tests, own_in}
@@ -56,7 +56,7 @@ module _ (set n x : ℕ) (l : x < n) (e : member set x ≡ true) where
       let g : get_or (members set n) k 0 ≡ x =
       ap (λ (xs : List ℕ). get_or xs k 0) s ∙
       (ap (λ (i : ℕ). get_or (members set x ++ rest) i 0) z ∙ get_or-append-add (members set x) rest 0 0) in
-      sym (index-get_d (member set) 0 n k l) ∙ ap (λ (y : ℕ). index_of y (members set n)) g
+      sym (index-get_or (member set) 0 n k l) ∙ ap (λ (y : ℕ). index_of y (members set n)) g
 
 -- the own parameters that a test takes, as a set
 pub here-members : (t : Task) (s : ℕ) (o : List ℕ) (j which : ℕ) (test : ℕ → Bool) →

@@ -15,7 +15,7 @@ use Rattle.task.specs.Task.{Schema, Task, no_schema}
 use Rattle.task.specs.Run.{schema_at}
 use Rattle.tokens.specs.Split.{has, parts, later_parts, shared, shared_bound, maximum, par_count, procnone, do_token}
 use Rattle.tokens.specs.Split.{par_token, split_task}
-use Rattle.words.proofs.Lists.{In, here, there, in-empty, in-filter, in-get_d, in_map, in-up_from, in-up_to, some-length}
+use Rattle.words.proofs.Lists.{In, here, there, in-empty, in-filter, in-get_or, in_map, in-up_from, in-up_to, some-length}
 use Rattle.tokens.proofs.Places.{last-most}
 use Rattle.tokens.proofs.Accepted.{later-step, later-mono, token_at, token-zero, token_end, token-inside}
 
@@ -105,7 +105,7 @@ module _ (t : Task) where
 -- ---- a par for each parameter of two parts
 schema-in : (t : Task) (s : ℕ) → s < length t.schemas → In (schema_at t s) t.schemas
 unfolding schema_at
-schema-in t s l = in-get_d t.schemas s no_schema l
+schema-in t s l = in-get_or t.schemas s no_schema l
 
 two-length : {a b : ℕ} {xs : List ℕ} → In a xs → In b xs → (a ≡ b → ⊥) → 1 < length xs
 two-length (here e) (here f) n = absurd (n (e ∙ sym f))

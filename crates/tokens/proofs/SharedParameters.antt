@@ -13,7 +13,7 @@ use borrow.Author.Tests.{lt-ltb, le-ltb, ltb-true}
 use Rattle.words.specs.Lists.{filter, keep_if, up_to, up_from}
 use Rattle.task.specs.Task.{Schema, Task, schema_fits}
 use Rattle.task.specs.Run.{schema_at}
-use Rattle.words.proofs.Lists.{filter-in, in-get_d, up_to-in, up_to-suc, filter-append, filter_same}
+use Rattle.words.proofs.Lists.{filter-in, in-get_or, up_to-in, up_to-suc, filter-append, filter_same}
 use Rattle.task.proofs.States.{schema_fits-fits}
 use Rattle.words.specs.Sets.{member, members, word_bits}
 use Rattle.words.proofs.Ranges.{or-false}
@@ -102,7 +102,7 @@ module _ (kept : List ℕ) (s : ℕ) where
 -- one that two parts have is a parameter
 some-filtered : (p : ℕ → Bool) (xs : List ℕ) → 1 < length (filter p xs) → (x : ℕ) × (p x ≡ true)
 some-filtered p xs l =
-    let i = in-get_d (filter p xs) 0 0 (omega arith) in
+    let i = in-get_or (filter p xs) 0 0 (omega arith) in
     (get_or (filter p xs) 0 0, (filter-in p xs (get_or (filter p xs) 0 0) i).1)
 
 pub shared-bounded : (t : Task) (s : ℕ) (o : List ℕ) (set : ℕ) → schema_fits t.arities (schema_at t s) ≡ true →

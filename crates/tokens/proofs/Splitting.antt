@@ -15,7 +15,7 @@ use Rattle.task.specs.Layout.{head_in, params_base, params_in}
 use Rattle.task.specs.Task.{Atom, Schema, Task, part_count, schema_fits, well_formed, no_schema}
 use Rattle.task.specs.Run.{schema_at}
 use Rattle.task.specs.Table.{atom_words, rows_from, task_of}
-use Rattle.words.proofs.Lists.{all_in, in-get_d, length-up_to, length-concat_map, map_same}
+use Rattle.words.proofs.Lists.{all_in, in-get_or, length-up_to, length-concat_map, map_same}
 use Rattle.task.proofs.Tests.{TaskTests, task-tests, schema-tests, SchemaTests}
 use Rattle.task.proofs.Tables.{of-table}
 use Rattle.task.proofs.TableReads.{table-roomy}
@@ -84,7 +84,7 @@ module _ {w : List ℕ} {sizes : Sizes} {kept : List ℕ} (S : AcceptedKept w si
     unfolding schema_at
     tests-of =
         schema-tests t.arities (schema_at t s)
-        (all_in (schema_fits t.arities) (task-tests t well).fit (in-get_d t.schemas s no_schema l))
+        (all_in (schema_fits t.arities) (task-tests t well).fit (in-get_or t.schemas s no_schema l))
 
     pub order-size : length (orders t s) ≡ parts (schema_at t s)
     unfolding parts

@@ -19,7 +19,7 @@ use Rattle.task.specs.Run.{schema_at}
 use Rattle.tokens.specs.Split.{parts, later_parts, par_count, procnone, orders, free, split_schema, split_task}
 use Rattle.tokens.specs.Split.{limit_tests, within_limits, split_as, split}
 use Rattle.words.proofs.Lists.{and_both, bool-ext, every-at, met-none, met-more, met_every, In, here, there, in-empty}
-use Rattle.words.proofs.Lists.{in-append, all_in, in_all, map-in, in-get_d, up_to-in, concat_map-in, replicate-in}
+use Rattle.words.proofs.Lists.{in-append, all_in, in_all, map-in, in-get_or, up_to-in, concat_map-in, replicate-in}
 use Rattle.task.proofs.Tests.{TaskTests, task-tests, tests-task, schema-tests}
 use Rattle.task.proofs.States.{asc-snoc, asc-ascending, Fitting, fitting-args_fit, State, facts_fit-state, less-pred}
 use Rattle.arcs.proofs.OrderTaken.{order_of-laws}
@@ -132,7 +132,7 @@ module _ (t : Task) (well : well_formed t ≡ true) (ordered : Ordered t) where
   unfolding schema_at parts
   part_of s j l h = record {
     known = l;
-    fits = all_in (schema_fits t.arities) tests.fit (in-get_d t.schemas s no_schema l);
+    fits = all_in (schema_fits t.arities) tests.fit (in-get_or t.schemas s no_schema l);
     order = order_of-laws (schema_at t s) (orders t s) (ordered s l);
     inside = h;
   }

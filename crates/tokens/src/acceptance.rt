@@ -13,7 +13,7 @@ use task::Place;
 use task::limits::TABLE_WORDS;
 
 // A split that is accepted, by its sizes; or the refusal.
-#[derive(Drop)]
+#[derive(Clone, Copy)]
 pub enum Acceptance {
     Accepted(Sizes),
     Refused(u32, Place),

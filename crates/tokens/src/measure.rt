@@ -24,7 +24,7 @@ use words::runs::word;
 use words::sets::{bound, size};
 
 // The sizes that a table limits: later parts, pars, schemas, schema atoms and pairs; and whether all limits are kept.
-#[derive(Drop)]
+#[derive(Clone, Copy)]
 pub struct Sizes {
     pub later: usize,
     pub pars: usize,
@@ -36,7 +36,7 @@ pub struct Sizes {
 
 // Of one schema: how many atoms its parts have, whether each part has few enough, one more than the largest parameter
 // found in two parts, or 0, and how many pairs its parts carry.
-#[derive(Drop)]
+#[derive(Clone, Copy)]
 pub struct Measured {
     pub atoms: usize,
     pub few: bool,

@@ -14,7 +14,7 @@ use words::sets::{common, minus, union};
 
 // The parameters of the part at a position; and of these, those that stand in a part before it,
 // those that stand first here and again later, and those that stand here last and stood before.
-#[derive(Drop)]
+#[derive(Clone, Copy)]
 pub struct Pars {
     pub own: u64,
     pub later: u64,

@@ -21,7 +21,7 @@ use words::sets;
 
 // The part that is written: the atoms of its schema, `from` to `to - 1`, its number among the parts, the set of its
 // parameters, the parameters of its schema, its number among the schemas of the split, and the predicate of par 0.
-#[derive(Drop)]
+#[derive(Clone, Copy)]
 pub struct PartPlace {
     pub from: usize,
     pub to: usize,
@@ -34,7 +34,7 @@ pub struct PartPlace {
 
 // The tokens of a part: which it requires and which it hands on, the pars of its parameters, and whether it is the only
 // part of its schema.
-#[derive(Drop)]
+#[derive(Clone, Copy)]
 pub struct PartTokens {
     pub lone: bool,
     pub required: u16,
@@ -43,7 +43,7 @@ pub struct PartTokens {
 }
 
 // Those of one role: a bare token and the pars of the parameters in a set; none for the only part of a schema.
-#[derive(Drop)]
+#[derive(Clone, Copy)]
 struct RoleTokens {
     lone: bool,
     bare: u16,
@@ -51,7 +51,7 @@ struct RoleTokens {
 }
 
 // How far a role is put: the place behind its atoms, and the schema's first old atom of a later role.
-#[derive(Drop)]
+#[derive(Clone, Copy)]
 struct Reached {
     next: usize,
     atom: usize,

@@ -17,7 +17,7 @@ use task::limits::SCHEMAS;
 use words::runs::word;
 
 // The lowest schema for whose parts no order complies, if there is one.
-#[derive(Drop)]
+#[derive(Clone, Copy)]
 pub enum Circular {
     At(u64),
     Nowhere,

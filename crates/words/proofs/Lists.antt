@@ -171,14 +171,14 @@ module _ {A : Type 0} where
       go [] e k = let z : ◌≡◌ {A = ℕ} 0 1 = cc in absurd (omega arith)
       go (y ∷ ys) e k = let f : x ≡ y = cc in filter-in p xs x (rw e (here f))
 
-  pub in-get_d : (xs : List A) (i : ℕ) (d : A) → i < length xs → In (get_or xs i d) xs
-  in-get_d [] i d h = absurd (omega arith)
-  in-get_d (x ∷ xs) zero d h = here refl
-  in-get_d (x ∷ xs) (suc i) d h = there (in-get_d xs i d (omega arith))
+  pub in-get_or : (xs : List A) (i : ℕ) (d : A) → i < length xs → In (get_or xs i d) xs
+  in-get_or [] i d h = absurd (omega arith)
+  in-get_or (x ∷ xs) zero d h = here refl
+  in-get_or (x ∷ xs) (suc i) d h = there (in-get_or xs i d (omega arith))
 
-  pub get_d-in : (d : A) {x : A} {xs : List A} → In x xs → (i : ℕ) × (i < length xs) × (get_or xs i d ≡ x)
-  get_d-in d (here e) = (0, omega arith, sym e)
-  get_d-in d (there k) = let (i, l, e) = get_d-in d k in (suc i, omega arith, e)
+  pub get_or-in : (d : A) {x : A} {xs : List A} → In x xs → (i : ℕ) × (i < length xs) × (get_or xs i d ≡ x)
+  get_or-in d (here e) = (0, omega arith, sym e)
+  get_or-in d (there k) = let (i, l, e) = get_or-in d k in (suc i, omega arith, e)
 
 module _ {A B : Type 0} where
   pub in_map : (f : A → B) {x : A} {xs : List A} → In x xs → In (f x) (map f xs)
@@ -195,11 +195,11 @@ module _ {A B : Type 0} where
   map_same f g (x ∷ xs) h = ap₂ (λ (a : B) (b : List B). a ∷ b) (h x (here refl))
       (map_same f g xs (λ y k. h y (there k)))
 
-  pub get_d_map : (f : A → B) (xs : List A) (i : ℕ) (d : A) (e : B) → i < length xs →
+  pub get_or-map : (f : A → B) (xs : List A) (i : ℕ) (d : A) (e : B) → i < length xs →
       get_or (map f xs) i e ≡ f (get_or xs i d)
-  get_d_map f [] i d e h = absurd (omega arith)
-  get_d_map f (x ∷ xs) zero d e h = refl
-  get_d_map f (x ∷ xs) (suc i) d e h = get_d_map f xs i d e (omega arith)
+  get_or-map f [] i d e h = absurd (omega arith)
+  get_or-map f (x ∷ xs) zero d e h = refl
+  get_or-map f (x ∷ xs) (suc i) d e h = get_or-map f xs i d e (omega arith)
 
   pub append-concat_map : (f : A → List B) (xs ys : List A) → concat_map f (xs ++ ys) ≡ concat_map f xs ++ concat_map f ys
   unfolding concat_map
@@ -250,15 +250,15 @@ pub up_to-in : (n i : ℕ) → In i (up_to n) → i < n
 unfolding up_to
 up_to-in n i h = let (a, b) = up_from-in 0 n i h in omega arith
 
-pub get_d-up_from : (s n i d : ℕ) → i < n → get_or (up_from s n) i d ≡ s + i
+pub get_or-up_from : (s n i d : ℕ) → i < n → get_or (up_from s n) i d ≡ s + i
 unfolding up_from
-get_d-up_from s zero i d h = absurd (omega arith)
-get_d-up_from s (suc n) zero d h = omega arith
-get_d-up_from s (suc n) (suc i) d h = let e = get_d-up_from (suc s) n i d (omega arith) in omega arith
+get_or-up_from s zero i d h = absurd (omega arith)
+get_or-up_from s (suc n) zero d h = omega arith
+get_or-up_from s (suc n) (suc i) d h = let e = get_or-up_from (suc s) n i d (omega arith) in omega arith
 
-pub get_d-up_to : (n i d : ℕ) → i < n → get_or (up_to n) i d ≡ i
+pub get_or-up_to : (n i d : ℕ) → i < n → get_or (up_to n) i d ≡ i
 unfolding up_to
-get_d-up_to n i d h = let e = get_d-up_from 0 n i d h in omega arith
+get_or-up_to n i d h = let e = get_or-up_from 0 n i d h in omega arith
 
 pub up_from-last : (s n : ℕ) → up_from s (suc n) ≡ up_from s n ++ ((s + n) ∷ [])
 unfolding up_from
@@ -366,10 +366,10 @@ tabulate {A} f s (x ∷ xs) d h =
     ap₂ (λ (a : A) (b : List A). a ∷ b) (ap f (sym e) ∙ h 0 (omega arith))
     (tabulate f (suc s) xs d (λ k l. let q : suc s + k ≡ s + suc k = omega arith in ap f q ∙ h (suc k) (omega arith)))
 
-pub get_d-mapped : {A : Type 0} (f : ℕ → A) (i n j : ℕ) (d : A) → j < n → get_or (map f (up_from i n)) j d ≡ f (i + j)
-get_d-mapped f i n j d l =
+pub get_or-mapped : {A : Type 0} (f : ℕ → A) (i n j : ℕ) (d : A) → j < n → get_or (map f (up_from i n)) j d ≡ f (i + j)
+get_or-mapped f i n j d l =
     let m : j < length (up_from i n) = rw (length-up_from i n) l in
-    get_d_map f (up_from i n) j 0 d m ∙ ap f (get_d-up_from i n j 0 l)
+    get_or-map f (up_from i n) j 0 d m ∙ ap f (get_or-up_from i n j 0 l)
 
 pub up_from-append : (s a b : ℕ) → up_from s (a + b) ≡ up_from s a ++ up_from (s + a) b
 unfolding up_from

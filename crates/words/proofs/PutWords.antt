@@ -8,7 +8,7 @@ use lib.Seq.{get_or-set_same, get_or-set_other, set-set, set-get_or}
 use Rattle.words.specs.Lists.{put}
 use Rattle.words.specs.Words.{words_at}
 use Rattle.words.proofs.Puts.{put-before}
-use Rattle.words.proofs.Words.{At, get_d-words_at, length-words_at, words_at-is, words_at-next}
+use Rattle.words.proofs.Words.{At, get_or-words_at, length-words_at, words_at-is, words_at-next}
 
 -- ---- each place
 before-put : (w : List ℕ) (at : ℕ) (xs : List ℕ) (k : ℕ) → k < at → get_or (put w at xs) k 0 ≡ get_or w k 0
@@ -40,7 +40,7 @@ pub words-before : (w : List ℕ) (at : ℕ) (xs : List ℕ) (i n : ℕ) → i +
 words-before w at xs i n l =
     words_at-is (put w at xs) i n (words_at w i n) (length-words_at w i n) (λ k m.
     let e = length-words_at w i n in
-    before-put w at xs (i + k) (omega arith) ∙ sym (get_d-words_at w i n k (omega arith)))
+    before-put w at xs (i + k) (omega arith) ∙ sym (get_or-words_at w i n k (omega arith)))
 
 pub words-put : (w : List ℕ) (at n : ℕ) (xs : List ℕ) → length xs ≡ n → at + n ≤ length w →
     words_at (put w at xs) at n ≡ xs

@@ -10,7 +10,7 @@ use lib.ListN.{length, get_or}
 use lib.Dec.{eqb}
 use borrow.Author.Tests.{eqb-true, eq-eqb, ne_eqb}
 use Rattle.words.specs.Lists.{filter, keep_if, sum, concat_map, up_to, up_from}
-use Rattle.words.proofs.Lists.{bool-ext, In, here, there, in-eq, get_d-in, map-append, map_same, sum-append}
+use Rattle.words.proofs.Lists.{bool-ext, In, here, there, in-eq, get_or-in, map-append, map_same, sum-append}
 use Rattle.words.proofs.Lists.{tabulate, map-map}
 use Rattle.words.proofs.Ascending.{Once, once-nil, once-cons}
 
@@ -102,7 +102,7 @@ eqb-turn p q =
 pub once-apart : (xs : List ℕ) → ((i k : ℕ) → i < k → k < length xs → get_or xs k 0 ≡ get_or xs i 0 → ⊥) → Once xs
 once-apart [] h = once-nil
 once-apart (x ∷ xs) h =
-    once-cons {x = x} {xs = xs} (λ i. let (k, l, e) = get_d-in 0 i in h 0 (suc k) (omega arith) (omega arith) e)
+    once-cons {x = x} {xs = xs} (λ i. let (k, l, e) = get_or-in 0 i in h 0 (suc k) (omega arith) (omega arith) e)
     (once-apart xs (λ i k l m. h (suc i) (suc k) (omega arith) (omega arith)))
 
 module _ (f : ℕ → ℕ) where

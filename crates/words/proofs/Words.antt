@@ -13,8 +13,8 @@ use lib.Dec.{eqb}
 use borrow.Author.Tests.{eq-eqb}
 use Rattle.words.specs.Lists.{all, concat_map, up_from, eq_list, padded}
 use Rattle.words.specs.Words.{words_at}
-use Rattle.words.proofs.Lists.{In, here, there, map-append, get_d_map, in-get_d, all_in}
-use Rattle.words.proofs.Lists.{length-up_from, get_d-up_from, up_from-append, tabulate}
+use Rattle.words.proofs.Lists.{In, here, there, map-append, get_or-map, in-get_or, all_in}
+use Rattle.words.proofs.Lists.{length-up_from, get_or-up_from, up_from-append, tabulate}
 use native.Mathlib.Decide.{dec_lt}
 
 -- ---- words that stand from a place on
@@ -57,8 +57,8 @@ at-words_at w i n k l =
     let e = length-words_at w i n in
     let m : k < length (up_from i n) = rw (length-map (up_from i n) (λ k. get_or w k 0)) at l in
     let q = length-up_from i n in
-    sym (get_d_map (λ k. get_or w k 0) (up_from i n) k 0 0 m ∙
-    ap (λ (x : ℕ). get_or w x 0) (get_d-up_from i n k 0 (omega arith)))
+    sym (get_or-map (λ k. get_or w k 0) (up_from i n) k 0 0 m ∙
+    ap (λ (x : ℕ). get_or w x 0) (get_or-up_from i n k 0 (omega arith)))
 
 pub and-false : (a : Bool) → a && false ≡ false
 and-false true = refl
@@ -74,8 +74,8 @@ unfolding words_at
 words_at-append w i a b =
     ap (map (λ k. get_or w k 0)) (up_from-append i a b) ∙ map-append (λ k. get_or w k 0) (up_from i a) (up_from (i + a) b)
 
-pub get_d-words_at : (w : List ℕ) (i n k : ℕ) → k < n → get_or (words_at w i n) k 0 ≡ get_or w (i + k) 0
-get_d-words_at w i n k l = let e = length-words_at w i n in sym (at-words_at w i n k (omega arith))
+pub get_or-words_at : (w : List ℕ) (i n k : ℕ) → k < n → get_or (words_at w i n) k 0 ≡ get_or w (i + k) 0
+get_or-words_at w i n k l = let e = length-words_at w i n in sym (at-words_at w i n k (omega arith))
 
 pub words_at-take : (w : List ℕ) (n : ℕ) → n ≤ length w → words_at w 0 n ≡ take n w
 words_at-take w n h =
@@ -83,7 +83,7 @@ words_at-take w n h =
     let b = length-take-le n w h in
     ext_get_or 0 (words_at w 0 n) (take n w) (a ∙ sym b) (λ k l.
     let z : 0 + k ≡ k = omega arith in
-    get_d-words_at w 0 n k (omega arith) ∙ (ap (λ (x : ℕ). get_or w x 0) z ∙ sym (get_or-take n w k 0 (omega arith))))
+    get_or-words_at w 0 n k (omega arith) ∙ (ap (λ (x : ℕ). get_or w x 0) z ∙ sym (get_or-take n w k 0 (omega arith))))
 
 -- words that stand at a place are those found there
 pub words_at-is : (w : List ℕ) (i n : ℕ) (xs : List ℕ) → length xs ≡ n → At w i xs → words_at w i n ≡ xs
@@ -100,7 +100,7 @@ pub each_first : (p : ℕ → Bool) (xs : List ℕ) (n : ℕ) → n ≤ length x
     p (get_or xs k 0) ≡ true
 each_first p xs n l h k m =
     let e = length-take-le n xs l in
-    ap p (sym (get_or-take n xs k 0 m)) ∙ all_in p h (in-get_d (take n xs) k 0 (omega arith))
+    ap p (sym (get_or-take n xs k 0 m)) ∙ all_in p h (in-get_or (take n xs) k 0 (omega arith))
 
 -- ---- rows of one length
 module _ {A : Type 0} (g : A → List ℕ) (size : ℕ) where

@@ -14,84 +14,84 @@ use Rattle.task.proofs.run.Statement.{statement}
 use Rattle.task.proofs.Answers.{both}
 
 -- ---- what is known behind each check
-long : (c : tie.Else1) → long_enough c.before.before.before.before.args.table.now ≡ true
-long c = long-enough c.before.before.before.before.args.table.now c.if1.false
+long : (c : tie.Else-table-lt-TABLE_WORDS) → long_enough c.args.table.now ≡ true
+long c = long-enough c.args.table.now c.if-table-lt-TABLE_WORDS.false
 
-abbrev start : tie.After-bad-step → tie.Start
+abbrev start : tie.After-bad_step-bad → tie.Start
 start c = c.before.before.before.before.before.before.before
 
-table : (c : tie.Else2) → is_table c.before.before.before.before.before.before.args.table.now ≡ true
-table c = sym c.before.is-table.ensures ∙ c.if2.false
+table : (c : tie.Else-not-is_table) → is_table c.args.table.now ≡ true
+table c = sym c.is_table.ensures ∙ c.if-not-is_table.false
 
-good : (c : tie.After-enum-told) →
-    bad_step (task_of (start c.before.before).args.table.now) (start c.before.before).args.steps.now ≡
+good : (c : tie.In_default) →
+    bad_step (task_of (start c.before).args.table.now) (start c.before).args.steps.now ≡
     none
 unfolding bad_step_found
-good c = sym c.before.before.bad-step.ensures ∙ ap bad_step_found c.enum_told.given.1
+good c = sym c.bad_step-bad.ensures ∙ ap bad_step_found c.in_default.is
 
 -- ---- the checks
-returns : tie.Need-returns
+returns : tie.Need-returns-then-table-lt-TABLE_WORDS
 unfolding run_answer_told
 returns c =
-    let a = c.before.before.before.before.args in
-    let short = too_short a.table.now c.if1.true in
+    let a = c.args in
+    let short = too_short a.table.now c.if-table-lt-TABLE_WORDS.true in
     both (run_short a.table.now a.steps.now a.state.now a.records short)
 
-is-table-requires : tie.Need-is-table-requires
-is-table-requires c κs = has-table-words c.before.before.before.before.args.table.now c.if1.false
+is-table-requires : tie.Need-is_table-requires
+is-table-requires c κs = has-table-words c.args.table.now c.if-table-lt-TABLE_WORDS.false
 
-returns-2 : tie.Need-returns-2
+returns-2 : tie.Need-returns-then-not-is_table
 unfolding run_answer_told
 returns-2 c =
-    let a = c.before.before.before.before.before.before.args in
-    let t = sym c.before.is-table.ensures ∙ c.if2.true in
+    let a = c.args in
+    let t = sym c.is_table.ensures ∙ c.if-not-is_table.true in
     both (run-no-table a.table.now a.steps.now a.state.now a.records (long c.before.before) t)
 
-bad-step-requires : tie.Need-bad-step-requires
+bad-step-requires : tie.Need-bad_step-bad-requires
 bad-step-requires c κs = table c
 
-returns-3 : tie.Need-returns-3
+returns-3 : tie.Need-returns-in-At
 unfolding run_answer_told bad_step_found
 returns-3 c =
-    let b = c.before.before.before in
-    let a = (start b).args in
-    let e = sym b.bad-step.ensures ∙ ap bad_step_found c.before.bad.given.1 in
-    let l = long b.before.before.before in
-    both (run-bad-step a.table.now a.steps.now a.state.now a.records l (table b.before) e)
+    let b = c in
+    let a = (start b.before).args in
+    let e = sym b.bad_step-bad.ensures ∙ ap bad_step_found c.in-At.is in
+    let l = long b.before.before.before.before in
+    both (run-bad-step a.table.now a.steps.now a.state.now a.records l (table b.before.before) e)
 
-is-state-requires : tie.Need-is-state-requires
-is-state-requires c κs = table c.before.before.before.before
+is-state-requires : tie.Need-is_state-requires
+is-state-requires c κs = table c.before.before
 
-returns-4 : tie.Need-returns-4
+returns-4 : tie.Need-returns-then-not-is_state
 unfolding run_answer_told
 returns-4 c =
-    let b = c.before.before.before.before.before in
-    let a = (start b).args in
-    let s = sym c.before.is_state.ensures ∙ c.if3.true in
-    let l = long b.before.before.before in
-    let g = good c.before.before.before in
-    both (run-no-state a.table.now a.steps.now a.state.now a.records l (table b.before) g s)
+    let b = c in
+    let a = (start b.before.before.before).args in
+    let s = sym c.is_state.ensures ∙ c.if-not-is_state.true in
+    let l = long b.before.before.before.before.before.before in
+    let g = good c.before.before in
+    both (run-no-state a.table.now a.steps.now a.state.now a.records l (table b.before.before.before.before) g s)
 
-state : (c : tie.Else3) →
-    let a = (start c.before.before.before.before.before).args in
+state : (c : tie.Else-not-is_state) →
+    let a = (start c.before.before.before).args in
     is_state (task_of a.table.now) a.state.now a.records ≡ true
-state c = sym c.before.is_state.ensures ∙ c.if3.false
+state c = sym c.is_state.ensures ∙ c.if-not-is_state.false
 
-run-steps-requires : tie.Need-run-steps-requires
+run-steps-requires : tie.Need-run_steps-requires
 run-steps-requires c κs =
-    let b = c.before.before in
-    (table b.before.before.before.before.before, (good b.before.before, state c.before))
+    let b = c in
+    (table b.before.before.before.before.before, (good b.before.before.before, state c.before))
 
-returns-5 : tie.Need-returns-5
+returns-5 : tie.Need-returns
 returns-5 c =
-    let r = c.before.before in
-    let e = r.before.before in
-    let b = e.before.before.before.before.before in
-    let a = (start b).args in
-    let l = long b.before.before.before in
-    let g = good e.before.before.before in
-    let d = run-done a.table.now a.steps.now a.state.now a.records l (table b.before) g (state e) in
-    (r.run-steps.ensures.0 ∙ (both d).0, r.run-steps.ensures.1 ∙ (both d).1)
+    let r = c in
+    let e = r in
+    let b = e in
+    let a = (start b.before.before.before.before.before.before.before).args in
+    let l = long b.before.before.before.before.before.before.before.before.before.before in
+    let g = good e.before.before.before.before.before.before in
+    let d = run-done a.table.now a.steps.now a.state.now a.records l (table b.before.before.before.before.before.before.before.before) g (state e.before.before.before.before) in
+    (r.run_steps.ensures.0 ∙ (both d).0, r.run_steps.ensures.1 ∙ (both d).1)
 
 pub run_spec : {M : Type 1} → statement M
 run_spec =

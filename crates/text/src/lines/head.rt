@@ -26,10 +26,11 @@ const ABOVE_ARITY: u32 = limits::MOST_ARITY as u32 + 1;
 pub fn task_line(text: &[u8], from: Cursor, counts: Counts) -> Turn
     requires placed { Placed text.now from }
     requires allows { Allows counts task }
-    ensures* { do
-      let bs = text.now
-      ⌜ ((d : Draft) (w : Many ℕ) → Holds d w counts →
-          Turned bs from d (ended task_line (number (rest bs from))) w result w) ⌝ }
+    ensures {
+        let bs = text.now in
+        ((d : Draft) (w : Many ℕ) → Holds d w counts →
+          Turned bs from d (ended task_line (number (rest bs from))) w result w)
+    }
 {
     let Behind::At(next) = one_line(text, from) else {
         return Turn::Refuse(3);
@@ -43,10 +44,11 @@ pub fn task_line(text: &[u8], from: Cursor, counts: Counts) -> Turn
 pub fn objects_line(text: &[u8], from: Cursor, counts: Counts) -> Turn
     requires placed { Placed text.now from }
     requires allows { Allows counts objects }
-    ensures* { do
-      let bs = text.now
-      ⌜ ((d : Draft) (w : Many ℕ) → Holds d w counts →
-          Turned bs from d (ended objects_line (number (rest bs from))) w result w) ⌝ }
+    ensures {
+        let bs = text.now in
+        ((d : Draft) (w : Many ℕ) → Holds d w counts →
+          Turned bs from d (ended objects_line (number (rest bs from))) w result w)
+    }
 {
     let Number::Of(n, next) = number_line(text, from) else {
         return Turn::Refuse(3);
@@ -67,10 +69,11 @@ pub fn objects_line(text: &[u8], from: Cursor, counts: Counts) -> Turn
 pub fn schema_line(text: &[u8], from: Cursor, counts: Counts) -> Turn
     requires placed { Placed text.now from }
     requires allows { Allows counts schema }
-    ensures* { do
-      let bs = text.now
-      ⌜ ((d : Draft) (w : Many ℕ) → Holds d w counts →
-          Turned bs from d (ended schema_line (number (rest bs from))) w result w) ⌝ }
+    ensures {
+        let bs = text.now in
+        ((d : Draft) (w : Many ℕ) → Holds d w counts →
+          Turned bs from d (ended schema_line (number (rest bs from))) w result w)
+    }
 {
     let Number::Of(n, next) = number_line(text, from) else {
         return Turn::Refuse(3);
@@ -90,10 +93,11 @@ pub fn schema_line(text: &[u8], from: Cursor, counts: Counts) -> Turn
 // "end=1".
 pub fn end_line(text: &[u8], from: Cursor) -> Turn
     requires { Placed text.now from }
-    ensures* { do
-      let bs = text.now
-      ⌜ ((d : Draft) (w : Many ℕ) → phase_number between ≤ phase_number d.phase →
-          Turned bs from d (ended end_line (number (rest bs from))) w result w) ⌝ }
+    ensures {
+        let bs = text.now in
+        ((d : Draft) (w : Many ℕ) → phase_number between ≤ phase_number d.phase →
+          Turned bs from d (ended end_line (number (rest bs from))) w result w)
+    }
 {
     let Behind::At(next) = one_line(text, from) else {
         return Turn::Refuse(3);

@@ -5,7 +5,7 @@ use mathlib.Core.Path.{◌≡◌, sym, ◌∙◌, ap}
 use native.Mathlib.Omega.{arith}
 use lib.ListN.{length, get_or}
 use Rattle.task.specs.Table.{atom_in}
-use Rattle.words.proofs.Lists.{in-get_d}
+use Rattle.words.proofs.Lists.{in-get_or}
 use Rattle.arcs.proofs.Stretches.{atom-row}
 use Rattle.arcs.proofs.AtomWords.{few-arguments, argument-small, argument-at}
 use Rattle.arcs.proofs.atoms.argument.Statement.{statement}
@@ -34,7 +34,7 @@ returns c =
     c.word_at.ensures ∙ ap (λ (b : ℕ). get_or w (b + s.args.k) 0) c.before.arguments.ensures.0 ∙
     sym (argument-at w s.args.i s.requires.0 s.args.k s.requires.1) in
     let l = argument-small w s.args.i s.requires.0 (get_or args s.args.k 0)
-    (in-get_d args s.args.k 0 s.requires.1) in
+    (in-get_or args s.args.k 0 s.requires.1) in
     (e, omega arith)
 
 pub argument-spec : {M : Type 1} → statement M

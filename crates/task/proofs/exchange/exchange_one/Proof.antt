@@ -28,110 +28,110 @@ passed : (s : tie.Start) {t : Task} {g : ℕ → Fact} → Way s t g → let a =
 passed s u h = record { way = u; from = s.requires.0.1; within = s.requires.0.2; hold = h }
 
 -- ---- and once the delete is looked for
-abbrev entry : tie.After-is-row → tie.Start
-entry r = r.before.before.before.before.before.before.before
+abbrev entry : tie.After-is_row → tie.Start
+entry r = r.before.before.before.before.before.before
 
 -- the delete is a ground atom of the task, and its number that of the code
-known : (r : tie.After-is-row) {t : Task} {g : ℕ → Fact} → Way (entry r) t g → let a = (entry r).args in
+known : (r : tie.After-is_row) {t : Task} {g : ℕ → Fact} → Way (entry r) t g → let a = (entry r).args in
     Known t a.state.now a.n (g a.k) (get_or a.numbers.now a.k 0)
 known r u = atom-known u (entry r).args.k (entry r).requires.0.0
 
 -- where it holds, its row is one of the state's
-row : (e : tie.Else1) → let r = e.before in
-    let a = (entry r).args in
-    let k = r.before.before.row-for.result in
+row : (e : tie.Else-not-is_row) → let r = e in
+    let a = (entry r.before).args in
+    let k = r.row_for-row.result in
     (k < a.n) × (row_number a.state.now k ≡ get_or a.numbers.now a.k 0)
-row e = e.before.is_row.ensures.found e.if1.false
+row e = e.is_row.ensures.found e.if-not-is_row.false
 
 -- ---- and once the next missing add is looked for
-abbrev held : tie.After-first-new → tie.Else1
-held f = f.before.before
+abbrev held : tie.After-first_new-new → tie.Else-not-is_row
+held f = f.before
 
-abbrev begun : tie.After-first-new → tie.Start
+abbrev begun : tie.After-first_new-new → tie.Start
 begun f = entry (held f).before
 
-new : (f : tie.After-first-new) {t : Task} {g : ℕ → Fact} → Way (begun f) t g → let a = (begun f).args in
-    let atom = f.first-new.result.atom in
+new : (f : tie.After-first_new-new) {t : Task} {g : ℕ → Fact} → Way (begun f) t g → let a = (begun f).args in
+    let atom = f.first_new-new.result.atom in
     atom < a.spans.deletes → Known t a.state.now a.n (g atom) (get_or a.numbers.now atom 0)
-new f u less = atom-known u f.first-new.result.atom (add-inside u less)
+new f u less = atom-known u f.first_new-new.result.atom (add-inside u less)
 
 -- its place is one among the numbers
-inside : (f : tie.After-first-new) → f.first-new.result.atom ≤ (begun f).args.spans.end
+inside : (f : tie.After-first_new-new) → f.first_new-new.result.atom ≤ (begun f).args.spans.end
 inside f =
     let (t, g, u) = (begun f).requires.1 in
-    let l = (f.first-new.ensures t g u).within in
+    let l = (f.first_new-new.ensures t g u).within in
     let m = u.deletes in
     omega arith
 
 -- ---- the answers
-row-for-requires : tie.Need-row-for-requires
-row-for-requires c κs = let (t, g, u) = c.before.before.before.before.requires.1 in (rows_fit u, rows-ascend u)
+row-for-requires : tie.Need-row_for-row-requires
+row-for-requires c κs = let (t, g, u) = c.requires.1 in (rows_fit u, rows-ascend u)
 
-is-row-requires : tie.Need-is-row-requires
-is-row-requires c κs = let (t, g, u) = c.before.before.before.before.before.before.requires.1 in rows_fit u
+is-row-requires : tie.Need-is_row-requires
+is-row-requires c κs = let (t, g, u) = c.requires.1 in rows_fit u
 
-returns : tie.Need-returns
+returns : tie.Need-returns-then-not-is_row
 returns c = λ t g u h.
-    let r = c.before in
-    let told = row-holds (known r u) r.before.before.row-for.ensures r.is_row.ensures in
-    not_there (passed (entry r) u h) _ (sym told ∙ c.if1.true)
+    let r = c in
+    let told = row-holds (known r.before u) r.row_for-row.ensures r.is_row.ensures in
+    not_there (passed (entry r.before) u h) _ (sym told ∙ c.if-not-is_row.true)
 
 absent-requires : tie.Need-absent-requires
 absent-requires c κs = let (t, g, u) = (begun c).requires.1 in few-before u (inside c)
 
-returns-2 : tie.Need-returns-2
+returns-2 : tie.Need-returns-then-not-absent
 returns-2 c = λ t g u h.
-    let f = c.before.before in
-    is-add (passed (begun f) u h) _ (f.first-new.ensures t g u) (known (held f).before u)
-    c.before.absent.ensures c.if2.true
+    let f = c in
+    is-add (passed (begun f.before.before) u h) _ (f.first_new-new.ensures t g u) (known (held f.before.before).before u)
+    c.absent.ensures c.if-not-absent.true
 
 replace-requires : tie.Need-replace-requires
 replace-requires c κs =
-    let f = c.before.before.before.before.before.before in
-    let (t, g, u) = (begun f).requires.1 in
-    let less = c.before.before.if3.true in
-    let in-state = (row (held f)).0 in
-    let place = ((f.first-new.ensures t g u).place less).within in
+    let f = c in
+    let (t, g, u) = (begun f.before.before.before.before.before.before).requires.1 in
+    let less = c.if-atom-spans.true in
+    let in-state = (row (held f.before.before.before.before.before.before)).0 in
+    let place = ((f.first_new-new.ensures t g u).place less).within in
     let room = rows_fit u in
-    (omega arith, omega arith, known_small (new f u less))
+    (omega arith, omega arith, known_small (new f.before.before.before.before.before.before u less))
 
-returns-3 : tie.Need-returns-3
+returns-3 : tie.Need-returns-then-atom-spans
 returns-3 c = λ t g u h.
-    let out = c.before.before in
-    let then = out.before.before.before in
-    let less = then.if3.true in
-    let e = then.before.before in
-    let a = e.before in
-    let f = a.before in
-    let first = f.first-new.ensures t g u in
-    let r = (held f).before in
-    replaced-by (passed (begun f) u h) _ first _ (known r u) a.absent.ensures e.if2.false less
-    (row-replaced (known r u) (new f u less) (first.new less) (row (held f)) (first.place less)
-    out.replace.ensures out.replace.auto.0)
+    let out = c in
+    let then = out in
+    let less = then.if-atom-spans.true in
+    let e = then in
+    let a = e in
+    let f = a in
+    let first = f.first_new-new.ensures t g u in
+    let r = (held f.before.before.before.before.before.before.before.before.before).before in
+    replaced-by (passed (begun f.before.before.before.before.before.before.before.before.before) u h) _ first _ (known r u) a.absent.ensures e.if-not-absent.false less
+    (row-replaced (known r u) (new f.before.before.before.before.before.before.before.before.before u less) (first.new less) (row (held f.before.before.before.before.before.before.before.before.before)) (first.place less)
+    out.replace.ensures out.replace.auto.state)
 
-remove-row-requires : tie.Need-remove-row-requires
+remove-row-requires : tie.Need-remove_row-requires
 remove-row-requires c κs =
-    let f = c.before.before.before.before.before in
-    let (t, g, u) = (begun f).requires.1 in
-    ((row (held f)).0, rows_fit u)
+    let f = c in
+    let (t, g, u) = (begun f.before.before.before.before.before).requires.1 in
+    ((row (held f.before.before.before.before.before)).0, rows_fit u)
 
-sub-t12 : tie.Need-overflow-sub-t12
+sub-t12 : tie.Need-overflow_sub-result
 sub-t12 c = omega (arith, (row (held c.before.before.before.before.before.before.before.before)).0)
 
-returns-4 : tie.Need-returns-4
+returns-4 : tie.Need-returns
 returns-4 c = λ t g u h.
-    let out = c.before.before in
-    let e = out.before.before.before.before in
-    let a = e.before in
-    let f = a.before in
-    let r = (held f).before in
-    goes-alone (passed (begun f) u h) _ (f.first-new.ensures t g u) _ _ (known r u) a.absent.ensures
-    e.if2.false
-    (row_out (known r u) (row_is r.is_row.ensures (not-false _ (held f).if1.false)) out.remove-row.ensures
-    out.remove-row.auto.0)
+    let out = c in
+    let e = out in
+    let a = e in
+    let f = a in
+    let r = (held f.before.before.before.before.before.before.before.before).before in
+    goes-alone (passed (begun f.before.before.before.before.before.before.before.before) u h) _ (f.first_new-new.ensures t g u) _ _ (known r u) a.absent.ensures
+    e.if-not-absent.false
+    (row_out (known r u) (row_is r.is_row.ensures (not-false _ (held f.before.before.before.before.before.before.before.before).if-not-is_row.false-raw)) out.remove_row.ensures
+    out.remove_row.auto.state)
 
-pub exchange-one-spec : {M : Type 1} → statement M
-exchange-one-spec =
+pub exchange_one_spec : {M : Type 1} → statement M
+exchange_one_spec =
     tie.close
     (tie.spec (λ c. search rules) (λ c. search rules) (λ c κs. search rules) row-for-requires is-row-requires
     (λ c. search rules) returns (λ c κs. search rules) absent-requires (λ c. search rules) returns-2 (λ c. search rules)

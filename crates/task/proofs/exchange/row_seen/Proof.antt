@@ -6,14 +6,14 @@ use borrow.Author.Rules.{rules}
 use Rattle.task.proofs.exchange.row_seen.Statement.{statement}
 use Rattle.task.proofs.exchange.row_seen.Tie as tie
 
-abbrev invariant-loop : tie.invariant-loop
-invariant-loop numbers rows count number k₀ k = k ≤ count
+abbrev invariant-loop-k : tie.invariant-loop-k
+invariant-loop-k numbers rows count number k₀ k = k ≤ count
 
-abbrev decreases-loop : tie.decreases-loop
-decreases-loop numbers rows count number k₀ k = count - k
+abbrev decreases-loop-k : tie.decreases-loop-k
+decreases-loop-k numbers rows count number k₀ k = count - k
 
-pub row-seen-spec : {M : Type 1} → statement M
-row-seen-spec =
+pub row_seen_spec : {M : Type 1} → statement M
+row_seen_spec =
     tie.close
-    (tie.spec invariant-loop decreases-loop (λ c. omega arith) (λ c. omega arith) (λ c. omega arith) (λ c. omega arith)
+    (tie.spec invariant-loop-k decreases-loop-k (λ c. omega arith) (λ c. omega arith) (λ c. omega arith) (λ c. omega arith)
     (λ c. omega arith) (λ c. search rules) (λ c. omega arith) (λ c. omega arith) (λ c. omega arith) (λ c. search rules))

@@ -7,5 +7,5 @@ use Rattle.task.proofs.layout.arguments.Tie as tie
 returns : tie.Need-returns
 returns c = (omega (arith, c.row_of.ensures.0), omega (arith, c.row_of.ensures.1))
 
-pub arguments-spec : {M : Type 1} → statement M
-arguments-spec = tie.close (tie.spec (λ c κs. search rules) (λ c. search rules) returns)
+pub arguments_spec : {M : Type 1} → statement M
+arguments_spec = tie.close (tie.spec (λ c κs. search rules) (λ c. search rules) returns)

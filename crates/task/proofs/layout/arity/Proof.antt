@@ -6,9 +6,9 @@ use Rattle.task.proofs.layout.arity.Tie as tie
 
 returns : tie.Need-returns
 returns c =
-    let start = c.before.before in
-    let e = c.arity-of.ensures in
+    let start = c in
+    let e = c.arity_of.ensures in
     (e, omega (arith, start.requires.0.arities start.args.p start.requires.1, e))
 
-pub arity-spec : {M : Type 1} → statement M
-arity-spec = tie.close (tie.spec (λ c κs. search rules) returns)
+pub arity_spec : {M : Type 1} → statement M
+arity_spec = tie.close (tie.spec (λ c κs. search rules) returns)

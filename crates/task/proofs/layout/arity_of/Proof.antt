@@ -8,5 +8,5 @@ returns : tie.Need-returns
 unfolding arity_in
 returns c = c.word.ensures.0
 
-pub arity-of-spec : {M : Type 1} → statement M
-arity-of-spec = tie.close (tie.spec (λ c. search rules) (λ c κs. search rules) returns)
+pub arity_of_spec : {M : Type 1} → statement M
+arity_of_spec = tie.close (tie.spec (λ c. search rules) (λ c κs. search rules) returns)

@@ -7,7 +7,7 @@ use Rattle.task.proofs.layout.atom_base.Tie as tie
 
 returns : tie.Need-returns
 unfolding atom_base
-returns c = omega (arith, c.rows-base.ensures.0)
+returns c = omega (arith, c.rows_base.ensures.0)
 
-pub atom-base-spec : {M : Type 1} → statement M
-atom-base-spec = tie.close (tie.spec (λ c κs. search rules) (λ c. search rules) (λ c. search rules) returns)
+pub atom_base_spec : {M : Type 1} → statement M
+atom_base_spec = tie.close (tie.spec (λ c κs. search rules) (λ c. search rules) (λ c. search rules) returns)

@@ -8,7 +8,7 @@ use Rattle.task.proofs.layout.facts_base.Tie as tie
 returns : tie.Need-returns
 unfolding atom_base
 returns c =
-    c.atom-base.ensures ∙ ap (atom_base c.before.before.before.args.table.now) c.before.word.ensures.0
+    c.atom_base.ensures ∙ ap (atom_base c.args.table.now) c.word.ensures.0
 
-pub facts-base-spec : {M : Type 1} → statement M
-facts-base-spec = tie.close (tie.spec (λ c κs. search rules) (λ c κs. search rules) returns)
+pub facts_base_spec : {M : Type 1} → statement M
+facts_base_spec = tie.close (tie.spec (λ c κs. search rules) (λ c κs. search rules) returns)

@@ -10,8 +10,8 @@ use Rattle.task.proofs.layout.lower.Tie as tie
 returns : tie.Need-returns
 unfolding pair_in
 returns c =
-    c.word.ensures.0 ∙ ap (λ (b : ℕ). get_or c.before.before.before.args.table.now (b + 1) 0)
-    c.before.pair_of.ensures.0
+    c.word.ensures.0 ∙ ap (λ (b : ℕ). get_or c.args.table.now (b + 1) 0)
+    c.pair_of.ensures.0
 
 pub lower_spec : {M : Type 1} → statement M
 lower_spec = tie.close (tie.spec (λ c κs. search rules) (λ c. search rules) (λ c κs. search rules) returns)

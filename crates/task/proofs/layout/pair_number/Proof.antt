@@ -10,8 +10,8 @@ use Rattle.task.proofs.layout.pair_number.Tie as tie
 returns : tie.Need-returns
 unfolding pair_number_in
 returns c =
-    c.word.ensures.0 ∙ ap (λ (b : ℕ). get_or c.before.before.before.args.table.now b 0)
-    c.before.pair_of.ensures.0
+    c.word.ensures.0 ∙ ap (λ (b : ℕ). get_or c.args.table.now b 0)
+    c.pair_of.ensures.0
 
-pub pair-number-spec : {M : Type 1} → statement M
-pair-number-spec = tie.close (tie.spec (λ c κs. search rules) (λ c κs. search rules) returns)
+pub pair_number_spec : {M : Type 1} → statement M
+pair_number_spec = tie.close (tie.spec (λ c κs. search rules) (λ c κs. search rules) returns)

@@ -7,7 +7,7 @@ use Rattle.task.proofs.layout.pair_of.Tie as tie
 
 returns : tie.Need-returns
 unfolding pair_base
-returns c = let base = c.pairs-base.ensures in (omega (arith, base.0), omega (arith, base.0))
+returns c = let base = c.pairs_base.ensures in (omega (arith, base.0), omega (arith, base.0))
 
-pub pair-of-spec : {M : Type 1} → statement M
-pair-of-spec = tie.close (tie.spec (λ c κs. search rules) (λ c. search rules) (λ c. search rules) returns)
+pub pair_of_spec : {M : Type 1} → statement M
+pair_of_spec = tie.close (tie.spec (λ c κs. search rules) (λ c. search rules) (λ c. search rules) returns)

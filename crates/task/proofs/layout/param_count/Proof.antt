@@ -7,18 +7,18 @@ use Rattle.task.proofs.TableReads.{params-inside, params-word}
 use Rattle.task.proofs.layout.param_count.Statement.{statement}
 use Rattle.task.proofs.layout.param_count.Tie as tie
 
-params-of-requires : tie.Need-params-of-requires
+params-of-requires : tie.Need-params_of-requires
 params-of-requires c κs =
-    let start = c.before.before in
+    let start = c in
     let l = params-inside start.args.table.now start.requires.0 start.args.schema start.requires.1 in
     omega (arith, c.wide.ensures)
 
 returns : tie.Need-returns
 returns c =
-    let start = c.before.before.before in
+    let start = c in
     let w = start.args.table.now in
-    c.params_of.ensures.0 ∙ (ap (params_in w) c.before.wide.ensures ∙
+    c.params_of.ensures.0 ∙ (ap (params_in w) c.wide.ensures ∙
     params-word w start.requires.0 start.args.schema start.requires.1)
 
-pub param-count-spec : {M : Type 1} → statement M
-param-count-spec = tie.close (tie.spec (λ c κs. search rules) params-of-requires returns)
+pub param_count_spec : {M : Type 1} → statement M
+param_count_spec = tie.close (tie.spec (λ c κs. search rules) params-of-requires returns)

@@ -7,5 +7,5 @@ use Rattle.task.proofs.layout.params_base.Tie as tie
 returns : tie.Need-returns
 returns c = (omega (arith, c.word.ensures.0), omega (arith, c.word.ensures.1))
 
-pub params-base-spec : {M : Type 1} → statement M
-params-base-spec = tie.close (tie.spec (λ c κs. search rules) (λ c. search rules) returns)
+pub params_base_spec : {M : Type 1} → statement M
+params_base_spec = tie.close (tie.spec (λ c κs. search rules) (λ c. search rules) returns)

@@ -10,10 +10,10 @@ use Rattle.task.proofs.layout.part.Tie as tie
 returns : tie.Need-returns
 unfolding atom_in
 returns c = (
-  c.word.ensures.0 ∙ ap (λ (b : ℕ). get_or c.before.before.before.args.table.now (b + 3) 0)
-      c.before.row_of.ensures.0,
+  c.word.ensures.0 ∙ ap (λ (b : ℕ). get_or c.args.table.now (b + 3) 0)
+      c.row_of.ensures.0,
   c.word.ensures.1,
 )
 
-pub part-spec : {M : Type 1} → statement M
-part-spec = tie.close (tie.spec (λ c κs. search rules) (λ c. search rules) (λ c κs. search rules) returns)
+pub part_spec : {M : Type 1} → statement M
+part_spec = tie.close (tie.spec (λ c κs. search rules) (λ c. search rules) (λ c κs. search rules) returns)

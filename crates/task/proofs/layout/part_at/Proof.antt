@@ -11,7 +11,7 @@ returns : tie.Need-returns
 unfolding atom_in
 returns c =
     let e = c.word_at.ensures in
-    (e, λ i p. e ∙ ap (λ (b : ℕ). get_or c.before.before.args.table.now (b + 3) 0) p)
+    (e, λ i p. e ∙ ap (λ (b : ℕ). get_or c.args.table.now (b + 3) 0) p)
 
-pub part-at-spec : {M : Type 1} → statement M
-part-at-spec = tie.close (tie.spec (λ c. search rules) (λ c κs. search rules) returns)
+pub part_at_spec : {M : Type 1} → statement M
+part_at_spec = tie.close (tie.spec (λ c. search rules) (λ c κs. search rules) returns)

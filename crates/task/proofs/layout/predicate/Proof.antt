@@ -5,7 +5,7 @@ use Rattle.task.proofs.layout.predicate.Statement.{statement}
 use Rattle.task.proofs.layout.predicate.Tie as tie
 
 returns : tie.Need-returns
-returns c = c.wide.ensures ∙ c.before.predicate-at.ensures.1 _ c.before.before.row_of.ensures.0
+returns c = c.wide.ensures ∙ c.predicate_at.ensures.1 _ c.row_of.ensures.0
 
-pub predicate-spec : {M : Type 1} → statement M
-predicate-spec = tie.close (tie.spec (λ c κs. search rules) (λ c κs. search rules) (λ c κs. search rules) returns)
+pub predicate_spec : {M : Type 1} → statement M
+predicate_spec = tie.close (tie.spec (λ c κs. search rules) (λ c κs. search rules) (λ c κs. search rules) returns)

@@ -11,7 +11,7 @@ returns : tie.Need-returns
 unfolding atom_in
 returns c =
     let e = c.word_at.ensures in
-    (e, λ i p. e ∙ ap (λ (b : ℕ). get_or c.before.before.args.table.now (b + 2) 0) p)
+    (e, λ i p. e ∙ ap (λ (b : ℕ). get_or c.args.table.now (b + 2) 0) p)
 
-pub predicate-at-spec : {M : Type 1} → statement M
-predicate-at-spec = tie.close (tie.spec (λ c. search rules) (λ c κs. search rules) returns)
+pub predicate_at_spec : {M : Type 1} → statement M
+predicate_at_spec = tie.close (tie.spec (λ c. search rules) (λ c κs. search rules) returns)

@@ -6,11 +6,11 @@ use Rattle.task.proofs.TableReads.{counts-inside}
 use Rattle.task.proofs.layout.predicate_count.Statement.{statement}
 use Rattle.task.proofs.layout.predicate_count.Tie as tie
 
-shared-slice-read-result : tie.Need-shared-slice-read-result
-shared-slice-read-result c = let l = counts-inside c.before.args.table.now c.before.requires in omega arith
+shared-slice-read-result : tie.Need-bounds-table-1
+shared-slice-read-result c = let l = counts-inside c.args.table.now c.requires in omega arith
 
 returns : tie.Need-returns
-returns c = let w = c.before.args.table.now in sym (arities-word w (table-frame w c.before.requires))
+returns c = let w = c.args.table.now in sym (arities-word w (table-frame w c.requires))
 
-pub predicate-count-spec : {M : Type 1} → statement M
-predicate-count-spec = tie.close (tie.spec shared-slice-read-result returns)
+pub predicate_count_spec : {M : Type 1} → statement M
+predicate_count_spec = tie.close (tie.spec shared-slice-read-result returns)

@@ -5,7 +5,7 @@ use Rattle.task.proofs.layout.role.Statement.{statement}
 use Rattle.task.proofs.layout.role.Tie as tie
 
 returns : tie.Need-returns
-returns c = c.wide.ensures ∙ c.before.role-at.ensures.1 _ c.before.before.row_of.ensures.0
+returns c = c.wide.ensures ∙ c.role_at.ensures.1 _ c.row_of.ensures.0
 
-pub role-spec : {M : Type 1} → statement M
-role-spec = tie.close (tie.spec (λ c κs. search rules) (λ c κs. search rules) (λ c κs. search rules) returns)
+pub role_spec : {M : Type 1} → statement M
+role_spec = tie.close (tie.spec (λ c κs. search rules) (λ c κs. search rules) (λ c κs. search rules) returns)

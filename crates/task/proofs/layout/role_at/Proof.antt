@@ -11,7 +11,7 @@ returns : tie.Need-returns
 unfolding atom_in
 returns c =
     let e = c.word_at.ensures in
-    (e, λ i p. e ∙ ap (λ (b : ℕ). get_or c.before.before.args.table.now (b + 1) 0) p)
+    (e, λ i p. e ∙ ap (λ (b : ℕ). get_or c.args.table.now (b + 1) 0) p)
 
-pub role-at-spec : {M : Type 1} → statement M
-role-at-spec = tie.close (tie.spec (λ c. search rules) (λ c κs. search rules) returns)
+pub role_at_spec : {M : Type 1} → statement M
+role_at_spec = tie.close (tie.spec (λ c. search rules) (λ c κs. search rules) returns)

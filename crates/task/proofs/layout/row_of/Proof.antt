@@ -7,7 +7,7 @@ use Rattle.task.proofs.layout.row_of.Tie as tie
 
 returns : tie.Need-returns
 unfolding atom_base
-returns c = (c.atom-base.ensures, omega arith)
+returns c = (c.atom_base.ensures, omega arith)
 
-pub row-of-spec : {M : Type 1} → statement M
-row-of-spec = tie.close (tie.spec (λ c κs. search rules) returns)
+pub row_of_spec : {M : Type 1} → statement M
+row_of_spec = tie.close (tie.spec (λ c κs. search rules) returns)

@@ -6,9 +6,9 @@ use Rattle.task.proofs.layout.rows_base.Tie as tie
 
 returns : tie.Need-returns
 returns c =
-    let base = c.before.pairs-base.ensures in
+    let base = c.pairs_base.ensures in
     (omega (arith, base.0, c.word.ensures.0), omega (arith, base.1, c.word.ensures.1))
 
-pub rows-base-spec : {M : Type 1} → statement M
-rows-base-spec =
+pub rows_base_spec : {M : Type 1} → statement M
+rows_base_spec =
     tie.close (tie.spec (λ c κs. search rules) (λ c κs. search rules) (λ c. search rules) (λ c. search rules) returns)

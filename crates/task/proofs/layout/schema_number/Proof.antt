@@ -10,8 +10,8 @@ use Rattle.task.proofs.layout.schema_number.Tie as tie
 returns : tie.Need-returns
 unfolding schema_number_in
 returns c =
-    c.word.ensures.0 ∙ ap (λ (b : ℕ). get_or c.before.before.before.args.table.now b 0)
-    c.before.row_of.ensures.0
+    c.word.ensures.0 ∙ ap (λ (b : ℕ). get_or c.args.table.now b 0)
+    c.row_of.ensures.0
 
-pub schema-number-spec : {M : Type 1} → statement M
-schema-number-spec = tie.close (tie.spec (λ c κs. search rules) (λ c κs. search rules) returns)
+pub schema_number_spec : {M : Type 1} → statement M
+schema_number_spec = tie.close (tie.spec (λ c κs. search rules) (λ c κs. search rules) returns)

@@ -7,42 +7,42 @@ use Rattle.task.proofs.Moves.{Cleared, clear_none, clear-more, cleared-padded}
 use Rattle.task.proofs.records.clear_from.Statement.{statement}
 use Rattle.task.proofs.records.clear_from.Tie as tie
 
-abbrev invariant-loop : tie.invariant-loop
-invariant-loop state₀ from i₀ state i = (from ≤ i) × Cleared state₀ from i state
+abbrev invariant-loop-i : tie.invariant-loop-i
+invariant-loop-i state₀ from i₀ state i = (from ≤ i) × Cleared state₀ from i state
 
-abbrev decreases-loop : tie.decreases-loop
-decreases-loop state₀ from i₀ state i = length state₀ - i
+abbrev decreases-loop-i : tie.decreases-loop-i
+decreases-loop-i state₀ from i₀ state i = length state₀ - i
 
-loop-holds : tie.Need-loop-init invariant-loop decreases-loop
+loop-holds : tie.Need-loop-i-init invariant-loop-i decreases-loop-i
 loop-holds c = (omega arith, clear_none _ _)
 
-mul-state : tie.Need-overflow-mul-state invariant-loop decreases-loop
-mul-state c = let z = c.before.loop.invariant.1.size in omega arith
+mul-state : tie.Need-offset_bounds-state-i invariant-loop-i decreases-loop-i
+mul-state c = let z = c.loop-i.invariant.1.size in omega arith
 
-slice-write-state : tie.Need-slice-write-state invariant-loop decreases-loop
-slice-write-state c = let z = c.before.loop.invariant.1.size in omega arith
+slice-write-state : tie.Need-bounds-state-i invariant-loop-i decreases-loop-i
+slice-write-state c = let z = c.loop-i.invariant.1.size in omega arith
 
-add-i : tie.Need-overflow-add-i invariant-loop decreases-loop
-add-i c = let z = c.before.loop.invariant.1.size in omega arith
+add-i : tie.Need-overflow_add-i invariant-loop-i decreases-loop-i
+add-i c = let z = c.loop-i.invariant.1.size in omega arith
 
-loop-less : tie.Need-loop-smaller invariant-loop decreases-loop
-loop-less c = let z = c.before.loop.invariant.1.size in omega arith
+loop-less : tie.Need-loop-i-smaller invariant-loop-i decreases-loop-i
+loop-less c = let z = c.loop-i.invariant.1.size in omega arith
 
-loop-again : tie.Need-loop-preserved invariant-loop decreases-loop
+loop-again : tie.Need-loop-i-preserved invariant-loop-i decreases-loop-i
 loop-again c =
-    let z = c.before.loop.invariant.1.size in
-    (omega arith, clear-more _ _ _ _ c.before.loop.invariant.0 (omega arith) c.before.loop.invariant.1)
+    let z = c.loop-i.invariant.1.size in
+    (omega arith, clear-more _ _ _ _ c.loop-i.invariant.0 (omega arith) c.loop-i.invariant.1)
 
-same_length : tie.Need-same-length invariant-loop decreases-loop
-same_length c = c.before.loop.invariant.1.size
+same_length : tie.Need-shape_of-state invariant-loop-i decreases-loop-i
+same_length c = c.loop-i.invariant.1.size
 
-returns : tie.Need-returns invariant-loop decreases-loop
+returns : tie.Need-returns invariant-loop-i decreases-loop-i
 returns c =
-    let start = c.before.before in
-    let z = c.before.loop.invariant.1.size in
-    cleared-padded _ _ c.before.loop.i _ start.requires (omega arith) c.before.loop.invariant.1
+    let start = c in
+    let z = c.loop-i.invariant.1.size in
+    cleared-padded _ _ c.loop-i.i _ start.requires (omega arith) c.loop-i.invariant.1
 
-pub clear-from-spec : {M : Type 1} → statement M
-clear-from-spec =
+pub clear_from_spec : {M : Type 1} → statement M
+clear_from_spec =
     tie.close
-    (tie.spec invariant-loop decreases-loop loop-holds mul-state slice-write-state add-i loop-less loop-again same_length returns)
+    (tie.spec invariant-loop-i decreases-loop-i loop-holds mul-state slice-write-state add-i loop-less loop-again same_length returns)

@@ -5,7 +5,7 @@ use Rattle.task.proofs.records.held.Statement.{statement}
 use Rattle.task.proofs.records.held.Tie as tie
 
 returns : tie.Need-returns
-returns c = λ t f d. found-holds d c.before.find.ensures c.is_row.ensures
+returns c = λ t f d. found-holds d c.find-k.ensures c.is_row.ensures
 
 pub held_spec : {M : Type 1} → statement M
 held_spec = tie.close (tie.spec (λ c κs. search rules) (λ c κs. search rules) returns)

@@ -8,19 +8,19 @@ use Rattle.task.proofs.records.number_at.Tie as tie
 returns : tie.Need-returns
 unfolding number_at
 returns c =
-    let at-word4 = c.before.before in
-    let at-word3 = at-word4.before in
-    let at-word2 = at-word3.before in
-    let at-word = at-word2.before in
+    let at-word4 = c in
+    let at-word3 = at-word4 in
+    let at-word2 = at-word3 in
+    let at-word = at-word2 in
     let e₀ = at-word.word.ensures.0 in
-    let e₁ = at-word2.word2.ensures.0 in
-    let e₂ = at-word3.word3.ensures.0 in
-    let e₃ = at-word4.word4.ensures.0 in
-    let e₄ = c.before.word5.ensures.0 in
-    let e = c.number_of_lem.ensures in cc
+    let e₁ = at-word2.word-2.ensures.0 in
+    let e₂ = at-word3.word-3.ensures.0 in
+    let e₃ = at-word4.word-4.ensures.0 in
+    let e₄ = c.word-5.ensures.0 in
+    let e = c.number_of.ensures in cc
 
-pub number-at-spec : {M : Type 1} → statement M
-number-at-spec =
+pub number_at_spec : {M : Type 1} → statement M
+number_at_spec =
     tie.close
     (tie.spec (λ c κs. search rules) (λ c. search rules) (λ c κs. search rules) (λ c. search rules)
     (λ c κs. search rules) (λ c. search rules) (λ c κs. search rules) (λ c. search rules) (λ c κs. search rules)

@@ -21,51 +21,51 @@ room : {w : List ℕ} {n number k : ℕ} {r : Bool} → (5 * n ≤ length w) × 
     LowerBound w n number k → RowIs w n k number r → r ≡ false → 5 * n + 5 ≤ length w
 room p b h e = p.1.1.0 (no_row p.1.0 b (row_is h e))
 
-move-up-requires : tie.Need-move-up-requires
+move-up-requires : tie.Need-move_up-requires
 move-up-requires c κs =
-    let at-is-row = c.before.before in
-    let at-find = at-is-row.before.before in
-    let start = at-find.before.before.before in (
-      let z = at-find.find.ensures.within in omega arith,
+    let at-is-row = c in
+    let at-find = at-is-row in
+    let start = at-find in (
+      let z = at-find.find-k.ensures.within in omega arith,
       room start.requires
-          at-find.find.ensures at-is-row.is_row.ensures c.before.if1.false,
+          at-find.find-k.ensures at-is-row.is_row.ensures c.if-is_row.false,
     )
 
-write-at-requires : tie.Need-write-at-requires
+write-at-requires : tie.Need-write_at-requires
 write-at-requires c κs =
-    let at-move-up = c.before.before.before in
-    let at-if1 = at-move-up.before.before in
-    let at-is-row = at-if1.before in
-    let at-find = at-is-row.before.before in
-    let start = at-find.before.before.before in (
+    let at-move-up = c in
+    let at-if1 = at-move-up in
+    let at-is-row = at-if1 in
+    let at-find = at-is-row in
+    let start = at-find in (
       let y = room start.requires
-          at-find.find.ensures
+          at-find.find-k.ensures
           at-is-row.is_row.ensures
-          at-if1.if1.false in
-          let z = at-find.find.ensures.within in
-          let k = at-move-up.move_up.auto.0 in
+          at-if1.if-is_row.false in
+          let z = at-find.find-k.ensures.within in
+          let k = at-move-up.move_up.auto.state in
           omega arith,
       start.requires.1.1.1,
     )
 
-returns : tie.Need-returns
-returns c = λ t f d. row-there d (row_is c.before.is_row.ensures c.if1.true)
+returns : tie.Need-returns-then-is_row
+returns c = λ t f d. row-there d (row_is c.is_row.ensures c.if-is_row.true)
 
-returns-2 : tie.Need-returns-2
+returns-2 : tie.Need-returns-else-is_row
 returns-2 c =
-    let at-write-at = c.before.before in
-    let at-move-up = at-write-at.before.before.before.before in
-    let at-if1 = at-move-up.before.before in
-    let at-is-row = at-if1.before in
-    let at-find = at-is-row.before.before in
-    let start = at-find.before.before.before in
-    λ t f d. row-came d at-find.find.ensures (row_is at-is-row.is_row.ensures at-if1.if1.false)
-    at-move-up.move_up.ensures at-write-at.write-at.ensures (at-write-at.write-at.auto.0 ∙
-    at-move-up.move_up.auto.0)
-    (room start.requires at-find.find.ensures at-is-row.is_row.ensures at-if1.if1.false)
+    let at-write-at = c in
+    let at-move-up = at-write-at in
+    let at-if1 = at-move-up in
+    let at-is-row = at-if1 in
+    let at-find = at-is-row in
+    let start = at-find in
+    λ t f d. row-came d at-find.find-k.ensures (row_is at-is-row.is_row.ensures at-if1.if-is_row.false)
+    at-move-up.move_up.ensures at-write-at.write_at.ensures (at-write-at.write_at.auto.state ∙
+    at-move-up.move_up.auto.state)
+    (room start.requires at-find.find-k.ensures at-is-row.is_row.ensures at-if1.if-is_row.false)
 
-pub put-in-spec : {M : Type 1} → statement M
-put-in-spec =
+pub put_in_spec : {M : Type 1} → statement M
+put_in_spec =
     tie.close
     (tie.spec (λ c κs. search rules) (λ c κs. search rules) (λ c. search rules) (λ c. search rules) move-up-requires
     (λ c. search rules) write-at-requires (λ c. search rules) (λ c. search rules) returns (λ c. search rules) returns-2)

@@ -5,19 +5,19 @@ use borrow.Author.Rules.{rules}
 use Rattle.task.proofs.records.replace.Statement.{statement}
 use Rattle.task.proofs.records.replace.Tie as tie
 
-returns : tie.Need-returns
+returns : tie.Need-returns-then-j-k
 returns c =
-    let at-write-at = c.before.before in
-    let at-move-up = at-write-at.before.before.before.before in
-    let at-if1 = at-move-up.before.before in
-    up at-if1.if1.true at-move-up.move_up.ensures at-write-at.write-at.ensures
+    let at-write-at = c in
+    let at-move-up = at-write-at in
+    let at-if1 = at-move-up in
+    up at-if1.if-j-k.true at-move-up.move_up.ensures at-write-at.write_at.ensures
 
-returns-2 : tie.Need-returns-2
+returns-2 : tie.Need-returns-else-j-k
 returns-2 c =
-    let at-write-at2 = c.before.before in
-    let at-move-down = at-write-at2.before.before.before.before in
-    let at-if1 = at-move-down.before.before in
-    down at-if1.if1.false at-move-down.move_down.ensures at-write-at2.write-at2.ensures
+    let at-write-at2 = c in
+    let at-move-down = at-write-at2 in
+    let at-if1 = at-move-down in
+    down at-if1.if-j-k.false at-move-down.move_down.ensures at-write-at2.write_at-else-j-k.ensures
 
 pub replace_spec : {M : Type 1} → statement M
 replace_spec =

@@ -5,11 +5,11 @@ use borrow.Author.Rules.{rules}
 use Rattle.task.proofs.records.row_for.Statement.{statement}
 use Rattle.task.proofs.records.row_for.Tie as tie
 
-returns : tie.Need-returns
-returns c = λ i l e. c.before.is_row.ensures.found c.if1.true
+returns : tie.Need-returns-then-is_row
+returns c = λ i l e. c.is_row.ensures.found c.if-is_row.true
 
-returns-2 : tie.Need-returns-2
-returns-2 c = bound-row c.before.before.before.before.requires.1 c.find.ensures
+returns-2 : tie.Need-returns-else-is_row
+returns-2 c = bound-row c.requires.1 c.find.ensures
 
-pub row-for-spec : {M : Type 1} → statement M
-row-for-spec = tie.close (tie.spec (λ c κs. search rules) (λ c κs. search rules) returns returns-2)
+pub row_for_spec : {M : Type 1} → statement M
+row_for_spec = tie.close (tie.spec (λ c κs. search rules) (λ c κs. search rules) returns returns-2)

@@ -6,11 +6,11 @@ use borrow.Author.Rules.{rules}
 use Rattle.task.proofs.records.word.Statement.{statement}
 use Rattle.task.proofs.records.word.Tie as tie
 
-cast-result : tie.Need-overflow-cast-result
-cast-result c = omega (arith, c.shared-slice-known.given c.before.args.at)
+cast-result : tie.Need-overflow_cast-result
+cast-result c = omega (arith, c.shared_slice_known-1.given c.args.at)
 
 returns : tie.Need-returns
-returns c = (refl, omega (arith, c.shared-slice-known.given c.before.args.at))
+returns c = (refl, omega (arith, c.shared_slice_known-1.given c.args.at))
 
-pub word-spec : {M : Type 1} → statement M
-word-spec = tie.close (tie.spec (λ c. search rules) (λ c. search rules) cast-result returns)
+pub word_spec : {M : Type 1} → statement M
+word_spec = tie.close (tie.spec (λ c. search rules) (λ c. search rules) cast-result returns)

@@ -13,89 +13,89 @@ use Rattle.task.proofs.GoalLaws.{goal-known, goal-start}
 use Rattle.task.proofs.running.goal_met.Statement.{statement}
 use Rattle.task.proofs.running.goal_met.Tie as tie
 
-abbrev invariant-loop : tie.invariant-loop
-invariant-loop table state n from to k₀ k = (from ≤ k) ×
+abbrev invariant-loop-k : tie.invariant-loop-k
+invariant-loop-k table state n from to k₀ k = (from ≤ k) ×
     AllLeft (λ j. holds (state_in (task_of table) state n) (fact_in table j)) to
     (goal_met (task_of table) (state_in (task_of table) state n)) k
 
-abbrev decreases-loop : tie.decreases-loop
-decreases-loop table state n from to k₀ k = to - k
+abbrev decreases-loop-k : tie.decreases-loop-k
+decreases-loop-k table state n from to k₀ k = to - k
 
-word-requires : tie.Need-word-requires invariant-loop decreases-loop
+word-requires : tie.Need-word-requires invariant-loop-k decreases-loop-k
 word-requires c κs =
-    let start = c.before.before in
+    let start = c in
     let l = counts-inside _ start.requires.0 in omega arith
 
-word-requires-2 : tie.Need-word-requires-2 invariant-loop decreases-loop
+word-requires-2 : tie.Need-word-requires-2 invariant-loop-k decreases-loop-k
 word-requires-2 c κs =
-    let start = c.before.before.before in
+    let start = c in
     let l = counts-inside _ start.requires.0 in omega arith
 
-word-requires-3 : tie.Need-word-requires-3 invariant-loop decreases-loop
+word-requires-3 : tie.Need-word-requires-3 invariant-loop-k decreases-loop-k
 word-requires-3 c κs =
-    let start = c.before.before.before.before in
+    let start = c in
     let l = counts-inside _ start.requires.0 in omega arith
 
-loop-holds : tie.Need-loop-init invariant-loop decreases-loop
+loop-holds : tie.Need-loop-k-init invariant-loop-k decreases-loop-k
 loop-holds c =
-    let e₃ = c.before.before.word.ensures in
-    let e₄ = c.before.word2.ensures in
-    let e₅ = c.word3.ensures in
+    let e₃ = c.word.ensures in
+    let e₄ = c.word-2.ensures in
+    let e₅ = c.word-3.ensures in
     (omega arith, goal-start _ _ _ _ (omega arith) (omega arith))
 
-fact-number-requires : tie.Need-fact-number-requires invariant-loop decreases-loop
+fact-number-requires : tie.Need-fact_number-requires invariant-loop-k decreases-loop-k
 fact-number-requires c κs =
-    let at-word3 = c.before.before in
-    let at-word2 = at-word3.before in
-    let at-word = at-word2.before in
-    let start = at-word.before.before.before in (
+    let at-word3 = c in
+    let at-word2 = at-word3 in
+    let at-word = at-word2 in
+    let start = at-word in (
       start.requires.0,
       let e₃ =
-          at-word.word.ensures in let e₄ = at-word2.word2.ensures in let e₅ =
-          at-word3.word3.ensures in let m = c.loop-test.true in omega arith,
+          at-word.word.ensures in let e₄ = at-word2.word-2.ensures in let e₅ =
+          at-word3.word-3.ensures in let m = c.loop-k-test.true in omega arith,
     )
 
-held-requires : tie.Need-held-requires invariant-loop decreases-loop
+held-requires : tie.Need-held-requires invariant-loop-k decreases-loop-k
 held-requires c κs =
-    let start = c.before.before.before.before.before.before.before.before in (
+    let start = c in (
       state-long _ (of-table _ start.requires.0).0 _ _ start.requires.1,
       state-ascends _ (of-table _ start.requires.0).0 _ _ start.requires.1,
     )
 
-abbrev start : tie.After-held invariant-loop decreases-loop → tie.Start invariant-loop decreases-loop
+abbrev start : tie.After-held invariant-loop-k decreases-loop-k → tie.Start invariant-loop-k decreases-loop-k
 start c = c.before.before.before.before.before.before.before.before.before
 
 -- what was looked up is goal atom k
-held-is : (c : tie.After-held invariant-loop decreases-loop) → c.held.result ≡
+held-is : (c : tie.After-held invariant-loop-k decreases-loop-k) → c.held.result ≡
     holds (state_in (task_of (start c).args.table.now) (start c).args.state.now (start c).args.n)
-    (fact_in (start c).args.table.now c.before.before.before.loop.k)
+    (fact_in (start c).args.table.now c.loop-k.k)
 held-is c =
-    let at-loop = c.before.before.before in
-    let at-word3 = at-loop.before in
-    let e₃ = at-word3.before.before.word.ensures in
-    let e₄ = at-word3.before.word2.ensures in
-    let e₅ = at-word3.word3.ensures in
-    let l = at-loop.loop.invariant.0 in
-    let m = c.before.before.loop-test.true in
+    let at-loop = c in
+    let at-word3 = at-loop in
+    let e₃ = at-word3.word.ensures in
+    let e₄ = at-word3.word-2.ensures in
+    let e₅ = at-word3.word-3.ensures in
+    let l = at-loop.loop-k.invariant.0 in
+    let m = c.loop-k-test.true in
     c.held.ensures _ _
-    (goal-known _ _ _ at-loop.loop.k _ (start c).requires.0 (start c).requires.1 (omega arith) (omega arith)
-    c.before.fact-number.ensures)
+    (goal-known _ _ _ at-loop.loop-k.k _ (start c).requires.0 (start c).requires.1 (omega arith) (omega arith)
+    c.fact_number.ensures)
 
-returns : tie.Need-returns invariant-loop decreases-loop
+returns : tie.Need-returns-then-not-held invariant-loop-k decreases-loop-k
 returns c =
-    let turn = c.before.before.before in
-    all-no turn.before.loop.invariant.1 turn.loop-test.true (held-is c.before) c.if1.true
+    let turn = c in
+    all-no turn.loop-k.invariant.1 turn.loop-k-test.true (held-is c.before) c.if-not-held.true-raw
 
-loop-again : tie.Need-loop-preserved invariant-loop decreases-loop
+loop-again : tie.Need-loop-k-preserved invariant-loop-k decreases-loop-k
 loop-again c =
-    let turn = c.before.before.before in
-    (omega arith, all_yes turn.before.loop.invariant.1 turn.loop-test.true (held-is c.before) c.if1.false)
+    let turn = c in
+    (omega arith, all_yes turn.loop-k.invariant.1 turn.loop-k-test.true (held-is c.before) c.if-not-held.false-raw)
 
-returns-2 : tie.Need-returns-2 invariant-loop decreases-loop
-returns-2 c = all-ends c.before.loop.invariant.1 c.loop-test.false
+returns-2 : tie.Need-returns invariant-loop-k decreases-loop-k
+returns-2 c = all-ends c.loop-k.invariant.1 c.loop-k-test.false
 
-pub goal-met-spec : {M : Type 1} → statement M
-goal-met-spec =
+pub goal_met_spec : {M : Type 1} → statement M
+goal_met_spec =
     tie.close
-    (tie.spec invariant-loop decreases-loop word-requires word-requires-2 (λ c. omega arith) word-requires-3 (λ c. omega arith)
+    (tie.spec invariant-loop-k decreases-loop-k word-requires word-requires-2 (λ c. omega arith) word-requires-3 (λ c. omega arith)
     loop-holds fact-number-requires held-requires returns (λ c. omega arith) (λ c. omega arith) loop-again returns-2)

@@ -9,92 +9,92 @@ use Rattle.task.proofs.StartLaws.{StartsSo, schemas-few, starts_none, starts-tur
 use Rattle.task.proofs.running.schema_starts.Statement.{statement}
 use Rattle.task.proofs.running.schema_starts.Tie as tie
 
-abbrev invariant-loop : tie.invariant-loop
-invariant-loop table starts₀ count k₀ starts k = StartsSo table k starts
+abbrev invariant-loop-k : tie.invariant-loop-k
+invariant-loop-k table starts₀ count k₀ starts k = StartsSo table k starts
 
-abbrev decreases-loop : tie.decreases-loop
-decreases-loop table starts₀ count k₀ starts k = count - k
+abbrev decreases-loop-k : tie.decreases-loop-k
+decreases-loop-k table starts₀ count k₀ starts k = count - k
 
-word-requires : tie.Need-word-requires invariant-loop decreases-loop
-word-requires c κs = let l = counts-inside _ c.before.requires.0 in omega arith
+word-requires : tie.Need-word-count-requires invariant-loop-k decreases-loop-k
+word-requires c κs = let l = counts-inside _ c.requires.0 in omega arith
 
-loop-holds : tie.Need-loop-init invariant-loop decreases-loop
+loop-holds : tie.Need-loop-k-init invariant-loop-k decreases-loop-k
 loop-holds c =
-    let start = c.before.before in
+    let start = c in
     starts_none _ start.requires.0 _ start.requires.1.0 start.requires.1.1
 
-schema-number-requires : tie.Need-schema-number-requires invariant-loop decreases-loop
+schema-number-requires : tie.Need-schema_number-schema-requires invariant-loop-k decreases-loop-k
 schema-number-requires c κs =
-    let at-word = c.before.before in
-    let start = at-word.before.before in (
+    let at-word = c in
+    let start = at-word in (
       table-roomy _ start.requires.0,
-      let e = at-word.word.ensures.0 in
-          let l = c.loop-test.true in omega arith,
+      let e = at-word.word-count.ensures.0 in
+          let l = c.loop-k-test.true in omega arith,
     )
 
 -- the schema that was read is one of the table's
-few : (c : tie.After-schema-number invariant-loop decreases-loop) → c.schema-number.result < most_schemas
+few : (c : tie.After-schema_number-schema invariant-loop-k decreases-loop-k) → c.schema_number-schema.result < most_schemas
 few c =
-    let at-loop = c.before.before in
-    let at-word = at-loop.before in
-    let start = at-word.before.before in
-    let e = at-word.word.ensures.0 in
-    let l = c.before.loop-test.true in
-    let m = (atom-lies _ (table-frame _ start.requires.0) at-loop.loop.k (omega arith)).known in
+    let at-loop = c in
+    let at-word = at-loop in
+    let start = at-word in
+    let e = at-word.word-count.ensures.0 in
+    let l = c.loop-k-test.true in
+    let m = (atom-lies _ (table-frame _ start.requires.0) at-loop.loop-k.k (omega arith)).known in
     let f = schemas-few _ start.requires.0 in
-    omega (arith, c.schema-number.ensures)
+    omega (arith, c.schema_number-schema.ensures)
 
-add-k : tie.Need-overflow-add-k invariant-loop decreases-loop
+add-k : tie.Need-overflow_add-k invariant-loop-k decreases-loop-k
 add-k c =
-    let at-loop-test = c.before in
-    let at-word = at-loop-test.before.before in
-    let e = at-word.word.ensures in
-    let l = at-loop-test.loop-test.true in omega arith
+    let at-loop-test = c in
+    let at-word = at-loop-test in
+    let e = at-word.word-count.ensures in
+    let l = at-loop-test.loop-k-test.true in omega arith
 
-cast-starts : tie.Need-overflow-cast-starts invariant-loop decreases-loop
+cast-starts : tie.Need-overflow_cast-starts invariant-loop-k decreases-loop-k
 cast-starts c =
-    let at-loop-test = c.before in
-    let at-word = at-loop-test.before.before in
-    let e = at-word.word.ensures in
-    let l = at-loop-test.loop-test.true in omega arith
+    let at-loop-test = c in
+    let at-word = at-loop-test in
+    let e = at-word.word-count.ensures in
+    let l = at-loop-test.loop-k-test.true in omega arith
 
-add-starts : tie.Need-overflow-add-starts invariant-loop decreases-loop
+add-starts : tie.Need-overflow_add-starts invariant-loop-k decreases-loop-k
 add-starts c = omega (arith, few c)
 
-mul-starts : tie.Need-overflow-mul-starts invariant-loop decreases-loop
+mul-starts : tie.Need-offset_bounds-starts-schema invariant-loop-k decreases-loop-k
 mul-starts c = omega (arith, few c)
 
-element-write-starts : tie.Need-element-write-starts invariant-loop decreases-loop
+element-write-starts : tie.Need-bounds-starts-schema invariant-loop-k decreases-loop-k
 element-write-starts c =
-    let at-loop-test = c.before in
-    let at-loop = at-loop-test.before in
-    let z = at-loop.loop.invariant.size in
-    omega (arith, few c)
+    let at-loop-test = c in
+    let at-loop = at-loop-test in
+    let z = at-loop.loop-k.invariant.size in
+    omega (arith, few c.before)
 
-loop-again : tie.Need-loop-preserved invariant-loop decreases-loop
+loop-again : tie.Need-loop-k-preserved invariant-loop-k decreases-loop-k
 loop-again c =
-    let at-loop-test = c.before in
-    let at-loop = at-loop-test.before in
-    let at-word = at-loop.before in
-    let start = at-word.before.before in
-    let e = at-word.word.ensures.0 in
-    let l = at-loop-test.loop-test.true in
-    starts-turn _ start.requires.0 _ _ _ (omega arith) c.schema-number.ensures
-    at-loop.loop.invariant
+    let at-loop-test = c in
+    let at-loop = at-loop-test in
+    let at-word = at-loop in
+    let start = at-word in
+    let e = at-word.word-count.ensures.0 in
+    let l = at-loop-test.loop-k-test.true in
+    starts-turn _ start.requires.0 _ _ _ (omega arith) c.schema_number-schema.ensures
+    at-loop.loop-k.invariant
 
-returns : tie.Need-returns invariant-loop decreases-loop
+returns : tie.Need-returns invariant-loop-k decreases-loop-k
 returns c =
-    let at-word = c.before.before in
-    let start = at-word.before.before in
-    let e = at-word.word.ensures.0 in
-    let l = c.loop-test.false in (
-      c.before.loop.invariant.size,
-      starts-end _ start.requires.0 c.before.loop.k _
-          (omega arith) c.before.loop.invariant,
+    let at-word = c in
+    let start = at-word in
+    let e = at-word.word-count.ensures.0 in
+    let l = c.loop-k-test.false in (
+      c.loop-k.invariant.size,
+      starts-end _ start.requires.0 c.loop-k.k _
+          (omega arith) c.loop-k.invariant,
     )
 
-pub schema-starts-spec : {M : Type 1} → statement M
-schema-starts-spec =
+pub schema_starts_spec : {M : Type 1} → statement M
+schema_starts_spec =
     tie.close
-    (tie.spec invariant-loop decreases-loop word-requires loop-holds schema-number-requires add-k cast-starts add-starts mul-starts
+    (tie.spec invariant-loop-k decreases-loop-k word-requires loop-holds schema-number-requires add-k cast-starts add-starts mul-starts
     element-write-starts (λ c. omega arith) loop-again returns)

@@ -9,19 +9,19 @@ use Rattle.task.proofs.sizes.goes.Statement.{statement}
 use Rattle.task.proofs.sizes.goes.Tie as tie
 
 absent-requires : tie.Need-absent-requires
-absent-requires c κs = let (t, g, u) = c.before.requires.0 in few-before u c.before.requires.1
+absent-requires c κs = let (t, g, u) = c.requires.0 in few-before u c.requires.1
 
-returns : tie.Need-returns
+returns : tie.Need-returns-then-absent
 returns c = λ t g u a f d.
-    let at-absent = c.before.before in
-    let start = at-absent.before.before in
-    goes_first _ _ f _ (sym (at-absent.absent.ensures ∙ span-absent u _ _ start.requires.1 d) ∙ c.before.if1.true)
-    (c.holds-now.ensures t g u a f d)
+    let at-absent = c in
+    let start = at-absent in
+    goes_first _ _ f _ (sym (at-absent.absent.ensures ∙ span-absent u _ _ start.requires.1 d) ∙ c.if-absent.true)
+    (c.holds_now.ensures t g u a f d)
 
-returns-2 : tie.Need-returns-2
+returns-2 : tie.Need-returns-else-absent
 returns-2 c = λ t g u a f d.
-    let start = c.before.before.before in
-    goes-again _ _ f (sym (c.before.absent.ensures ∙ span-absent u _ _ start.requires.1 d) ∙ c.if1.false)
+    let start = c in
+    goes-again _ _ f (sym (c.absent.ensures ∙ span-absent u _ _ start.requires.1 d) ∙ c.if-absent.false)
 
-pub goes-spec : {M : Type 1} → statement M
-goes-spec = tie.close (tie.spec absent-requires (λ c κs. search rules) returns returns-2)
+pub goes_spec : {M : Type 1} → statement M
+goes_spec = tie.close (tie.spec absent-requires (λ c κs. search rules) returns returns-2)

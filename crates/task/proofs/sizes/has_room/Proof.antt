@@ -12,36 +12,36 @@ use borrow.Author.Rules.{rules}
 use Rattle.task.proofs.sizes.has_room.Statement.{statement}
 use Rattle.task.proofs.sizes.has_room.Tie as tie
 
-sub-adds : tie.Need-overflow-sub-adds
-sub-adds c = c.before.before.requires.2.adds
+sub-adds : tie.Need-overflow_sub-adds
+sub-adds c = c.requires.2.adds
 
-sub-if1 : tie.Need-overflow-sub-if1
-sub-if1 c = state-room c.before.before.requires.2
+sub-if1 : tie.Need-overflow_sub-room
+sub-if1 c = state-room c.requires.2
 
-returns : tie.Need-returns
-returns c = λ t g u a. all_fit u (few-left u) (state-room u) c.if1.true
+returns : tie.Need-returns-then-adds-room
+returns c = λ t g u a. all_fit u (few-left u) (state-room u) c.if-adds-room.true
 
-sub-if2 : tie.Need-overflow-sub-if2
-sub-if2 c = let (t, g, u, a) = c.before.before.before.before.requires in left-room u (c.size-without.ensures t g u a)
+sub-if2 : tie.Need-overflow_sub-room-2
+sub-if2 c = let (t, g, u, a) = c.requires in left-room u (c.size_without-size.ensures t g u a)
 
-returns-2 : tie.Need-returns-2
+returns-2 : tie.Need-returns-then-adds-room-2
 returns-2 c = λ t g u a.
-    let e = c.before.size-without.ensures t g u a in
-    all_fit u (omega arith) (left-room u e) c.if2.true
+    let e = c.size_without-size.ensures t g u a in
+    all_fit u (omega arith) (left-room u e) c.if-adds-room-2.true
 
-size-with-requires : tie.Need-size-with-requires
+size-with-requires : tie.Need-size_with-requires
 size-with-requires c κs =
-    let (t, g, u, a) = c.before.before.before.before.before.requires in
-    (t, g, u, c.before.size-without.ensures t g u a)
+    let (t, g, u, a) = c.requires in
+    (t, g, u, c.size_without-size.ensures t g u a)
 
-returns-3 : tie.Need-returns-3
+returns-3 : tie.Need-returns
 unfolding room_in
 returns-3 c = λ t g u a.
-    let start = c.before.before.before.before.before.before in
+    let start = c in
     ap (λ (m : ℕ). leb m (room_in start.args.state.now))
-    (c.size-with.ensures t g u (c.before.before.size-without.ensures t g u a))
+    (c.size_with.ensures t g u (c.size_without-size.ensures t g u a))
 
-pub has-room-spec : {M : Type 1} → statement M
-has-room-spec =
+pub has_room_spec : {M : Type 1} → statement M
+has_room_spec =
     tie.close
     (tie.spec sub-adds sub-if1 returns (λ c κs. search rules) sub-if2 returns-2 size-with-requires returns-3)

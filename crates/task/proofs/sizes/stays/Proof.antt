@@ -9,18 +9,18 @@ use Rattle.task.proofs.sizes.stays.Statement.{statement}
 use Rattle.task.proofs.sizes.stays.Tie as tie
 
 held-requires : tie.Need-held-requires
-held-requires c κs = let (t, g, u) = c.before.requires in (rows_fit u, rows-ascend u)
+held-requires c κs = let (t, g, u) = c.requires in (rows_fit u, rows-ascend u)
 
 absent-requires : tie.Need-absent-requires
-absent-requires c κs = c.before.before.before.requires.2.few
+absent-requires c κs = c.requires.2.few
 
-returns : tie.Need-returns
+returns : tie.Need-returns-then-held
 returns c = λ t g u f d.
-    stays-held _ _ f _ (sym (c.before.before.held.ensures t f d) ∙ c.before.if1.true)
+    stays-held _ _ f _ (sym (c.held.ensures t f d) ∙ c.if-held.true)
     (c.absent.ensures ∙ span-absent u _ _ (omega arith) d)
 
-returns-2 : tie.Need-returns-2
-returns-2 c = λ t g u f d. stays-missing _ _ f (sym (c.before.held.ensures t f d) ∙ c.if1.false)
+returns-2 : tie.Need-returns-else-held
+returns-2 c = λ t g u f d. stays-missing _ _ f (sym (c.held.ensures t f d) ∙ c.if-held.false)
 
-pub stays-spec : {M : Type 1} → statement M
-stays-spec = tie.close (tie.spec held-requires absent-requires returns returns-2)
+pub stays_spec : {M : Type 1} → statement M
+stays_spec = tie.close (tie.spec held-requires absent-requires returns returns-2)

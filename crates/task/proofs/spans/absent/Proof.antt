@@ -13,32 +13,32 @@ use Rattle.words.proofs.Loops.{AllLeft, all-between, all_more, all-fails, all-en
 use Rattle.task.proofs.spans.absent.Statement.{statement}
 use Rattle.task.proofs.spans.absent.Tie as tie
 
-abbrev invariant-loop : tie.invariant-loop
-invariant-loop numbers from to number k₀ k =
+abbrev invariant-loop-k : tie.invariant-loop-k
+invariant-loop-k numbers from to number k₀ k =
     AllLeft (λ j. not (eqb (get_or numbers j 0) number)) to
     (all (λ a. not (eqb a number)) (words_at numbers from (to - from))) k
 
-abbrev decreases-loop : tie.decreases-loop
-decreases-loop numbers from to number k₀ k = to - k
+abbrev decreases-loop-k : tie.decreases-loop-k
+decreases-loop-k numbers from to number k₀ k = to - k
 
-loop-holds : tie.Need-loop-init invariant-loop decreases-loop
+loop-holds : tie.Need-loop-k-init invariant-loop-k decreases-loop-k
 loop-holds c = all-between (λ a. not (eqb a c.args.number)) _ _ _
 
-returns : tie.Need-returns invariant-loop decreases-loop
+returns : tie.Need-returns-then-numbers-k invariant-loop-k decreases-loop-k
 returns c =
-    let turn = c.before.before in
-    all-fails turn.before.loop.invariant turn.loop-test.true (ap not (eq-eqb _ _ c.if1.true))
+    let turn = c in
+    all-fails turn.loop-k.invariant turn.loop-k-test.true (ap not (eq-eqb _ _ c.if-numbers-k.true))
 
-loop-again : tie.Need-loop-preserved invariant-loop decreases-loop
+loop-again : tie.Need-loop-k-preserved invariant-loop-k decreases-loop-k
 loop-again c =
-    let turn = c.before.before in
-    all_more turn.before.loop.invariant turn.loop-test.true (ap not (ne_eqb _ _ c.if1.false))
+    let turn = c in
+    all_more turn.loop-k.invariant turn.loop-k-test.true (ap not (ne_eqb _ _ c.if-numbers-k.false))
 
-returns-2 : tie.Need-returns-2 invariant-loop decreases-loop
-returns-2 c = all-ends c.before.loop.invariant c.loop-test.false
+returns-2 : tie.Need-returns invariant-loop-k decreases-loop-k
+returns-2 c = all-ends c.loop-k.invariant c.loop-k-test.false
 
-pub absent-spec : {M : Type 1} → statement M
-absent-spec =
+pub absent_spec : {M : Type 1} → statement M
+absent_spec =
     tie.close
-    (tie.spec invariant-loop decreases-loop loop-holds (λ c. omega arith) (λ c. omega arith) returns (λ c. omega arith)
+    (tie.spec invariant-loop-k decreases-loop-k loop-holds (λ c. omega arith) (λ c. omega arith) returns (λ c. omega arith)
     (λ c. omega arith) loop-again returns-2)

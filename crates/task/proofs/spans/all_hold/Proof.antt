@@ -12,54 +12,54 @@ use Rattle.task.proofs.SpanLaws.{rows_fit, rows-ascend, few-before, precondition
 use Rattle.task.proofs.spans.all_hold.Statement.{statement}
 use Rattle.task.proofs.spans.all_hold.Tie as tie
 
-abbrev invariant-loop : tie.invariant-loop
-invariant-loop numbers spans state n rows₀ k₀ rows k =
+abbrev invariant-loop-k : tie.invariant-loop-k
+invariant-loop-k numbers spans state n rows₀ k₀ rows k =
     (t : Task) (g : ℕ → Fact) → UnderWay t g spans numbers state n →
     AllLeft (λ j. holds (state_in t state n) (g j)) spans.adds
     (all (holds (state_in t state n)) (span g 0 spans.adds)) k
 
-abbrev decreases-loop : tie.decreases-loop
-decreases-loop numbers spans state n rows₀ k₀ rows k = spans.adds - k
+abbrev decreases-loop-k : tie.decreases-loop-k
+decreases-loop-k numbers spans state n rows₀ k₀ rows k = spans.adds - k
 
-loop-holds : tie.Need-loop-init invariant-loop decreases-loop
+loop-holds : tie.Need-loop-k-init invariant-loop-k decreases-loop-k
 unfolding span
 loop-holds c = λ t g u. all-mapped _ _ _ _
 
 -- in a turn k is the place of a precondition
-abbrev start : tie.Then1 invariant-loop decreases-loop → tie.Start invariant-loop decreases-loop
+abbrev start : tie.In-loop-k invariant-loop-k decreases-loop-k → tie.Start invariant-loop-k decreases-loop-k
 start c = c.before.before.before.before
 
-inside : (c : tie.Then1 invariant-loop decreases-loop) → c.before.before.loop.k < most_atoms
-inside c = let (t, g, u) = (start c).requires in few-before u (precondition-inside u c.if1.true)
+inside : (c : tie.In-loop-k invariant-loop-k decreases-loop-k) → c.loop-k.k < most_atoms
+inside c = let (t, g, u) = (start c).requires in few-before u (precondition-inside u c.loop-k-test.true)
 
-find-requires : tie.Need-find-requires invariant-loop decreases-loop
-find-requires c κs = let (t, g, u) = (start c.before).pre in (rows_fit u, rows-ascend u)
+find-requires : tie.Need-find-row-requires invariant-loop-k decreases-loop-k
+find-requires c κs = let (t, g, u) = (start c.before.before).requires in (rows_fit u, rows-ascend u)
 
-is-row-requires : tie.Need-is-row-requires invariant-loop decreases-loop
-is-row-requires c κs = let (t, g, u) = (start c.before.before).pre in rows_fit u
+is-row-requires : tie.Need-is_row-requires invariant-loop-k decreases-loop-k
+is-row-requires c κs = let (t, g, u) = (start c.before.before.before).requires in rows_fit u
 
-returns : tie.Need-returns invariant-loop decreases-loop
+returns : tie.Need-returns-then-not-is_row invariant-loop-k decreases-loop-k
 returns c =
-    let turn = c.before.before.before.before in λ t g u.
-    all-no (turn.before.before.loop.invariant t g u) turn.if1.true
-    (atom-found u (precondition-inside u turn.if1.true) c.before.before.find.ensures
-    c.before.is_row.ensures)
-    c.if2.true
+    let turn = c in λ t g u.
+    all-no (turn.loop-k.invariant t g u) turn.loop-k-test.true
+    (atom-found u (precondition-inside u turn.loop-k-test.true) c.find-row.ensures
+    c.is_row.ensures)
+    c.if-not-is_row.true-raw
 
-loop-again : tie.Need-loop-preserved invariant-loop decreases-loop
+loop-again : tie.Need-loop-k-preserved invariant-loop-k decreases-loop-k
 loop-again c =
-    let turn = c.before.before.before.before in λ t g u.
-    all_yes (turn.before.before.loop.invariant t g u) turn.if1.true
-    (atom-found u (precondition-inside u turn.if1.true) c.before.before.find.ensures
-    c.before.is_row.ensures)
-    c.if2.false
+    let turn = c in λ t g u.
+    all_yes (turn.loop-k.invariant t g u) turn.loop-k-test.true
+    (atom-found u (precondition-inside u turn.loop-k-test.true) c.find-row.ensures
+    c.is_row.ensures)
+    c.if-not-is_row.false-raw
 
-returns-2 : tie.Need-returns-2 invariant-loop decreases-loop
-returns-2 c = λ t g u. all-ends (c.before.before.loop.invariant t g u) c.if1.false
+returns-2 : tie.Need-returns invariant-loop-k decreases-loop-k
+returns-2 c = λ t g u. all-ends (c.loop-k.invariant t g u) c.loop-k-test.false
 
-pub all-hold-spec : {M : Type 1} → statement M
-all-hold-spec =
+pub all_hold_spec : {M : Type 1} → statement M
+all_hold_spec =
     tie.close
-    (tie.spec invariant-loop decreases-loop loop-holds (λ c. omega (arith, inside c)) inside find-requires is-row-requires returns
-    (λ c. omega (arith, inside c.before.before.before.before)) (λ c. inside c.before.before.before.before)
+    (tie.spec invariant-loop-k decreases-loop-k loop-holds (λ c. omega (arith, inside c)) (λ c. inside c.before) find-requires is-row-requires returns
+    (λ c. omega (arith, inside c.before.before.before.before.before)) (λ c. inside c.before.before.before.before.before.before)
     (λ c. omega arith) (λ c. omega arith) loop-again returns-2)

@@ -12,35 +12,35 @@ use Rattle.task.proofs.spans.argument.Tie as tie
 abbrev argument : tie.Start → ℕ
 argument c = object_in c.args.steps.now c.args.i (get_or c.args.table.now c.args.at 0)
 
-mul-object-of : tie.Need-overflow-mul-object-of
+mul-object-of : tie.Need-overflow_mul-i
 mul-object-of c =
-    let start = c.before.before.before in
-    let l = start.requires.1 c.if1.true in omega arith
+    let start = c in
+    let l = start.requires.1 c.if-used.true in omega arith
 
-object-of-requires : tie.Need-object-of-requires
+object-of-requires : tie.Need-object_of-requires
 object-of-requires c κs =
-    let start = c.before.before.before.before in
-    start.requires.1 c.before.if1.true
+    let start = c in
+    start.requires.1 c.if-used.true
 
-returns : tie.Need-returns
+returns : tie.Need-returns-then-used
 unfolding argument_in
 returns c =
-    let at-if1 = c.before.before.before in
-    let start = at-if1.before.before.before in (
-      c.before.object_of.ensures ∙
-          ap (λ (u : Bool). cond u (argument (start)) 0)
-          (sym at-if1.if1.true),
-      omega (arith, c.struct_known.given),
+    let at-if1 = c in
+    let start = at-if1 in (
+      c.object_of.ensures ∙
+          ap (λ (u : Bool). cond u (argument c.before.before.before.before.before.before) 0)
+          (sym at-if1.if-used.true),
+      omega (arith, c.struct_known-1.given),
     )
 
-returns-2 : tie.Need-returns-2
+returns-2 : tie.Need-returns-else-used
 unfolding argument_in
 returns-2 c =
-    let start = c.before.before.before in
-    (ap (λ (u : Bool). cond u (argument (start)) 0) (sym c.if1.false), omega arith)
+    let start = c in
+    (ap (λ (u : Bool). cond u (argument c.before.before.before) 0) (sym c.if-used.false), omega arith)
 
-pub argument-spec : {M : Type 1} → statement M
-argument-spec =
+pub argument_spec : {M : Type 1} → statement M
+argument_spec =
     tie.close
     (tie.spec mul-object-of (λ c. search rules) (λ c. search rules) object-of-requires (λ c. search rules) returns
     returns-2)

@@ -10,40 +10,40 @@ use Rattle.task.proofs.GroundWords.{span-atom, numbers_more}
 use Rattle.task.proofs.spans.ground_all.Statement.{statement}
 use Rattle.task.proofs.spans.ground_all.Tie as tie
 
-abbrev invariant-loop : tie.invariant-loop
-invariant-loop table start end steps i numbers₀ k₀ numbers k =
+abbrev invariant-loop-k : tie.invariant-loop-k
+invariant-loop-k table start end steps i numbers₀ k₀ numbers k =
     (start ≤ k) × (k ≤ end) × (length numbers ≡ most_atoms) ×
     NumbersOf (ground_from table steps i start) (k - start) numbers
 
-abbrev decreases-loop : tie.decreases-loop
-decreases-loop table start end steps i numbers₀ k₀ numbers k = end - k
+abbrev decreases-loop-k : tie.decreases-loop-k
+decreases-loop-k table start end steps i numbers₀ k₀ numbers k = end - k
 
-loop-holds : tie.Need-loop-init invariant-loop decreases-loop
+loop-holds : tie.Need-loop-k-init invariant-loop-k decreases-loop-k
 loop-holds c =
-    let start = c.before.before in
+    let start = c in
     (omega arith, start.requires.0.ordered, start.requires.1.1, λ k l. absurd (omega arith))
 
-ground-requires : tie.Need-ground-requires invariant-loop decreases-loop
+ground-requires : tie.Need-ground-requires invariant-loop-k decreases-loop-k
 ground-requires c κs =
-    span-atom _ _ _ _ _ c.before.before.before.before.requires.0 _ c.before.loop.invariant.0 c.loop-test.true
+    span-atom _ _ _ _ _ c.requires.0 _ c.loop-k.invariant.0 c.loop-k-test.true
 
-loop-again : tie.Need-loop-preserved invariant-loop decreases-loop
+loop-again : tie.Need-loop-k-preserved invariant-loop-k decreases-loop-k
 loop-again c =
-    let l = c.before.before in
-    let (a, b, z, so) = l.loop.invariant in
-    let x = l.before.before.before.args in (
+    let l = c in
+    let (a, b, z, so) = l.loop-k.invariant in
+    let x = l.args in (
       omega arith,
       omega arith,
-      length-set l.loop.numbers (l.loop.k - x.start) c.ground.result ∙ z,
-      numbers_more x.table.now x.steps.now x.i x.start l.loop.k l.loop.numbers
+      length-set l.loop-k.numbers (l.loop-k.k - x.start) c.ground.result ∙ z,
+      numbers_more x.table.now x.steps.now x.i x.start l.loop-k.k l.loop-k.numbers
           c.ground.result a (omega arith) c.ground.ensures so,
     )
 
-returns : tie.Need-returns invariant-loop decreases-loop
-returns c = (c.before.loop.invariant.2, λ j l. c.before.loop.invariant.3 j (omega arith))
+returns : tie.Need-returns invariant-loop-k decreases-loop-k
+returns c = (c.loop-k.invariant.2, λ j l. c.loop-k.invariant.3 j (omega arith))
 
-pub ground-all-spec : {M : Type 1} → statement M
-ground-all-spec =
+pub ground_all_spec : {M : Type 1} → statement M
+ground_all_spec =
     tie.close
-    (tie.spec invariant-loop decreases-loop loop-holds ground-requires (λ c. omega arith) (λ c. omega arith) (λ c. omega arith)
+    (tie.spec invariant-loop-k decreases-loop-k loop-holds ground-requires (λ c. omega arith) (λ c. omega arith) (λ c. omega arith)
     (λ c. omega arith) (λ c. omega arith) loop-again returns)

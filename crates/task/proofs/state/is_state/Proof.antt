@@ -18,72 +18,72 @@ use Rattle.task.proofs.StateWords.{GoodRows, no_rows, more_rows, rows-state, too
 use Rattle.task.proofs.state.is_state.Statement.{statement}
 use Rattle.task.proofs.state.is_state.Tie as tie
 
-abbrev invariant-loop : tie.invariant-loop
-invariant-loop table state records room n i₀ i = (i ≤ n) × GoodRows (task_of table) state i
+abbrev invariant-loop-i : tie.invariant-loop-i
+invariant-loop-i table state records room n i₀ i = (i ≤ n) × GoodRows (task_of table) state i
 
-abbrev decreases-loop : tie.decreases-loop
-decreases-loop table state records room n i₀ i = n - i
+abbrev decreases-loop-i : tie.decreases-loop-i
+decreases-loop-i table state records room n i₀ i = n - i
 
 -- the task, that it is well formed, and the state's words
-abbrev T : tie.Start invariant-loop decreases-loop → Task
+abbrev T : tie.Start invariant-loop-i decreases-loop-i → Task
 T c = task_of c.args.table.now
 
-well : (c : tie.Start invariant-loop decreases-loop) → well_formed (T c) ≡ true
+well : (c : tie.Start invariant-loop-i decreases-loop-i) → well_formed (T c) ≡ true
 well c = (of-table c.args.table.now c.requires).0
 
-abbrev W : tie.Start invariant-loop decreases-loop → List ℕ
+abbrev W : tie.Start invariant-loop-i decreases-loop-i → List ℕ
 W c = c.args.state.now
 
-returns : tie.Need-returns invariant-loop decreases-loop
+returns : tie.Need-returns-then-room-records invariant-loop-i decreases-loop-i
 unfolding room_in
 returns c =
-    let start = c.before.before.before in
-    sym (too-many (T start) (well start) (W start) start.args.records (omega arith))
+    let start = c in
+    sym (too-many (T start.before.before.before) (well start.before.before.before) (W start.before.before.before) start.args.records (omega arith))
 
-loop-holds : tie.Need-loop-init invariant-loop decreases-loop
+loop-holds : tie.Need-loop-i-init invariant-loop-i decreases-loop-i
 loop-holds c = (omega arith, no_rows _ _)
 
-is-record-requires : tie.Need-is-record-requires invariant-loop decreases-loop
-is-record-requires c κs = (c.before.before.before.before.before.requires, omega arith)
+is-record-requires : tie.Need-is_record-requires invariant-loop-i decreases-loop-i
+is-record-requires c κs = (c.requires, omega arith)
 
-returns-2 : tie.Need-returns-2 invariant-loop decreases-loop
+returns-2 : tie.Need-returns-then-not-is_record invariant-loop-i decreases-loop-i
 returns-2 c =
-    let start = c.before.before.before.before.before.before.before in
-    sym (no_record (T start) (well start) (W start) start.args.records c.before.before.before.loop.i
+    let start = c in
+    sym (no_record (T start.before.before.before.before.before.before.before) (well start.before.before.before.before.before.before.before) (W start.before.before.before.before.before.before.before) start.args.records c.loop-i.i
     (omega arith)
-    (sym c.before.is-record.ensures ∙ c.if2.true))
+    (sym c.is_record.ensures ∙ c.if-not-is_record.true))
 
-returns-3 : tie.Need-returns-3 invariant-loop decreases-loop
+returns-3 : tie.Need-returns-then-not-record_less invariant-loop-i decreases-loop-i
 returns-3 c =
-    let start = c.before.before.before.before.before.before.before.before.before.before in
-    let i = c.before.before.before.before.before.before.loop.i in
-    let l : 0 < i = c.before.before.if3.true in
+    let start = c in
+    let i = c.loop-i.i in
+    let l : 0 < i = c.if-i-gt0.true in
     let e : suc (i - 1) ≡ i = omega arith in
-    sym (not-ascending (T start) (well start) (W start) start.args.records (i - 1) (omega arith)
-    (ap (λ (k : ℕ). less_list (words_at (W start) (5 * (i - 1)) 5) (words_at (W start) (5 * k) 5)) e ∙
-    (sym c.before.record-less.ensures ∙ c.if4.true)))
+    sym (not-ascending (T start.before.before.before.before.before.before.before.before.before.before) (well start.before.before.before.before.before.before.before.before.before.before) (W start.before.before.before.before.before.before.before.before.before.before) start.args.records (i - 1) (omega arith)
+    (ap (λ (k : ℕ). less_list (words_at (W start.before.before.before.before.before.before.before.before.before.before) (5 * (i - 1)) 5) (words_at (W start.before.before.before.before.before.before.before.before.before.before) (5 * k) 5)) e ∙
+    (sym c.record_less.ensures ∙ c.if-not-record_less.true)))
 
-loop-again : tie.Need-loop-preserved invariant-loop decreases-loop
+loop-again : tie.Need-loop-i-preserved invariant-loop-i decreases-loop-i
 loop-again c =
-    let start = c.before.before.before.before.before.before.before.before in
-    let at-loop = c.before.before.before.before in (
+    let start = c in
+    let at-loop = c in (
       omega arith,
-      more_rows (T start) (W start) at-loop.loop.i at-loop.loop.invariant.1
-          (sym c.before.before.is-record.ensures ∙ c.before.if2.false)
-          (λ l. ⊎_elim (λ w. sym w.1.ensures ∙ not-false _ w.2.left) (λ w. absurd (omega arith))
-          c.if3.branch),
+      more_rows (T start.before.before.before.before.before.before.before.before) (W start.before.before.before.before.before.before.before.before) at-loop.loop-i.i at-loop.loop-i.invariant.1
+          (sym c.is_record.ensures ∙ c.if-not-is_record.false)
+          (λ l. ⊎_elim (λ w. sym w.record_less.ensures ∙ w.if-not-record_less.false) (λ w. absurd (omega arith))
+          c.if-i-gt0.branch-raw),
     )
 
-returns-4 : tie.Need-returns-4 invariant-loop decreases-loop
+returns-4 : tie.Need-returns invariant-loop-i decreases-loop-i
 unfolding room_in
 returns-4 c =
-    let start = c.before.before.before.before.before in
-    let e : c.before.loop.i ≡ start.args.records = omega arith in
-    sym (rows-state (T start) (well start) (W start) start.args.records (omega arith)
-    (subst (GoodRows (T start) (W start)) e c.before.loop.invariant.1))
+    let start = c in
+    let e : c.loop-i.i ≡ start.args.records = omega arith in
+    sym (rows-state (T start.before.before.before.before.before) (well start.before.before.before.before.before) (W start.before.before.before.before.before) start.args.records (omega arith)
+    (subst (GoodRows (T start.before.before.before.before.before) (W start.before.before.before.before.before)) e c.loop-i.invariant.1))
 
-pub is-state-spec : {M : Type 1} → statement M
-is-state-spec =
+pub is_state_spec : {M : Type 1} → statement M
+is_state_spec =
     tie.close
-    (tie.spec invariant-loop decreases-loop returns loop-holds is-record-requires returns-2 (λ c. omega arith) (λ c. omega arith)
+    (tie.spec invariant-loop-i decreases-loop-i returns loop-holds is-record-requires returns-2 (λ c. omega arith) (λ c. omega arith)
     (λ c. omega arith) (λ c κs. omega arith) returns-3 (λ c. omega arith) (λ c. omega arith) loop-again returns-4)

@@ -10,37 +10,37 @@ use Rattle.words.proofs.Comparing.{LessLeft, less-start, less-more, less-decides
 use Rattle.task.proofs.state.record_less.Statement.{statement}
 use Rattle.task.proofs.state.record_less.Tie as tie
 
-abbrev invariant-loop : tie.invariant-loop
-invariant-loop state a b k₀ k = LessLeft state a b record_size k
+abbrev invariant-loop-k : tie.invariant-loop-k
+invariant-loop-k state a b k₀ k = LessLeft state a b record_size k
 
-abbrev decreases-loop : tie.decreases-loop
-decreases-loop state a b k₀ k = record_size - k
+abbrev decreases-loop-k : tie.decreases-loop-k
+decreases-loop-k state a b k₀ k = record_size - k
 
-loop-holds : tie.Need-loop-init invariant-loop decreases-loop
+loop-holds : tie.Need-loop-k-init invariant-loop-k decreases-loop-k
 loop-holds c = less-start
 
-returns : tie.Need-returns invariant-loop decreases-loop
+returns : tie.Need-returns-then-x-y invariant-loop-k decreases-loop-k
 returns c =
-    let turn = c.before.before.before in
-    sym (lt-ltb _ _ c.if1.true) ∙ less-decides turn.before.loop.invariant turn.loop-test.true (λ e.
+    let turn = c in
+    sym (lt-ltb _ _ c.if-x-y.true) ∙ less-decides turn.loop-k.invariant turn.loop-k-test.true (λ e.
     omega arith)
 
-returns-2 : tie.Need-returns-2 invariant-loop decreases-loop
+returns-2 : tie.Need-returns-then-y-x invariant-loop-k decreases-loop-k
 returns-2 c =
-    let turn = c.before.before.before.before in
-    sym (le-ltb _ _ c.before.if1.false) ∙ less-decides turn.before.loop.invariant turn.loop-test.true (λ e.
+    let turn = c in
+    sym (le-ltb _ _ c.if-x-y.false) ∙ less-decides turn.loop-k.invariant turn.loop-k-test.true (λ e.
     omega arith)
 
-loop-again : tie.Need-loop-preserved invariant-loop decreases-loop
+loop-again : tie.Need-loop-k-preserved invariant-loop-k decreases-loop-k
 loop-again c =
-    let turn = c.before.before.before.before in
-    less-more turn.before.loop.invariant turn.loop-test.true (omega arith)
+    let turn = c in
+    less-more turn.loop-k.invariant turn.loop-k-test.true (omega arith)
 
-returns-3 : tie.Need-returns-3 invariant-loop decreases-loop
-returns-3 c = less-ends c.before.loop.invariant c.loop-test.false
+returns-3 : tie.Need-returns invariant-loop-k decreases-loop-k
+returns-3 c = less-ends c.loop-k.invariant c.loop-k-test.false
 
-pub record-less-spec : {M : Type 1} → statement M
-record-less-spec =
+pub record_less_spec : {M : Type 1} → statement M
+record_less_spec =
     tie.close
-    (tie.spec invariant-loop decreases-loop loop-holds (λ c. omega arith) (λ c. omega arith) (λ c. omega arith) (λ c. omega arith)
+    (tie.spec invariant-loop-k decreases-loop-k loop-holds (λ c. omega arith) (λ c. omega arith) (λ c. omega arith) (λ c. omega arith)
     (λ c. omega arith) (λ c. omega arith) returns returns-2 (λ c. omega arith) (λ c. omega arith) loop-again returns-3)

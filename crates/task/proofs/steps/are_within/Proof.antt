@@ -6,11 +6,11 @@ use Rattle.task.proofs.steps.are_within.Tie as tie
 
 returns : tie.Need-returns
 returns c = λ objects e.
-    let front = c.before in
-    two_runs objects _ _ _ _ front.before.before.requires.1 e front.beyond.result c.beyond2.result
-    front.beyond.ensures c.beyond2.ensures
+    let front = c in
+    two_runs objects _ _ _ _ front.requires.1 e front.beyond-front.result c.beyond-back.result
+    front.beyond-front.ensures c.beyond-back.ensures
 
-pub are-within-spec : {M : Type 1} → statement M
-are-within-spec =
+pub are_within_spec : {M : Type 1} → statement M
+are_within_spec =
     tie.close
     (tie.spec (λ c. search rules) (λ c κs. search rules) (λ c κs. search rules) returns)

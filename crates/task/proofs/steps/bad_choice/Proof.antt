@@ -12,55 +12,55 @@ use Rattle.task.proofs.ChoiceSteps.{choice-known, choice-none}
 use Rattle.task.proofs.steps.bad_choice.Statement.{statement}
 use Rattle.task.proofs.steps.bad_choice.Tie as tie
 
-abbrev invariant-loop : tie.invariant-loop
-invariant-loop table steps begun limits i₀ i = (i ≤ begun) × ChoicesBefore table steps i
+abbrev invariant-loop-i : tie.invariant-loop-i
+invariant-loop-i table steps begun limits i₀ i = (i ≤ begun) × ChoicesBefore table steps i
 
-abbrev decreases-loop : tie.decreases-loop
-decreases-loop table steps begun limits i₀ i = begun - i
+abbrev decreases-loop-i : tie.decreases-loop-i
+decreases-loop-i table steps begun limits i₀ i = begun - i
 
 -- what was lent, and its words
-abbrev start : tie.At-loop invariant-loop decreases-loop → tie.Start invariant-loop decreases-loop
+abbrev start : tie.At-loop-i invariant-loop-i decreases-loop-i → tie.Start invariant-loop-i decreases-loop-i
 start c = c.before.before.before.before.before
 
-abbrev words : tie.At-loop invariant-loop decreases-loop → List ℕ
+abbrev words : tie.At-loop-i invariant-loop-i decreases-loop-i → List ℕ
 words c = (start c).args.table.now
 
-abbrev list : tie.At-loop invariant-loop decreases-loop → List ℕ
+abbrev list : tie.At-loop-i invariant-loop-i decreases-loop-i → List ℕ
 list c = (start c).args.steps.now
 
-is-choice-requires : tie.Need-is-choice-requires invariant-loop decreases-loop
+is-choice-requires : tie.Need-is_choice-requires invariant-loop-i decreases-loop-i
 is-choice-requires c κs =
-    let at-loop = c.before.before in
-    let made = at-loop.before in
-    let begun = (start at-loop).requires.1 in
-    let limits = made.Limits-of.ensures ∙ ap limits_for made.before.object-count.ensures in
-    ((start at-loop).requires.0, (omega arith, limits))
+    let at-loop = c in
+    let made = at-loop in
+    let begun = (start at-loop.before.before).requires.1 in
+    let limits = made.limits_of-limits.ensures ∙ ap limits_for made.object_count.ensures in
+    ((start at-loop.before.before).requires.0, (omega arith, limits))
 
-returns : tie.Need-returns invariant-loop decreases-loop
+returns : tie.Need-returns-then-not-is_choice invariant-loop-i decreases-loop-i
 unfolding ChoiceTold
 returns c =
-    let at-loop = c.before.before.before.before in
-    let none = c.if1.true in (
+    let at-loop = c in
+    let none = c.if-not-is_choice.true in (
       omega arith,
-      choice-none (words at-loop) (list at-loop) at-loop.loop.i c.before.is-choice.ensures.0 none,
-      at-loop.loop.invariant.1,
+      choice-none (words at-loop.before.before.before.before) (list at-loop.before.before.before.before) at-loop.loop-i.i c.is_choice.ensures.0 none,
+      at-loop.loop-i.invariant.1,
     )
 
-loop-again : tie.Need-loop-preserved invariant-loop decreases-loop
+loop-again : tie.Need-loop-i-preserved invariant-loop-i decreases-loop-i
 loop-again c =
-    let at-loop = c.before.before.before.before in
-    let w = words at-loop in
-    let choice = c.if1.false in
-    let told = choice-known w (list at-loop) at-loop.loop.i c.before.is-choice.ensures.0 choice in
-    (omega arith, below_more _ _ at-loop.loop.invariant.1 (c.before.is-choice.ensures.1 choice, told))
+    let at-loop = c in
+    let w = words at-loop.before.before.before.before in
+    let choice = c.if-not-is_choice.false in
+    let told = choice-known w (list at-loop.before.before.before.before) at-loop.loop-i.i c.is_choice.ensures.0 choice in
+    (omega arith, below_more _ _ at-loop.loop-i.invariant.1 (c.is_choice.ensures.1 choice, told))
 
-returns-2 : tie.Need-returns-2 invariant-loop decreases-loop
+returns-2 : tie.Need-returns invariant-loop-i decreases-loop-i
 unfolding ChoiceTold
-returns-2 c = λ k l. c.before.loop.invariant.1 k (omega arith)
+returns-2 c = λ k l. c.loop-i.invariant.1 k (omega arith)
 
-pub bad-choice-spec : {M : Type 1} → statement M
-bad-choice-spec =
+pub bad_choice_spec : {M : Type 1} → statement M
+bad_choice_spec =
     tie.close
-    (tie.spec invariant-loop decreases-loop (λ c κs. c.before.before.requires.0) (λ c κs. tt)
+    (tie.spec invariant-loop-i decreases-loop-i (λ c κs. c.requires.0) (λ c κs. tt)
     (λ c. (omega arith, λ k l. absurd (omega arith))) is-choice-requires returns (λ c. omega arith) (λ c. omega arith)
     loop-again returns-2)

@@ -16,38 +16,38 @@ use Rattle.task.proofs.StepLimits.{beyond-joins, within-joins}
 use Rattle.task.proofs.steps.beyond.Statement.{statement}
 use Rattle.task.proofs.steps.beyond.Tie as tie
 
-abbrev invariant-loop : tie.invariant-loop
-invariant-loop steps at params limits first end found₀ k₀ found k =
+abbrev invariant-loop-k : tie.invariant-loop-k
+invariant-loop-k steps at params limits first end found₀ k₀ found k =
     all (is_within steps (at + 1) params limits) (up_from first (end - first)) ≡
     eqb found 0 && all (is_within steps (at + 1) params limits) (up_from k (end - k))
 
-abbrev decreases-loop : tie.decreases-loop
-decreases-loop steps at params limits first end found₀ k₀ found k = end - k
+abbrev decreases-loop-k : tie.decreases-loop-k
+decreases-loop-k steps at params limits first end found₀ k₀ found k = end - k
 
-loop-holds : tie.Need-loop-init invariant-loop decreases-loop
+loop-holds : tie.Need-loop-k-init invariant-loop-k decreases-loop-k
 loop-holds c = refl
 
-loop-again : tie.Need-loop-preserved invariant-loop decreases-loop
+loop-again : tie.Need-loop-k-preserved invariant-loop-k decreases-loop-k
 loop-again c =
-    let at = c.before.before.before.before in
-    let a = at.before.args in
-    let w = get_or a.steps.now (a.at + 1 + at.loop.k) 0 in
-    let limit = get_or a.limits.now (most_parameters - a.params + at.loop.k) 0 in
-    let b = at.loop.found in
-    all-joins (is_within a.steps.now (a.at + 1) a.params a.limits.now) at.loop.k a.end
-    (eqb b 0) at.loop.invariant c.before.before.before.loop-test.true
-    (⊎_elim (λ x. ap (λ (v : ℕ). eqb v 0) x.1 ∙ beyond-joins b w limit x.0.taken)
-    (λ x. ap (λ (v : ℕ). eqb v 0) x.1 ∙ within-joins b w limit x.0.left) c.if1.branch)
+    let at = c in
+    let a = at.args in
+    let w = get_or a.steps.now (a.at + 1 + at.loop-k.k) 0 in
+    let limit = get_or a.limits.now (most_parameters - a.params + at.loop-k.k) 0 in
+    let b = at.loop-k.found in
+    all-joins (is_within a.steps.now (a.at + 1) a.params a.limits.now) at.loop-k.k a.end
+    (eqb b 0) at.loop-k.invariant c.loop-k-test.true
+    (⊎_elim (λ x. ap (λ (v : ℕ). eqb v 0) x.found-is ∙ beyond-joins b w limit x.if-limits-params.true)
+    (λ x. ap (λ (v : ℕ). eqb v 0) x.found-is ∙ within-joins b w limit x.if-limits-params.false) c.if-limits-params.branch-raw)
 
-returns : tie.Need-returns invariant-loop decreases-loop
+returns : tie.Need-returns invariant-loop-k decreases-loop-k
 returns c =
-    let a = c.before.before.args in
-    all-joined (is_within a.steps.now (a.at + 1) a.params a.limits.now) c.before.loop.k a.end
-    (eqb c.before.loop.found 0) c.before.loop.invariant c.loop-test.false
+    let a = c.args in
+    all-joined (is_within a.steps.now (a.at + 1) a.params a.limits.now) c.loop-k.k a.end
+    (eqb c.loop-k.found 0) c.loop-k.invariant c.loop-k-test.false
 
-pub beyond-spec : {M : Type 1} → statement M
-beyond-spec =
+pub beyond_spec : {M : Type 1} → statement M
+beyond_spec =
     tie.close
-    (tie.spec invariant-loop decreases-loop loop-holds (λ c. omega arith) (λ c. omega arith) (λ c. omega arith) (λ c. omega arith)
+    (tie.spec invariant-loop-k decreases-loop-k loop-holds (λ c. omega arith) (λ c. omega arith) (λ c. omega arith) (λ c. omega arith)
     (λ c. omega arith) (λ c. omega arith) (λ c. omega arith) (λ c. omega arith) (λ c. omega arith)
     (λ c. omega arith) loop-again returns)

@@ -8,5 +8,5 @@ returns : tie.Need-returns
 unfolding limits_for
 returns c = search rules
 
-pub limits-of-spec : {M : Type 1} → statement M
-limits-of-spec = tie.close (tie.spec (λ c. search rules) (λ c κs. search rules) returns)
+pub limits_of_spec : {M : Type 1} → statement M
+limits_of_spec = tie.close (tie.spec (λ c. search rules) (λ c κs. search rules) returns)

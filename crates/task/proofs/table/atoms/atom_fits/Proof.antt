@@ -20,7 +20,7 @@ abbrev start : tie.After-arity → tie.Start
 start c = c.before.before.before.before.before.before
 
 abbrev from : tie.After-arity → ℕ
-from c = c.before.arguments.result
+from c = c.arguments-from.result
 
 abbrev to : tie.After-arity → ℕ
 to c = from c + c.arity.result
@@ -31,28 +31,28 @@ parts : (c : tie.After-arity) → arg_words_fit (start c).args.table.now (start 
     zeros_at (start c).args.table.now (to c) (from c + 4 - to c)
 parts c =
     let given = (start c).args in
-    let predicate = c.before.before.before.before.predicate.ensures in
+    let predicate = c.predicate-p.ensures in
     let many = c.arity.ensures.0 ∙ ap (arity_in given.table.now) predicate in
-    args-words given.table.now given.bound given.i (from c) (to c) c.before.arguments.ensures.0
-    (ap (λ (n : ℕ). from c + n) many) (omega (arith, c.before.before.before.word.ensures.0, predicate))
+    args-words given.table.now given.bound given.i (from c) (to c) c.arguments-from.ensures.0
+    (ap (λ (n : ℕ). from c + n) many) (omega (arith, c.word.ensures.0, predicate))
 
-returns : tie.Need-returns
+returns : tie.Need-returns-then-word-p
 returns c =
-    let given = c.before.before.before.before.args in
+    let given = c.args in
     args-unknown given.table.now given.bound given.i
-    (omega (arith, c.before.word.ensures.0, c.before.before.predicate.ensures))
+    (omega (arith, c.word.ensures.0, c.predicate-p.ensures))
 
-returns-2 : tie.Need-returns-2
-returns-2 c = and-fails _ (parts c.before.before) (sym c.before.all-below.ensures ∙ c.if2.true)
+returns-2 : tie.Need-returns-then-not-all_below
+returns-2 c = and-fails _ (parts c.before.before) (sym c.all_below.ensures ∙ c.if-not-all_below.true)
 
-returns-3 : tie.Need-returns-3
+returns-3 : tie.Need-returns
 returns-3 c =
-    let below = c.before.before.all-below.ensures in
+    let below = c.all_below.ensures in
     c.zeros.ensures ∙ sym (and-more (parts c.before.before.before)
-    (sym below ∙ c.before.if2.false))
+    (sym below ∙ c.if-not-all_below.false))
 
-pub atom-fits-spec : {M : Type 1} → statement M
-atom-fits-spec =
+pub atom_fits_spec : {M : Type 1} → statement M
+atom_fits_spec =
     tie.close
     (tie.spec (λ c κs. search rules) (λ c κs. search rules) returns (λ c κs. search rules) (λ c κs. search rules)
     (λ c. search rules) (λ c κs. search rules) returns-2 (λ c. search rules) (λ c κs. search rules) returns-3)

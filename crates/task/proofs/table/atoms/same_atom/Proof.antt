@@ -7,28 +7,28 @@ use borrow.Author.Rules.{rules}
 use Rattle.task.proofs.table.atoms.same_atom.Statement.{statement}
 use Rattle.task.proofs.table.atoms.same_atom.Tie as tie
 
-returns : tie.Need-returns
+returns : tie.Need-returns-then-p-predicate
 returns c =
-    let given = c.before.before.before.before.args in
+    let given = c.args in
     sym (other-atom given.table.now given.i given.j (λ r e.
-    c.if1.true (c.before.before.predicate.ensures ∙ (e ∙ sym c.before.predicate2.ensures))))
+    c.if-p-predicate.true (c.predicate-p.ensures ∙ (e ∙ sym c.predicate.ensures))))
 
-returns-2 : tie.Need-returns-2
+returns-2 : tie.Need-returns
 returns-2 c =
-    let k = c.before.before.before.before in
-    let start = k.before.before.before.before in
+    let k = c in
+    let start = k in
     let given = start.args in
     let w = given.table.now in
-    let p = k.before.before.predicate.ensures in
-    c.same-words.ensures ∙
-    same-args w given.i given.j c.before.before.before.arguments.result
-    c.before.before.arguments2.result c.before.arity.result
-    c.before.before.before.arguments.ensures.0 c.before.before.arguments2.ensures.0
-    (c.before.arity.ensures.0 ∙ ap (arity_in w) p)
-    (sym p ∙ (k.if1.false ∙ k.before.predicate2.ensures)) start.requires.1.1.1
+    let p = k.predicate-p.ensures in
+    c.same_words.ensures ∙
+    same-args w given.i given.j c.arguments.result
+    c.arguments-2.result c.arity.result
+    c.arguments.ensures.0 c.arguments-2.ensures.0
+    (c.arity.ensures.0 ∙ ap (arity_in w) p)
+    (sym p ∙ (k.if-p-predicate.false ∙ k.predicate.ensures)) start.requires.1.1.1
 
-pub same-atom-spec : {M : Type 1} → statement M
-same-atom-spec =
+pub same_atom_spec : {M : Type 1} → statement M
+same_atom_spec =
     tie.close
     (tie.spec (λ c κs. search rules) (λ c κs. search rules) returns (λ c κs. search rules) (λ c κs. search rules)
     (λ c κs. search rules) (λ c κs. search rules) returns-2)

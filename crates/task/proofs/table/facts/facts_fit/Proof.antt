@@ -11,15 +11,15 @@ use borrow.Author.Rules.{rules}
 use Rattle.task.proofs.table.facts.facts_fit.Statement.{statement}
 use Rattle.task.proofs.table.facts.facts_fit.Tie as tie
 
-returns : tie.Need-returns
+returns : tie.Need-returns-then-not-each_fact_fits
 returns c =
-    let given = c.before.before.before.args in
+    let given = c.args in
     and-fails _ (facts-words given.table.now given.wanted given.first (given.end - given.first))
-    (sym c.before.each-fact-fits.ensures ∙ c.if1.true)
+    (sym c.each_fact_fits.ensures ∙ c.if-not-each_fact_fits.true)
 
-facts-ascend-requires : tie.Need-facts-ascend-requires
+facts-ascend-requires : tie.Need-facts_ascend-requires
 facts-ascend-requires c κs =
-    let start = c.before.before.before in
+    let start = c in
     let given = start.args in
     let w = given.table.now in (
       start.requires.0,
@@ -27,16 +27,16 @@ facts-ascend-requires c κs =
         start.requires.1,
         λ i a b. fact-known w given.wanted i
             (all_from (fact_words_fit w given.wanted) given.first (given.end - given.first)
-            (sym c.before.each-fact-fits.ensures ∙ c.if1.false) i a (omega arith)),
+            (sym c.each_fact_fits.ensures ∙ c.if-not-each_fact_fits.false) i a (omega arith)),
       ),
     )
 
-returns-2 : tie.Need-returns-2
+returns-2 : tie.Need-returns
 returns-2 c =
-    let given = c.before.before.before.before.args in
-    c.facts-ascend.ensures ∙
+    let given = c.args in
+    c.facts_ascend.ensures ∙
     sym (and-more (facts-words given.table.now given.wanted given.first (given.end - given.first))
-    (sym c.before.before.each-fact-fits.ensures ∙ c.before.if1.false))
+    (sym c.each_fact_fits.ensures ∙ c.if-not-each_fact_fits.false))
 
-pub facts-fit-spec : {M : Type 1} → statement M
-facts-fit-spec = tie.close (tie.spec (λ c κs. search rules) returns facts-ascend-requires returns-2)
+pub facts_fit_spec : {M : Type 1} → statement M
+facts_fit_spec = tie.close (tie.spec (λ c κs. search rules) returns facts-ascend-requires returns-2)

@@ -10,32 +10,32 @@ use Rattle.words.proofs.Loops.{AllLeft, all-mapped, all_yes, all-no, all-ends}
 use Rattle.task.proofs.table.pairs.each_pair_fits.Statement.{statement}
 use Rattle.task.proofs.table.pairs.each_pair_fits.Tie as tie
 
-abbrev invariant-loop : tie.invariant-loop
-invariant-loop table params first end i₀ i =
+abbrev invariant-loop-i : tie.invariant-loop-i
+invariant-loop-i table params first end i₀ i =
     AllLeft (λ k. pair_fits params (pair_in table k)) end (all (pair_fits params) (pairs_in table first (end - first))) i
 
-abbrev decreases-loop : tie.decreases-loop
-decreases-loop table params first end i₀ i = end - i
+abbrev decreases-loop-i : tie.decreases-loop-i
+decreases-loop-i table params first end i₀ i = end - i
 
-loop-holds : tie.Need-loop-init invariant-loop decreases-loop
+loop-holds : tie.Need-loop-i-init invariant-loop-i decreases-loop-i
 loop-holds c =
-    let given = c.before.args in
+    let given = c.args in
     all-mapped (pair_fits given.params) (pair_in given.table.now) given.first given.end
 
-pair-fits-requires : tie.Need-pair-fits-requires invariant-loop decreases-loop
-pair-fits-requires c κs = (c.before.before.before.requires.0, omega arith)
+pair-fits-requires : tie.Need-pair_fits-requires invariant-loop-i decreases-loop-i
+pair-fits-requires c κs = (c.requires.0, omega arith)
 
-returns : tie.Need-returns invariant-loop decreases-loop
+returns : tie.Need-returns-then-not-pair_fits invariant-loop-i decreases-loop-i
 returns c = search all-no
 
-loop-again : tie.Need-loop-preserved invariant-loop decreases-loop
+loop-again : tie.Need-loop-i-preserved invariant-loop-i decreases-loop-i
 loop-again c = search all_yes
 
-returns-2 : tie.Need-returns-2 invariant-loop decreases-loop
+returns-2 : tie.Need-returns invariant-loop-i decreases-loop-i
 returns-2 c = search all-ends
 
-pub each-pair-fits-spec : {M : Type 1} → statement M
-each-pair-fits-spec =
+pub each_pair_fits_spec : {M : Type 1} → statement M
+each_pair_fits_spec =
     tie.close
-    (tie.spec invariant-loop decreases-loop loop-holds pair-fits-requires returns (λ c. omega arith) (λ c. omega arith) loop-again
+    (tie.spec invariant-loop-i decreases-loop-i loop-holds pair-fits-requires returns (λ c. omega arith) (λ c. omega arith) loop-again
     returns-2)

@@ -9,19 +9,19 @@ use borrow.Author.Rules.{rules}
 use Rattle.task.proofs.table.pairs.pair_fits.Statement.{statement}
 use Rattle.task.proofs.table.pairs.pair_fits.Tie as tie
 
-returns : tie.Need-returns
+returns : tie.Need-returns-then-above-lower
 returns c =
-    let given = c.before.before.before.before.args in
+    let given = c.args in
     fits_not given.params (pair_in given.table.now given.i)
-    (omega (arith, c.if1.true, c.before.before.higher.ensures, c.before.lower.ensures))
+    (omega (arith, c.if-above-lower.true, c.higher-above.ensures, c.lower.ensures))
 
-returns-2 : tie.Need-returns-2
+returns-2 : tie.Need-returns
 returns-2 c =
-    let given = c.before.before.before.before.args in
-    let above = c.before.before.higher.ensures in
+    let given = c.args in
+    let above = c.higher-above.ensures in
     ap (λ k. ltb k given.params) above ∙
     fits-known given.params (pair_in given.table.now given.i)
-    (omega (arith, c.if1.false, above, c.before.lower.ensures))
+    (omega (arith, c.if-above-lower.false, above, c.lower.ensures))
 
-pub pair-fits-spec : {M : Type 1} → statement M
-pair-fits-spec = tie.close (tie.spec (λ c κs. search rules) (λ c κs. search rules) returns returns-2)
+pub pair_fits_spec : {M : Type 1} → statement M
+pair_fits_spec = tie.close (tie.spec (λ c κs. search rules) (λ c κs. search rules) returns returns-2)

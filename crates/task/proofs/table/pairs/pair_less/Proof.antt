@@ -8,25 +8,25 @@ use borrow.Author.Rules.{rules}
 use Rattle.task.proofs.table.pairs.pair_less.Statement.{statement}
 use Rattle.task.proofs.table.pairs.pair_less.Tie as tie
 
-returns : tie.Need-returns
+returns : tie.Need-returns-then-p-q
 returns c =
-    let given = c.before.before.before.before.args in
+    let given = c.args in
     let w = given.table.now in
-    let p = c.before.before.lower.ensures in
-    let q = c.before.lower2.ensures in
-    ap₂ ltb p q ∙ less-lower (pair_in w given.i) (pair_in w given.j) (λ e. c.if1.true (p ∙ (e ∙ sym q)))
+    let p = c.lower-p.ensures in
+    let q = c.lower-q.ensures in
+    ap₂ ltb p q ∙ less-lower (pair_in w given.i) (pair_in w given.j) (λ e. c.if-p-q.true (p ∙ (e ∙ sym q)))
 
-returns-2 : tie.Need-returns-2
+returns-2 : tie.Need-returns
 returns-2 c =
-    let given = c.before.before.before.before.before.before.args in
+    let given = c.args in
     let w = given.table.now in
-    let k = c.before.before in
-    ap₂ ltb c.before.higher.ensures c.higher2.ensures ∙
+    let k = c in
+    ap₂ ltb c.higher.ensures c.higher-2.ensures ∙
     less-higher (pair_in w given.i) (pair_in w given.j)
-    (sym k.before.before.lower.ensures ∙ (k.if1.false ∙ k.before.lower2.ensures))
+    (sym k.lower-p.ensures ∙ (k.if-p-q.false ∙ k.lower-q.ensures))
 
-pub pair-less-spec : {M : Type 1} → statement M
-pair-less-spec =
+pub pair_less_spec : {M : Type 1} → statement M
+pair_less_spec =
     tie.close
     (tie.spec (λ c κs. search rules) (λ c κs. search rules) returns (λ c κs. search rules) (λ c κs. search rules)
     returns-2)

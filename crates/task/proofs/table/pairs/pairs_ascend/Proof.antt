@@ -11,37 +11,37 @@ use Rattle.task.proofs.PairOrder.{pairs_start}
 use Rattle.task.proofs.table.pairs.pairs_ascend.Statement.{statement}
 use Rattle.task.proofs.table.pairs.pairs_ascend.Tie as tie
 
-abbrev invariant-loop : tie.invariant-loop
-invariant-loop table first end i₀ i =
+abbrev invariant-loop-i : tie.invariant-loop-i
+invariant-loop-i table first end i₀ i =
     (i ≤ end) × AllLeft (λ k. pair_less (pair_in table k) (pair_in table (k + 1))) (end - 1)
     (pairs_ascend (pairs_in table first (end - first))) i
 
-abbrev decreases-loop : tie.decreases-loop
-decreases-loop table first end i₀ i = end - i
+abbrev decreases-loop-i : tie.decreases-loop-i
+decreases-loop-i table first end i₀ i = end - i
 
-loop-holds : tie.Need-loop-init invariant-loop decreases-loop
+loop-holds : tie.Need-loop-i-init invariant-loop-i decreases-loop-i
 loop-holds c =
-    let given = c.before.args in
+    let given = c.args in
     (omega arith, pairs_start given.table.now given.first given.end)
 
-pair-less-requires : tie.Need-pair-less-requires invariant-loop decreases-loop
-pair-less-requires c κs = (c.before.before.before.requires.0, (omega arith, omega arith))
+pair-less-requires : tie.Need-pair_less-requires invariant-loop-i decreases-loop-i
+pair-less-requires c κs = (c.requires.0, (omega arith, omega arith))
 
-returns : tie.Need-returns invariant-loop decreases-loop
-returns c = all-no c.before.before.before.loop.invariant.1 (omega arith) c.before.pair-less.ensures
-    c.if1.true
+returns : tie.Need-returns-then-not-pair_less invariant-loop-i decreases-loop-i
+returns c = all-no c.loop-i.invariant.1 (omega arith) c.pair_less.ensures
+    c.if-not-pair_less.true-raw
 
-loop-again : tie.Need-loop-preserved invariant-loop decreases-loop
+loop-again : tie.Need-loop-i-preserved invariant-loop-i decreases-loop-i
 loop-again c = (
   omega arith,
-  all_yes c.before.before.before.loop.invariant.1 (omega arith) c.before.pair-less.ensures c.if1.false,
+  all_yes c.loop-i.invariant.1 (omega arith) c.pair_less.ensures c.if-not-pair_less.false-raw,
 )
 
-returns-2 : tie.Need-returns-2 invariant-loop decreases-loop
-returns-2 c = all-ends c.before.loop.invariant.1 (omega arith)
+returns-2 : tie.Need-returns invariant-loop-i decreases-loop-i
+returns-2 c = all-ends c.loop-i.invariant.1 (omega arith)
 
-pub pairs-ascend-spec : {M : Type 1} → statement M
-pairs-ascend-spec =
+pub pairs_ascend_spec : {M : Type 1} → statement M
+pairs_ascend_spec =
     tie.close
-    (tie.spec invariant-loop decreases-loop loop-holds (λ c. omega arith) (λ c. omega arith) pair-less-requires returns
+    (tie.spec invariant-loop-i decreases-loop-i loop-holds (λ c. omega arith) (λ c. omega arith) pair-less-requires returns
     (λ c. omega arith) (λ c. omega arith) loop-again returns-2)

@@ -10,19 +10,19 @@ use borrow.Author.Rules.{rules}
 use Rattle.task.proofs.table.pairs.pairs_fit.Statement.{statement}
 use Rattle.task.proofs.table.pairs.pairs_fit.Tie as tie
 
-returns : tie.Need-returns
+returns : tie.Need-returns-then-not-each_pair_fits
 returns c =
-    let given = c.before.before.before.args in
+    let given = c.args in
     and-fails _ (pairs-fit given.params (pairs_in given.table.now given.first (given.end - given.first)))
-    (sym c.before.each-pair-fits.ensures ∙ c.if1.true)
+    (sym c.each_pair_fits.ensures ∙ c.if-not-each_pair_fits.true)
 
-returns-2 : tie.Need-returns-2
+returns-2 : tie.Need-returns
 returns-2 c =
-    let given = c.before.before.before.before.args in
-    c.pairs-ascend.ensures ∙
+    let given = c.args in
+    c.pairs_ascend.ensures ∙
     sym (and-more
     (pairs-fit given.params (pairs_in given.table.now given.first (given.end - given.first)))
-    (sym c.before.before.each-pair-fits.ensures ∙ c.before.if1.false))
+    (sym c.each_pair_fits.ensures ∙ c.if-not-each_pair_fits.false))
 
-pub pairs-fit-spec : {M : Type 1} → statement M
-pairs-fit-spec = tie.close (tie.spec (λ c κs. search rules) returns (λ c κs. search rules) returns-2)
+pub pairs_fit_spec : {M : Type 1} → statement M
+pairs_fit_spec = tie.close (tie.spec (λ c κs. search rules) returns (λ c κs. search rules) returns-2)

@@ -13,10 +13,10 @@ use Rattle.task.proofs.table.schemas.all_named.Tie as tie
 
 returns : tie.Need-returns
 returns c =
-    let given = c.before.before.before.args in
-    c.Has-All.ensures ∙ all_same (member c.before.parameters.result)
+    let given = c.args in
+    c.has_all.ensures ∙ all_same (member c.parameters.result)
     (λ x. any (names x) (atoms_in given.table.now given.first (given.end - given.first)))
-    (up_to given.params) c.before.parameters.ensures
+    (up_to given.params) c.parameters.ensures
 
-pub all-named-spec : {M : Type 1} → statement M
-all-named-spec = tie.close (tie.spec (λ c κs. search rules) (λ c κs. search rules) returns)
+pub all_named_spec : {M : Type 1} → statement M
+all_named_spec = tie.close (tie.spec (λ c κs. search rules) (λ c κs. search rules) returns)

@@ -13,17 +13,17 @@ use Rattle.task.proofs.Repeats.{SeenFrom, seen-behind, seen_more, some-repeated,
 use Rattle.task.proofs.table.schemas.atoms_differ.Statement.{statement}
 use Rattle.task.proofs.table.schemas.atoms_differ.Tie as tie
 
-abbrev invariant-loop : tie.invariant-loop
-invariant-loop table first end seen₀ i₀ seen i =
+abbrev invariant-loop-i : tie.invariant-loop-i
+invariant-loop-i table first end seen₀ i₀ seen i =
     (first ≤ i) × (i ≤ end) × (length seen ≡ 3) × SeenFrom table end i seen ×
     (distinct (atoms_in table i (end - i)) ≡ true)
 
-abbrev decreases-loop : tie.decreases-loop
-decreases-loop table first end seen₀ i₀ seen i = i
+abbrev decreases-loop-i : tie.decreases-loop-i
+decreases-loop-i table first end seen₀ i₀ seen i = i
 
-loop-holds : tie.Need-loop-init invariant-loop decreases-loop
+loop-holds : tie.Need-loop-i-init invariant-loop-i decreases-loop-i
 loop-holds c =
-    let given = c.before.args in (
+    let given = c.args in (
       omega arith,
       omega arith,
       refl,
@@ -31,35 +31,35 @@ loop-holds c =
       distinct_none given.table.now given.end given.end (omega arith),
     )
 
-role-requires : tie.Need-role-requires invariant-loop decreases-loop
-role-requires c κs = (c.before.before.before.requires.0, omega arith)
+role-requires : tie.Need-role-own-requires invariant-loop-i decreases-loop-i
+role-requires c κs = (c.requires.0, omega arith)
 
 -- the role has a set
-has-set : (c : tie.After-role invariant-loop decreases-loop) → c.role.result < 3
+has-set : (c : tie.After-role-own invariant-loop-i decreases-loop-i) → c.role-own.result < 3
 has-set c =
-    let start = c.before.before.before.before in
+    let start = c in
     let given = start.args in
-    let i = c.before.before.loop.i - 1 in
+    let i = c.loop-i.i - 1 in
     let low = roles-known given.table.now given.first given.end start.requires.1.1.1 i (omega arith)
     (omega arith) in
-    omega (arith, c.role.ensures)
+    omega (arith, c.role-own.ensures)
 
-predicate-bit-requires : tie.Need-predicate-bit-requires invariant-loop decreases-loop
-predicate-bit-requires c κs = (c.before.before.before.before.requires.0, omega arith)
+predicate-bit-requires : tie.Need-predicate_bit-bit-requires invariant-loop-i decreases-loop-i
+predicate-bit-requires c κs = (c.requires.0, omega arith)
 
-mul-behind : tie.Need-overflow-mul-behind invariant-loop decreases-loop
+mul-behind : tie.Need-offset_bounds-seen-own invariant-loop-i decreases-loop-i
 mul-behind c = omega (arith, has-set c.before)
 
-array-read-behind : tie.Need-array-read-behind invariant-loop decreases-loop
+array-read-behind : tie.Need-bounds-seen-own invariant-loop-i decreases-loop-i
 array-read-behind c = has-set c.before
 
-repeats-requires : tie.Need-repeats-requires invariant-loop decreases-loop
+repeats-requires : tie.Need-repeats-requires invariant-loop-i decreases-loop-i
 repeats-requires c κs =
-    let at = c.before.before.before in
-    let start = at.before.before in
+    let at = c in
+    let start = at in
     let given = start.args in
     let w = given.table.now in
-    let i = at.loop.i in
+    let i = at.loop-i.i in
     let rise = roles-rise w given.first given.end start.requires.1.1.1 in (
       start.requires.0,
       (
@@ -69,60 +69,60 @@ repeats-requires c κs =
           (
             λ j k l m n. rise j k (omega arith) m n,
             (
-              c.predicate-bit.ensures,
-              seen-behind w given.end i c.before.role.result at.loop.seen (omega arith) at.loop.invariant.3
-                  c.before.role.ensures,
+              c.predicate_bit-bit.ensures,
+              seen-behind w given.end i c.role-own.result at.loop-i.seen (omega arith) at.loop-i.invariant.3
+                  c.role-own.ensures,
             ),
           ),
         ),
       ),
     )
 
-returns : tie.Need-returns invariant-loop decreases-loop
+returns : tie.Need-returns-then-repeats invariant-loop-i decreases-loop-i
 returns c =
-    let at = c.before.before.before.before.before in
-    let given = at.before.before.args in
-    some-repeated given.table.now given.end (at.loop.i - 1) given.first (omega arith) (omega arith)
-    (sym c.before.repeats.ensures ∙ c.if1.true)
+    let at = c in
+    let given = at.args in
+    some-repeated given.table.now given.end (at.loop-i.i - 1) given.first (omega arith) (omega arith)
+    (sym c.repeats.ensures ∙ c.if-repeats.true)
 
-with-requires : tie.Need-with-requires invariant-loop decreases-loop
-with-requires c κs = omega (arith, c.before.before.predicate-bit.ensures)
+with-requires : tie.Need-with-requires invariant-loop-i decreases-loop-i
+with-requires c κs = omega (arith, c.predicate_bit-bit.ensures)
 
-mul-seen : tie.Need-overflow-mul-seen invariant-loop decreases-loop
+mul-seen : tie.Need-offset_bounds-seen-own-in-loop-i invariant-loop-i decreases-loop-i
 mul-seen c = omega (arith, has-set c.before.before.before.before)
 
-array-write-seen : tie.Need-array-write-seen invariant-loop decreases-loop
+array-write-seen : tie.Need-bounds-seen-own-in-loop-i invariant-loop-i decreases-loop-i
 array-write-seen c = has-set c.before.before.before.before
 
-loop-again : tie.Need-loop-preserved invariant-loop decreases-loop
+loop-again : tie.Need-loop-i-preserved invariant-loop-i decreases-loop-i
 loop-again c =
-    let asked = c.before.before in
-    let bit = asked.before.predicate-bit in
-    let own = asked.before.before.role in
-    let at = asked.before.before.before.before in
-    let h = at.loop in
-    let given = at.before.before.args in
+    let asked = c in
+    let bit = asked.predicate_bit-bit in
+    let own = asked.role-own in
+    let at = asked in
+    let h = at.loop-i in
+    let given = at.args in
     let w = given.table.now in
-    let l = has-set asked.before.before in (
+    let l = has-set asked.before.before.before.before in (
       omega arith,
       omega arith,
       length-set h.seen own.result c.with.result ∙ h.invariant.2,
       seen_more w given.end h.seen own.result bit.result c.with.result (omega arith) c.with.ensures
           h.i h.invariant.3 own.ensures bit.ensures,
       distinct_more w given.end h.i (omega arith) h.invariant.1
-          (sym c.before.if1.false ∙ asked.repeats.ensures) h.invariant.4,
+          (sym c.if-repeats.false ∙ asked.repeats.ensures) h.invariant.4,
     )
 
-returns-2 : tie.Need-returns-2 invariant-loop decreases-loop
+returns-2 : tie.Need-returns invariant-loop-i decreases-loop-i
 returns-2 c =
-    let h = c.before.loop in
-    let given = c.before.before.before.args in
+    let h = c.loop-i in
+    let given = c.args in
     let e : h.i ≡ given.first = omega arith in
     sym (sym (ap (λ (n : ℕ). distinct (atoms_in given.table.now n (given.end - n))) e) ∙ h.invariant.4)
 
-pub atoms-differ-spec : {M : Type 1} → statement M
-atoms-differ-spec =
+pub atoms_differ_spec : {M : Type 1} → statement M
+atoms_differ_spec =
     tie.close
-    (tie.spec invariant-loop decreases-loop loop-holds (λ c. omega arith) role-requires predicate-bit-requires mul-behind
+    (tie.spec invariant-loop-i decreases-loop-i loop-holds (λ c. omega arith) role-requires predicate-bit-requires mul-behind
     array-read-behind repeats-requires returns with-requires mul-seen array-write-seen (λ c. omega arith) loop-again
     returns-2)

@@ -8,30 +8,30 @@ use Rattle.words.proofs.Loops.{AllLeft, all_start, all_yes, all-no, all-ends}
 use Rattle.task.proofs.table.schemas.atoms_fit.Statement.{statement}
 use Rattle.task.proofs.table.schemas.atoms_fit.Tie as tie
 
-abbrev invariant-loop : tie.invariant-loop
-invariant-loop table bound first end i₀ i =
+abbrev invariant-loop-i : tie.invariant-loop-i
+invariant-loop-i table bound first end i₀ i =
     AllLeft (arg_words_fit table bound) end (all (arg_words_fit table bound) (up_from first (end - first))) i
 
-abbrev decreases-loop : tie.decreases-loop
-decreases-loop table bound first end i₀ i = end - i
+abbrev decreases-loop-i : tie.decreases-loop-i
+decreases-loop-i table bound first end i₀ i = end - i
 
-loop-holds : tie.Need-loop-init invariant-loop decreases-loop
+loop-holds : tie.Need-loop-i-init invariant-loop-i decreases-loop-i
 loop-holds c = all_start
 
-atom-fits-requires : tie.Need-atom-fits-requires invariant-loop decreases-loop
-atom-fits-requires c κs = (c.before.before.before.requires.0, omega arith)
+atom-fits-requires : tie.Need-atom_fits-requires invariant-loop-i decreases-loop-i
+atom-fits-requires c κs = (c.requires.0, omega arith)
 
-returns : tie.Need-returns invariant-loop decreases-loop
+returns : tie.Need-returns-then-not-atom_fits invariant-loop-i decreases-loop-i
 returns c = search all-no
 
-loop-again : tie.Need-loop-preserved invariant-loop decreases-loop
+loop-again : tie.Need-loop-i-preserved invariant-loop-i decreases-loop-i
 loop-again c = search all_yes
 
-returns-2 : tie.Need-returns-2 invariant-loop decreases-loop
+returns-2 : tie.Need-returns invariant-loop-i decreases-loop-i
 returns-2 c = search all-ends
 
-pub atoms-fit-spec : {M : Type 1} → statement M
-atoms-fit-spec =
+pub atoms_fit_spec : {M : Type 1} → statement M
+atoms_fit_spec =
     tie.close
-    (tie.spec invariant-loop decreases-loop loop-holds atom-fits-requires returns (λ c. omega arith) (λ c. omega arith) loop-again
+    (tie.spec invariant-loop-i decreases-loop-i loop-holds atom-fits-requires returns (λ c. omega arith) (λ c. omega arith) loop-again
     returns-2)

@@ -11,43 +11,43 @@ use Rattle.task.proofs.SchemaWords.{part-below}
 use Rattle.task.proofs.table.schemas.parts.Statement.{statement}
 use Rattle.task.proofs.table.schemas.parts.Tie as tie
 
-abbrev invariant-loop : tie.invariant-loop
-invariant-loop table first end set₀ i₀ set i =
+abbrev invariant-loop-i : tie.invariant-loop-i
+invariant-loop-i table first end set₀ i₀ set i =
     (first ≤ i) × SetLeft (λ p k. eqb p (atom_in table k).part) end
     (λ p. any (λ a. eqb p a.part) (atoms_in table first (end - first))) set i
 
-abbrev decreases-loop : tie.decreases-loop
-decreases-loop table first end set₀ i₀ set i = end - i
+abbrev decreases-loop-i : tie.decreases-loop-i
+decreases-loop-i table first end set₀ i₀ set i = end - i
 
-loop-holds : tie.Need-loop-init invariant-loop decreases-loop
+loop-holds : tie.Need-loop-i-init invariant-loop-i decreases-loop-i
 loop-holds c =
-    let given = c.before.args in
+    let given = c.args in
     (omega arith, set-mapped (λ p a. eqb p a.part) (atom_in given.table.now) given.first given.end)
 
-part-requires : tie.Need-part-requires invariant-loop decreases-loop
-part-requires c κs = let start = c.before.before.before in (start.requires.0, omega arith)
+part-requires : tie.Need-part-requires invariant-loop-i decreases-loop-i
+part-requires c κs = let start = c in (start.requires.0, omega arith)
 
-with-requires : tie.Need-with-requires invariant-loop decreases-loop
+with-requires : tie.Need-with-set-requires invariant-loop-i decreases-loop-i
 with-requires c κs =
-    let at = c.before.before in
-    let start = at.before.before in
-    let l = part-below start.args.table.now at.loop.i start.args.first start.args.end
-    at.loop.invariant.0 c.before.loop-test.true in
+    let at = c in
+    let start = at in
+    let l = part-below start.args.table.now at.loop-i.i start.args.first start.args.end
+    at.loop-i.invariant.0 c.loop-i-test.true in
     omega (arith, c.part.ensures.0)
 
-loop-again : tie.Need-loop-preserved invariant-loop decreases-loop
+loop-again : tie.Need-loop-i-preserved invariant-loop-i decreases-loop-i
 loop-again c =
-    let turn = c.before.before in (
+    let turn = c in (
       omega arith,
-      set_more turn.before.loop.invariant.1 turn.loop-test.true
-          (with_number _ _ _ c.with.ensures c.before.part.ensures.0),
+      set_more turn.loop-i.invariant.1 turn.loop-i-test.true
+          (with_number _ _ _ c.with-set.ensures c.part.ensures.0),
     )
 
-returns : tie.Need-returns invariant-loop decreases-loop
-returns c = set-ends c.before.loop.invariant.1 c.loop-test.false
+returns : tie.Need-returns invariant-loop-i decreases-loop-i
+returns c = set-ends c.loop-i.invariant.1 c.loop-i-test.false
 
-pub parts-spec : {M : Type 1} → statement M
-parts-spec =
+pub parts_spec : {M : Type 1} → statement M
+parts_spec =
     tie.close
-    (tie.spec invariant-loop decreases-loop loop-holds part-requires with-requires (λ c. omega arith) (λ c. omega arith) loop-again
+    (tie.spec invariant-loop-i decreases-loop-i loop-holds part-requires with-requires (λ c. omega arith) (λ c. omega arith) loop-again
     returns)

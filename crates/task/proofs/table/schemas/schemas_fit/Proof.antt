@@ -26,143 +26,143 @@ PairsCut w pair s = Cut (pair_number_in w) (head_in w).pairs pair s
 abbrev AtomsCut : List ℕ → ℕ → ℕ → Type 0
 AtomsCut w first s = Cut (schema_number_in w) (head_in w).schema_atoms first s
 
-abbrev invariant-loop : tie.invariant-loop
-invariant-loop table schemas pairs atoms pair₀ first₀ s₀ pair first s =
+abbrev invariant-loop-s : tie.invariant-loop-s
+invariant-loop-s table schemas pairs atoms pair₀ first₀ s₀ pair first s =
     PairsCut table pair s × (AtomsCut table first s × AllLeft (fits_at table) schemas (schemas_fit table) s)
 
-abbrev decreases-loop : tie.decreases-loop
-decreases-loop table schemas pairs atoms pair₀ first₀ s₀ pair first s = schemas - s
+abbrev decreases-loop-s : tie.decreases-loop-s
+decreases-loop-s table schemas pairs atoms pair₀ first₀ s₀ pair first s = schemas - s
 
-abbrev start : tie.At-loop invariant-loop decreases-loop → tie.Start invariant-loop decreases-loop
+abbrev start : tie.At-loop-s invariant-loop-s decreases-loop-s → tie.Start invariant-loop-s decreases-loop-s
 start c = c.before.before.before.before.before
 
-abbrev words : tie.At-loop invariant-loop decreases-loop → List ℕ
+abbrev words : tie.At-loop-s invariant-loop-s decreases-loop-s → List ℕ
 words c = (start c).args.table.now
 
-room : (c : tie.At-loop invariant-loop decreases-loop) → Roomy (words c)
+room : (c : tie.At-loop-s invariant-loop-s decreases-loop-s) → Roomy (words c)
 room c = (start c).requires.0
 
 -- the loop, seen from behind each run that was found
-abbrev loop₁ : tie.After-run-end invariant-loop decreases-loop → tie.At-loop invariant-loop decreases-loop
+abbrev loop₁ : tie.After-run_end-stop invariant-loop-s decreases-loop-s → tie.At-loop-s invariant-loop-s decreases-loop-s
 loop₁ c = c.before.before.before
 
-abbrev loop₂ : tie.After-run-end2 invariant-loop decreases-loop → tie.At-loop invariant-loop decreases-loop
+abbrev loop₂ : tie.After-run_end-end invariant-loop-s decreases-loop-s → tie.At-loop-s invariant-loop-s decreases-loop-s
 loop₂ c = loop₁ c.before.before
 
-pairs-run : (c : tie.After-run-end invariant-loop decreases-loop) →
-    RunOf (pair_number_in (words (loop₁ c))) (head_in (words (loop₁ c))).pairs (loop₁ c).loop.s (loop₁ c).loop.pair
-    c.run-end.result
+pairs-run : (c : tie.After-run_end-stop invariant-loop-s decreases-loop-s) →
+    RunOf (pair_number_in (words (loop₁ c))) (head_in (words (loop₁ c))).pairs (loop₁ c).loop-s.s (loop₁ c).loop-s.pair
+    c.run_end-stop.result
 pairs-run c =
     let at = loop₁ c in
-    subst₂ (λ (number : ℕ → ℕ) (n : ℕ). RunOf number n at.loop.s at.loop.pair c.run-end.result)
-    (pair-numbers (words at) c.before.pairs-base.result c.before.pairs-base.ensures.0)
-    at.before.before.word2.ensures.0 c.run-end.ensures
+    subst₂ (λ (number : ℕ → ℕ) (n : ℕ). RunOf number n at.loop-s.s at.loop-s.pair c.run_end-stop.result)
+    (pair-numbers (words at) c.pairs_base.result c.pairs_base.ensures.0)
+    at.word-pairs.ensures.0 c.run_end-stop.ensures
 
-atoms-run : (c : tie.After-run-end2 invariant-loop decreases-loop) →
-    RunOf (schema_number_in (words (loop₂ c))) (head_in (words (loop₂ c))).schema_atoms (loop₂ c).loop.s
-    (loop₂ c).loop.first c.run-end2.result
+atoms-run : (c : tie.After-run_end-end invariant-loop-s decreases-loop-s) →
+    RunOf (schema_number_in (words (loop₂ c))) (head_in (words (loop₂ c))).schema_atoms (loop₂ c).loop-s.s
+    (loop₂ c).loop-s.first c.run_end-end.result
 atoms-run c =
     let at = loop₂ c in
-    subst₂ (λ (number : ℕ → ℕ) (n : ℕ). RunOf number n at.loop.s at.loop.first c.run-end2.result)
-    (atom-numbers (words at) c.before.rows-base.result c.before.rows-base.ensures.0)
-    at.before.word3.ensures.0 c.run-end2.ensures
+    subst₂ (λ (number : ℕ → ℕ) (n : ℕ). RunOf number n at.loop-s.s at.loop-s.first c.run_end-end.result)
+    (atom-numbers (words at) c.rows_base.result c.rows_base.ensures.0)
+    at.word-atoms.ensures.0 c.run_end-end.ensures
 
 -- the pairs and the atoms found are those that name schema s
-fit : (c : tie.After-schema-fits invariant-loop decreases-loop) →
-    fits_at (words (loop₂ c.before)) (loop₂ c.before).loop.s ≡ c.schema-fits.result
+fit : (c : tie.After-schema_fits invariant-loop-s decreases-loop-s) →
+    fits_at (words (loop₂ c.before)) (loop₂ c.before).loop-s.s ≡ c.schema_fits.result
 unfolding pair_indices_of indices_of
 fit c =
-    let atoms = c.before in
-    let pairs = atoms.before.before in
-    let at = loop₂ atoms in
+    let atoms = c in
+    let pairs = atoms in
+    let at = loop₂ atoms.before in
     let w = words at in
-    let s = at.loop.s in
+    let s = at.loop-s.s in
     ap₂ (schema_words_fit w s)
-    (cut-indices (pair_number_in w) (head_in w).schemas (head_in w).pairs (start at).pre.1.0 at.loop.pair s
-    pairs.run-end.result at.loop.inv.0 (pairs-run pairs))
-    (cut-indices (schema_number_in w) (head_in w).schemas (head_in w).schema_atoms (start at).pre.1.1
-    at.loop.first s atoms.run-end2.result at.loop.inv.1.0 (atoms-run atoms)) ∙
-    sym c.schema-fits.ensures
+    (cut-indices (pair_number_in w) (head_in w).schemas (head_in w).pairs (start at).requires.1.0 at.loop-s.pair s
+    pairs.run_end-stop.result at.loop-s.invariant.0 (pairs-run pairs.before.before.before))
+    (cut-indices (schema_number_in w) (head_in w).schemas (head_in w).schema_atoms (start at).requires.1.1
+    at.loop-s.first s atoms.run_end-end.result at.loop-s.invariant.1.0 (atoms-run atoms.before)) ∙
+    sym c.schema_fits.ensures
 
-word-requires : tie.Need-word-requires invariant-loop decreases-loop
-word-requires c κs = let r = c.before.requires.0 in omega arith
+word-requires : tie.Need-word-schemas-requires invariant-loop-s decreases-loop-s
+word-requires c κs = let r = c.requires.0 in omega arith
 
-word-requires-2 : tie.Need-word-requires-2 invariant-loop decreases-loop
-word-requires-2 c κs = let r = c.before.before.requires.0 in omega arith
+word-requires-2 : tie.Need-word-pairs-requires invariant-loop-s decreases-loop-s
+word-requires-2 c κs = let r = c.requires.0 in omega arith
 
-word-requires-3 : tie.Need-word-requires-3 invariant-loop decreases-loop
-word-requires-3 c κs = let r = c.before.before.before.requires.0 in omega arith
+word-requires-3 : tie.Need-word-atoms-requires invariant-loop-s decreases-loop-s
+word-requires-3 c κs = let r = c.requires.0 in omega arith
 
-loop-holds : tie.Need-loop-init invariant-loop decreases-loop
+loop-holds : tie.Need-loop-s-init invariant-loop-s decreases-loop-s
 unfolding schemas_fit
 loop-holds c =
-    let w = c.before.before.before.before.args.table.now in (
+    let w = c.args.table.now in (
       cut-start (pair_number_in w) (head_in w).pairs,
-      (cut-start (schema_number_in w) (head_in w).schema_atoms, all-up-to (sym c.before.before.word.ensures.0)),
+      (cut-start (schema_number_in w) (head_in w).schema_atoms, all-up-to (sym c.word-schemas.ensures.0)),
     )
 
-pairs-base-requires : tie.Need-pairs-base-requires invariant-loop decreases-loop
+pairs-base-requires : tie.Need-pairs_base-requires invariant-loop-s decreases-loop-s
 pairs-base-requires c κs = let r = room c.before in omega arith
 
-run-end-requires : tie.Need-run-end-requires invariant-loop decreases-loop
+run-end-requires : tie.Need-run_end-stop-requires invariant-loop-s decreases-loop-s
 run-end-requires c κs =
-    let at = c.before.before in
-    let r = room at in
-    let n = at.before.before.word2.ensures.0 in
-    let i = at.loop.invariant.0.inside in
-    (omega (arith, c.pairs-base.ensures.0), omega arith)
+    let at = c in
+    let r = room at.before.before in
+    let n = at.word-pairs.ensures.0 in
+    let i = at.loop-s.invariant.0.inside in
+    (omega (arith, c.pairs_base.ensures.0), omega arith)
 
-rows-base-requires : tie.Need-rows-base-requires invariant-loop decreases-loop
+rows-base-requires : tie.Need-rows_base-requires invariant-loop-s decreases-loop-s
 rows-base-requires c κs = let r = room (loop₁ c) in omega arith
 
-run-end-requires-2 : tie.Need-run-end-requires-2 invariant-loop decreases-loop
+run-end-requires-2 : tie.Need-run_end-end-requires invariant-loop-s decreases-loop-s
 run-end-requires-2 c κs =
     let at = loop₁ c.before in
     let r = room at in
-    let n = at.before.word3.ensures.0 in
-    let i = at.loop.inv.1.0.inside in
-    (omega (arith, c.rows-base.ensures.0), omega arith)
+    let n = at.word-atoms.ensures.0 in
+    let i = at.loop-s.invariant.1.0.inside in
+    (omega (arith, c.rows_base.ensures.0), omega arith)
 
-schema-fits-requires : tie.Need-schema-fits-requires invariant-loop decreases-loop
+schema-fits-requires : tie.Need-schema_fits-requires invariant-loop-s decreases-loop-s
 schema-fits-requires c κs =
     let at = loop₂ c in
     let pairs = pairs-run c.before.before in
     let atoms = atoms-run c in (
       room at,
       (
-        omega (arith, at.before.before.before.word.ensures.0),
+        omega (arith, at.word-schemas.ensures.0),
         ((pairs.from, pairs.to), (atoms.from, atoms.to)),
       ),
     )
 
-returns : tie.Need-returns invariant-loop decreases-loop
+returns : tie.Need-returns-then-not-schema_fits invariant-loop-s decreases-loop-s
 returns c =
-    let turn = c.before.before.before.before.before.before in
-    all-fails turn.before.loop.invariant.1.1 turn.loop-test.true (fit c.before ∙ c.if1.true)
+    let turn = c in
+    all-fails turn.loop-s.invariant.1.1 turn.loop-s-test.true (fit c.before ∙ c.if-not-schema_fits.true)
 
-loop-again : tie.Need-loop-preserved invariant-loop decreases-loop
+loop-again : tie.Need-loop-s-preserved invariant-loop-s decreases-loop-s
 loop-again c =
-    let atoms = c.before.before in
-    let pairs = atoms.before.before in
-    let turn = pairs.before.before in
-    let at = turn.before in
-    let w = words at in
-    let s = at.loop.s in (
-      cut-next (pair_number_in w) (head_in w).schemas (head_in w).pairs (start at).requires.1.0 at.loop.pair s
-          pairs.run-end.result at.loop.invariant.0 (pairs-run pairs),
+    let atoms = c in
+    let pairs = atoms in
+    let turn = pairs in
+    let at = turn in
+    let w = words at.before.before.before.before.before.before.before in
+    let s = at.loop-s.s in (
+      cut-next (pair_number_in w) (head_in w).schemas (head_in w).pairs (start at.before.before.before.before.before.before.before).requires.1.0 at.loop-s.pair s
+          pairs.run_end-stop.result at.loop-s.invariant.0 (pairs-run pairs.before.before.before.before),
       (
-        cut-next (schema_number_in w) (head_in w).schemas (head_in w).schema_atoms (start at).requires.1.1
-            at.loop.first s atoms.run-end2.result at.loop.invariant.1.0 (atoms-run atoms),
-        all_more at.loop.invariant.1.1 turn.loop-test.true (fit c.before ∙ c.if1.false),
+        cut-next (schema_number_in w) (head_in w).schemas (head_in w).schema_atoms (start at.before.before.before.before.before.before.before).requires.1.1
+            at.loop-s.first s atoms.run_end-end.result at.loop-s.invariant.1.0 (atoms-run atoms.before.before),
+        all_more at.loop-s.invariant.1.1 turn.loop-s-test.true (fit c.before ∙ c.if-not-schema_fits.false),
       ),
     )
 
-returns-2 : tie.Need-returns-2 invariant-loop decreases-loop
-returns-2 c = all-ends c.before.loop.invariant.1.1 c.loop-test.false
+returns-2 : tie.Need-returns invariant-loop-s decreases-loop-s
+returns-2 c = all-ends c.loop-s.invariant.1.1 c.loop-s-test.false
 
-pub schemas-fit-spec : {M : Type 1} → statement M
-schemas-fit-spec =
+pub schemas_fit_spec : {M : Type 1} → statement M
+schemas_fit_spec =
     tie.close
-    (tie.spec invariant-loop decreases-loop word-requires word-requires-2 word-requires-3 loop-holds pairs-base-requires
+    (tie.spec invariant-loop-s decreases-loop-s word-requires word-requires-2 word-requires-3 loop-holds pairs-base-requires
     run-end-requires rows-base-requires run-end-requires-2 schema-fits-requires returns (λ c. omega arith)
     (λ c. omega arith) loop-again returns-2)
