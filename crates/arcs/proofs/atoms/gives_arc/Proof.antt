@@ -31,59 +31,59 @@ abbrev second : tie.Start → Atom
 second s = atom_in s.args.table.now s.args.j
 
 predicate-requires : tie.Need-predicate-requires
-predicate-requires c κs = atom-row c.before.requires.0
+predicate-requires c κs = atom-row c.requires.0
 
 predicate-requires-2 : tie.Need-predicate-requires-2
-predicate-requires-2 c κs = atom-row c.before.before.requires.1.0
+predicate-requires-2 c κs = atom-row c.requires.1.0
 
-returns : tie.Need-returns
+returns : tie.Need-returns-then-predicate
 returns c = λ pairs h.
-    let read = c.before in
-    let s = read.before.before.before in
-    by-predicate pairs (first s) (second s)
-    (λ e. c.if1.true (read.before.predicate.ensures ∙ (e ∙ sym read.predicate2.ensures)))
+    let read = c in
+    let s = read in
+    by-predicate pairs (first s.before.before.before.before) (second s.before.before.before.before)
+    (λ e. c.if-predicate.true (read.predicate.ensures ∙ (e ∙ sym read.predicate-2.ensures)))
 
-returns-2 : tie.Need-returns-2
+returns-2 : tie.Need-returns-then-not-has_role
 returns-2 c = λ pairs h.
-    let s = c.before.before.before.before.before.before in
-    sym (no-arc pairs (first s) (second s)
-    (sym (s.requires.1.1 (second s).role) ∙ (sym c.before.has-role.ensures ∙ c.if2.true)))
+    let s = c in
+    sym (no-arc pairs (first s.before.before.before.before.before.before) (second s.before.before.before.before.before.before)
+    (sym (s.requires.1.1 (second s.before.before.before.before.before.before).role) ∙ (sym c.has_role.ensures ∙ c.if-not-has_role.true)))
 
 -- ---- one predicate, and roles in order
-abbrev start : tie.Else2 → tie.Start
+abbrev start : tie.Else-not-has_role → tie.Start
 start c = c.before.before.before.before.before.before
 
-same : (c : tie.Else2) → (first (start c)).pred ≡ (second (start c)).pred
+same : (c : tie.Else-not-has_role) → (first (start c)).pred ≡ (second (start c)).pred
 same c =
-    let read = c.before.before.before in
-    sym read.before.predicate.ensures ∙ (c.before.before.if1.false ∙ read.predicate2.ensures)
+    let read = c in
+    sym read.predicate.ensures ∙ (c.if-predicate.false ∙ read.predicate-2.ensures)
 
-in-order : (c : tie.Else2) → role_before (first (start c)).role (second (start c)).role ≡ true
+in-order : (c : tie.Else-not-has_role) → role_before (first (start c)).role (second (start c)).role ≡ true
 in-order c =
     sym ((start c).requires.1.1 (second (start c)).role)
-    ∙ (sym c.before.has-role.ensures ∙ c.if2.false)
+    ∙ (sym c.has_role.ensures ∙ c.if-not-has_role.false)
 
-hold-pair-requires : tie.Need-hold-pair-requires
+hold-pair-requires : tie.Need-hold_pair-requires
 hold-pair-requires c κs =
     let s = start c.before in
-    (s.pre.0, (s.pre.1.0, same c.before))
+    (s.requires.0, (s.requires.1.0, same c.before))
 
-returns-3 : tie.Need-returns-3
+returns-3 : tie.Need-returns-then-paired
 returns-3 c = λ pairs h.
-    let d = c.before.before in
-    ap not (c.hold-pair.ensures pairs h.partners)
-    ∙ by-pair pairs (first (start d)) (second (start d)) (same d) (in-order d)
+    let d = c in
+    ap not (c.hold_pair.ensures pairs h.partners)
+    ∙ by-pair pairs (first (start d.before.before)) (second (start d.before.before)) (same d.before.before) (in-order d.before.before)
 
-returns-4 : tie.Need-returns-4
+returns-4 : tie.Need-returns
 returns-4 c = λ pairs h.
-    let d = c.before in
-    let xs = (first (start d)).args in
-    let ys = (second (start d)).args in
-    let none = ap (λ (ps : List Pair). hold_pair ps xs ys) (h.unpaired c.if3.false) ∙ none-held xs ys in
-    sym (ap not none) ∙ by-pair pairs (first (start d)) (second (start d)) (same d) (in-order d)
+    let d = c in
+    let xs = (first (start d.before)).args in
+    let ys = (second (start d.before)).args in
+    let none = ap (λ (ps : List Pair). hold_pair ps xs ys) (h.unpaired c.if-paired.false) ∙ none-held xs ys in
+    sym (ap not none) ∙ by-pair pairs (first (start d.before)) (second (start d.before)) (same d.before) (in-order d.before)
 
-pub gives-arc-spec : {M : Type 1} → statement M
-gives-arc-spec =
+pub gives_arc_spec : {M : Type 1} → statement M
+gives_arc_spec =
     tie.close
     (tie.spec predicate-requires predicate-requires-2 returns (λ c κs. search rules) returns-2 hold-pair-requires
     returns-3 returns-4)

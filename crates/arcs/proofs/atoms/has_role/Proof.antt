@@ -6,11 +6,11 @@ use Rattle.arcs.proofs.atoms.has_role.Statement.{statement}
 use Rattle.arcs.proofs.atoms.has_role.Tie as tie
 
 has-requires : tie.Need-has-requires
-has-requires c κs = let l = c.role-of.ensures.1 in omega arith
+has-requires c κs = let l = c.role_of.ensures.1 in omega arith
 
 returns : tie.Need-returns
 returns c =
-    c.has.ensures ∙ ap (member c.before.before.before.args.roles) c.before.role-of.ensures.0
+    c.has.ensures ∙ ap (member c.args.roles) c.role_of.ensures.0
 
-pub has-role-spec : {M : Type 1} → statement M
-has-role-spec = tie.close (tie.spec (λ c κs. c.before.requires) has-requires returns)
+pub has_role_spec : {M : Type 1} → statement M
+has_role_spec = tie.close (tie.spec (λ c κs. c.requires) has-requires returns)

@@ -6,14 +6,14 @@ use Rattle.arcs.proofs.Stretches.{atom-row}
 use Rattle.arcs.proofs.atoms.is_precondition.Statement.{statement}
 use Rattle.arcs.proofs.atoms.is_precondition.Tie as tie
 
-row-of-requires : tie.Need-row-of-requires
-row-of-requires c κs = atom-row c.before.requires
+row-of-requires : tie.Need-row_of-requires
+row-of-requires c κs = atom-row c.requires
 
-role-at-requires : tie.Need-role-at-requires
+role-at-requires : tie.Need-role_at-requires
 role-at-requires c κs = c.row_of.ensures.1
 
 returns : tie.Need-returns
-returns c = ap (λ (x : ℕ). eqb x 0) (c.role-at.ensures.1 _ c.before.row_of.ensures.0)
+returns c = ap (λ (x : ℕ). eqb x 0) (c.role_at.ensures.1 _ c.row_of.ensures.0)
 
-pub is-precondition-spec : {M : Type 1} → statement M
-is-precondition-spec = tie.close (tie.spec row-of-requires role-at-requires returns)
+pub is_precondition_spec : {M : Type 1} → statement M
+is_precondition_spec = tie.close (tie.spec row-of-requires role-at-requires returns)

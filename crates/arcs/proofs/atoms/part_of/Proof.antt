@@ -6,18 +6,18 @@ use Rattle.arcs.proofs.Stretches.{atom-row, part-below}
 use Rattle.arcs.proofs.atoms.part_of.Statement.{statement}
 use Rattle.arcs.proofs.atoms.part_of.Tie as tie
 
-row-of-requires : tie.Need-row-of-requires
-row-of-requires c κs = atom-row c.before.requires
+row-of-requires : tie.Need-row_of-requires
+row-of-requires c κs = atom-row c.requires
 
-part-at-requires : tie.Need-part-at-requires
+part-at-requires : tie.Need-part_at-requires
 part-at-requires c κs = c.row_of.ensures.1
 
 returns : tie.Need-returns
 returns c =
-    let at = c.before.before.before in
-    let e = c.part_at.ensures.1 at.args.i c.before.row_of.ensures.0 in
+    let at = c in
+    let e = c.part_at.ensures.1 at.args.i c.row_of.ensures.0 in
     let b = part-below at.args.table.now at.args.i at.requires in
     (e, omega arith)
 
-pub part-of-spec : {M : Type 1} → statement M
-part-of-spec = tie.close (tie.spec row-of-requires part-at-requires returns)
+pub part_of_spec : {M : Type 1} → statement M
+part_of_spec = tie.close (tie.spec row-of-requires part-at-requires returns)

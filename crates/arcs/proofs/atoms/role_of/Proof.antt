@@ -7,13 +7,13 @@ use Rattle.arcs.proofs.atoms.role_of.Statement.{statement}
 use Rattle.arcs.proofs.atoms.role_of.Tie as tie
 
 role-requires : tie.Need-role-requires
-role-requires c κs = atom-row c.before.requires
+role-requires c κs = atom-row c.requires
 
 returns : tie.Need-returns
 returns c =
-    let s = c.before.before in
+    let s = c in
     let e = c.role.ensures in
     (e, omega (arith, role-known s.args.table.now s.args.i s.requires))
 
-pub role-of-spec : {M : Type 1} → statement M
-role-of-spec = tie.close (tie.spec role-requires returns)
+pub role_of_spec : {M : Type 1} → statement M
+role_of_spec = tie.close (tie.spec role-requires returns)

@@ -19,42 +19,42 @@ first s = atom_in s.args.table.now s.args.i
 abbrev second : tie.Start → Atom
 second s = atom_in s.args.table.now s.args.j
 
-returns : tie.Need-returns
+returns : tie.Need-returns-then-not-gives_arc
 returns c =
-    let s = c.before.before.before in (
+    let s = c in (
       s.requires.1.1.1,
       λ pairs h.
-          no-arc-joins pairs (first s) (second s) (c.before.gives-arc.ensures pairs h) c.if1.true
+          no-arc-joins pairs (first s.before.before.before) (second s.before.before.before) (c.gives_arc.ensures pairs h) c.if-not-gives_arc.true
           s.args.before.now,
     )
 
-returns-2 : tie.Need-returns-2
+returns-2 : tie.Need-returns-then-p-q
 returns-2 c =
-    let tested = c.before.before in
-    let to = tested.before.before.part-of2 in
-    let from = tested.before.before.before.before.part_of in
-    let given = tested.before.before.before.before.before in
-    let s = given.before.before.before in
+    let tested = c in
+    let to = tested.part_of-q in
+    let from = tested.part_of-p in
+    let given = tested in
+    let s = given in
     let sets = s.args.before.now in
     let l : to.result.0 < 16 = to.ensures.1 in (
       length-set sets to.result.0 c.with.result ∙ s.requires.1.1.1,
       λ pairs h.
-          arc-joins pairs (first s) (second s) (given.before.gives-arc.ensures pairs h)
-          given.if1.false sets c.with.result from.result.0 to.result.0 from.ensures.0
-          to.ensures.0 (omega arith) tested.if2.true c.with.ensures,
+          arc-joins pairs (first s.before.before.before.before.before.before.before.before.before.before.before) (second s.before.before.before.before.before.before.before.before.before.before.before) (given.gives_arc.ensures pairs h)
+          given.if-not-gives_arc.false sets c.with.result from.result.0 to.result.0 from.ensures.0
+          to.ensures.0 (omega arith) tested.if-p-q.true c.with.ensures,
     )
 
-returns-3 : tie.Need-returns-3
+returns-3 : tie.Need-returns-else-p-q
 returns-3 c =
-    let s = c.before.before.before.before.before.before.before.before in
-    let p = c.before.before.before.before.part_of.ensures.0 in
-    let q = c.before.before.part-of2.ensures.0 in (
+    let s = c in
+    let p = c.part_of-p.ensures.0 in
+    let q = c.part_of-q.ensures.0 in (
       s.requires.1.1.1,
-      λ pairs h. one-part-joins pairs (first s) (second s) (sym p ∙ (c.if2.false ∙ q)) s.args.before.now,
+      λ pairs h. one-part-joins pairs (first s.before.before.before.before.before.before.before.before) (second s.before.before.before.before.before.before.before.before) (sym p ∙ (c.if-p-q.false ∙ q)) s.args.before.now,
     )
 
-pub add-arc-spec : {M : Type 1} → statement M
-add-arc-spec =
+pub add_arc_spec : {M : Type 1} → statement M
+add_arc_spec =
     tie.close
     (tie.spec (λ c κs. search rules) returns (λ c κs. search rules) (λ c. search rules) (λ c κs. search rules)
     (λ c. search rules) (λ c. search rules) (λ c. search rules) (λ c κs. search rules) (λ c. search rules)

@@ -13,17 +13,17 @@ use Rattle.arcs.proofs.Stretches.{stretch-atom, rows-one}
 use Rattle.arcs.proofs.before.add_from.Statement.{statement}
 use Rattle.arcs.proofs.before.add_from.Tie as tie
 
-abbrev invariant-loop : tie.invariant-loop
-invariant-loop table i from to after paired partners before₀ j₀ before j =
+abbrev invariant-loop-j : tie.invariant-loop-j
+invariant-loop-j table i from to after paired partners before₀ j₀ before j =
     (from ≤ j) × (j ≤ to) × (length before ≡ 16) × ((pairs : List Pair) → Pairing pairs paired partners →
     Joins (arcs_between pairs (atom_in table i ∷ []) (stretch_in table from j)) before₀ before)
 
-abbrev decreases-loop : tie.decreases-loop
-decreases-loop table i from to after paired partners before₀ j₀ before j = to - j
+abbrev decreases-loop-j : tie.decreases-loop-j
+decreases-loop-j table i from to after paired partners before₀ j₀ before j = to - j
 
-loop-holds : tie.Need-loop-init invariant-loop decreases-loop
+loop-holds : tie.Need-loop-j-init invariant-loop-j decreases-loop-j
 loop-holds c =
-    let s = c.before in
+    let s = c in
     let a = s.args in (
       omega arith,
       s.requires.1.0.forward,
@@ -33,22 +33,22 @@ loop-holds c =
           (λ k l m. absurd (omega arith)) a.before.now,
     )
 
-add-arc-requires : tie.Need-add-arc-requires invariant-loop decreases-loop
+add-arc-requires : tie.Need-add_arc-requires invariant-loop-j decreases-loop-j
 add-arc-requires c κs =
-    let at = c.before.before in
-    let s = at.before.before in
-    let here = stretch-atom s.requires.1.0 at.loop.j c.before.loop-test.true in
-    (s.requires.0, (here, (s.requires.1.1.0, at.loop.invariant.2)))
+    let at = c in
+    let s = at in
+    let here = stretch-atom s.requires.1.0 at.loop-j.j c.loop-j-test.true in
+    (s.requires.0, (here, (s.requires.1.1.0, at.loop-j.invariant.2)))
 
-loop-again : tie.Need-loop-preserved invariant-loop decreases-loop
+loop-again : tie.Need-loop-j-preserved invariant-loop-j decreases-loop-j
 loop-again c =
-    let at = c.before.before.before in
-    let h = at.loop in
-    let a = at.before.before.args in
+    let at = c in
+    let h = at.loop-j in
+    let a = at.args in
     let w = a.table.now in
     let atom = atom_in w a.i in
-    let e = c.add-arc.ensures in
-    let later = c.add-arc.new.1.1.1.1.1.1.0 in (
+    let e = c.add_arc.ensures in
+    let later = c.add_arc.new.before in (
       omega arith,
       omega arith,
       e.0,
@@ -59,10 +59,10 @@ loop-again c =
           (sym (rows-one (atom_in w) h.j)) (e.1 pairs p)),
     )
 
-returns : tie.Need-returns invariant-loop decreases-loop
+returns : tie.Need-returns invariant-loop-j decreases-loop-j
 returns c =
-    let h = c.before.loop in
-    let a = c.before.before.before.args in
+    let h = c.loop-j in
+    let a = c.args in
     let w = a.table.now in
     let atom = atom_in w a.i in
     let e : h.j ≡ a.to = omega arith in (
@@ -73,7 +73,7 @@ returns c =
           (h.invariant.3 pairs p),
     )
 
-pub add-from-spec : {M : Type 1} → statement M
-add-from-spec =
+pub add_from_spec : {M : Type 1} → statement M
+add_from_spec =
     tie.close
-    (tie.spec invariant-loop decreases-loop loop-holds add-arc-requires (λ c. omega arith) (λ c. omega arith) loop-again returns)
+    (tie.spec invariant-loop-j decreases-loop-j loop-holds add-arc-requires (λ c. omega arith) (λ c. omega arith) loop-again returns)

@@ -11,37 +11,37 @@ use Rattle.arcs.proofs.Stretches.{stretch-atom}
 use Rattle.arcs.proofs.before.end_of.Statement.{statement}
 use Rattle.arcs.proofs.before.end_of.Tie as tie
 
-abbrev invariant-loop : tie.invariant-loop
-invariant-loop table roles from to i₀ i = (from ≤ i) × (i ≤ to) × NoneOf table roles i to
+abbrev invariant-loop-i : tie.invariant-loop-i
+invariant-loop-i table roles from to i₀ i = (from ≤ i) × (i ≤ to) × NoneOf table roles i to
 
-abbrev decreases-loop : tie.decreases-loop
-decreases-loop table roles from to i₀ i = i
+abbrev decreases-loop-i : tie.decreases-loop-i
+decreases-loop-i table roles from to i₀ i = i
 
-loop-holds : tie.Need-loop-init invariant-loop decreases-loop
+loop-holds : tie.Need-loop-i-init invariant-loop-i decreases-loop-i
 loop-holds c =
-    let forward = c.before.requires.forward in (omega arith, omega arith, λ k l m. absurd (omega arith))
+    let forward = c.requires.forward in (omega arith, omega arith, λ k l m. absurd (omega arith))
 
-has-role-requires : tie.Need-has-role-requires invariant-loop decreases-loop
-has-role-requires c κs = stretch-atom c.before.before.before.requires (c.before.loop.i - 1) (omega arith)
+has-role-requires : tie.Need-has_role-requires invariant-loop-i decreases-loop-i
+has-role-requires c κs = stretch-atom c.requires (c.loop-i.i - 1) (omega arith)
 
-returns : tie.Need-returns invariant-loop decreases-loop
-returns c = c.before.before.before.loop.invariant
+returns : tie.Need-returns-then-has_role invariant-loop-i decreases-loop-i
+returns c = c.loop-i.invariant
 
-loop-again : tie.Need-loop-preserved invariant-loop decreases-loop
+loop-again : tie.Need-loop-i-preserved invariant-loop-i decreases-loop-i
 loop-again c =
-    let at = c.before.before.before in
-    let a = at.before.before.args in
-    let none = sym c.before.has-role.ensures ∙ c.if1.false in (
+    let at = c in
+    let a = at.args in
+    let none = sym c.has_role.ensures ∙ c.if-has_role.false in (
       omega arith,
       omega arith,
-      run-before (λ k. member a.roles (atom_in a.table.now k).role ≡ false) at.loop.invariant.2 none,
+      run-before (λ k. member a.roles (atom_in a.table.now k).role ≡ false) at.loop-i.invariant.2 none,
     )
 
-returns-2 : tie.Need-returns-2 invariant-loop decreases-loop
-returns-2 c = c.before.loop.invariant
+returns-2 : tie.Need-returns invariant-loop-i decreases-loop-i
+returns-2 c = c.loop-i.invariant
 
-pub end-of-spec : {M : Type 1} → statement M
-end-of-spec =
+pub end_of_spec : {M : Type 1} → statement M
+end_of_spec =
     tie.close
-    (tie.spec invariant-loop decreases-loop loop-holds (λ c. omega arith) has-role-requires returns (λ c. omega arith)
+    (tie.spec invariant-loop-i decreases-loop-i loop-holds (λ c. omega arith) has-role-requires returns (λ c. omega arith)
     (λ c. omega arith) loop-again returns-2)

@@ -12,36 +12,36 @@ use Rattle.arcs.proofs.Stretches.{stretch-atom}
 use Rattle.arcs.proofs.before.first_of.Statement.{statement}
 use Rattle.arcs.proofs.before.first_of.Tie as tie
 
-abbrev invariant-loop : tie.invariant-loop
-invariant-loop table roles from to i₀ i = (from ≤ i) × (i ≤ to) × NoneOf table roles from i
+abbrev invariant-loop-i : tie.invariant-loop-i
+invariant-loop-i table roles from to i₀ i = (from ≤ i) × (i ≤ to) × NoneOf table roles from i
 
-abbrev decreases-loop : tie.decreases-loop
-decreases-loop table roles from to i₀ i = to - i
+abbrev decreases-loop-i : tie.decreases-loop-i
+decreases-loop-i table roles from to i₀ i = to - i
 
-loop-holds : tie.Need-loop-init invariant-loop decreases-loop
-loop-holds c = (omega arith, c.before.requires.forward, λ k l m. absurd (omega arith))
+loop-holds : tie.Need-loop-i-init invariant-loop-i decreases-loop-i
+loop-holds c = (omega arith, c.requires.forward, λ k l m. absurd (omega arith))
 
-has-role-requires : tie.Need-has-role-requires invariant-loop decreases-loop
-has-role-requires c κs = stretch-atom c.before.before.before.requires c.before.loop.i c.loop-test.true
+has-role-requires : tie.Need-has_role-requires invariant-loop-i decreases-loop-i
+has-role-requires c κs = stretch-atom c.requires c.loop-i.i c.loop-i-test.true
 
-returns : tie.Need-returns invariant-loop decreases-loop
-returns c = c.before.before.before.loop.invariant
+returns : tie.Need-returns-then-has_role invariant-loop-i decreases-loop-i
+returns c = c.loop-i.invariant
 
-loop-again : tie.Need-loop-preserved invariant-loop decreases-loop
+loop-again : tie.Need-loop-i-preserved invariant-loop-i decreases-loop-i
 loop-again c =
-    let at = c.before.before.before in
-    let a = at.before.before.args in
-    let none = sym c.before.has-role.ensures ∙ c.if1.false in (
+    let at = c in
+    let a = at.args in
+    let none = sym c.has_role.ensures ∙ c.if-has_role.false in (
       omega arith,
       omega arith,
-      run_more (λ k. member a.roles (atom_in a.table.now k).role ≡ false) at.loop.invariant.2 none,
+      run_more (λ k. member a.roles (atom_in a.table.now k).role ≡ false) at.loop-i.invariant.2 none,
     )
 
-returns-2 : tie.Need-returns-2 invariant-loop decreases-loop
-returns-2 c = c.before.loop.invariant
+returns-2 : tie.Need-returns invariant-loop-i decreases-loop-i
+returns-2 c = c.loop-i.invariant
 
-pub first-of-spec : {M : Type 1} → statement M
-first-of-spec =
+pub first_of_spec : {M : Type 1} → statement M
+first_of_spec =
     tie.close
-    (tie.spec invariant-loop decreases-loop loop-holds has-role-requires returns (λ c. omega arith)
+    (tie.spec invariant-loop-i decreases-loop-i loop-holds has-role-requires returns (λ c. omega arith)
     (λ c. omega arith) loop-again returns-2)

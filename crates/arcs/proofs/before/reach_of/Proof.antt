@@ -5,8 +5,8 @@ use Rattle.arcs.proofs.before.reach_of.Tie as tie
 returns : tie.Need-returns
 returns c =
     let e = c.end_of_lem.ensures in
-    record { after = c.before.roles-after.ensures; behind = e.0; within = e.1; none = e.2 }
+    record { after = c.roles_after-after.ensures; behind = e.0; within = e.1; none = e.2 }
 
-pub reach-of-spec : {M : Type 1} → statement M
-reach-of-spec =
-    tie.close (tie.spec (λ c κs. c.before.requires.0) (λ c κs. c.before.before.requires.1) returns)
+pub reach_of_spec : {M : Type 1} → statement M
+reach_of_spec =
+    tie.close (tie.spec (λ c κs. c.requires.0) (λ c κs. c.requires.1) returns)

@@ -19,20 +19,20 @@ record Known (before counts tested : List ℕ) (bound unplaced count : ℕ) (pai
   tests : AreTests atoms counts tested
   placed : IsBound atoms (placed_parts atoms (members unplaced count)) bound
 
-abbrev invariant-loop : tie.invariant-loop
-invariant-loop before counts tested bound unplaced count found₀ p₀ found p =
+abbrev invariant-loop-p : tie.invariant-loop-p
+invariant-loop-p before counts tested bound unplaced count found₀ p₀ found p =
     (p ≤ count) × ChosenBelow count found ×
     FoundFrom (Known before counts tested bound unplaced count) unplaced count p (chosen found)
 
-abbrev decreases-loop : tie.decreases-loop
-decreases-loop before counts tested bound unplaced count found₀ p₀ found p = p
+abbrev decreases-loop-p : tie.decreases-loop-p
+decreases-loop-p before counts tested bound unplaced count found₀ p₀ found p = p
 
-abbrev KnownAt : tie.Start invariant-loop decreases-loop → List Pair → List Atom → Type 0
+abbrev KnownAt : tie.Start invariant-loop-p decreases-loop-p → List Pair → List Atom → Type 0
 KnownAt s =
     let a = s.args in
     Known a.before.now a.counts.now a.tested.now a.bound a.unplaced a.count
 
-loop-holds : tie.Need-loop-init invariant-loop decreases-loop
+loop-holds : tie.Need-loop-p-init invariant-loop-p decreases-loop-p
 unfolding chosen
 loop-holds c = (
   omega arith,
@@ -40,47 +40,47 @@ loop-holds c = (
   found_none (KnownAt c) c.args.unplaced c.args.count,
 )
 
-better-of-requires : tie.Need-better-of-requires invariant-loop decreases-loop
-better-of-requires c κs = (omega arith, λ p e. let l = c.before.before.before.loop.invariant.1 p e in omega arith)
+better-of-requires : tie.Need-better_of-found-requires invariant-loop-p decreases-loop-p
+better-of-requires c κs = (omega arith, λ p e. let l = c.loop-p.invariant.1 p e in omega arith)
 
-loop-again : tie.Need-loop-preserved invariant-loop decreases-loop
+loop-again : tie.Need-loop-p-preserved-then-is_ready invariant-loop-p decreases-loop-p
 loop-again c =
-    let turn = c.before.before.before in
-    let h = turn.before.loop in
-    let s = turn.before.before in
+    let turn = c in
+    let h = turn.loop-p in
+    let s = turn in
     let n = s.args.count in
-    let r = c.before.before.is-ready.ensures in
-    let b = c.better-of.ensures in (
+    let r = c.is_ready.ensures in
+    let b = c.better_of-found.ensures in (
       omega arith,
       b.1 n (omega arith) h.invariant.1,
-      found_take (KnownAt s) s.args.unplaced n h.p (chosen h.found) (chosen c.better-of.result)
-          turn.loop-test.true h.invariant.0
-          (λ pairs atoms k. sym (r pairs atoms n k.arcs s.requires.1) ∙ c.before.if1.true) h.invariant.2
+      found_take (KnownAt s.before.before.before.before.before) s.args.unplaced n h.p (chosen h.found) (chosen c.better_of-found.result)
+          turn.loop-p-test.true h.invariant.0
+          (λ pairs atoms k. sym (r pairs atoms n k.arcs s.requires.1) ∙ c.if-is_ready.true) h.invariant.2
           (λ pairs atoms k. b.0 atoms (placed_parts atoms (members s.args.unplaced n)) k.tests k.placed),
     )
 
-loop-again-2 : tie.Need-loop-preserved-2 invariant-loop decreases-loop
+loop-again-2 : tie.Need-loop-p-preserved invariant-loop-p decreases-loop-p
 loop-again-2 c =
-    let turn = c.before.before in
-    let h = turn.before.loop in
-    let s = turn.before.before in
+    let turn = c in
+    let h = turn.loop-p in
+    let s = turn in
     let n = s.args.count in
-    let r = c.before.is-ready.ensures in (
+    let r = c.is_ready.ensures in (
       omega arith,
       h.invariant.1,
-      found-skip (KnownAt s) s.args.unplaced n h.p (chosen h.found) turn.loop-test.true h.invariant.0
-          (λ pairs atoms k. sym (r pairs atoms n k.arcs s.requires.1) ∙ c.if1.false) h.invariant.2,
+      found-skip (KnownAt s.before.before.before.before) s.args.unplaced n h.p (chosen h.found) turn.loop-p-test.true h.invariant.0
+          (λ pairs atoms k. sym (r pairs atoms n k.arcs s.requires.1) ∙ c.if-is_ready.false) h.invariant.2,
     )
 
-returns : tie.Need-returns invariant-loop decreases-loop
+returns : tie.Need-returns invariant-loop-p decreases-loop-p
 returns c =
-    let s = c.before.before in
-    let h = c.before.loop in
+    let s = c in
+    let h = c.loop-p in
     let found = chosen h.found in
     let z : h.p ≡ 0 = omega arith in
-    let all = subst (λ (k : ℕ). FoundFrom (KnownAt s) s.args.unplaced s.args.count k found) z h.invariant.2 in (
+    let all = subst (λ (k : ℕ). FoundFrom (KnownAt s.before.before) s.args.unplaced s.args.count k found) z h.invariant.2 in (
       λ pairs atoms a t b.
-          found_all (KnownAt s) s.args.unplaced s.args.count found all pairs atoms
+          found_all (KnownAt s.before.before) s.args.unplaced s.args.count found all pairs atoms
           (record { arcs = a; tests = t; placed = b }),
       h.invariant.1,
     )
@@ -88,5 +88,5 @@ returns c =
 pub choose_spec : {M : Type 1} → statement M
 choose_spec =
     tie.close
-    (tie.spec invariant-loop decreases-loop loop-holds (λ c. omega arith) (λ c κs. omega arith) better-of-requires (λ c. omega arith)
+    (tie.spec invariant-loop-p decreases-loop-p loop-holds (λ c. omega arith) (λ c κs. omega arith) better-of-requires (λ c. omega arith)
     loop-again (λ c. omega arith) loop-again-2 returns)

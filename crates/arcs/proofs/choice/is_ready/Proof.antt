@@ -10,24 +10,24 @@ use Rattle.arcs.proofs.Choosing.{ready-apart}
 use Rattle.arcs.proofs.choice.is_ready.Statement.{statement}
 use Rattle.arcs.proofs.choice.is_ready.Tie as tie
 
-returns : tie.Need-returns
+returns : tie.Need-returns-then-has
 returns c = λ pairs atoms n a b.
-    let s = c.before.before.before.before in
+    let s = c in
     let u = s.args.unplaced in
     let p = s.args.p in
-    let m = sym c.before.before.before.has.ensures ∙ c.before.before.if1.true in
+    let m = sym c.has.ensures ∙ c.if-has.true in
     ap not c.meet.ensures
     ∙ (ready-apart pairs atoms s.args.before.now u n p s.ranges.unplaced.fits a b
     ∙ ap (λ (x : Bool). x && ready pairs atoms (members u n) p) (sym m))
 
-returns-2 : tie.Need-returns-2
+returns-2 : tie.Need-returns-else-has
 returns-2 c = λ pairs atoms n a b.
-    let s = c.before.before in
+    let s = c in
     let u = s.args.unplaced in
-    let m = sym c.before.has.ensures ∙ c.if1.false in
-    c.if1.false ∙ ap (λ (x : Bool). x && ready pairs atoms (members u n) s.args.p) (sym m)
+    let m = sym c.has.ensures ∙ c.if-has.false in
+    c.if-has.false ∙ ap (λ (x : Bool). x && ready pairs atoms (members u n) s.args.p) (sym m)
 
-pub is-ready-spec : {M : Type 1} → statement M
-is-ready-spec =
+pub is_ready_spec : {M : Type 1} → statement M
+is_ready_spec =
     tie.close
     (tie.spec (λ c κs. search rules) (λ c. search rules) (λ c. search rules) (λ c κs. search rules) returns returns-2)

@@ -18,23 +18,23 @@ use Rattle.arcs.proofs.Placing.{below-without, bound-first, bound-next}
 use Rattle.arcs.proofs.orders.order_of.Statement.{statement}
 use Rattle.arcs.proofs.orders.order_of.Tie as tie
 
-abbrev invariant-loop : tie.invariant-loop
-invariant-loop table from to pair end before tests tested named count parts₀ unplaced₀ bound₀ placed₀ parts unplaced bound
+abbrev invariant-loop-placed : tie.invariant-loop-placed
+invariant-loop-placed table from to pair end before tests tested named count parts₀ unplaced₀ bound₀ placed₀ parts unplaced bound
     placed =
     (placed ≤ count) × (length parts ≡ most_parts) × SetBelow count unplaced ×
     Placed (pair_stretch_in table pair end) (stretch_in table from to) count parts unplaced placed ×
     IsBound (stretch_in table from to) (placed_parts (stretch_in table from to) (members unplaced count)) bound
 
-abbrev decreases-loop : tie.decreases-loop
-decreases-loop table from to pair end before tests tested named count parts₀ unplaced₀ bound₀ placed₀ parts unplaced bound
+abbrev decreases-loop-placed : tie.decreases-loop-placed
+decreases-loop-placed table from to pair end before tests tested named count parts₀ unplaced₀ bound₀ placed₀ parts unplaced bound
     placed =
     count - placed
 
 -- ---- what is known at the loop
 abbrev Loop : Type 0
-Loop = tie.At-loop invariant-loop decreases-loop
+Loop = tie.At-loop-placed invariant-loop-placed decreases-loop-placed
 
-abbrev start : Loop → tie.Start invariant-loop decreases-loop
+abbrev start : Loop → tie.Start invariant-loop-placed decreases-loop-placed
 start l = l.before.before.before.before.before.before.before.before
 
 abbrev all : Loop → List Atom
@@ -44,136 +44,136 @@ abbrev pairs : Loop → List Pair
 pairs l = pair_stretch_in (start l).args.table.now (start l).args.pair (start l).args.end
 
 abbrev count : Loop → ℕ
-count l = l.before.before.gather.result
+count l = l.before.before.gather-count.result
 
 counted : (l : Loop) → count l ≡ part_count (all l)
-counted l = l.before.before.gather.ensures.0
+counted l = l.before.before.gather-count.ensures.0
 
 -- the turn in which a part is chosen, and what is chosen
-abbrev turn : tie.After-choose invariant-loop decreases-loop → tie.In-loop invariant-loop decreases-loop
+abbrev turn : tie.After-choose invariant-loop-placed decreases-loop-placed → tie.In-loop-placed invariant-loop-placed decreases-loop-placed
 turn c = c.before.before.before.before
 
 abbrev unplaced : Loop → List ℕ
-unplaced l = members l.loop.unplaced (count l)
+unplaced l = members l.loop-placed.unplaced (count l)
 
-next : (c : tie.After-choose invariant-loop decreases-loop) →
+next : (c : tie.After-choose invariant-loop-placed decreases-loop-placed) →
     chosen c.choose.result ≡ next_part (pairs (turn c).before) (all (turn c).before) (unplaced (turn c).before)
 next c =
     let l = (turn c).before in
     let g = l.before.before in
-    c.choose.ensures.0 (pairs l) (all l) g.before.before.before.before.arcs-of.ensures
-    g.gather.ensures.1.1.0 l.loop.inv.4
+    c.choose.ensures.0 (pairs l) (all l) g.before.before.before.before.arcs_of-before.ensures
+    g.gather-count.ensures.1.1.0 l.loop-placed.inv.4
 
 -- ---- before the loop
-arcs-of-requires : tie.Need-arcs-of-requires invariant-loop decreases-loop
-arcs-of-requires c κs = c.before.requires
+arcs-of-requires : tie.Need-arcs_of-before-requires invariant-loop-placed decreases-loop-placed
+arcs-of-requires c κs = c.requires
 
-gather-requires : tie.Need-gather-requires invariant-loop decreases-loop
-gather-requires c κs = (c.before.before.before.before.before.requires.0, (refl, (refl, refl)))
+gather-requires : tie.Need-gather-count-requires invariant-loop-placed decreases-loop-placed
+gather-requires c κs = (c.requires.0, (refl, (refl, refl)))
 
-below-requires : tie.Need-below-requires invariant-loop decreases-loop
-below-requires c κs = omega (arith, c.gather.ensures.1.0)
+below-requires : tie.Need-below-unplaced-requires invariant-loop-placed decreases-loop-placed
+below-requires c κs = omega (arith, c.gather-count.ensures.1.0)
 
-loop-holds : tie.Need-loop-init invariant-loop decreases-loop
+loop-holds : tie.Need-loop-placed-init invariant-loop-placed decreases-loop-placed
 loop-holds c =
-    let g = c.before.gather in
+    let g = c.gather-count in
     let n = g.result in
-    let u = c.below.result in
-    let a = c.before.before.before.before.before.before.before.args in
+    let u = c.below-unplaced.result in
+    let a = c.args in
     let atoms = stretch_in a.table.now a.from a.to in
     let none : List Part = replicate most_parts (record { 0 = 0 }) in (
       omega arith,
       refl,
-      below_all u n c.below.ensures,
-      placed-none (pair_stretch_in a.table.now a.pair a.end) atoms n none u c.below.ensures,
-      bound-first atoms n g.ensures.0 u c.below.ensures,
+      below_all u n c.below-unplaced.ensures,
+      placed-none (pair_stretch_in a.table.now a.pair a.end) atoms n none u c.below-unplaced.ensures,
+      bound-first atoms n g.ensures.0 u c.below-unplaced.ensures,
     )
 
 -- ---- a turn
-choose-requires : tie.Need-choose-requires invariant-loop decreases-loop
+choose-requires : tie.Need-choose-requires invariant-loop-placed decreases-loop-placed
 choose-requires c κs =
-    let l = c.before.before.before.before in
-    (l.before.before.gather.ensures.1.0, l.loop.invariant.2)
+    let l = c in
+    (l.gather-count.ensures.1.0, l.loop-placed.invariant.2)
 
 -- no part is ready
-returns : tie.Need-returns invariant-loop decreases-loop
+returns : tie.Need-returns-in_default invariant-loop-placed decreases-loop-placed
 unfolding chosen order_told
 returns c =
-    let d = c.before.before in
-    let l = (turn d).before in
-    let h = l.loop in
-    let t = (turn d).loop-test.true in (
+    let d = c in
+    let l = (turn d.before).before in
+    let h = l.loop-placed in
+    let t = (turn d.before).loop-placed-test.true in (
       λ s p e.
           sym (placed-stuck (pairs l) (all l) (count l) h.parts h.unplaced h.placed t
-          (sym (ap chosen c.enum_told.given.1) ∙ next d) h.inv.3)
+          (sym (ap chosen c.in_default.is) ∙ next d.before) h.inv.3)
           ∙ order_is s (pairs l) (all l) (count l) p e (counted l),
-      ((omega arith, h.inv.1), l.before.before.gather.ensures.1.1.1),
+      ((omega arith, h.inv.1), l.before.before.gather-count.ensures.1.1.1),
     )
 
 -- the part chosen is one of the schema's
-part-known : (c : tie.After-known-told invariant-loop decreases-loop) →
-    c.before.part.given.0.0.0 < count (turn c.before.before.before).before
+part-known : (c : tie.In-Ready invariant-loop-placed decreases-loop-placed) →
+    c.part.given.0.0.0 < count (turn c.before).before
 unfolding chosen
 part-known c =
-    let g = c.before.part.given in
-    c.before.before.before.choose.ensures.1 g.0.0.0 (ap chosen g.1)
+    let g = c.part.given in
+    c.choose.ensures.1 g.0.0.0 (ap chosen g.1)
 
-part_small : (c : tie.After-known-told invariant-loop decreases-loop) → c.before.part.given.0.0.0 < most_parts
+part_small : (c : tie.In-Ready invariant-loop-placed decreases-loop-placed) → c.part.given.0.0.0 < most_parts
 part_small c =
-    let l = (turn c.before.before.before).before in
-    omega (arith, part-known c, l.before.before.gather.ensures.1.0)
+    let l = (turn c.before).before in
+    omega (arith, part-known c, l.before.before.gather-count.ensures.1.0)
 
-cast-p : tie.Need-overflow-cast-p invariant-loop decreases-loop
+cast-p : tie.Need-overflow_cast-p invariant-loop-placed decreases-loop-placed
 cast-p c = omega (arith, part_small c.before)
 
-without-requires : tie.Need-without-requires invariant-loop decreases-loop
+without-requires : tie.Need-without-unplaced-requires invariant-loop-placed decreases-loop-placed
 without-requires c κs = omega (arith, part_small c.before)
 
-array-read-held : tie.Need-array-read-held invariant-loop decreases-loop
+array-read-held : tie.Need-bounds-named-p invariant-loop-placed decreases-loop-placed
 array-read-held c = omega (arith, part_small c.before.before)
 
-loop-again : tie.Need-loop-preserved invariant-loop decreases-loop
+loop-again : tie.Need-loop-placed-preserved invariant-loop-placed decreases-loop-placed
 unfolding chosen
 loop-again c =
-    let known = c.before.before.before.before in
-    let d = known.before.before.before in
-    let l = (turn d).before in
-    let h = l.loop in
-    let g = known.before.part.given in
+    let known = c in
+    let d = known in
+    let l = (turn d.before.before.before.before.before).before in
+    let h = l.loop-placed in
+    let g = known.part.given in
     let p = g.0.0 in
-    let u = c.before.before.without.result in
-    let w = c.before.before.without.ensures in
-    let t = (turn d).loop-test.true in
-    let own = l.before.before.gather.ensures.1.1.1 in
-    let held = c.before.held in (
+    let u = c.without-unplaced.result in
+    let w = c.without-unplaced.ensures in
+    let t = (turn d.before.before.before.before.before).loop-placed-test.true in
+    let own = l.before.before.gather-count.ensures.1.1.1 in
+    let held = c.held in (
       omega arith,
       length-set h.parts h.placed p ∙ h.inv.1,
       below-without h.unplaced u p.0 (count l) w h.inv.2,
       placed-more (pairs l) (all l) (count l) h.parts h.unplaced u h.placed p t (omega arith)
-          (sym (ap chosen g.1) ∙ next d) w h.inv.3,
+          (sym (ap chosen g.1) ∙ next d.before.before.before.before.before) w h.inv.3,
       bound-next (all l) (count l) (counted l) h.unplaced u p.0 h.bound held.result
-          c.union.result (part-known known) w h.inv.4
-          (λ x. ap (λ (s : ℕ). member s x) held.ensures ∙ own.named x p.0) c.union.ensures,
+          c.union-bound.result (part-known known.before.before.before.before) w h.inv.4
+          (λ x. ap (λ (s : ℕ). member s x) held.ensures ∙ own.named x p.0) c.union-bound.ensures,
     )
 
 -- ---- after the loop
-returns-2 : tie.Need-returns-2 invariant-loop decreases-loop
+returns-2 : tie.Need-returns invariant-loop-placed decreases-loop-placed
 unfolding order_told
 returns-2 c =
-    let l = c.before in
-    let h = l.loop in
+    let l = c in
+    let h = l.loop-placed in
     let z : h.placed ≡ count l = omega arith in
     let done = subst (λ (k : ℕ). Placed (pairs l) (all l) (count l) h.parts h.unplaced k) z h.invariant.3 in (
       λ s p e.
           sym (placed-all (pairs l) (all l) (count l) h.parts h.unplaced done)
           ∙ order_is s (pairs l) (all l) (count l) p e (counted l),
-      ((l.before.before.gather.ensures.1.0, h.invariant.1), l.before.before.gather.ensures.1.1.1),
+      ((l.gather-count.ensures.1.0, h.invariant.1), l.gather-count.ensures.1.1.1),
     )
 
-pub order-of-spec : {M : Type 1} → statement M
-order-of-spec =
+pub order_of_spec : {M : Type 1} → statement M
+order_of_spec =
     tie.close
-    (tie.spec invariant-loop decreases-loop arcs-of-requires gather-requires below-requires loop-holds choose-requires
+    (tie.spec invariant-loop-placed decreases-loop-placed arcs-of-requires gather-requires below-requires loop-holds choose-requires
     (λ c. search rules) (λ c. search rules) returns cast-p (λ c. omega arith) (λ c. omega arith) without-requires
     (λ c. omega arith) array-read-held (λ c κs. tt) (λ c κs. tt) (λ c. omega arith) (λ c. omega arith) loop-again
     returns-2)

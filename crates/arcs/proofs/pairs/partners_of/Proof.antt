@@ -17,16 +17,16 @@ use Rattle.arcs.proofs.Partners.{pair_small, partners-none, partners-more}
 use Rattle.arcs.proofs.pairs.partners_of.Statement.{statement}
 use Rattle.arcs.proofs.pairs.partners_of.Tie as tie
 
-abbrev invariant-loop : tie.invariant-loop
-invariant-loop table from to partners₀ i₀ partners i =
+abbrev invariant-loop-i : tie.invariant-loop-i
+invariant-loop-i table from to partners₀ i₀ partners i =
     (from ≤ i) × (i ≤ to) × (length partners ≡ most_parameters) × ArePartners (pair_stretch_in table from i) partners
 
-abbrev decreases-loop : tie.decreases-loop
-decreases-loop table from to partners₀ i₀ partners i = to - i
+abbrev decreases-loop-i : tie.decreases-loop-i
+decreases-loop-i table from to partners₀ i₀ partners i = to - i
 
-loop-holds : tie.Need-loop-init invariant-loop decreases-loop
+loop-holds : tie.Need-loop-i-init invariant-loop-i decreases-loop-i
 loop-holds c =
-    let s = c.before in (
+    let s = c in (
       omega arith,
       s.requires.forward,
       refl,
@@ -35,60 +35,60 @@ loop-holds c =
     )
 
 -- ---- a turn
-abbrev start : tie.In-loop invariant-loop decreases-loop → tie.Start invariant-loop decreases-loop
+abbrev start : tie.In-loop-i invariant-loop-i decreases-loop-i → tie.Start invariant-loop-i decreases-loop-i
 start c = c.before.before.before
 
-abbrev words : tie.In-loop invariant-loop decreases-loop → List ℕ
+abbrev words : tie.In-loop-i invariant-loop-i decreases-loop-i → List ℕ
 words c = (start c).args.table.now
 
-known : (c : tie.In-loop invariant-loop decreases-loop) → Roomy (words c) × (c.before.loop.i < (head_in (words c)).pairs)
+known : (c : tie.In-loop-i invariant-loop-i decreases-loop-i) → Roomy (words c) × (c.loop-i.i < (head_in (words c)).pairs)
 known c =
     let p = (start c).requires in
-    (table-roomy (words c) p.table, omega (arith, p.known, c.loop-test.true))
+    (table-roomy (words c) p.table, omega (arith, p.known, c.loop-i-test.true))
 
 -- its parameters are among the twelve
-small : (c : tie.After-higher invariant-loop decreases-loop) →
-    (c.before.lower.result < c.higher.result) × (c.higher.result < most_parameters)
+small : (c : tie.After-higher-y invariant-loop-i decreases-loop-i) →
+    (c.lower-x.result < c.higher-y.result) × (c.higher-y.result < most_parameters)
 small c =
-    let t = c.before.before in
-    let f = pair_small (words t) (start t).requires.table t.before.loop.i (known t).1 in
-    let high = c.higher.ensures in
-    (omega (arith, c.before.lower.ensures, high, f.ascends), omega (arith, high, f.known))
+    let t = c in
+    let f = pair_small (words t.before.before) (start t.before.before).requires.table t.loop-i.i (known t.before.before).1 in
+    let high = c.higher-y.ensures in
+    (omega (arith, c.lower-x.ensures, high, f.ascends), omega (arith, high, f.known))
 
-loop-again : tie.Need-loop-preserved invariant-loop decreases-loop
+loop-again : tie.Need-loop-i-preserved invariant-loop-i decreases-loop-i
 loop-again c =
-    let read = c.before.before in
-    let t = read.before.before in
-    let a = (start t).args in
-    let h = t.before.loop in
-    let x = read.before.lower in
-    let y = read.higher in
-    let r = c.before.with in
-    let s = c.with2 in
-    let l = small read in
+    let read = c in
+    let t = read in
+    let a = (start t.before.before.before.before).args in
+    let h = t.loop-i in
+    let x = read.lower-x in
+    let y = read.higher-y in
+    let r = c.with in
+    let s = c.with-in-loop-i in
+    let l = small read.before.before in
     let one = set h.partners y.result r.result in
     let both = set one x.result s.result in (
       omega arith,
-      omega (arith, t.loop-test.true),
+      omega (arith, t.loop-i-test.true),
       length-set one x.result s.result ∙ (length-set h.partners y.result r.result ∙ h.invariant.2),
       subst (λ (qs : List Pair). ArePartners qs both)
-          (sym (rows_more (pair_in (words t)) a.from h.i h.invariant.0))
-          (partners-more (pair_stretch_in (words t) a.from h.i) (pair_in (words t) h.i) x.ensures y.ensures
+          (sym (rows_more (pair_in (words t.before.before.before.before)) a.from h.i h.invariant.0))
+          (partners-more (pair_stretch_in (words t.before.before.before.before) a.from h.i) (pair_in (words t.before.before.before.before) h.i) x.ensures y.ensures
           h.partners h.invariant.3 (omega (arith, l, h.invariant.2)) (omega (arith, l, h.invariant.2)) r.result
           s.result r.ensures s.ensures),
     )
 
-returns : tie.Need-returns invariant-loop decreases-loop
+returns : tie.Need-returns invariant-loop-i decreases-loop-i
 returns c =
-    let a = c.before.before.before.args in
-    let h = c.before.loop in
+    let a = c.args in
+    let h = c.loop-i in
     let e : h.i ≡ a.to = omega arith in
     subst (λ (n : ℕ). ArePartners (pair_stretch_in a.table.now a.from n) h.partners) e h.invariant.3
 
-pub partners-of-spec : {M : Type 1} → statement M
-partners-of-spec =
+pub partners_of_spec : {M : Type 1} → statement M
+partners_of_spec =
     tie.close
-    (tie.spec invariant-loop decreases-loop loop-holds (λ c κs. known c) (λ c κs. known c.before)
+    (tie.spec invariant-loop-i decreases-loop-i loop-holds (λ c κs. known c) (λ c κs. known c.before)
     (λ c. omega (arith, small c)) (λ c. omega (arith, small c)) (λ c κs. omega (arith, small c))
     (λ c. omega (arith, small c.before)) (λ c. omega (arith, small c.before))
     (λ c. omega (arith, small c.before)) (λ c. omega (arith, small c.before))

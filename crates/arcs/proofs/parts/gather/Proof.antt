@@ -52,16 +52,16 @@ module _ {w : List ℕ} {from to : ℕ} {preconditions tested named : List ℕ} 
   }
 
 -- ---- the loop
-abbrev invariant-loop : tie.invariant-loop
-invariant-loop table from to preconditions₀ tested₀ named₀ count₀ i₀ preconditions tested named count i =
+abbrev invariant-loop-i : tie.invariant-loop-i
+invariant-loop-i table from to preconditions₀ tested₀ named₀ count₀ i₀ preconditions tested named count i =
     (from ≤ i) × (i ≤ to) × (count ≤ most_parts) × Gathered (stretch_in table from i) preconditions tested named count
 
-abbrev decreases-loop : tie.decreases-loop
-decreases-loop table from to preconditions₀ tested₀ named₀ count₀ i₀ preconditions tested named count i = to - i
+abbrev decreases-loop-i : tie.decreases-loop-i
+decreases-loop-i table from to preconditions₀ tested₀ named₀ count₀ i₀ preconditions tested named count i = to - i
 
-loop-holds : tie.Need-loop-init invariant-loop decreases-loop
+loop-holds : tie.Need-loop-i-init invariant-loop-i decreases-loop-i
 loop-holds c =
-    let s = c.before in
+    let s = c in
     let zeros = s.requires.1 in (
       omega arith,
       s.requires.0.forward,
@@ -69,30 +69,30 @@ loop-holds c =
       rw (rows_none (atom_in s.args.table.now) s.args.from, zeros.0, zeros.1.0, zeros.1.1) gathered_none,
     )
 
-part-of-requires : tie.Need-part-of-requires invariant-loop decreases-loop
-part-of-requires c κs = stretch-atom c.before.before.before.requires.0 c.before.loop.i c.loop-test.true
+part-of-requires : tie.Need-part_of-part-requires invariant-loop-i decreases-loop-i
+part-of-requires c κs = stretch-atom c.requires.0 c.loop-i.i c.loop-i-test.true
 
-parameters-of-requires : tie.Need-parameters-of-requires invariant-loop decreases-loop
+parameters-of-requires : tie.Need-parameters_of-parameters-requires invariant-loop-i decreases-loop-i
 parameters-of-requires c κs = part-of-requires c.before.before κs
 
-is-precondition-requires : tie.Need-is-precondition-requires invariant-loop decreases-loop
-is-precondition-requires c κs = part-of-requires c.before.before.before.before.before κs
+is-precondition-requires : tie.Need-is_precondition-requires invariant-loop-i decreases-loop-i
+is-precondition-requires c κs = part-of-requires c.before.before.before.before.before.before κs
 
-add-preconditions : tie.Need-overflow-add-preconditions invariant-loop decreases-loop
+add-preconditions : tie.Need-overflow_add-preconditions invariant-loop-i decreases-loop-i
 add-preconditions c =
-    let told = c.before.before.before.before.before.before.before in
-    let turn = told.before in
-    let s = turn.before.before.before in
-    let counts = turn.before.loop.invariant.3.counts in
-    let room = counted-room s.args.table.now s.args.from counts turn.loop-test.true s.ranges.to.fits in
-    record { fits = room told.part_of.result.0 }
+    let told = c in
+    let turn = told in
+    let s = turn in
+    let counts = turn.loop-i.invariant.3.counts in
+    let room = counted-room s.args.table.now s.args.from counts turn.loop-i-test.true s.ranges.to.fits in
+    record { fits = room told.part_of-part.result.0 }
 
 -- ---- a turn, behind the test for a precondition
 abbrev Turn : Type 0
-Turn = tie.Joined1 invariant-loop decreases-loop
+Turn = tie.Joined-is_precondition invariant-loop-i decreases-loop-i
 
 -- how it began
-abbrev begun : Turn → tie.In-loop invariant-loop decreases-loop
+abbrev begun : Turn → tie.In-loop-i invariant-loop-i decreases-loop-i
 begun c = c.before.before.before.before.before.before.before
 
 abbrev table : Turn → List ℕ
@@ -100,31 +100,31 @@ table c = (begun c).before.before.before.args.table.now
 
 -- the atoms passed before, this turn's, and all of them
 abbrev passed : Turn → List Atom
-passed c = stretch_in (table c) (begun c).before.before.before.args.from (begun c).before.loop.i
+passed c = stretch_in (table c) (begun c).before.before.before.args.from (begun c).before.loop-i.i
 
 abbrev atom : Turn → Atom
-atom c = atom_in (table c) (begun c).before.loop.i
+atom c = atom_in (table c) (begun c).before.loop-i.i
 
 abbrev more : Turn → List Atom
 more c = passed c ++ (atom c ∷ [])
 
 abbrev part : Turn → ℕ
-part c = c.before.before.before.before.before.before.part_of.result.0
+part c = c.before.before.before.before.before.before.part_of-part.result.0
 
-found : (c : Turn) → Found (atom c) (part c) c.before.before.before.before.parameters-of.result
+found : (c : Turn) → Found (atom c) (part c) c.before.before.before.before.parameters_of-parameters.result
 found c =
     let told = c.before.before.before.before in
-    let p = told.before.before.part_of.ensures in
-    record { of = p.0; below = p.1; brings = told.parameters-of.ensures }
+    let p = told.before.before.part_of-part.ensures in
+    record { of = p.0; below = p.1; brings = told.parameters_of-parameters.ensures }
 
-tested-more : (c : Turn) → Counted (more c) c.if1.preconditions × Kept (tests (more c)) c.if1.tested
+tested-more : (c : Turn) → Counted (more c) c.if-is_precondition.preconditions × Kept (tests (more c)) c.if-is_precondition.tested
 tested-more c =
-    let h = (begun c).before.loop in
+    let h = (begun c).before.loop-i in
     let g = h.inv.3 in
     let f = found c in
     let xs = passed c in
     let a = atom c in
-    let test = sym c.before.is-precondition.ensures in
+    let test = sym c.before.is_precondition.ensures in
     ⊎_elim
     (λ x.
     let e = test ∙ x.0.taken in
@@ -139,32 +139,32 @@ tested-more c =
       subst (Counted (more c)) (sym x.1) (counted_same xs a g.counts e),
       subst (Kept (tests (more c))) (sym x.2) sets,
     ))
-    c.if1.branch
+    c.if-is_precondition.branch
 
 abbrev joined : Turn → List ℕ
-joined c = set (begun c).before.loop.named (part c) c.before.before.word-union.result
+joined c = set (begun c).before.loop-i.named (part c) c.before.before.word_union.result
 
 named_more : (c : Turn) → Kept (in_part (more c)) (joined c)
 named_more c =
-    let h = (begun c).before.loop in
-    let u = c.before.before.word-union in
+    let h = (begun c).before.loop-i in
+    let u = c.before.before.word_union in
     kept_more (in_part (passed c)) (in_part (more c)) h.named h.inv.3.names (found c)
     (in-part-more (passed c) (atom c)) u.result u.ensures
 
 -- the count goes to the larger of itself and one more than the part
-larger : (c : tie.Joined2 invariant-loop decreases-loop) →
-    c.if2.count ≡ max (begun c.before).before.loop.count (suc (part c.before))
-larger c = ⊎_elim (λ x. omega arith) (λ x. omega arith) c.if2.branch
+larger : (c : tie.Joined-count-part invariant-loop-i decreases-loop-i) →
+    c.if-count-part.count ≡ max (begun c.before).before.loop-i.count (suc (part c.before))
+larger c = ⊎_elim (λ x. omega arith) (λ x. omega arith) c.if-count-part.branch
 
-loop-again : tie.Need-loop-preserved invariant-loop decreases-loop
+loop-again : tie.Need-loop-i-preserved invariant-loop-i decreases-loop-i
 loop-again c =
-    let d = c.before in
-    let h = (begun d).before.loop in
+    let d = c in
+    let h = (begun d).before.loop-i in
     let t = tested-more d in
     let l = larger c in
     let f = found d in
     let Now : List Atom → Type 0 =
-    λ xs. Gathered xs d.if1.preconditions d.if1.tested (joined d) c.if2.count in
+    λ xs. Gathered xs d.if-is_precondition.preconditions d.if-is_precondition.tested (joined d) c.if-count-part.count in
     let g : Now (more d) = record {
       parts = omega (arith, h.inv.3.parts, f.of, part-count-more (passed d) (atom d));
       counts = t.0;
@@ -178,19 +178,19 @@ loop-again c =
       subst Now (sym e) g,
     )
 
-returns : tie.Need-returns invariant-loop decreases-loop
+returns : tie.Need-returns invariant-loop-i decreases-loop-i
 returns c =
-    let s = c.before.before.before in
-    let h = c.before.loop in
+    let s = c in
+    let h = c.loop-i in
     let e : h.i ≡ s.args.to = omega arith in
     let atoms : ℕ → List Atom = stretch_in s.args.table.now s.args.from in
     let g = subst (λ (n : ℕ). Gathered (atoms n) h.preconditions h.tested h.named h.count) e h.invariant.3 in
     (g.parts, (h.invariant.2, (are-tests s.requires.0 g, are-parameters s.requires.0 g)))
 
-pub gather-spec : {M : Type 1} → statement M
-gather-spec =
+pub gather_spec : {M : Type 1} → statement M
+gather_spec =
     tie.close
-    (tie.spec invariant-loop decreases-loop loop-holds part-of-requires (λ c. omega arith) parameters-of-requires (λ c. omega arith)
+    (tie.spec invariant-loop-i decreases-loop-i loop-holds part-of-requires (λ c. omega arith) parameters-of-requires (λ c. omega arith)
     (λ c. omega arith) (λ c κs. tt) (λ c. omega arith) (λ c. omega arith) is-precondition-requires (λ c. omega arith)
     (λ c. omega arith) add-preconditions (λ c. omega arith) (λ c. omega arith) (λ c. omega arith) (λ c κs. tt)
     (λ c. omega arith) (λ c. omega arith) (λ c. omega arith) (λ c. omega arith) (λ c. omega arith) loop-again returns)

@@ -8,9 +8,9 @@ use Rattle.arcs.proofs.rule.role_before.Tie as tie
 
 returns : tie.Need-returns
 unfolding rule_table
-returns c = each-entry _ refl c.before.args.r c.before.args.q c.before.requires.0 c.before.requires.1
+returns c = each-entry _ refl c.args.r c.args.q c.requires.0 c.requires.1
 
-pub role-before-spec : {M : Type 1} → statement M
-role-before-spec =
+pub role_before_spec : {M : Type 1} → statement M
+role_before_spec =
     tie.close
     (tie.spec (λ c. let l = c.requires.0 in record { fits = omega arith }) (λ c. c.requires.0) (λ c. c.requires.1) returns)

@@ -21,42 +21,42 @@ use Rattle.arcs.proofs.rule.roles_after.Tie as tie
 brings : ℕ → ℕ → ℕ → Bool
 brings r x q = eqb q x && role_before r q
 
-abbrev invariant-loop : tie.invariant-loop
-invariant-loop r after₀ q₀ after q = SetLeft (brings r) schema_roles (λ x. any (brings r x) (up_to schema_roles)) after q
+abbrev invariant-loop-q : tie.invariant-loop-q
+invariant-loop-q r after₀ q₀ after q = SetLeft (brings r) schema_roles (λ x. any (brings r x) (up_to schema_roles)) after q
 
-abbrev decreases-loop : tie.decreases-loop
-decreases-loop r after₀ q₀ after q = schema_roles - q
+abbrev decreases-loop-q : tie.decreases-loop-q
+decreases-loop-q r after₀ q₀ after q = schema_roles - q
 
-loop-holds : tie.Need-loop-init invariant-loop decreases-loop
+loop-holds : tie.Need-loop-q-init invariant-loop-q decreases-loop-q
 unfolding up_to
 loop-holds c = set-start
 
-role-before-requires : tie.Need-role-before-requires invariant-loop decreases-loop
-role-before-requires c κs = (c.before.before.requires, c.loop-test.true)
+role-before-requires : tie.Need-role_before-requires invariant-loop-q decreases-loop-q
+role-before-requires c κs = (c.requires, c.loop-q-test.true)
 
-loop-again : tie.Need-loop-preserved invariant-loop decreases-loop
+loop-again : tie.Need-loop-q-preserved invariant-loop-q decreases-loop-q
 unfolding brings
 loop-again c =
-    let at = c.before.before.before in
-    let r = at.before.args.r in
-    let set = at.loop.after in
-    let q = at.loop.q in
-    let told = sym c.before.role-before.ensures in
-    let joins : (x : ℕ) → member c.if1.after x ≡ member set x || (eqb q x && role_before r q) =
+    let at = c in
+    let r = at.args.r in
+    let set = at.loop-q.after in
+    let q = at.loop-q.q in
+    let told = sym c.role_before.ensures in
+    let joins : (x : ℕ) → member c.if-role_before.after x ≡ member set x || (eqb q x && role_before r q) =
     λ x. ⊎_elim
     (λ y. ap (λ (s : ℕ). member s x) y.2 ∙ (y.1.ensures x ∙
     ap (λ (b : Bool). member set x || b) (sym (rw (told ∙ y.0.taken) (and-true (eqb q x))))))
     (λ y. ap (λ (s : ℕ). member s x) y.1 ∙
     sym (rw (told ∙ y.0.left, and-false (eqb q x)) (or-false (member set x))))
-    c.if1.branch in
-    set_more at.loop.invariant c.before.before.loop-test.true joins
+    c.if-role_before.branch in
+    set_more at.loop-q.invariant c.loop-q-test.true joins
 
-returns : tie.Need-returns invariant-loop decreases-loop
+returns : tie.Need-returns invariant-loop-q decreases-loop-q
 unfolding brings
-returns c q = set-ends c.before.loop.invariant c.loop-test.false q ∙ listed-after c.before.before.args.r q
+returns c q = set-ends c.loop-q.invariant c.loop-q-test.false q ∙ listed-after c.args.r q
 
-pub roles-after-spec : {M : Type 1} → statement M
-roles-after-spec =
+pub roles_after_spec : {M : Type 1} → statement M
+roles_after_spec =
     tie.close
-    (tie.spec invariant-loop decreases-loop loop-holds role-before-requires (λ c κs. omega arith) (λ c. omega arith)
+    (tie.spec invariant-loop-q decreases-loop-q loop-holds role-before-requires (λ c κs. omega arith) (λ c. omega arith)
     (λ c. omega arith) loop-again returns)

@@ -12,26 +12,26 @@ use Rattle.arcs.specs.Order.{role_before}
 use Rattle.arcs.proofs.rule.roles_reached.Statement.{statement}
 use Rattle.arcs.proofs.rule.roles_reached.Tie as tie
 
-abbrev invariant-loop : tie.invariant-loop
-invariant-loop reached₀ r₀ reached r =
+abbrev invariant-loop-r : tie.invariant-loop-r
+invariant-loop-r reached₀ r₀ reached r =
     SetLeft (λ q r. role_before r q) schema_roles (λ q. any (λ r. role_before r q) (up_to schema_roles)) reached r
 
-abbrev decreases-loop : tie.decreases-loop
-decreases-loop reached₀ r₀ reached r = schema_roles - r
+abbrev decreases-loop-r : tie.decreases-loop-r
+decreases-loop-r reached₀ r₀ reached r = schema_roles - r
 
-loop-holds : tie.Need-loop-init invariant-loop decreases-loop
+loop-holds : tie.Need-loop-r-init invariant-loop-r decreases-loop-r
 unfolding up_to
 loop-holds c = set-start
 
-loop-again : tie.Need-loop-preserved invariant-loop decreases-loop
+loop-again : tie.Need-loop-r-preserved invariant-loop-r decreases-loop-r
 loop-again c =
-    let turn = c.before.before in
-    let set = turn.before.loop.reached in
-    set_more turn.before.loop.invariant turn.loop-test.true
-    (λ q. c.union.ensures q ∙ ap (λ (b : Bool). member set q || b) (c.before.roles-after.ensures q))
+    let turn = c in
+    let set = turn.loop-r.reached in
+    set_more turn.loop-r.invariant turn.loop-r-test.true
+    (λ q. c.union-reached.ensures q ∙ ap (λ (b : Bool). member set q || b) (c.roles_after.ensures q))
 
-pub roles-reached-spec : {M : Type 1} → statement M
-roles-reached-spec =
+pub roles_reached_spec : {M : Type 1} → statement M
+roles_reached_spec =
     tie.close
-    (tie.spec invariant-loop decreases-loop loop-holds (λ c κs. c.loop-test.true) (λ c κs. tt) (λ c. omega arith)
-    (λ c. omega arith) loop-again (λ c q. set-ends c.before.loop.invariant c.loop-test.false q))
+    (tie.spec invariant-loop-r decreases-loop-r loop-holds (λ c κs. c.loop-r-test.true) (λ c κs. tt) (λ c. omega arith)
+    (λ c. omega arith) loop-again (λ c q. set-ends c.loop-r.invariant c.loop-r-test.false q))
