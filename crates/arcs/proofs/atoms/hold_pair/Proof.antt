@@ -71,12 +71,12 @@ asked c pairs h =
 returns : tie.Need-returns-then-has invariant-loop-k decreases-loop-k
 returns c = λ pairs h.
     let t = turn c.before in
-    any-yes (t.loop-k.inv pairs h) t.loop-k-test.taken (asked c.before pairs h) c.if-has.true
+    any-yes (t.loop-k.invariant pairs h) t.loop-k-test.true (asked c.before pairs h) c.if-has.true
 
 loop-again : tie.Need-loop-k-preserved invariant-loop-k decreases-loop-k
 loop-again c = λ pairs h.
     let t = turn c.before in
-    any-no (t.loop-k.inv pairs h) t.loop-k-test.taken (asked c.before pairs h) c.if-has.false
+    any-no (t.loop-k.invariant pairs h) t.loop-k-test.true (asked c.before pairs h) c.if-has.false
 
 returns-2 : tie.Need-returns invariant-loop-k decreases-loop-k
 returns-2 c = λ pairs h. any-ends (c.loop-k.invariant pairs h) c.loop-k-test.false

@@ -112,7 +112,7 @@ add-from-requires c κs =
 add-i : tie.Need-overflow_add-i invariant-loop-i decreases-loop-i
 add-i c =
     let t = c in
-    record { fits = omega (arith, t.loop-i-test.true, (start (found t.before.before.before.before.before.before.before)).fits.to.fits) }
+    record { fits = omega (arith, t.loop-i-test.true, (start (found t.before.before.before.before.before.before.before)).ranges.to.fits) }
 
 loop-less : tie.Need-loop-i-smaller invariant-loop-i decreases-loop-i
 loop-less c = omega (arith, c.loop-i-test.true)

@@ -4,7 +4,7 @@ use Rattle.arcs.proofs.before.reach_of.Tie as tie
 
 returns : tie.Need-returns
 returns c =
-    let e = c.end_of_lem.ensures in
+    let e = c.end_of.ensures in
     record { after = c.roles_after-after.ensures; behind = e.0; within = e.1; none = e.2 }
 
 pub reach_of_spec : {M : Type 1} → statement M

@@ -16,17 +16,17 @@ returns c =
 is-ahead-requires : tie.Need-is_ahead-requires
 unfolding chosen
 is-ahead-requires c κs =
-    let g = c.found.given in
+    let g = c.in-Ready in
     let s = c in
-    (s.requires.1 g.0.0.0 (ap chosen g.1), s.requires.0)
+    (s.requires.1 g.part.0 (ap chosen g.is), s.requires.0)
 
 returns-2 : tie.Need-returns-then-is_ahead
 unfolding chosen
 returns-2 c =
     let p = c.args.p in
-    let g = c.found.given in
-    let q = g.0.0.0 in
-    let e = ap chosen g.1 in
+    let g = c.in-Ready in
+    let q = g.part.0 in
+    let e = ap chosen g.is in
     let ahead = c.is_ahead.ensures in (
       λ atoms placed k b. better-keeps atoms placed p q e (sym (ahead atoms placed k b) ∙ c.if-is_ahead.true),
       λ n l b x h. b x (e ∙ h),
@@ -36,9 +36,9 @@ returns-3 : tie.Need-returns-else-is_ahead
 unfolding chosen
 returns-3 c =
     let p = c.args.p in
-    let g = c.found.given in
-    let q = g.0.0.0 in
-    let e = ap chosen g.1 in
+    let g = c.in-Ready in
+    let q = g.part.0 in
+    let e = ap chosen g.is in
     let ahead = c.is_ahead.ensures in (
       λ atoms placed k b. better-takes atoms placed p q e (sym (ahead atoms placed k b) ∙ c.if-is_ahead.false),
       λ n l b. only_below n p l,

@@ -62,7 +62,7 @@ next c =
     let l = (turn c).before in
     let g = l.before.before in
     c.choose.ensures.0 (pairs l) (all l) g.before.before.before.before.arcs_of-before.ensures
-    g.gather-count.ensures.1.1.0 l.loop-placed.inv.4
+    g.gather-count.ensures.1.1.0 l.loop-placed.invariant.4
 
 -- ---- before the loop
 arcs-of-requires : tie.Need-arcs_of-before-requires invariant-loop-placed decreases-loop-placed
@@ -105,20 +105,20 @@ returns c =
     let t = (turn d.before).loop-placed-test.true in (
       λ s p e.
           sym (placed-stuck (pairs l) (all l) (count l) h.parts h.unplaced h.placed t
-          (sym (ap chosen c.in_default.is) ∙ next d.before) h.inv.3)
+          (sym (ap chosen c.in_default.is) ∙ next d.before) h.invariant.3)
           ∙ order_is s (pairs l) (all l) (count l) p e (counted l),
-      ((omega arith, h.inv.1), l.before.before.gather-count.ensures.1.1.1),
+      ((omega arith, h.invariant.1), l.before.before.gather-count.ensures.1.1.1),
     )
 
 -- the part chosen is one of the schema's
 part-known : (c : tie.In-Ready invariant-loop-placed decreases-loop-placed) →
-    c.part.given.0.0.0 < count (turn c.before).before
+    c.in-Ready.part.0 < count (turn c.before).before
 unfolding chosen
 part-known c =
-    let g = c.part.given in
-    c.choose.ensures.1 g.0.0.0 (ap chosen g.1)
+    let g = c.in-Ready in
+    c.choose.ensures.1 g.part.0 (ap chosen g.is)
 
-part_small : (c : tie.In-Ready invariant-loop-placed decreases-loop-placed) → c.part.given.0.0.0 < most_parts
+part_small : (c : tie.In-Ready invariant-loop-placed decreases-loop-placed) → c.in-Ready.part.0 < most_parts
 part_small c =
     let l = (turn c.before).before in
     omega (arith, part-known c, l.before.before.gather-count.ensures.1.0)
@@ -139,20 +139,20 @@ loop-again c =
     let d = known in
     let l = (turn d.before.before.before.before.before).before in
     let h = l.loop-placed in
-    let g = known.part.given in
-    let p = g.0.0 in
+    let g = known.in-Ready in
+    let p = g.part in
     let u = c.without-unplaced.result in
     let w = c.without-unplaced.ensures in
     let t = (turn d.before.before.before.before.before).loop-placed-test.true in
     let own = l.before.before.gather-count.ensures.1.1.1 in
     let held = c.held in (
       omega arith,
-      length-set h.parts h.placed p ∙ h.inv.1,
-      below-without h.unplaced u p.0 (count l) w h.inv.2,
+      length-set h.parts h.placed p ∙ h.invariant.1,
+      below-without h.unplaced u p.0 (count l) w h.invariant.2,
       placed-more (pairs l) (all l) (count l) h.parts h.unplaced u h.placed p t (omega arith)
-          (sym (ap chosen g.1) ∙ next d.before.before.before.before.before) w h.inv.3,
+          (sym (ap chosen g.is) ∙ next d.before.before.before.before.before) w h.invariant.3,
       bound-next (all l) (count l) (counted l) h.unplaced u p.0 h.bound held.result
-          c.union-bound.result (part-known known.before.before.before.before) w h.inv.4
+          c.union-bound.result (part-known known.before.before.before.before) w h.invariant.4
           (λ x. ap (λ (s : ℕ). member s x) held.ensures ∙ own.named x p.0) c.union-bound.ensures,
     )
 
@@ -160,7 +160,7 @@ loop-again c =
 returns-2 : tie.Need-returns invariant-loop-placed decreases-loop-placed
 unfolding order_told
 returns-2 c =
-    let l = c in
+    let l = c.before in
     let h = l.loop-placed in
     let z : h.placed ≡ count l = omega arith in
     let done = subst (λ (k : ℕ). Placed (pairs l) (all l) (count l) h.parts h.unplaced k) z h.invariant.3 in (

@@ -93,7 +93,7 @@ Turn = tie.Joined-is_precondition invariant-loop-i decreases-loop-i
 
 -- how it began
 abbrev begun : Turn → tie.In-loop-i invariant-loop-i decreases-loop-i
-begun c = c.before.before.before.before.before.before.before
+begun c = c.before.before.before.before.before.before.before.before
 
 abbrev table : Turn → List ℕ
 table c = (begun c).before.before.before.args.table.now
@@ -120,26 +120,26 @@ found c =
 tested-more : (c : Turn) → Counted (more c) c.if-is_precondition.preconditions × Kept (tests (more c)) c.if-is_precondition.tested
 tested-more c =
     let h = (begun c).before.loop-i in
-    let g = h.inv.3 in
+    let g = h.invariant.3 in
     let f = found c in
     let xs = passed c in
     let a = atom c in
     let test = sym c.before.is_precondition.ensures in
     ⊎_elim
     (λ x.
-    let e = test ∙ x.0.taken in
-    let u = x.3 in
+    let e = test ∙ x.if-is_precondition.true in
+    let u = x.word_union-then-is_precondition in
     let sets = kept_more (tests xs) (tests (more c)) h.tested g.tests f (tests-more xs a e) in (
-      subst (Counted (more c)) (sym x.4) (counted-more xs a g.counts e (part c) f.of f.below),
-      subst (Kept (tests (more c))) (sym x.5) (sets u.result u.ensures),
+      subst (Counted (more c)) (sym x.preconditions-is) (counted-more xs a g.counts e (part c) f.of f.below),
+      subst (Kept (tests (more c))) (sym x.tested-is) (sets u.result u.ensures),
     ))
     (λ x.
-    let e = test ∙ x.0.left in
+    let e = test ∙ x.if-is_precondition.false in
     let sets = kept_same (tests xs) (tests (more c)) h.tested g.tests (tests_same xs a e) in (
-      subst (Counted (more c)) (sym x.1) (counted_same xs a g.counts e),
-      subst (Kept (tests (more c))) (sym x.2) sets,
+      subst (Counted (more c)) (sym x.preconditions-is) (counted_same xs a g.counts e),
+      subst (Kept (tests (more c))) (sym x.tested-is) sets,
     ))
-    c.if-is_precondition.branch
+    c.if-is_precondition.branch-raw
 
 abbrev joined : Turn → List ℕ
 joined c = set (begun c).before.loop-i.named (part c) c.before.before.word_union.result
@@ -148,17 +148,17 @@ named_more : (c : Turn) → Kept (in_part (more c)) (joined c)
 named_more c =
     let h = (begun c).before.loop-i in
     let u = c.before.before.word_union in
-    kept_more (in_part (passed c)) (in_part (more c)) h.named h.inv.3.names (found c)
+    kept_more (in_part (passed c)) (in_part (more c)) h.named h.invariant.3.names (found c)
     (in-part-more (passed c) (atom c)) u.result u.ensures
 
 -- the count goes to the larger of itself and one more than the part
 larger : (c : tie.Joined-count-part invariant-loop-i decreases-loop-i) →
     c.if-count-part.count ≡ max (begun c.before).before.loop-i.count (suc (part c.before))
-larger c = ⊎_elim (λ x. omega arith) (λ x. omega arith) c.if-count-part.branch
+larger c = ⊎_elim (λ x. omega arith) (λ x. omega arith) c.if-count-part.branch-raw
 
 loop-again : tie.Need-loop-i-preserved invariant-loop-i decreases-loop-i
 loop-again c =
-    let d = c in
+    let d = c.before in
     let h = (begun d).before.loop-i in
     let t = tested-more d in
     let l = larger c in
@@ -166,12 +166,12 @@ loop-again c =
     let Now : List Atom → Type 0 =
     λ xs. Gathered xs d.if-is_precondition.preconditions d.if-is_precondition.tested (joined d) c.if-count-part.count in
     let g : Now (more d) = record {
-      parts = omega (arith, h.inv.3.parts, f.of, part-count-more (passed d) (atom d));
+      parts = omega (arith, h.invariant.3.parts, f.of, part-count-more (passed d) (atom d));
       counts = t.0;
       tests = t.1;
       names = named_more d;
     } in
-    let e = rows_more (atom_in (table d)) (begun d).before.before.before.args.from h.i h.inv.0 in (
+    let e = rows_more (atom_in (table d)) (begun d).before.before.before.args.from h.i h.invariant.0 in (
       omega arith,
       omega arith,
       omega (arith, f.below),

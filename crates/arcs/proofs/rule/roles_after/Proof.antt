@@ -44,11 +44,11 @@ loop-again c =
     let told = sym c.role_before.ensures in
     let joins : (x : ℕ) → member c.if-role_before.after x ≡ member set x || (eqb q x && role_before r q) =
     λ x. ⊎_elim
-    (λ y. ap (λ (s : ℕ). member s x) y.2 ∙ (y.1.ensures x ∙
-    ap (λ (b : Bool). member set x || b) (sym (rw (told ∙ y.0.taken) (and-true (eqb q x))))))
-    (λ y. ap (λ (s : ℕ). member s x) y.1 ∙
-    sym (rw (told ∙ y.0.left, and-false (eqb q x)) (or-false (member set x))))
-    c.if-role_before.branch in
+    (λ y. ap (λ (s : ℕ). member s x) y.after-is ∙ (y.with-after.ensures x ∙
+    ap (λ (b : Bool). member set x || b) (sym (rw (told ∙ y.if-role_before.true) (and-true (eqb q x))))))
+    (λ y. ap (λ (s : ℕ). member s x) y.after-is ∙
+    sym (rw (told ∙ y.if-role_before.false, and-false (eqb q x)) (or-false (member set x))))
+    c.if-role_before.branch-raw in
     set_more at.loop-q.invariant c.loop-q-test.true joins
 
 returns : tie.Need-returns invariant-loop-q decreases-loop-q
