@@ -107,6 +107,7 @@ facts-with-free t fs h =
       count = k.count ∙ sym (old-arity t f.pred k.known);
       small = k.small;
     }
+    go f (inr (there x4)) = elim x4 [ ]
     go f (inr (here e)) = rw e (record {
       known = omega (arith, predicate-count t);
       count = sym (bare-arity t (procnone t) (omega arith) (omega arith));

@@ -42,11 +42,9 @@ pub fn carries_pair(table: &[u16], own: u64, i: usize) -> bool
 fn some_part_carries(table: &[u16], kept: &Kept, s: usize, i: usize) -> bool
     requires schema_kept { SchemaKept table.now s kept.now }
     requires i_bound { i < (head_in table.now).pairs }
-    ensures {
-        let w = table.now in
+    ensures { let w = table.now in
         let t = schema_at (task_of w) s in
-        result ≡ any (has_both t (pair_in w i)) (up_to (parts t))
-    }
+        result ≡ any (has_both t (pair_in w i)) (up_to (parts t)) }
 {
     let count = count_of(kept, s);
     let mut j = 0;

@@ -21,129 +21,129 @@ use Rattle.tokens.proofs.acceptance.keep_accepted.Statement.{statement}
 use Rattle.tokens.specs.Kept.{PartsKept}
 
 -- ---- what is known behind each check
-abbrev begun : tie.Else1 → tie.Start
+abbrev begun : tie.Else-table-lt-TABLE_WORDS → tie.Start
 begun c = c.before.before
 
-long : (c : tie.Else1) → long_enough (begun c).args.table.now ≡ true
-long c = long-enough (begun c).args.table.now c.if1.false
+long : (c : tie.Else-table-lt-TABLE_WORDS) → long_enough (begun c).args.table.now ≡ true
+long c = long-enough (begun c).args.table.now c.if-table-lt-TABLE_WORDS.false
 
-abbrev start : tie.Else2 → tie.Start
+abbrev start : tie.Else-not-is_table → tie.Start
 start c = begun c.before.before
 
-table : (c : tie.Else2) → is_table (start c).args.table.now ≡ true
-table c = sym c.before.is-table.ensures ∙ c.if2.false
+table : (c : tie.Else-not-is_table) → is_table (start c).args.table.now ≡ true
+table c = sym c.is_table.ensures ∙ c.if-not-is_table.false
 
 -- where the parts were kept
-abbrev tested : tie.After-keep-parts → tie.Else2
+abbrev tested : tie.After-keep_parts-circular → tie.Else-not-is_table
 tested k = k.before.before
 
-abbrev words : tie.After-keep-parts → List ℕ
+abbrev words : tie.After-keep_parts-circular → List ℕ
 words k = (start (tested k)).args.table.now
 
-abbrev keeper : tie.After-enum-told → tie.After-keep-parts
-keeper d = d.before.before
+abbrev keeper : tie.In_default → tie.After-keep_parts-circular
+keeper d = d.before
 
-abbrev task : tie.After-enum-told → Task
+abbrev task : tie.In_default → Task
 task d = task_of (words (keeper d))
 
-none-circular : (d : tie.After-enum-told) → circular_at (task d) ≡ none
+none-circular : (d : tie.In_default) → circular_at (task d) ≡ none
 unfolding circular_told
-none-circular d = sym (keeper d).keep-parts.ensures.0 ∙ ap circular_told d.enum_told.given.1
+none-circular d = sym (keeper d).keep_parts-circular.ensures.0 ∙ ap circular_told d.in_default.is
 
-kept : (d : tie.After-enum-told) → PartsKept (task d) (length (task d).schemas) (keeper d).keep-parts.new.1.0
+kept : (d : tie.In_default) → PartsKept (task d) (length (task d).schemas) (keeper d).keep_parts-circular.new.kept
 unfolding circular_told
-kept d = (keeper d).keep-parts.ensures.1 (ap circular_told d.enum_told.given.1)
+kept d = (keeper d).keep_parts-circular.ensures.1 (ap circular_told d.in_default.is)
 
 -- where the pairs were asked for
-abbrev asker : tie.After-enum-told2 → tie.After-first-parted
-asker p = p.before.before
+abbrev asker : tie.In_default-parted → tie.After-first_parted-parted
+asker p = p.before
 
-abbrev settled : tie.After-first-parted → tie.After-enum-told
-settled f = f.before.before
+abbrev settled : tie.After-first_parted-parted → tie.In_default
+settled f = f.before
 
-none-parted : (p : tie.After-enum-told2) → parted_at (task (settled (asker p))) ≡ none
+none-parted : (p : tie.In_default-parted) → parted_at (task (settled (asker p))) ≡ none
 unfolding parted_told
-none-parted p = sym (asker p).first-parted.ensures ∙ ap parted_told p.enum-told2.given.1
+none-parted p = sym (asker p).first_parted-parted.ensures ∙ ap parted_told p.in_default-parted.is
 
 -- where the sizes were counted
-abbrev counted : tie.After-sizes-of → tie.After-enum-told2
-counted z = z.before.before
+abbrev counted : tie.After-sizes_of-sizes → tie.In_default-parted
+counted z = z.before
 
-returns : tie.Need-returns
+returns : tie.Need-returns-then-table-lt-TABLE_WORDS
 unfolding AcceptanceTold
 returns c =
-    let s = c.before.before in
-    refused-short s.args.table.now (too_short s.args.table.now c.if1.true)
+    let s = c in
+    refused-short s.args.table.now (too_short s.args.table.now c.if-table-lt-TABLE_WORDS.true)
 
-is-table-requires : tie.Need-is-table-requires
-is-table-requires c κs = has-table-words (begun c).args.table.now c.if1.false
+is-table-requires : tie.Need-is_table-requires
+is-table-requires c κs = has-table-words (begun c).args.table.now c.if-table-lt-TABLE_WORDS.false
 
-returns-2 : tie.Need-returns-2
+returns-2 : tie.Need-returns-then-not-is_table
 unfolding AcceptanceTold
 returns-2 c =
-    let e = c.before.before in
-    let t = sym c.before.is-table.ensures ∙ c.if2.true in
-    refused-no-table (begun e).args.table.now (long e) t
+    let e = c in
+    let t = sym c.is_table.ensures ∙ c.if-not-is_table.true in
+    refused-no-table (begun e.before.before).args.table.now (long e.before.before) t
 
-keep-parts-requires : tie.Need-keep-parts-requires
-keep-parts-requires c κs = let e = c.before in (table e, (start e).requires)
+keep-parts-requires : tie.Need-keep_parts-circular-requires
+keep-parts-requires c κs = let e = c in (table e.before, (start e.before).requires)
 
-returns-3 : tie.Need-returns-3
+returns-3 : tie.Need-returns-in-At
 unfolding AcceptanceTold circular_told
 returns-3 c =
-    let k = c.before.before.before in
-    let e = tested k in
-    let s = sym k.keep-parts.ensures.0 ∙ ap circular_told c.before.circular.given.1 in
-    refused-nine (words k) (long e.before.before) (table e) (found-circular (task_of (words k)) s)
+    let k = c in
+    let e = tested k.before in
+    let s = sym k.keep_parts-circular.ensures.0 ∙ ap circular_told c.in-At.is in
+    refused-nine (words k.before) (long e.before.before) (table e) (found-circular (task_of (words k.before)) s)
 
-first-parted-requires : tie.Need-first-parted-requires
-first-parted-requires c κs = let d = c.before in (table (tested (keeper d)), kept d)
+first-parted-requires : tie.Need-first_parted-parted-requires
+first-parted-requires c κs = let d = c in (table (tested (keeper d)), kept d)
 
-returns-4 : tie.Need-returns-4
+returns-4 : tie.Need-returns-in-At-parted
 unfolding AcceptanceTold parted_told
 returns-4 c =
-    let f = c.before.before.before in
-    let d = settled f in
+    let f = c in
+    let d = settled f.before in
     let k = keeper d in
     let e = tested k in
-    let s = sym f.first-parted.ensures ∙ ap parted_told c.before.parted.given.1 in
+    let s = sym f.first_parted-parted.ensures ∙ ap parted_told c.in-At-parted.is in
     refused-twenty (words k) (long e.before.before) (table e)
     (found-parted (task_of (words k)) (none-circular d) s)
 
-sizes-of-requires : tie.Need-sizes-of-requires
-sizes-of-requires c κs = let d = settled (asker c.before) in (table (tested (keeper d)), kept d)
+sizes-of-requires : tie.Need-sizes_of-sizes-requires
+sizes-of-requires c κs = let d = settled (asker c) in (table (tested (keeper d)), kept d)
 
-returns-5 : tie.Need-returns-5
+returns-5 : tie.Need-returns-then-not-sizes
 unfolding AcceptanceTold
 returns-5 c =
-    let z = c.before.before in
-    let p = counted z in
+    let z = c in
+    let p = counted z.before.before in
     let d = settled (asker p) in
     let k = keeper d in
     let e = tested k in
-    let over = sym z.sizes-of.ensures.within ∙ c.if3.true in
+    let over = sym z.sizes_of-sizes.ensures.within ∙ not-true _ c.if-not-sizes.true in
     let large = found-large (task_of (words k)) (none-circular d) (none-parted p) over in
     refused-ten (words k) (long e.before.before) (table e) large
 
-returns-6 : tie.Need-returns-6
+returns-6 : tie.Need-returns
 unfolding AcceptanceTold
 returns-6 c =
-    let z = c.before.before in
-    let p = counted z in
+    let z = c in
+    let p = counted z.before.before in
     let d = settled (asker p) in
     let k = keeper d in
     let e = tested k in
-    let within = sym z.sizes-of.ensures.within ∙ c.if3.false in
+    let within = sym z.sizes_of-sizes.ensures.within ∙ not-false _ c.if-not-sizes.false in
     record {
       long = long e.before.before;
       table = table e;
       accepted = found-split (task_of (words k)) (none-circular d) (none-parted p) within;
       parts = kept d;
-      sized = z.sizes-of.ensures;
+      sized = z.sizes_of-sizes.ensures;
     }
 
-pub keep-accepted-spec : {M : Type 1} → statement M
-keep-accepted-spec =
+pub keep_accepted_spec : {M : Type 1} → statement M
+keep_accepted_spec =
     tie.close
     (tie.spec returns is-table-requires returns-2 keep-parts-requires (λ c. search rules) returns-3 (λ c. search rules)
     first-parted-requires (λ c. search rules) returns-4 (λ c. search rules) sizes-of-requires returns-5 returns-6)

@@ -11,15 +11,15 @@ use Rattle.tokens.proofs.kept.keep_begin.Statement.{statement}
 
 returns : tie.Need-returns
 returns c =
-    let two = c.before.before in
-    let one = two.before.before in
-    let a = one.before.before.args in
-    c.put3.ensures ∙
+    let two = c in
+    let one = two in
+    let a = one.args in
+    c.put-3.ensures ∙
     ap (λ (kept : List ℕ). with_field kept a.row pair_place a.pair)
-    (two.put2.ensures ∙ ap (λ (kept : List ℕ). with_field kept a.row first_place a.first) one.put.ensures)
+    (two.put-2.ensures ∙ ap (λ (kept : List ℕ). with_field kept a.row first_place a.first) one.put.ensures)
 
-pub keep-begin-spec : {M : Type 1} → statement M
-keep-begin-spec =
+pub keep_begin_spec : {M : Type 1} → statement M
+keep_begin_spec =
     tie.close
     (tie.spec (λ c. search rules) (λ c κs. search rules) (λ c. search rules) (λ c κs. search rules)
     (λ c. search rules) (λ c κs. search rules) returns)

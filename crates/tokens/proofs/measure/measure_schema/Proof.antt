@@ -20,25 +20,25 @@ use Rattle.tokens.proofs.SplitSizes.{parts_up_to, part-sum-none, part-few-none, 
 use Rattle.tokens.proofs.measure.measure_schema.Statement.{statement}
 use Rattle.task.specs.Limits.{most_parts, most_atoms}
 
-abbrev invariant-loop : tie.invariant-loop
-invariant-loop table kept s shared count atoms₀ few₀ j₀ atoms few j =
+abbrev invariant-loop-j : tie.invariant-loop-j
+invariant-loop-j table kept s shared count atoms₀ few₀ j₀ atoms few j =
     (j ≤ count) × (atoms ≤ most_part_atoms * j) × (atoms ≡ schema_atoms (parts_up_to (task_of table) s j)) ×
     (few ≡ are_few (parts_up_to (task_of table) s j))
 
-abbrev decreases-loop : tie.decreases-loop
-decreases-loop table kept s shared count atoms₀ few₀ j₀ atoms few j = count - j
+abbrev decreases-loop-j : tie.decreases-loop-j
+decreases-loop-j table kept s shared count atoms₀ few₀ j₀ atoms few j = count - j
 
 -- the places of a turn, one from the next
-abbrev start : tie.At-loop invariant-loop decreases-loop → tie.Start invariant-loop decreases-loop
+abbrev start : tie.At-loop-j invariant-loop-j decreases-loop-j → tie.Start invariant-loop-j decreases-loop-j
 start c = c.before.before.before.before.before
 
-abbrev turn : tie.After-part-size invariant-loop decreases-loop → tie.At-loop invariant-loop decreases-loop
+abbrev turn : tie.After-part_size-n invariant-loop-j decreases-loop-j → tie.At-loop-j invariant-loop-j decreases-loop-j
 turn c = c.before.before
 
 -- the parts are few
-few-parts : (l : tie.At-loop invariant-loop decreases-loop) → l.before.count_of.result ≤ most_parts
+few-parts : (l : tie.At-loop-j invariant-loop-j decreases-loop-j) → l.count_of-count.result ≤ most_parts
 few-parts l =
-    let n = l.before.count_of.ensures in
+    let n = l.count_of-count.ensures in
     omega (arith, count_small (start l).requires)
 
 and_no : (a b : Bool) → b ≡ false → a && b ≡ false
@@ -49,90 +49,90 @@ and_yes : (a b : Bool) → b ≡ true → a && b ≡ a
 and_yes true b e = e
 and_yes false b e = refl
 
-shared-in-requires : tie.Need-shared-in-requires invariant-loop decreases-loop
-shared-in-requires c κs = let K = c.before.requires in (schema-small K, count_small K)
+shared-in-requires : tie.Need-shared_in-requires invariant-loop-j decreases-loop-j
+shared-in-requires c κs = let K = c.requires in (schema-small K, count_small K)
 
-bound-requires : tie.Need-bound-requires invariant-loop decreases-loop
+bound-requires : tie.Need-bound-shared-requires invariant-loop-j decreases-loop-j
 bound-requires c κs = tt
 
-count-of-requires : tie.Need-count-of-requires invariant-loop decreases-loop
-count-of-requires c κs = schema-small c.before.before.before.requires
+count-of-requires : tie.Need-count_of-count-requires invariant-loop-j decreases-loop-j
+count-of-requires c κs = schema-small c.requires
 
-loop-holds : tie.Need-loop-init invariant-loop decreases-loop
+loop-holds : tie.Need-loop-j-init invariant-loop-j decreases-loop-j
 loop-holds c =
-    let a = c.before.before.before.before.args in
+    let a = c.args in
     let t = task_of a.table.now in
     (omega arith, omega arith, sym (part-sum-none t a.s (λ u. length u.atoms)), sym (part-few-none t a.s))
 
-part-size-requires : tie.Need-part-size-requires invariant-loop decreases-loop
+part-size-requires : tie.Need-part_size-n-requires invariant-loop-j decreases-loop-j
 part-size-requires c κs =
-    let n = c.before.before.count_of.ensures in
-    ((start c.before).pre, omega (arith, c.loop-test.true))
+    let n = c.count_of-count.ensures in
+    ((start c.before).requires, omega (arith, c.loop-j-test.true))
 
-add-atoms : tie.Need-overflow-add-atoms invariant-loop decreases-loop
+add-atoms : tie.Need-overflow_add-atoms invariant-loop-j decreases-loop-j
 add-atoms c =
-    let n = c.before.part-size.ensures.1 in
+    let n = c.part_size-n.ensures.1 in
     let k = few-parts (turn c.before) in
-    omega (arith, c.before.before.loop-test.true)
+    omega (arith, c.loop-j-test.true)
 
-add-j : tie.Need-overflow-add-j invariant-loop decreases-loop
+add-j : tie.Need-overflow_add-j invariant-loop-j decreases-loop-j
 add-j c =
     let k = few-parts (turn c.before) in
-    omega (arith, c.before.before.loop-test.true)
+    omega (arith, c.loop-j-test.true)
 
-loop-less : tie.Need-loop-smaller invariant-loop decreases-loop
-loop-less c = omega (arith, c.before.before.loop-test.true)
+loop-less : tie.Need-loop-j-smaller invariant-loop-j decreases-loop-j
+loop-less c = omega (arith, c.loop-j-test.true)
 
-loop-again : tie.Need-loop-preserved invariant-loop decreases-loop
+loop-again : tie.Need-loop-j-preserved invariant-loop-j decreases-loop-j
 loop-again c =
     let a = (start (turn c.before)).args in
-    let h = (turn c.before).loop in
+    let h = (turn c.before).loop-j in
     let t = task_of a.table.now in
-    let n = c.before.part-size in
+    let n = c.part_size-n in
     let size = length (split_schema t a.s (orders t a.s) h.j).atoms in
     let e = part-sum-more t a.s (λ u. length u.atoms) h.j in
     let m = n.ensures.0 in
-    let few : c.if1.few ≡ are_few (parts_up_to t a.s h.j) && leb size most_atoms = ⊎_elim
-    (λ x. x.1 ∙ sym (and_no (are_few (parts_up_to t a.s h.j)) (leb size most_atoms)
-    (lt-leb size most_atoms (let y = x.0.taken in omega arith))))
-    (λ x. x.1 ∙ h.inv.3 ∙
+    let few : c.if-n-gt-MOST_ATOMS.few ≡ are_few (parts_up_to t a.s h.j) && leb size most_atoms = ⊎_elim
+    (λ x. x.few-is ∙ sym (and_no (are_few (parts_up_to t a.s h.j)) (leb size most_atoms)
+    (lt-leb size most_atoms (let y = x.if-n-gt-MOST_ATOMS.true in omega arith))))
+    (λ x. x.few-is ∙ h.invariant.3 ∙
     sym (and_yes (are_few (parts_up_to t a.s h.j)) (leb size most_atoms)
-    (le-leb size most_atoms (let y = x.0.left in omega arith))))
-    c.if1.branch in (
-      omega (arith, c.before.before.loop-test.true),
+    (le-leb size most_atoms (let y = x.if-n-gt-MOST_ATOMS.false in omega arith))))
+    c.if-n-gt-MOST_ATOMS.branch-raw in (
+      omega (arith, c.loop-j-test.true),
       omega (arith, n.ensures.1),
       omega arith,
       few ∙ sym (part-few-more t a.s h.j),
     )
 
-pairs-carried-requires : tie.Need-pairs-carried-requires invariant-loop decreases-loop
-pairs-carried-requires c κs = (start c.before).pre
+pairs-carried-requires : tie.Need-pairs_carried-pairs-requires invariant-loop-j decreases-loop-j
+pairs-carried-requires c κs = (start c.before).requires
 
-returns : tie.Need-returns invariant-loop decreases-loop
+returns : tie.Need-returns invariant-loop-j decreases-loop-j
 returns c =
-    let l = c.before.before in
+    let l = c in
     let s = start c.before.before in
     let a = s.args in
     let t = task_of a.table.now in
-    let h = l.loop in
-    let K = s.pre in
-    let n = l.before.count_of.ensures in
-    let e : h.j ≡ length (orders t a.s) = let y = counted K in omega (arith, c.before.loop-test.false) in
-    let b = l.before.before.bound.ensures in
-    let set = l.before.before.before.shared-in in
+    let h = l.loop-j in
+    let K = s.requires in
+    let n = l.count_of-count.ensures in
+    let e : h.j ≡ length (orders t a.s) = let y = counted K in omega (arith, c.loop-j-test.false) in
+    let b = l.bound-shared.ensures in
+    let set = l.shared_in in
     record {
       atoms = h.invariant.2 ∙ ap (λ (n : ℕ). schema_atoms (parts_up_to t a.s n)) e;
       few = h.invariant.3 ∙ ap (λ (n : ℕ). are_few (parts_up_to t a.s n)) e;
       shared = b.0 ∙ shared-bounded t a.s (orders t a.s) set.result (kept-fits K) (kept-params K)
           (kept-order K) (set.ensures t (orders t a.s) (params-kept K));
-      pairs = c.pairs-carried.ensures.0;
-      atoms-most = let z = few-parts l in omega arith;
+      pairs = c.pairs_carried-pairs.ensures.0;
+      atoms-most = let z = few-parts l.before.before in omega arith;
       shared-most = b.1;
-      pairs-most = c.pairs-carried.ensures.1;
+      pairs-most = c.pairs_carried-pairs.ensures.1;
     }
 
-pub measure-schema-spec : {M : Type 1} → statement M
-measure-schema-spec =
+pub measure_schema_spec : {M : Type 1} → statement M
+measure_schema_spec =
     tie.close
-    (tie.spec invariant-loop decreases-loop shared-in-requires bound-requires count-of-requires loop-holds part-size-requires
+    (tie.spec invariant-loop-j decreases-loop-j shared-in-requires bound-requires count-of-requires loop-holds part-size-requires
     add-atoms add-j loop-less loop-again pairs-carried-requires returns)

@@ -16,104 +16,104 @@ use Rattle.tokens.proofs.SplitSizes.{parts_up_to, part-sum-none, part-sum-more, 
 use Rattle.tokens.proofs.PairWords.{carried-count, stretch-few, none-carried}
 use Rattle.tokens.proofs.measure.pairs_carried.Statement.{statement}
 
-abbrev invariant-loop : tie.invariant-loop
-invariant-loop table kept s from to count n₀ j₀ n j =
+abbrev invariant-loop-j : tie.invariant-loop-j
+invariant-loop-j table kept s from to count n₀ j₀ n j =
     (j ≤ count) × (n ≤ most_pairs * j) × (n ≡ schema_pairs (parts_up_to (task_of table) s j))
 
-abbrev decreases-loop : tie.decreases-loop
-decreases-loop table kept s from to count n₀ j₀ n j = count - j
+abbrev decreases-loop-j : tie.decreases-loop-j
+decreases-loop-j table kept s from to count n₀ j₀ n j = count - j
 
 abbrev Counted : Type 0
-Counted = tie.After-count-of invariant-loop decreases-loop
+Counted = tie.After-count_of-count invariant-loop-j decreases-loop-j
 
 -- the places, one from the next
-abbrev start : tie.After-count-of invariant-loop decreases-loop → tie.Start invariant-loop decreases-loop
+abbrev start : tie.After-count_of-count invariant-loop-j decreases-loop-j → tie.Start invariant-loop-j decreases-loop-j
 start c = c.before.before.before.before
 
-abbrev found : tie.At-loop invariant-loop decreases-loop → tie.After-count-of invariant-loop decreases-loop
+abbrev found : tie.At-loop-j invariant-loop-j decreases-loop-j → tie.After-count_of-count invariant-loop-j decreases-loop-j
 found l = l.before.before
 
 -- what is known of the schema
 record Known (c : Counted) : Type 0 where
   kept : SchemaKept (start c).args.table.now (start c).args.s (start c).args.kept.now
-  begins : c.before.before.pair_of.result ≡ kept_pair (start c).args.kept.now (start c).args.s
-  stops : c.before.pair-end-of.result ≡ kept_pair_end (start c).args.kept.now (start c).args.s
-  count : c.count_of.result ≡ kept_count (start c).args.kept.now (start c).args.s
-  few : c.count_of.result ≤ most_parts
+  begins : c.before.before.pair_of-from.result ≡ kept_pair (start c).args.kept.now (start c).args.s
+  stops : c.before.pair_end_of-to.result ≡ kept_pair_end (start c).args.kept.now (start c).args.s
+  count : c.count_of-count.result ≡ kept_count (start c).args.kept.now (start c).args.s
+  few : c.count_of-count.result ≤ most_parts
 
 known : (c : Counted) → Known c
 known c = record {
   kept = (start c).requires;
-  begins = c.before.before.pair_of.ensures;
-  stops = c.before.pair-end-of.ensures;
-  count = c.count_of.ensures;
-  few = omega (arith, c.count_of.ensures, count_small (start c).requires);
+  begins = c.pair_of-from.ensures;
+  stops = c.pair_end_of-to.ensures;
+  count = c.count_of-count.ensures;
+  few = omega (arith, c.count_of-count.ensures, count_small (start c).requires);
 }
 
-returns : tie.Need-returns invariant-loop decreases-loop
+returns : tie.Need-returns-then-from-to invariant-loop-j decreases-loop-j
 returns c =
     let a = (start c.before).args in
     let t = task_of a.table.now in
     let k = known c.before in (
       sym (part-sum-nothing t a.s (λ u. length u.pairs)
-          (λ j. ap length (none-carried k.kept k.begins k.stops c.if1.true j))
+          (λ j. ap length (none-carried k.kept k.begins k.stops c.if-from-to.true j))
           (length (orders t a.s))),
       omega arith,
     )
 
-loop-holds : tie.Need-loop-init invariant-loop decreases-loop
+loop-holds : tie.Need-loop-j-init invariant-loop-j decreases-loop-j
 loop-holds c =
     let a = (start c.before).args in
     (omega arith, omega arith, sym (part-sum-none (task_of a.table.now) a.s (λ u. length u.pairs)))
 
-own-at-requires : tie.Need-own-at-requires invariant-loop decreases-loop
+own-at-requires : tie.Need-own_at-requires invariant-loop-j decreases-loop-j
 own-at-requires c κs =
     let k = known (found c.before) in
-    (schema-small k.kept, omega (arith, k.few, c.loop-test.true))
+    (schema-small k.kept, omega (arith, k.few, c.loop-j-test.true))
 
-carried-requires : tie.Need-carried-requires invariant-loop decreases-loop
+carried-requires : tie.Need-carried-n-requires invariant-loop-j decreases-loop-j
 carried-requires c κs =
     let k = known (found c.before.before) in
     kept-pair-stretch k.kept k.begins k.stops
 
 -- a part carries few
-one-few : (c : tie.After-carried invariant-loop decreases-loop) → c.carried.result ≤ most_pairs
+one-few : (c : tie.After-carried-n invariant-loop-j decreases-loop-j) → c.carried-n.result ≤ most_pairs
 one-few c =
     let k = known (found c.before.before.before) in
-    omega (arith, c.carried.ensures.1, stretch-few k.kept k.begins k.stops)
+    omega (arith, c.carried-n.ensures.1, stretch-few k.kept k.begins k.stops)
 
-add-n : tie.Need-overflow-add-n invariant-loop decreases-loop
-add-n c = omega (arith, one-few c, (known (found c.before.before.before)).few, c.before.before.loop-test.true)
+add-n : tie.Need-overflow_add-n invariant-loop-j decreases-loop-j
+add-n c = omega (arith, one-few c, (known (found c.before.before.before)).few, c.loop-j-test.true)
 
-add-j : tie.Need-overflow-add-j invariant-loop decreases-loop
-add-j c = omega (arith, (known (found c.before.before.before)).few, c.before.before.loop-test.true)
+add-j : tie.Need-overflow_add-j invariant-loop-j decreases-loop-j
+add-j c = omega (arith, (known (found c.before.before.before)).few, c.loop-j-test.true)
 
-loop-again : tie.Need-loop-preserved invariant-loop decreases-loop
+loop-again : tie.Need-loop-j-preserved invariant-loop-j decreases-loop-j
 loop-again c =
-    let l = c.before.before.before in
+    let l = c in
     let a = (start (found c.before.before.before)).args in
-    let h = l.loop in
+    let h = l.loop-j in
     let k = known (found c.before.before.before) in
-    let i = c.before.before.loop-test.true in
-    let e = c.carried.ensures.0 ∙
-    carried-count k.kept k.begins k.stops h.j c.before.own_at.result (omega (arith, k.count))
-    c.before.own_at.ensures in
+    let i = c.loop-j-test.true in
+    let e = c.carried-n.ensures.0 ∙
+    carried-count k.kept k.begins k.stops h.j c.own_at.result (omega (arith, k.count))
+    c.own_at.ensures in
     let m = part-sum-more (task_of a.table.now) a.s (λ u. length u.pairs) h.j in
     (omega arith, omega (arith, one-few c), omega arith)
 
-returns-2 : tie.Need-returns-2 invariant-loop decreases-loop
+returns-2 : tie.Need-returns invariant-loop-j decreases-loop-j
 returns-2 c =
     let a = (start (found c.before)).args in
     let t = task_of a.table.now in
-    let h = c.before.loop in
+    let h = c.loop-j in
     let k = known (found c.before) in
-    let e : h.j ≡ length (orders t a.s) = omega (arith, k.count, counted k.kept, c.loop-test.false) in
+    let e : h.j ≡ length (orders t a.s) = omega (arith, k.count, counted k.kept, c.loop-j-test.false) in
     (h.invariant.2 ∙ ap (λ (n : ℕ). schema_pairs (parts_up_to t a.s n)) e, omega (arith, k.few))
 
-pub pairs-carried-spec : {M : Type 1} → statement M
-pairs-carried-spec =
+pub pairs_carried_spec : {M : Type 1} → statement M
+pairs_carried_spec =
     tie.close
-    (tie.spec invariant-loop decreases-loop (λ c κs. omega (arith, schema-small c.before.requires))
-    (λ c κs. schema-small c.before.before.requires) (λ c κs. schema-small c.before.before.before.requires) returns
+    (tie.spec invariant-loop-j decreases-loop-j (λ c κs. omega (arith, schema-small c.requires))
+    (λ c κs. schema-small c.requires) (λ c κs. schema-small c.requires) returns
     loop-holds own-at-requires carried-requires add-n add-j
-    (λ c. omega (arith, c.before.before.loop-test.true)) loop-again returns-2)
+    (λ c. omega (arith, c.loop-j-test.true)) loop-again returns-2)

@@ -11,21 +11,21 @@ use native.Mathlib.Omega.{arith}
 use Rattle.tokens.proofs.measure.with_schema.Statement.{statement}
 use Rattle.tokens.proofs.measure.with_schema.Tie as tie
 
-larger : (c : tie.Joined1) → c.if1.pars ≡ max c.before.args.sizes.pars c.before.args.one.shared
-larger c = ⊎_elim (λ x. omega arith) (λ x. omega arith) c.if1.branch
+larger : (c : tie.Joined-pars-one) → c.if-pars-one.pars ≡ max c.args.sizes.pars c.args.one.shared
+larger c = ⊎_elim (λ x. omega arith) (λ x. omega arith) c.if-pars-one.branch-raw
 
-returns : tie.Need-returns
+returns : tie.Need-returns-then-sizes
 returns c =
-    let a = c.before.before.args in
-    (refl, (larger c.before, (refl, (refl, (refl, ap (λ b. b && a.one.few) (sym c.if2.true))))))
+    let a = c.args in
+    (refl, (larger c.before, (refl, (refl, (refl, ap (λ b. b && a.one.few) (sym c.if-sizes.true))))))
 
-returns-2 : tie.Need-returns-2
+returns-2 : tie.Need-returns-else-sizes
 returns-2 c =
-    let a = c.before.before.args in
-    (refl, (larger c.before, (refl, (refl, (refl, c.if2.false ∙ ap (λ b. b && a.one.few) (sym c.if2.false))))))
+    let a = c.args in
+    (refl, (larger c.before, (refl, (refl, (refl, c.if-sizes.false ∙ ap (λ b. b && a.one.few) (sym c.if-sizes.false))))))
 
-pub with-schema-spec : {M : Type 1} → statement M
-with-schema-spec =
+pub with_schema_spec : {M : Type 1} → statement M
+with_schema_spec =
     tie.close
     (tie.spec (λ c. search rules) (λ c. search rules) (λ c. search rules) (λ c. search rules) (λ c. search rules)
     returns returns-2)

@@ -31,33 +31,33 @@ abbrev start : tie.After-has → tie.Start
 start c = c.before.before.before
 
 first : (c : tie.After-has) → c.has.result ≡ member (start c).args.own (pair (start c)).lower
-first c = c.has.ensures ∙ ap (member (start c).args.own) c.before.lower.ensures
+first c = c.has.ensures ∙ ap (member (start c).args.own) c.lower.ensures
 
 has-requires : tie.Need-has-requires
 has-requires c κs =
     let f = small c.before.before in
     omega (arith, c.lower.ensures, f.ascends, f.known)
 
-has-requires-2 : tie.Need-has-requires-2
+has-requires-2 : tie.Need-has-requires-then-has
 has-requires-2 c κs = omega (arith, c.higher.ensures, (small (start c.before.before)).known)
 
-returns : tie.Need-returns
+returns : tie.Need-returns-then-has
 returns c =
-    let asked = c.before.before.before in
-    let own = (start asked).args.own in
-    let q = pair (start asked) in
-    c.has2.ensures ∙
-    (ap (member own) c.before.higher.ensures ∙
-    sym (ap (λ (b : Bool). b && member own q.higher) (sym (first asked) ∙ c.before.before.if1.true)))
+    let asked = c in
+    let own = (start asked.before.before.before).args.own in
+    let q = pair (start asked.before.before.before) in
+    c.has-then-has.ensures ∙
+    (ap (member own) c.higher.ensures ∙
+    sym (ap (λ (b : Bool). b && member own q.higher) (sym (first asked.before.before.before) ∙ c.if-has.true)))
 
-returns-2 : tie.Need-returns-2
+returns-2 : tie.Need-returns-else-has
 returns-2 c =
     let own = (start c.before).args.own in
     let q = pair (start c.before) in
-    c.if1.false ∙ sym (ap (λ (b : Bool). b && member own q.higher) (sym (first c.before) ∙ c.if1.false))
+    c.if-has.false ∙ sym (ap (λ (b : Bool). b && member own q.higher) (sym (first c.before) ∙ c.if-has.false))
 
-pub carries-pair-spec : {M : Type 1} → statement M
-carries-pair-spec =
+pub carries_pair_spec : {M : Type 1} → statement M
+carries_pair_spec =
     tie.close
     (tie.spec (λ c κs. known c.before) has-requires (λ c κs. known (start c.before)) has-requires-2 returns
     returns-2)

@@ -29,10 +29,10 @@ known s = (table-roomy s.args.table.now s.requires.0, s.requires.1.0)
 small : (s : tie.Start) → PairFits most_parameters (pair s)
 small s = pair_small s.args.table.now s.requires.0 s.args.i s.requires.1.0
 
-abbrev start : tie.After-renumbered-in → tie.Start
+abbrev start : tie.After-renumbered_in-low → tie.Start
 start c = c.before.before.before.before
 
-abbrev begun : tie.After-renumbered-in2 → tie.Start
+abbrev begun : tie.After-renumbered_in-high → tie.Start
 begun c = start c.before.before
 
 -- both parameters are low
@@ -44,26 +44,26 @@ lower-low c =
 higher-low : (c : tie.After-higher) → c.higher.result < most_parameters
 higher-low c = omega (arith, c.higher.ensures, (small (start c.before)).known)
 
-slice-write-out-2 : tie.Need-slice-write-out-2
+slice-write-out-2 : tie.Need-bounds-out-at-2
 slice-write-out-2 c = let r = (begun c).requires.1.1 in simp length-set (omega arith)
 
-slice-write-out-3 : tie.Need-slice-write-out-3
+slice-write-out-3 : tie.Need-bounds-out-at-3
 slice-write-out-3 c = let r = (begun c).requires.1.1 in simp length-set (omega arith)
 
 returns : tie.Need-returns
 unfolding pair_words
 returns c =
     let a = (begun c).args in
-    let r = c.before.before in
-    let low = r.renumbered-in.ensures ∙ ap (new_number a.own) r.before.lower.ensures in
-    let high = c.renumbered-in2.ensures ∙ ap (new_number a.own) c.before.higher.ensures in
+    let r = c in
+    let low = r.renumbered_in-low.ensures ∙ ap (new_number a.own) r.lower.ensures in
+    let high = c.renumbered_in-high.ensures ∙ ap (new_number a.own) c.higher.ensures in
     puts-is (puts_word (puts_word (puts_word (puts_none a.out.now a.at) a.number _ refl (a.at + 1) refl)
-    r.renumbered-in.result.0 _ refl (a.at + 2) (omega arith))
-    c.renumbered-in2.result.0 _ refl (a.at + 3) (omega arith)) refl refl _
+    r.renumbered_in-low.result.0 _ refl (a.at + 2) (omega arith))
+    c.renumbered_in-high.result.0 _ refl (a.at + 3) (omega arith)) refl refl _
     (λ k. a.number ∷ sym low k ∷ sym high k ∷ [])
 
-pub put-pair-spec : {M : Type 1} → statement M
-put-pair-spec =
+pub put_pair_spec : {M : Type 1} → statement M
+put_pair_spec =
     tie.close
     (tie.spec (λ c κs. known c.before.before) (λ c. omega (arith, lower-low c)) (λ c κs. omega (arith, lower-low c))
     (λ c κs. known (start c)) (λ c. omega (arith, higher-low c)) (λ c κs. omega (arith, higher-low c))

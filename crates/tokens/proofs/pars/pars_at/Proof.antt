@@ -12,35 +12,35 @@ use Rattle.tokens.proofs.ParPlaces.{pars-here}
 use Rattle.tokens.proofs.pars.pars_at.Statement.{statement}
 use Rattle.tokens.specs.Kept.{kept_own}
 
-own-at-requires : tie.Need-own-at-requires
+own-at-requires : tie.Need-own_at-here-requires
 own-at-requires c κs = let l = c.requires.1.0 in (c.requires.0, omega (arith, c.requires.1.1))
 
-parameters-between-requires : tie.Need-parameters-between-requires
-parameters-between-requires c κs = let p = c.before.requires in (p.0, (omega arith, omega (arith, p.1.0, p.1.1)))
+parameters-between-requires : tie.Need-parameters_between-before-requires
+parameters-between-requires c κs = let p = c.requires in (p.0, (omega arith, omega (arith, p.1.0, p.1.1)))
 
-add-parameters-between : tie.Need-overflow-add-parameters-between
-add-parameters-between c = omega (arith, c.before.before.requires.1)
+add-parameters-between : tie.Need-overflow_add-j
+add-parameters-between c = omega (arith, c.requires.1)
 
-count-of-requires : tie.Need-count-of-requires
-count-of-requires c κs = c.before.before.requires.0
+count-of-requires : tie.Need-count_of-requires
+count-of-requires c κs = c.requires.0
 
-parameters-between-requires-2 : tie.Need-parameters-between-requires-2
+parameters-between-requires-2 : tie.Need-parameters_between-after-requires
 parameters-between-requires-2 c κs =
-    let p = c.before.before.before.requires in
+    let p = c.requires in
     let n = c.count_of.ensures in
     (p.0, (omega (arith, p.1.0), omega (arith, p.1.1)))
 
 returns : tie.Need-returns
 returns c =
     λ t o known.
-    let s = c.before.before.before.before.before.before.before.before in
+    let s = c in
     let a = s.args in
-    let here = c.before.before.before.before.before.before.before.own_at.ensures in
-    let before = c.before.before.before.before.before.before.parameters-between in
-    let after = c.before.before.before.before.parameters-between2 in
-    let later = c.before.before.before.common.ensures in
-    let none = c.before.before.minus.ensures in
-    let first = c.before.common2.ensures in
+    let here = c.own_at-here.ensures in
+    let before = c.parameters_between-before in
+    let after = c.parameters_between-after in
+    let later = c.common-later.ensures in
+    let none = c.minus.ensures in
+    let first = c.common.ensures in
     let n = s.requires.1.0 in
     let e = known.count in
     pars-here t a.s o a.j (omega arith) a.kept.now known _ before.result after.result
@@ -48,14 +48,14 @@ returns c =
     before.ensures
     (λ x. after.ensures x ∙
     ap (λ (k : ℕ). any (λ i. member (kept_own a.kept.now a.s i) x) (up_from (a.j + 1) (k - (a.j + 1))))
-    (c.before.before.before.before.before.count_of.ensures ∙ e))
+    (c.count_of.ensures ∙ e))
     (λ x. later x ∙ ap (λ (v : ℕ). member v x && member before.result x) here)
     (λ x. first x ∙ ap (λ (b : Bool). b && member after.result x)
     (none x ∙ ap (λ (v : ℕ). member v x && not (member before.result x)) here))
-    c.minus2.ensures
+    c.minus-2.ensures
 
-pub pars-at-spec : {M : Type 1} → statement M
-pars-at-spec =
+pub pars_at_spec : {M : Type 1} → statement M
+pars_at_spec =
     tie.close
     (tie.spec own-at-requires parameters-between-requires add-parameters-between count-of-requires
     parameters-between-requires-2 (λ c κs. search rules) (λ c κs. search rules) (λ c κs. search rules)

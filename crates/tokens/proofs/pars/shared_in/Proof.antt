@@ -11,83 +11,83 @@ use Rattle.words.proofs.BitSets.{member-zero}
 use Rattle.tokens.proofs.SharedParameters.{passed, none_passed, seen_more, twice-more, all-passed}
 use Rattle.tokens.proofs.pars.shared_in.Statement.{statement}
 
-abbrev invariant-loop : tie.invariant-loop
-invariant-loop kept s count seen₀ twice₀ j₀ seen twice j =
+abbrev invariant-loop-j : tie.invariant-loop-j
+invariant-loop-j kept s count seen₀ twice₀ j₀ seen twice j =
     (j ≤ count) × ((x : ℕ) → member seen x ≡ ltb 0 (passed kept s x j)) ×
     ((x : ℕ) → member twice x ≡ ltb 1 (passed kept s x j))
 
-abbrev decreases-loop : tie.decreases-loop
-decreases-loop kept s count seen₀ twice₀ j₀ seen twice j = count - j
+abbrev decreases-loop-j : tie.decreases-loop-j
+decreases-loop-j kept s count seen₀ twice₀ j₀ seen twice j = count - j
 
 -- the places of a turn, one from the next
-abbrev start : tie.At-loop invariant-loop decreases-loop → tie.Start invariant-loop decreases-loop
+abbrev start : tie.At-loop-j invariant-loop-j decreases-loop-j → tie.Start invariant-loop-j decreases-loop-j
 start c = c.before.before
 
-abbrev turn : tie.After-own-at invariant-loop decreases-loop → tie.At-loop invariant-loop decreases-loop
+abbrev turn : tie.After-own_at-here invariant-loop-j decreases-loop-j → tie.At-loop-j invariant-loop-j decreases-loop-j
 turn c = c.before.before
 
-count-of-requires : tie.Need-count-of-requires invariant-loop decreases-loop
+count-of-requires : tie.Need-count_of-count-requires invariant-loop-j decreases-loop-j
 count-of-requires c κs = c.requires.0
 
-loop-holds : tie.Need-loop-init invariant-loop decreases-loop
+loop-holds : tie.Need-loop-j-init invariant-loop-j decreases-loop-j
 loop-holds c =
-    let a = c.before.args in (
+    let a = c.args in (
       omega arith,
       λ x. none_passed a.kept.now a.s 0 x (member-zero x),
       λ x. none_passed a.kept.now a.s 1 x (member-zero x),
     )
 
-own-at-requires : tie.Need-own-at-requires invariant-loop decreases-loop
+own-at-requires : tie.Need-own_at-here-requires invariant-loop-j decreases-loop-j
 own-at-requires c κs =
     let s = start c.before in
-    let n = c.before.before.count_of.ensures in
-    let m = s.pre.1 in
-    (s.pre.0, omega (arith, c.loop-test.true))
+    let n = c.count_of-count.ensures in
+    let m = s.requires.1 in
+    (s.requires.0, omega (arith, c.loop-j-test.true))
 
-common-requires : tie.Need-common-requires invariant-loop decreases-loop
+common-requires : tie.Need-common-requires invariant-loop-j decreases-loop-j
 common-requires c κs = tt
 
-union-requires : tie.Need-union-requires invariant-loop decreases-loop
+union-requires : tie.Need-union-twice-requires invariant-loop-j decreases-loop-j
 union-requires c κs = tt
 
-union-requires-2 : tie.Need-union-requires-2 invariant-loop decreases-loop
+union-requires-2 : tie.Need-union-seen-requires invariant-loop-j decreases-loop-j
 union-requires-2 c κs = tt
 
-add-j : tie.Need-overflow-add-j invariant-loop decreases-loop
+add-j : tie.Need-overflow_add-j invariant-loop-j decreases-loop-j
 add-j c =
-    let n = (turn c.before.before.before).before.count_of.ensures in
-    omega (arith, c.before.before.before.before.loop-test.true, (start (turn c.before.before.before)).pre.1)
+    let n = (turn c.before.before.before).count_of-count.ensures in
+    omega (arith, c.loop-j-test.true, (start (turn c.before.before.before)).requires.1)
 
-loop-less : tie.Need-loop-smaller invariant-loop decreases-loop
-loop-less c = omega (arith, c.before.before.before.before.loop-test.true)
+loop-less : tie.Need-loop-j-smaller invariant-loop-j decreases-loop-j
+loop-less c = omega (arith, c.loop-j-test.true)
 
-loop-again : tie.Need-loop-preserved invariant-loop decreases-loop
+loop-again : tie.Need-loop-j-preserved invariant-loop-j decreases-loop-j
 loop-again c =
     let a = (start (turn c.before.before.before)).args in
-    let h = (turn c.before.before.before).loop in
-    let here = c.before.before.before.own_at in
-    let both = c.before.before.common in
-    let seen = h.inv.1 in (
-      omega (arith, c.before.before.before.before.loop-test.true),
-      seen_more a.kept.now a.s h.seen c.union2.result here.result h.j here.ensures seen
-          c.union2.ensures,
-      twice-more a.kept.now a.s h.seen h.twice both.result c.before.union.result here.result
-          h.j here.ensures seen h.inv.2 both.ensures c.before.union.ensures,
+    let h = (turn c.before.before.before).loop-j in
+    let here = c.own_at-here in
+    let both = c.common in
+    let seen = h.invariant.1 in (
+      omega (arith, c.loop-j-test.true),
+      seen_more a.kept.now a.s h.seen c.union-seen.result here.result h.j here.ensures seen
+          c.union-seen.ensures,
+      twice-more a.kept.now a.s h.seen h.twice both.result c.union-twice.result here.result
+          h.j here.ensures seen h.invariant.2 both.ensures c.union-twice.ensures,
     )
 
-returns : tie.Need-returns invariant-loop decreases-loop
+returns : tie.Need-returns invariant-loop-j decreases-loop-j
 returns c =
     λ t o known x.
     let a = (start c.before).args in
-    let h = c.before.loop in
-    let m = c.before.before.count_of.ensures in
+    let h = c.loop-j in
+    let m = c.count_of-count.ensures in
     let e = known.count in
-    let n : h.j ≡ length o = omega (arith, c.loop-test.false) in
+    let n : h.j ≡ length o = omega (arith, c.loop-j-test.false) in
     h.invariant.2 x ∙ ap (λ (k : ℕ). ltb 1 (passed a.kept.now a.s x k)) n ∙
     ap (ltb 1) (all-passed a.kept.now a.s t o known x)
 
-pub shared-in-spec : {M : Type 1} → statement M
-shared-in-spec =
+pub shared_in_spec : {M : Type 1} → statement M
+shared_in_spec =
     tie.close
-    (tie.spec invariant-loop decreases-loop count-of-requires loop-holds own-at-requires common-requires union-requires
+    (tie.spec invariant-loop-j decreases-loop-j count-of-requires loop-holds own-at-requires common-requires union-requires
     union-requires-2 add-j loop-less loop-again returns)

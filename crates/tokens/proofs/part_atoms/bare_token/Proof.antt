@@ -11,17 +11,17 @@ use Rattle.tokens.specs.Split.{token}
 use Rattle.words.proofs.Puts.{puts_then, puts-length}
 use Rattle.tokens.proofs.part_atoms.bare_token.Statement.{statement}
 
-four-requires-2 : tie.Need-four-requires-2
+four-requires-2 : tie.Need-four-requires
 four-requires-2 c κs =
-    let f = c.before.before.before.four.ensures in
+    let f = c.four-next.ensures in
     omega (arith, puts-length f, f.place)
 
 returns : tie.Need-returns
 unfolding atom_words padded token
 returns c =
-    let f = c.before.before.before.before.before.before.four.ensures in
-    let g = c.before.before.four2.ensures in
+    let f = c.four-next.ensures in
+    let g = c.four.ensures in
     (puts_then f g _ refl, omega (arith, f.place, g.place))
 
-pub bare-token-spec : {M : Type 1} → statement M
-bare-token-spec = tie.close (tie.spec (λ c κs. search rules) four-requires-2 (λ c. search rules) returns)
+pub bare_token_spec : {M : Type 1} → statement M
+bare_token_spec = tie.close (tie.spec (λ c κs. search rules) four-requires-2 (λ c. search rules) returns)

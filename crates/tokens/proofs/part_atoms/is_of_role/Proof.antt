@@ -6,12 +6,12 @@ use borrow.Author.Rules.{rules}
 use Rattle.arcs.proofs.Stretches.{atom-row}
 use Rattle.tokens.proofs.part_atoms.is_of_role.Statement.{statement}
 
-row-of-requires : tie.Need-row-of-requires
-row-of-requires c κs = atom-row c.before.requires
+row-of-requires : tie.Need-row_of-requires
+row-of-requires c κs = atom-row c.requires
 
 returns : tie.Need-returns
 returns c =
-    ap (eqb c.before.before.before.args.role) (c.role-at.ensures.1 _ c.before.row_of.ensures.0)
+    ap (eqb c.args.role) (c.role_at.ensures.1 _ c.row_of.ensures.0)
 
-pub is-of-role-spec : {M : Type 1} → statement M
-is-of-role-spec = tie.close (tie.spec row-of-requires (λ c κs. search rules) returns)
+pub is_of_role_spec : {M : Type 1} → statement M
+is_of_role_spec = tie.close (tie.spec row-of-requires (λ c κs. search rules) returns)

@@ -14,27 +14,27 @@ use Rattle.words.proofs.Puts.{puts_then}
 use Rattle.arcs.proofs.Stretches.{atom-row}
 use Rattle.tokens.proofs.part_atoms.old_atom.Statement.{statement}
 
-row-of-requires : tie.Need-row-of-requires
-row-of-requires c κs = atom-row c.before.before.requires.0
+row-of-requires : tie.Need-row_of-requires
+row-of-requires c κs = atom-row c.requires.0
 
-predicate-at-requires : tie.Need-predicate-at-requires
+predicate-at-requires : tie.Need-predicate_at-predicate-requires
 predicate-at-requires c κs = c.row_of.ensures.1
 
 returns : tie.Need-returns
 unfolding atom_words
 returns c =
-    let read = c.before.before.before.before.before.before.before.before in
-    let a = read.before.before.before.before.args in
-    let f = c.before.before.before.before.before.before.four.ensures in
-    let g = c.before.before.arguments.ensures in
-    let p = read.predicate-at.ensures.1 _ read.before.row_of.ensures.0 in (
+    let read = c in
+    let a = read.args in
+    let f = c.four-next.ensures in
+    let g = c.arguments.ensures in
+    let p = read.predicate_at-predicate.ensures.1 _ read.row_of.ensures.0 in (
       puts_then f g.0 _ (ap (λ (x : ℕ). a.number ∷ a.role ∷ x ∷ 0 ∷
           padded 4 (map (new_number a.own) (atom_in a.table.now a.i).args)) (sym p)),
       omega (arith, f.place, g.1),
     )
 
-pub old-atom-spec : {M : Type 1} → statement M
-old-atom-spec =
+pub old_atom_spec : {M : Type 1} → statement M
+old_atom_spec =
     tie.close
     (tie.spec row-of-requires predicate-at-requires (λ c κs. search rules) (λ c κs. search rules) (λ c. search rules)
     returns)

@@ -13,26 +13,26 @@ use Rattle.tokens.specs.Split.{token}
 use Rattle.words.proofs.Puts.{puts_then, puts-length}
 use Rattle.tokens.proofs.part_atoms.par_atom.Statement.{statement}
 
-four-requires-2 : tie.Need-four-requires-2
+four-requires-2 : tie.Need-four-requires
 four-requires-2 c κs =
-    let f = c.before.before.before.before.four.ensures in
+    let f = c.four-next.ensures in
     omega (arith, puts-length f, f.place)
 
 returns : tie.Need-returns
 unfolding atom_words padded token
 returns c =
-    let s = c.before.before.before.before.before.before.before.before.before.before.before.before in
-    let f = c.before.before.before.before.before.before.before.four.ensures in
-    let n = c.before.before.before.before.renumbered-in.ensures in
-    let g = c.before.before.four2.ensures in
+    let s = c in
+    let f = c.four-next.ensures in
+    let n = c.renumbered_in-renumbered.ensures in
+    let g = c.four.ensures in
     let a = s.args in (
       puts_then f g _
           (ap (λ (x : ℕ). a.here.number ∷ a.role ∷ (a.here.par + a.x.0) ∷ 0 ∷ x ∷ 0 ∷ 0 ∷ 0 ∷ []) (sym n)),
       omega (arith, f.place, g.place),
     )
 
-pub par-atom-spec : {M : Type 1} → statement M
-par-atom-spec =
+pub par_atom_spec : {M : Type 1} → statement M
+par_atom_spec =
     tie.close
     (tie.spec (λ c. omega arith) (λ c κs. search rules) (λ c κs. search rules) four-requires-2 (λ c. search rules)
     returns)

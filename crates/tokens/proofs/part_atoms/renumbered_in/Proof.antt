@@ -13,14 +13,14 @@ use Rattle.tokens.proofs.part_atoms.renumbered_in.Statement.{statement}
 
 returns : tie.Need-returns
 returns c =
-    let s = c.before.before.before.before in
-    let below = c.before.before.below.ensures in
+    let s = c in
+    let below = c.below.ensures in
     c.size.ensures.0 ∙
-    ap length (members-below s.args.own s.args.x.0 c.before.common.result (omega arith)
-    (λ k. c.before.common.ensures k ∙ ap (λ (b : Bool). member s.args.own k && b) (below k)))
+    ap length (members-below s.args.own s.args.x.0 c.common-before.result (omega arith)
+    (λ k. c.common-before.ensures k ∙ ap (λ (b : Bool). member s.args.own k && b) (below k)))
 
-pub renumbered-in-spec : {M : Type 1} → statement M
-renumbered-in-spec =
+pub renumbered_in_spec : {M : Type 1} → statement M
+renumbered_in_spec =
     tie.close
     (tie.spec (λ c. omega arith) (λ c κs. search rules) (λ c κs. search rules) (λ c κs. search rules) (λ c. omega arith)
     returns)

@@ -14,13 +14,13 @@ use Rattle.tokens.proofs.part_atoms.role_atoms.Statement.{statement}
 use Prim.Native.Nat.{ℕ}
 
 -- the places, one from the next
-abbrev begun : tie.After-old-atoms → tie.Start
+abbrev begun : tie.After-old_atoms-old → tie.Start
 begun c = c.before.before.before.before
 
-abbrev olds : tie.After-bare-token → tie.After-old-atoms
+abbrev olds : tie.After-bare_token-behind → tie.After-old_atoms-old
 olds c = c.before.before.before.before.before
 
-abbrev bare : tie.After-par-atoms → tie.After-bare-token
+abbrev bare : tie.After-par_atoms-next → tie.After-bare_token-behind
 bare c = c.before.before.before.before
 
 -- the words of the old atoms, and of the tokens
@@ -33,44 +33,44 @@ tokens s =
     atom_words a.here.number (token a.role a.tokens.bare []) ++
     par_words a.here a.role a.tokens.which
 
-old-atoms-requires : tie.Need-old-atoms-requires
-old-atoms-requires c κs = let s = c.before.before.before in (s.requires.0, omega (arith, s.requires.1.1.1))
+old-atoms-requires : tie.Need-old_atoms-old-requires
+old-atoms-requires c κs = let s = c in (s.requires.0, omega (arith, s.requires.1.1.1))
 
-returns : tie.Need-returns
+returns : tie.Need-returns-then-tokens
 returns c =
     let s = begun c.before.before.before in
-    let o = c.before.before.before.old-atoms.ensures in (
+    let o = c.old_atoms-old.ensures in (
       puts-is o.0 refl refl _
-          (ap (λ (b : Bool). old s ++ cond b [] (tokens s)) c.if1.true ∙ append-nil (old s)),
+          (ap (λ (b : Bool). old s ++ cond b [] (tokens s)) c.if-tokens.true ∙ append-nil (old s)),
       (omega (arith, o.1.0), o.1.1),
     )
 
-bare-token-requires : tie.Need-bare-token-requires
+bare-token-requires : tie.Need-bare_token-behind-requires
 bare-token-requires c κs =
-    let o = c.before.before.before.before.old-atoms.ensures in
+    let o = c.old_atoms-old.ensures in
     omega (arith, puts-length o.0, o.1.0, (begun c.before.before.before.before).requires.1.1.1)
 
-par-atoms-requires : tie.Need-par-atoms-requires
+par-atoms-requires : tie.Need-par_atoms-next-requires
 par-atoms-requires c κs =
     let s = begun (olds c.before.before.before) in
-    let o = (olds c.before.before.before).old-atoms.ensures in
-    let b = c.before.before.before.bare-token.ensures in
-    let m = s.pre.1.1.1 in
-    (s.pre.1.0, (s.pre.1.1.0, omega (arith, puts-length o.0, puts-length b.0, o.1.0, b.1)))
+    let o = (olds c.before.before.before).old_atoms-old.ensures in
+    let b = c.bare_token-behind.ensures in
+    let m = s.requires.1.1.1 in
+    (s.requires.1.0, (s.requires.1.1.0, omega (arith, puts-length o.0, puts-length b.0, o.1.0, b.1)))
 
-returns-2 : tie.Need-returns-2
+returns-2 : tie.Need-returns
 returns-2 c =
     let s = begun (olds (bare c.before.before)) in
-    let o = (olds (bare c.before.before)).old-atoms.ensures in
-    let b = (bare c.before.before).bare-token.ensures in
-    let p = c.before.before.par-atoms.ensures in (
+    let o = (olds (bare c.before.before)).old_atoms-old.ensures in
+    let b = (bare c.before.before).bare_token-behind.ensures in
+    let p = c.par_atoms-next.ensures in (
       puts_then o.0 (puts_then b.0 p.0 (tokens s) refl) _
-          (ap (λ (b : Bool). old s ++ cond b [] (tokens s)) (bare c.before.before).before.before.if1.false),
+          (ap (λ (b : Bool). old s ++ cond b [] (tokens s)) (bare c.before.before).if-tokens.false),
       (omega (arith, o.1.0, b.1, p.1), o.1.1),
     )
 
-pub role-atoms-spec : {M : Type 1} → statement M
-role-atoms-spec =
+pub role_atoms_spec : {M : Type 1} → statement M
+role_atoms_spec =
     tie.close
     (tie.spec old-atoms-requires (λ c. search rules) returns bare-token-requires par-atoms-requires (λ c. search rules)
     returns-2)

@@ -13,13 +13,13 @@ use Rattle.tokens.proofs.Splitting.{place_is, kept-few}
 use Rattle.tokens.proofs.schemas.place_of.Statement.{statement}
 
 -- the places, one from the next
-abbrev begun : tie.After-word → tie.Start
+abbrev begun : tie.After-word-procnone → tie.Start
 begun c = c.before.before
 
-abbrev counted : tie.After-own-at → tie.After-word
+abbrev counted : tie.After-own_at → tie.After-word-procnone
 counted c = c.before.before.before.before
 
-abbrev read : tie.After-first-of → tie.After-own-at
+abbrev read : tie.After-first_of → tie.After-own_at
 read c = c.before.before
 
 -- what is small where the function begins
@@ -44,71 +44,71 @@ small c =
       number = kept-few S c.args.s l;
     }
 
-word-requires : tie.Need-word-requires
+word-requires : tie.Need-word-procnone-requires
 word-requires c κs = omega (arith, (small c.before).inside)
 
-start-of-requires : tie.Need-start-of-requires
+start-of-requires : tie.Need-start_of-requires
 start-of-requires c κs = omega (arith, (small (begun c)).schema)
 
-end-of-requires : tie.Need-end-of-requires
+end-of-requires : tie.Need-end_of-requires
 end-of-requires c κs = (small (begun c.before)).schema
 
-part-at-requires : tie.Need-part-at-requires
+part-at-requires : tie.Need-part_at-requires
 part-at-requires c κs = let k = small (begun c.before.before) in (k.schema, k.position)
 
-own-at-requires : tie.Need-own-at-requires
+own-at-requires : tie.Need-own_at-requires
 own-at-requires c κs = let k = small (begun c.before.before.before) in (k.schema, k.position)
 
-params-of-requires : tie.Need-params-of-requires
+params-of-requires : tie.Need-params_of-requires
 params-of-requires c κs = (small (begun (counted c))).inside
 
-first-of-requires : tie.Need-first-of-requires
+first-of-requires : tie.Need-first_of-requires
 first-of-requires c κs = omega (arith, (small (begun (counted c.before))).schema)
 
-add-t13 : tie.Need-overflow-add-t13
+add-t13 : tie.Need-overflow_add-result
 add-t13 c =
     let k = small (begun (counted (read c))) in
     omega (arith, c.first_of.ensures, k.number, k.position)
 
-cast-t14 : tie.Need-overflow-cast-t14
+cast-t14 : tie.Need-overflow_cast-result
 cast-t14 c =
     let k = small (begun (counted (read c))) in
     omega (arith, c.first_of.ensures, k.number, k.position)
 
-add-t15 : tie.Need-overflow-add-t15
+add-t15 : tie.Need-overflow_add-result-2
 add-t15 c =
     let k = (small (begun (counted (read c.before)))).tokens in
-    omega (arith, (counted (read c.before)).word.ensures.0)
+    omega (arith, (counted (read c.before)).word-procnone.ensures.0)
 
-add-t16 : tie.Need-overflow-add-t16
+add-t16 : tie.Need-overflow_add-result-3
 add-t16 c =
     let k = (small (begun (counted (read c.before)))).tokens in
-    omega (arith, (counted (read c.before)).word.ensures.0)
+    omega (arith, (counted (read c.before)).word-procnone.ensures.0)
 
-cast-t17 : tie.Need-overflow-cast-t17
+cast-t17 : tie.Need-overflow_cast-result-2
 cast-t17 c =
     let k = (small (begun (counted (read c.before)))).tokens in
-    omega (arith, (counted (read c.before)).word.ensures.0)
+    omega (arith, (counted (read c.before)).word-procnone.ensures.0)
 
 returns : tie.Need-returns
 returns c =
     let st = begun (counted (read c.before)) in
     let a = st.args in
     let w = a.table.now in
-    let p = (counted (read c.before)).word.ensures.0 in
-    let e = st.pre.0.sized.later in (
-      place_is st.pre.0 a.s st.pre.1.0 a.j st.pre.1.1 _
-          (read c.before).before.before.before.start_of_lem.ensures
-          (read c.before).before.before.end_of_lem.ensures
-          (read c.before).before.part_at.ensures
+    let p = (counted (read c.before)).word-procnone.ensures.0 in
+    let e = st.requires.0.sized.later in (
+      place_is st.requires.0 a.s st.requires.1.0 a.j st.requires.1.1 _
+          (read c.before).start_of.ensures
+          (read c.before).end_of.ensures
+          (read c.before).part_at.ensures
           (read c.before).own_at.ensures
-          c.before.before.params_of.ensures.0
+          c.params_of.ensures.0
           (omega arith),
-      ap (λ (n : ℕ). n + a.j) c.before.first_of.ensures,
+      ap (λ (n : ℕ). n + a.j) c.first_of.ensures,
     )
 
-pub place-of-spec : {M : Type 1} → statement M
-place-of-spec =
+pub place_of_spec : {M : Type 1} → statement M
+place_of_spec =
     tie.close
     (tie.spec word-requires start-of-requires end-of-requires part-at-requires own-at-requires params-of-requires
     first-of-requires add-t13 cast-t14 add-t15 add-t16 cast-t17 returns)

@@ -19,13 +19,13 @@ use Rattle.tokens.proofs.Splitting.{schema-kept, few-before, kept-before, token-
 use Rattle.tokens.proofs.schemas.tokens_of.Statement.{statement}
 
 -- the places, one from the next
-abbrev begun : tie.After-word → tie.Start
+abbrev begun : tie.After-word-procnone → tie.Start
 begun c = c.before.before
 
-abbrev counted : tie.After-count-of → tie.After-word
+abbrev counted : tie.After-count_of-count → tie.After-word-procnone
 counted c = c.before.before
 
-abbrev read : tie.After-token-at → tie.After-count-of
+abbrev read : tie.After-token_at → tie.After-count_of-count
 read c = c.before.before
 
 -- what is known where the function begins
@@ -58,45 +58,45 @@ known c =
     }
 
 -- the later parts of the schemas before
-before-is : (c : tie.After-first-of) →
+before-is : (c : tie.After-first_of) →
     let a = (begun c.before).args in
     c.first_of.result - a.s ≡ later_parts (take a.s (task_of a.table.now).schemas)
 before-is c = omega (arith, c.first_of.ensures, (known (begun c.before)).first)
 
-word-requires : tie.Need-word-requires
+word-requires : tie.Need-word-procnone-requires
 word-requires c κs = omega (arith, (known c.before).inside)
 
-first-of-requires : tie.Need-first-of-requires
+first-of-requires : tie.Need-first_of-requires
 first-of-requires c κs = omega (arith, (known (begun c)).schema)
 
-sub-before : tie.Need-overflow-sub-before
+sub-before : tie.Need-overflow_sub-before
 sub-before c = omega (arith, c.first_of.ensures, (known (begun c.before)).first)
 
-count-of-requires : tie.Need-count-of-requires
+count-of-requires : tie.Need-count_of-count-requires
 count-of-requires c κs = (known (begun c.before)).schema
 
-pars-at-requires : tie.Need-pars-at-requires
+pars-at-requires : tie.Need-pars_at-pars-requires
 pars-at-requires c κs = let k = known (begun (counted c)) in (k.schema, (k.position, k.parts))
 
-token-at-requires : tie.Need-token-at-requires
+token-at-requires : tie.Need-token_at-requires
 token-at-requires c κs =
     let k = known (begun (counted c.before)) in
     let b = before-is c.before.before in
-    let n = c.before.count_of.ensures in
-    let p = (counted c.before).word.ensures.0 in
+    let n = c.count_of-count.ensures in
+    let p = (counted c.before).word-procnone.ensures.0 in
     (omega (arith, k.tokens, k.parts), omega (arith, k.position))
 
-add-token-at : tie.Need-overflow-add-token-at
+add-token-at : tie.Need-overflow_add-j
 add-token-at c =
     let k = known (begun (counted (read c))) in
     omega (arith, k.position, k.parts)
 
-token-at-requires-2 : tie.Need-token-at-requires-2
+token-at-requires-2 : tie.Need-token_at-requires-2
 token-at-requires-2 c κs =
     let k = known (begun (counted (read c))) in
     let b = before-is (read c).before in
-    let n = (read c).count_of.ensures in
-    let p = (counted (read c)).word.ensures.0 in
+    let n = (read c).count_of-count.ensures in
+    let p = (counted (read c)).word-procnone.ensures.0 in
     (omega (arith, k.tokens, k.parts), omega (arith, k.position))
 
 returns : tie.Need-returns
@@ -104,26 +104,26 @@ unfolding lone procnone
 returns c =
     let st = begun (counted (read c.before)) in
     let a = st.args in
-    let S = st.pre.0.1 in
+    let S = st.requires.0.1 in
     let t = task_of a.table.now in
     let o = orders t a.s in
-    let n = (read c.before).count_of.ensures ∙ (known st).count in
-    let p = (counted (read c.before)).word.ensures.0 ∙ sym (predicates-word S) in
+    let n = (read c.before).count_of-count.ensures ∙ (known st).count in
+    let p = (counted (read c.before)).word-procnone.ensures.0 ∙ sym (predicates-word S) in
     let b = before-is (read c.before).before in
     let token : (i : ℕ) → _ ≡ token_at t a.s o i = λ i.
-    token-is t a.s o (counted (read c.before)).word.result
-    ((read c.before).before.first_of.result - a.s)
-    (read c.before).count_of.result i p b n in
+    token-is t a.s o (counted (read c.before)).word-procnone.result
+    ((read c.before).first_of.result - a.s)
+    (read c.before).count_of-count.result i p b n in
     record {
       alone = ap (λ (k : ℕ). eqb k 1) n;
-      before = c.before.token-at.ensures ∙ token a.j ∙ sym (required-is t a.s o a.j st.pre.1.1);
-      behind = c.token-at2.ensures ∙ token (a.j + 1) ∙ ap (token_at t a.s o) (add-one a.j) ∙
+      before = c.token_at.ensures ∙ token a.j ∙ sym (required-is t a.s o a.j st.requires.1.1);
+      behind = c.token_at-2.ensures ∙ token (a.j + 1) ∙ ap (token_at t a.s o) (add-one a.j) ∙
           sym (handed_on-is t a.s o a.j);
-      pars = c.before.before.pars-at.ensures t o (params-kept (schema-kept S a.s st.pre.1.0));
+      pars = c.pars_at-pars.ensures t o (params-kept (schema-kept S a.s st.requires.1.0));
     }
 
-pub tokens-of-spec : {M : Type 1} → statement M
-tokens-of-spec =
+pub tokens_of_spec : {M : Type 1} → statement M
+tokens_of_spec =
     tie.close
     (tie.spec word-requires first-of-requires sub-before count-of-requires pars-at-requires token-at-requires
     add-token-at token-at-requires-2 returns)

@@ -16,48 +16,48 @@ use Rattle.task.specs.Limits.{head_words}
 abbrev begun : tie.After-word → tie.Start
 begun c = c.before.before.before
 
-abbrev counted : tie.After-copy → tie.After-word
+abbrev counted : tie.After-copy-old → tie.After-word
 counted c = c.before.before
 
-abbrev copied : tie.After-fill → tie.After-copy
+abbrev copied : tie.After-fill-bare → tie.After-copy-old
 copied c = c.before.before.before.before.before
 
-abbrev filled : tie.After-fill2 → tie.After-fill
+abbrev filled : tie.After-fill → tie.After-fill-bare
 filled c = c.before.before.before.before
 
 word-requires : tie.Need-word-requires
-word-requires c κs = omega (arith, c.before.before.requires.0)
+word-requires c κs = omega (arith, c.requires.0)
 
-copy-requires : tie.Need-copy-requires
+copy-requires : tie.Need-copy-old-requires
 copy-requires c κs =
-    let p = c.before.word.ensures.0 in
+    let p = c.word.ensures.0 in
     let s = begun c.before in
-    (omega (arith, s.pre.0), omega (arith, s.pre.1))
+    (omega (arith, s.requires.0), omega (arith, s.requires.1))
 
-add-fill : tie.Need-overflow-add-fill
+add-fill : tie.Need-overflow_add-sizes
 add-fill c =
     let a = (begun (counted c.before.before.before.before)).args in
     let n = (counted c.before.before.before.before).word in
     let p = n.ensures.0 in
-    let f = c.before.before.before.before.copy.ensures in
+    let f = c.copy-old.ensures in
     omega (arith, (begun (counted c.before.before.before.before)).requires.1, puts-length f)
 
-fill-requires : tie.Need-fill-requires
+fill-requires : tie.Need-fill-bare-requires
 fill-requires c κs =
     let a = (begun (counted c.before.before.before.before)).args in
     let n = (counted c.before.before.before.before).word in
     let p = n.ensures.0 in
-    let f = c.before.before.before.before.copy.ensures in
+    let f = c.copy-old.ensures in
     let m = (begun (counted c.before.before.before.before)).requires.1 in
     omega (arith, length-words_at a.table.now head_words n.result, f.place, puts-length f)
 
-fill-requires-2 : tie.Need-fill-requires-2
+fill-requires-2 : tie.Need-fill-requires
 fill-requires-2 c κs =
     let a = (begun (counted (copied c.before.before.before))).args in
     let n = (counted (copied c.before.before.before)).word in
     let p = n.ensures.0 in
-    let f = (copied c.before.before.before).copy.ensures in
-    let g = c.before.before.before.fill.ensures in
+    let f = (copied c.before.before.before).copy-old.ensures in
+    let g = c.fill-bare.ensures in
     let r = length-replicate {A = ℕ} (a.sizes.later + 1) 0 in
     let m = (begun (counted (copied c.before.before.before))).requires.1 in
     let k = length-words_at a.table.now head_words n.result in
@@ -67,12 +67,12 @@ returns : tie.Need-returns
 returns c =
     let w = (begun (counted (copied (filled c.before.before)))).args.table.now in
     puts_then
-    (puts-is (copied (filled c.before.before)).copy.ensures refl refl (words_at w head_words _)
+    (puts-is (copied (filled c.before.before)).copy-old.ensures refl refl (words_at w head_words _)
     (ap (words_at w head_words) (sym (counted (copied (filled c.before.before))).word.ensures.0)))
-    (puts_then (filled c.before.before).fill.ensures c.before.before.fill2.ensures _
+    (puts_then (filled c.before.before).fill-bare.ensures c.fill.ensures _
     refl) _ refl
 
-pub arities-spec : {M : Type 1} → statement M
-arities-spec =
+pub arities_spec : {M : Type 1} → statement M
+arities_spec =
     tie.close
     (tie.spec word-requires copy-requires add-fill fill-requires fill-requires-2 (λ c. search rules) returns)
