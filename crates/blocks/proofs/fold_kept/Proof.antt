@@ -46,30 +46,30 @@ kept : (s : tie.Start) → TableKept (words s) s.args.kept.now
 kept s = table_kept s.requires
 
 -- what is looked up
-abbrev start : tie.After-origins-of → tie.Start
+abbrev start : tie.After-origins_of-origins → tie.Start
 start c = c.before.before.before.before.before.before
 
-begins : (c : tie.After-origins-of) → BeginsKept (task (start c)) c.before.begins-of.result
+begins : (c : tie.After-origins_of-origins) → BeginsKept (task (start c)) c.begins_of-begins.result
 begins c =
-    c.before.begins-of.ensures (task (start c)) (kept (start c)).blocks c.before.before.schema-count.ensures
+    c.begins_of-begins.ensures (task (start c)) (kept (start c)).blocks c.schema_count-schemas.ensures
 
-origins : (c : tie.After-origins-of) →
-    OriginsKept (start c).args.kept.now (length (task (start c)).schemas) c.origins-of.result
+origins : (c : tie.After-origins_of-origins) →
+    OriginsKept (start c).args.kept.now (length (task (start c)).schemas) c.origins_of-origins.result
 origins c =
-    subst (λ (n : ℕ). OriginsKept (start c).args.kept.now n c.origins-of.result)
-    c.before.before.schema-count.ensures c.origins-of.ensures
+    subst (λ (n : ℕ). OriginsKept (start c).args.kept.now n c.origins_of-origins.result)
+    c.schema_count-schemas.ensures c.origins_of-origins.ensures
 
 -- the list is judged
-abbrev looked : tie.After-judge → tie.After-origins-of
+abbrev looked : tie.After-judge-judged → tie.After-origins_of-origins
 looked j = j.before.before.before
 
-abbrev from : tie.After-judge → tie.Start
+abbrev from : tie.After-judge-judged → tie.Start
 from j = start (looked j)
 
 -- no step of it is bad
-list-kept : (j : tie.After-judge) → bad_step (split_task (task (from j))) (steps (from j)) ≡ none →
-    SplitStepsKept (task (from j)) (steps (from j)) (from j).args.kept.now (looked j).before.begins-of.result
-    (looked j).origins-of.result
+list-kept : (j : tie.After-judge-judged) → bad_step (split_task (task (from j))) (steps (from j)) ≡ none →
+    SplitStepsKept (task (from j)) (steps (from j)) (from j).args.kept.now (looked j).begins_of-begins.result
+    (looked j).origins_of-origins.result
 list-kept j good = record {
   blocks = (kept (from j)).blocks;
   good = good;
@@ -78,115 +78,115 @@ list-kept j good = record {
 }
 
 -- it is taken apart wholly
-abbrev judge : tie.After-judged3 → tie.After-judge
-judge w = w.before.before
+abbrev judge : tie.In-Whole → tie.After-judge-judged
+judge w = w.before
 
-abbrev count : tie.After-judged3 → ℕ
-count w = w.judged3.given.0.0
+abbrev count : tie.In-Whole → ℕ
+count w = w.in-Whole.found
 
-found : (w : tie.After-judged3) → let s = from (judge w) in
+found : (w : tie.In-Whole) → let s = from (judge w) in
     (bad_step (split_task (task s)) (steps s) ≡ none) ×
     ((xs : List Step) × (folding_of (words s) (steps s) ≡ folded xs) × (count w ≡ length xs))
 found w =
     let s = from (judge w) in
     is_whole (bad_step (split_task (task s)) (steps s)) (folding_of (words s) (steps s)) (count w)
-    (sym w.judged3.given.1 ∙ (judge w).judge.ensures)
+    (sym w.in-Whole.is ∙ (judge w).judge-judged.ensures)
 
 -- and there is room for the steps
-room : (e : tie.Else1) → let w = e.before.before in count w ≤ length (lent (from (judge w))) / step_size
-room e = let l = e.if1.false in omega arith
+room : (e : tie.Else-room-found) → let w = e in count w.before ≤ length (lent (from (judge w.before))) / step_size
+room e = let l = e.if-room-found.false in omega arith
 
-fits : (e : tie.Else1) → let w = e.before.before in
-    fits_in (list_words (found w).1.0) (lent (from (judge w))) ≡ true
+fits : (e : tie.Else-room-found) → let w = e in
+    fits_in (list_words (found w.before).1.0) (lent (from (judge w.before))) ≡ true
 fits e =
-    let w = e.before.before in
-    let s = from (judge w) in
-    let (xs, f, n) = (found w).1 in
+    let w = e in
+    let s = from (judge w.before) in
+    let (xs, f, n) = (found w.before).1 in
     let r = room e in
     room-folded (task s) (kept s).blocks.few-params (split_steps_in (words s) (steps s)) xs f (lent s)
     ∙ le-leb (length xs) (length (lent s) / step_size) (omega arith)
 
 -- ---- the checks
-begins-of-requires : tie.Need-begins-of-requires
+begins-of-requires : tie.Need-begins_of-begins-requires
 begins-of-requires c κs =
-    let s = c.before.before.before.before in (task s, (kept s).blocks, c.schema-count.ensures)
+    let s = c in (task s.before.before.before.before, (kept s.before.before.before.before).blocks, c.schema_count-schemas.ensures)
 
-origins-of-requires : tie.Need-origins-of-requires
+origins-of-requires : tie.Need-origins_of-origins-requires
 origins-of-requires c κs =
-    let s = c.before.before.before.before.before in
-    let e = c.before.schema-count.ensures in
-    let few = (kept s).blocks.few-schemas in (
+    let s = c in
+    let e = c.schema_count-schemas.ensures in
+    let few = (kept s.before.before.before.before.before).blocks.few-schemas in (
       omega arith,
       λ q l.
-          let m : q < length (task s).schemas = omega arith in
-          let n = (kept s).blocks.count q m in
-          let p = (kept s).blocks.few-parts q m in
+          let m : q < length (task s.before.before.before.before.before).schemas = omega arith in
+          let n = (kept s.before.before.before.before.before).blocks.count q m in
+          let p = (kept s.before.before.before.before.before).blocks.few-parts q m in
           omega arith,
     )
 
-judge-requires : tie.Need-judge-requires
+judge-requires : tie.Need-judge-judged-requires
 judge-requires c κs =
-    let o = c.before.before in
-    ((start o).requires, (begins o, origins o))
+    let o = c in
+    ((start o.before.before).requires, (begins o.before.before, origins o.before.before))
 
 -- no room
-returns : tie.Need-returns
+returns : tie.Need-returns-then-room-found
 unfolding fold_answer_told
 returns c =
-    let w = c.before.before in
-    let s = from (judge w) in
-    let (good, (xs, f, n)) = found w in
-    let l = c.if1.true in
+    let w = c in
+    let s = from (judge w.before) in
+    let (good, (xs, f, n)) = found w.before in
+    let l = c.if-room-found.true in
     let long =
     room-folded (task s) (kept s).blocks.few-params (split_steps_in (words s) (steps s)) xs f (lent s)
     ∙ lt-leb (length xs) (length (lent s) / step_size) (omega arith) in
     both (fold-no-room (words s) (steps s) (lent s) (kept s) good xs f long)
 
-put-folded-requires : tie.Need-put-folded-requires
+put-folded-requires : tie.Need-put_folded-requires
 put-folded-requires c κs =
-    let e = c.before.before.before in
-    let w = e.before.before in
-    let (good, (xs, f, n)) = found w in
-    let r = room e in
-    (_, xs, kept (from (judge w)), list-kept (judge w) good, f, omega arith)
+    let e = c in
+    let w = e in
+    let (good, (xs, f, n)) = found w.before.before.before.before in
+    let r = room e.before.before.before in
+    (_, xs, kept (from (judge w.before.before.before.before)), list-kept (judge w.before.before.before.before) good, f, omega arith)
 
 -- a bad step
-returns-2 : tie.Need-returns-2
+returns-2 : tie.Need-returns-in-Bad
 unfolding fold_answer_told
 returns-2 c =
-    let j = c.before.before.before in
-    let s = from j in
+    let j = c in
+    let s = from j.before in
     both (fold-bad-step (words s) (steps s) (lent s) (kept s)
     (is-bad (bad_step (split_task (task s)) (steps s)) (folding_of (words s) (steps s)) _
-    (sym c.before.judged.given.1 ∙ j.judge.ensures)))
+    (sym c.in-Bad.is ∙ j.judge-judged.ensures)))
 
 -- a misfit
-returns-3 : tie.Need-returns-3
+returns-3 : tie.Need-returns-in-Misfit
 unfolding fold_answer_told
 returns-3 c =
-    let j = c.before.before.before in
-    let s = from j in
+    let j = c in
+    let s = from j.before in
     let (good, f) = is-misfit (bad_step (split_task (task s)) (steps s)) (folding_of (words s) (steps s)) _
-    (sym c.before.judged2.given.1 ∙ j.judge.ensures) in
+    (sym c.in-Misfit.is ∙ j.judge-judged.ensures) in
     both (fold-misfit (words s) (steps s) (lent s) (kept s) good f)
 
 -- all pass
-returns-4 : tie.Need-returns-4
+returns-4 : tie.Need-returns-else-room-found
 unfolding fold_answer_told
 returns-4 c =
-    let p = c.before.before in
-    let e = p.before.before.before.before in
-    let w = e.before.before in
-    let s = from (judge w) in
-    let (good, (xs, f, n)) = found w in
+    let p = c in
+    let e = p in
+    let w = e in
+    let s = from (judge w.before.before.before.before.before.before.before) in
+    let (good, (xs, f, n)) = found w.before.before.before.before.before.before.before in
     let read = sym (length-steps_in (split_task (task s)) (steps s)) in
-    let done = both (fold_done (words s) (steps s) (lent s) (kept s) good xs f (fits e)) in (
+    let done = both (fold_done (words s) (steps s) (lent s) (kept s) good xs f (fits e.before.before.before.before.before.before)) in (
       ap₂ (λ (k m : ℕ). result (k ∷ m ∷ [])) read n ∙ done.0,
-      p.put-folded.ensures xs f ∙ done.1,
+      p.put_folded.ensures xs f ∙ done.1,
     )
 
-pub fold-kept-spec : {M : Type 1} → statement M
-fold-kept-spec =
+pub fold_kept_spec : {M : Type 1} → statement M
+fold_kept_spec =
     tie.close
     (tie.spec (λ c κs. search rules) begins-of-requires origins-of-requires judge-requires (λ c. search rules)
     (λ c. search rules) (λ c. search rules) returns put-folded-requires returns-2 returns-3 (λ c. search rules)

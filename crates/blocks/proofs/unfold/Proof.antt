@@ -11,22 +11,20 @@ use Rattle.blocks.proofs.KeptParts.{table_kept}
 use Rattle.blocks.proofs.UnfoldOutcome.{unfold-refused-as}
 use Rattle.blocks.proofs.unfold.Statement.{statement}
 
-abbrev start : tie.After-keep-accepted → tie.Start
+abbrev start : tie.After-keep_accepted-accepted → tie.Start
 start k = k.before.before.before.before.before
 
-returns-2 : tie.Need-returns-2
+returns-2 : tie.Need-returns-in-Refused
 unfolding unfold_answer_told
 returns-2 c =
-    let d = c.before in
-    let k = d.before.before in
-    let a = (start k).args in
+    let d = c in
+    let k = d in
+    let a = (start k.before).args in
     both (unfold-refused-as a.table.now a.steps.now a.out.now
-    (told-refused a.table.now k.keep-accepted.new.1.0 d.accepted.given.1 k.keep-accepted.ensures))
+    (told-refused a.table.now k.keep_accepted-accepted.new.kept d.in-Refused.is k.keep_accepted-accepted.ensures))
 
-pub unfold-spec : {M : Type 1} → statement M
-unfold-spec =
+pub unfold_spec : {M : Type 1} → statement M
+unfold_spec =
     tie.close (tie.spec (λ c κs. search rules) (λ c. search rules)
-    (λ c κs.
-    let d = c.before.before in
-    table_kept (told-accepted d.enum_told.given.1 d.before.before.keep-accepted.ensures))
+    (λ c κs. table_kept (told-accepted c.in-Accepted.is c.keep_accepted-accepted.ensures))
     (λ c. search rules) (λ c. search rules) (λ c. search rules) returns-2)

@@ -33,32 +33,32 @@ abbrev lent : tie.Start → List ℕ
 lent s = s.args.out.now
 
 -- no bad step
-abbrev start : tie.After-enum-told → tie.Start
-start g = g.before.before.before.before.before.before
+abbrev start : tie.In_default → tie.Start
+start g = g.before.before.before.before.before
 
-good : (g : tie.After-enum-told) → bad_step (task_of (words (start g))) (steps (start g)) ≡ none
+good : (g : tie.In_default) → bad_step (task_of (words (start g))) (steps (start g)) ≡ none
 unfolding bad_step_found
-good g = sym g.before.before.bad-step.ensures ∙ ap bad_step_found g.enum_told.given.1
+good g = sym g.bad_step-bad.ensures ∙ ap bad_step_found g.in_default.is
 
-steps-kept : (g : tie.After-enum-told) → let s = start g in
+steps-kept : (g : tie.In_default) → let s = start g in
     StepsKept (task_of (words s)) (steps s) s.args.kept.now
 steps-kept g = record { blocks = (start g).requires.blocks; good = good g }
 
 -- the split steps are counted
-abbrev checked : tie.After-split-steps-of → tie.After-enum-told
+abbrev checked : tie.After-split_steps_of-split_steps → tie.In_default
 checked p = p.before
 
-abbrev unfolding·of : tie.After-split-steps-of → ℕ
+abbrev unfolding·of : tie.After-split_steps_of-split_steps → ℕ
 unfolding·of p = let s = start (checked p) in length (unfolding_of (words s) (steps s))
 
-count-is : (p : tie.After-split-steps-of) → p.split-steps-of.result ≡ unfolding·of p
-count-is p = p.split-steps-of.ensures (task_of (words (start (checked p)))) (steps-kept (checked p))
+count-is : (p : tie.After-split_steps_of-split_steps) → p.split_steps_of-split_steps.result ≡ unfolding·of p
+count-is p = p.split_steps_of-split_steps.ensures (task_of (words (start (checked p)))) (steps-kept (checked p))
 
 -- and there is room for them
-room : (e : tie.Else1) → let s = start (checked e.before) in unfolding·of e.before ≤ length (lent s) / step_size
+room : (e : tie.Else-room-split_steps) → let s = start (checked e.before) in unfolding·of e.before ≤ length (lent s) / step_size
 room e = let c = count-is e.before in omega arith
 
-fits : (e : tie.Else1) → let s = start (checked e.before) in
+fits : (e : tie.Else-room-split_steps) → let s = start (checked e.before) in
     fits_in (list_words (unfolding_of (words s) (steps s))) (lent s) ≡ true
 fits e =
     let s = start (checked e.before) in
@@ -66,48 +66,48 @@ fits e =
     ∙ le-leb (unfolding·of e.before) (length (lent s) / step_size) (room e)
 
 -- ---- the checks
-returns : tie.Need-returns
+returns : tie.Need-returns-in-At
 unfolding unfold_answer_told bad_step_found
 returns c =
-    let b = c.before.before.before in
-    let s = b.before.before.before.before in
-    let e = sym b.bad-step.ensures ∙ ap bad_step_found c.before.bad.given.1 in
-    both (unfold-bad-step (words s) (steps s) (lent s) s.requires e)
+    let b = c in
+    let s = b in
+    let e = sym b.bad_step-bad.ensures ∙ ap bad_step_found c.in-At.is in
+    both (unfold-bad-step (words s.before.before.before.before.before) (steps s.before.before.before.before.before) (lent s.before.before.before.before.before) s.requires e)
 
-split-steps-of-requires : tie.Need-split-steps-of-requires
+split-steps-of-requires : tie.Need-split_steps_of-split_steps-requires
 split-steps-of-requires c κs = (task_of (words (start c)), steps-kept c)
 
-returns-2 : tie.Need-returns-2
+returns-2 : tie.Need-returns-then-room-split_steps
 unfolding unfold_answer_told
 returns-2 c =
-    let p = c.before in
-    let s = start (checked p) in
-    let n = count-is p in
+    let p = c in
+    let s = start (checked p.before) in
+    let n = count-is p.before in
     let long =
-    room_for (steps-kept (checked p)) (lent s) ∙ lt-leb (unfolding·of p) (length (lent s) / step_size) (omega arith) in
-    both (unfold-no-room (words s) (steps s) (lent s) s.pre (good (checked p)) long)
+    room_for (steps-kept (checked p.before)) (lent s) ∙ lt-leb (unfolding·of p.before) (length (lent s) / step_size) (omega arith) in
+    both (unfold-no-room (words s) (steps s) (lent s) s.requires (good (checked p.before)) long)
 
-put-blocks-requires : tie.Need-put-blocks-requires
+put-blocks-requires : tie.Need-put_blocks-requires
 put-blocks-requires c κs =
-    let e = c.before in
-    let g = checked e.before in
-    let r = room e in
+    let e = c in
+    let g = checked e.before.before in
+    let r = room e.before in
     (task_of (words (start g)), steps-kept g, omega arith)
 
-returns-3 : tie.Need-returns-3
+returns-3 : tie.Need-returns
 unfolding unfold_answer_told
 returns-3 c =
-    let w = c.before.before in
-    let e = w.before.before in
-    let g = checked e.before in
+    let w = c in
+    let e = w in
+    let g = checked e.before.before.before.before.before in
     let s = start g in
-    let done = both (unfold-done (words s) (steps s) (lent s) s.pre (good g) (fits e)) in (
-      ap (λ (n : ℕ). result (n ∷ [])) (count-is e.before) ∙ done.0,
-      w.put-blocks.ensures.1 (task_of (words s)) (steps-kept g) ∙ done.1,
+    let done = both (unfold-done (words s) (steps s) (lent s) s.requires (good g) (fits e.before.before.before.before)) in (
+      ap (λ (n : ℕ). result (n ∷ [])) (count-is e.before.before.before.before.before) ∙ done.0,
+      w.put_blocks.ensures.1 (task_of (words s)) (steps-kept g) ∙ done.1,
     )
 
-pub unfold-kept-spec : {M : Type 1} → statement M
-unfold-kept-spec =
+pub unfold_kept_spec : {M : Type 1} → statement M
+unfold_kept_spec =
     tie.close
     (tie.spec (λ c κs. search rules) (λ c. search rules) returns (λ c. search rules) split-steps-of-requires returns-2
     put-blocks-requires (λ c. search rules) returns-3)

@@ -11,46 +11,46 @@ use Rattle.words.proofs.Loops.{AllLeft, all-up-to, all_more, all-fails, all-ends
 use Rattle.blocks.specs.FoldCode.{agrees_at}
 use Rattle.blocks.proofs.folding.agree.Statement.{statement}
 
-abbrev invariant-loop : tie.invariant-loop
-invariant-loop steps places begin at number params k₀ k =
+abbrev invariant-loop-k : tie.invariant-loop-k
+invariant-loop-k steps places begin at number params k₀ k =
     AllLeft (agrees_at steps places begin at number) params (all (agrees_at steps places begin at number) (up_to params)) k
 
-abbrev decreases-loop : tie.decreases-loop
-decreases-loop steps places begin at number params k₀ k = params - k
+abbrev decreases-loop-k : tie.decreases-loop-k
+decreases-loop-k steps places begin at number params k₀ k = params - k
 
-loop-holds : tie.Need-loop-init invariant-loop decreases-loop
+loop-holds : tie.Need-loop-k-init invariant-loop-k decreases-loop-k
 loop-holds c = all-up-to refl
 
-object-in-requires : tie.Need-object-in-requires invariant-loop decreases-loop
+object-in-requires : tie.Need-object_in-first-requires invariant-loop-k decreases-loop-k
 object-in-requires c κs =
-    let l = c.before.loop-test.true in
-    let pre = c.before.before.before.before.requires in
+    let l = c.loop-k-test.true in
+    let pre = c.requires in
     ((pre.1.0.0, omega arith), pre.1.1 _ l)
 
 -- whether parameter k agrees, as it is tested
-tested : (c : tie.After-object-in invariant-loop decreases-loop) → let l = c.before.before.before in
-    let a = l.before.before.args in
-    agrees_at a.steps.now a.places.now a.begin a.at a.number l.loop.k ≡
-    eqb c.before.object_of.result.0 c.object-in.result.0
-tested c = sym (ap₂ eqb c.before.object_of.ensures c.object-in.ensures)
+tested : (c : tie.After-object_in-first invariant-loop-k decreases-loop-k) → let l = c in
+    let a = l.args in
+    agrees_at a.steps.now a.places.now a.begin a.at a.number l.loop-k.k ≡
+    eqb c.object_of-given.result.0 c.object_in-first.result.0
+tested c = sym (ap₂ eqb c.object_of-given.ensures c.object_in-first.ensures)
 
-returns : tie.Need-returns invariant-loop decreases-loop
+returns : tie.Need-returns-then-given-first invariant-loop-k decreases-loop-k
 returns c =
-    let d = c.before.before.before in
-    all-fails d.before.before.before.loop.invariant d.before.before.loop-test.true
-    (tested d ∙ ne_eqb _ _ c.if1.true)
+    let d = c in
+    all-fails d.loop-k.invariant d.loop-k-test.true
+    (tested d.before.before.before ∙ ne_eqb _ _ c.if-given-first.true)
 
-loop-again : tie.Need-loop-preserved invariant-loop decreases-loop
+loop-again : tie.Need-loop-k-preserved invariant-loop-k decreases-loop-k
 loop-again c =
-    let d = c.before.before.before in
-    all_more d.before.before.before.loop.invariant d.before.before.loop-test.true
-    (tested d ∙ eq-eqb _ _ c.if1.false)
+    let d = c in
+    all_more d.loop-k.invariant d.loop-k-test.true
+    (tested d.before.before.before ∙ eq-eqb _ _ c.if-given-first.false)
 
-returns-2 : tie.Need-returns-2 invariant-loop decreases-loop
+returns-2 : tie.Need-returns invariant-loop-k decreases-loop-k
 returns-2 c = search all-ends
 
-pub agree-spec : {M : Type 1} → statement M
-agree-spec =
+pub agree_spec : {M : Type 1} → statement M
+agree_spec =
     tie.close
-    (tie.spec invariant-loop decreases-loop loop-holds (λ c κs. omega arith) object-in-requires returns (λ c. omega arith)
+    (tie.spec invariant-loop-k decreases-loop-k loop-holds (λ c κs. omega arith) object-in-requires returns (λ c. omega arith)
     (λ c. omega arith) loop-again returns-2)

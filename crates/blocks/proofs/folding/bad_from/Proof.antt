@@ -15,40 +15,40 @@ use Rattle.tokens.specs.Split.{split_task, first_of}
 use Rattle.blocks.specs.FoldCode.{StepsKnown, GoodBefore}
 use Rattle.blocks.proofs.folding.bad_from.Statement.{statement}
 
-abbrev invariant-loop : tie.invariant-loop
-invariant-loop steps from splits params limits pairs begun i₀ i =
+abbrev invariant-loop-i : tie.invariant-loop-i
+invariant-loop-i steps from splits params limits pairs begun i₀ i =
     (t : Task) → StepsKnown t params limits pairs → splits ≡ first_of t (length t.schemas) → GoodBefore t steps from →
     GoodBefore t steps i
 
-abbrev decreases-loop : tie.decreases-loop
-decreases-loop steps from splits params limits pairs begun i₀ i = begun - i
+abbrev decreases-loop-i : tie.decreases-loop-i
+decreases-loop-i steps from splits params limits pairs begun i₀ i = begun - i
 
-is-split-step-requires : tie.Need-is-split-step-requires invariant-loop decreases-loop
-is-split-step-requires c κs = (omega arith, c.before.before.before.requires)
+is-split-step-requires : tie.Need-is_split_step-requires invariant-loop-i decreases-loop-i
+is-split-step-requires c κs = (omega arith, c.requires)
 
-returns : tie.Need-returns invariant-loop decreases-loop
+returns : tie.Need-returns-then-not-is_split_step invariant-loop-i decreases-loop-i
 unfolding bad_step_found
 returns c = λ t S f g.
-    let d = c.before.before in
-    let start = d.before.before.before in
-    let l = d.loop-test.true in
-    sym (bad-step-at (split_task t) start.args.steps.now d.before.loop.i (omega arith)
-    (d.before.loop.invariant t S f g) (sym (c.before.is-split-step.ensures t S f) ∙ c.if1.true))
+    let d = c in
+    let start = d in
+    let l = d.loop-i-test.true in
+    sym (bad-step-at (split_task t) start.args.steps.now d.loop-i.i (omega arith)
+    (d.loop-i.invariant t S f g) (sym (c.is_split_step.ensures t S f) ∙ c.if-not-is_split_step.true))
 
-loop-again : tie.Need-loop-preserved invariant-loop decreases-loop
+loop-again : tie.Need-loop-i-preserved invariant-loop-i decreases-loop-i
 loop-again c = λ t S f g.
-    below_more _ _ (c.before.before.before.loop.invariant t S f g)
-    (sym (c.before.is-split-step.ensures t S f) ∙ c.if1.false)
+    below_more _ _ (c.loop-i.invariant t S f g)
+    (sym (c.is_split_step.ensures t S f) ∙ c.if-not-is_split_step.false)
 
-returns-2 : tie.Need-returns-2 invariant-loop decreases-loop
+returns-2 : tie.Need-returns invariant-loop-i decreases-loop-i
 unfolding bad_step_found
 returns-2 c = λ t S f g.
-    let start = c.before.before.before in
-    let l = c.loop-test.false in
-    sym (no-bad-step (split_task t) start.args.steps.now (λ k m. c.before.loop.invariant t S f g k (omega arith)))
+    let start = c in
+    let l = c.loop-i-test.false in
+    sym (no-bad-step (split_task t) start.args.steps.now (λ k m. c.loop-i.invariant t S f g k (omega arith)))
 
-pub bad-from-spec : {M : Type 1} → statement M
-bad-from-spec =
+pub bad_from_spec : {M : Type 1} → statement M
+bad_from_spec =
     tie.close
-    (tie.spec invariant-loop decreases-loop (λ c. omega arith) (λ c. omega arith) (λ c. λ t S f g. g) is-split-step-requires returns
+    (tie.spec invariant-loop-i decreases-loop-i (λ c. omega arith) (λ c. omega arith) (λ c. λ t S f g. g) is-split-step-requires returns
     (λ c. omega arith) (λ c. omega arith) loop-again returns-2)

@@ -30,60 +30,60 @@ apart s count =
     let a = s.args in all (apart_at a.pairs.now 1 a.steps.now (step_size * a.i + 1) a.number) (up_to count)
 
 -- both tests, once the first is made
-abbrev start : tie.After-are-within → tie.Start
-start c = c.before.before.before.before
+abbrev start : tie.After-are_within → tie.Start
+start c = c.before.before.before.before.before
 
-told : (c : tie.After-are-within) (within : Bool) → c.are-within.result ≡ within → (t : Task) → Known (start c) t →
+told : (c : tie.After-are_within) (within : Bool) → c.are_within.result ≡ within → (t : Task) → Known (start c) t →
     Small (start c) t → let s = start c in
     within && apart s (get_or s.args.pairs.now 0 0) ≡ is_step_at (split_task t) s.args.steps.now s.args.i
 told c within d t S l =
     let s = start c in
     let a = s.args in
-    split-whole S a.steps.now a.i a.number s.pre.1.0 s.pre.0 l
-    (λ o e. sym d ∙ (c.are-within.ensures o e ∙
-    ap (objects_then_zeros o a.steps.now (step_size * a.i + 1)) c.before.wide.ensures))
+    split-whole S a.steps.now a.i a.number s.requires.1.0 s.requires.0 l
+    (λ o e. sym d ∙ (c.are_within.ensures o e ∙
+    ap (objects_then_zeros o a.steps.now (step_size * a.i + 1)) c.wide.ensures))
 
-are-within-requires : tie.Need-are-within-requires
+are-within-requires : tie.Need-are_within-requires
 are-within-requires c κs =
-    let s = c.before.before.before in
+    let s = c in
     let (t, S, l) = s.requires.1.1 in
     let e = c.wide.ensures in
     let n = split-few S s.args.number l in
     (s.requires.0, omega arith)
 
-returns : tie.Need-returns
-returns c = told c.before false c.if1.true
+returns : tie.Need-returns-then-not-are_within
+returns c = told c.before false c.if-not-are_within.true
 
 -- past the first test, with the count of pairs
-abbrev passed : tie.After-wide2 → tie.Else1
-passed c = c.before.before
+abbrev passed : tie.After-wide-count → tie.Else-not-are_within
+passed c = c.before.before.before
 
-rest : (c : tie.After-wide2) (t : Task) → let s = start (passed c).before in Known s t → Small s t →
-    apart s c.wide2.result ≡ is_step_at (split_task t) s.args.steps.now s.args.i
+rest : (c : tie.After-wide-count) (t : Task) → let s = start (passed c).before in Known s t → Small s t →
+    apart s c.wide-count.result ≡ is_step_at (split_task t) s.args.steps.now s.args.i
 rest c t S l =
-    ap (apart (start (passed c).before)) c.wide2.ensures ∙
-    told (passed c).before true (not-false _ (passed c).if1.false) t S l
+    ap (apart (start (passed c).before)) c.wide-count.ensures ∙
+    told (passed c).before true (not-false _ (passed c).if-not-are_within.false-raw) t S l
 
-returns-2 : tie.Need-returns-2
+returns-2 : tie.Need-returns-then-count-eq0
 unfolding all up_to up_from
 returns-2 c = λ t S l.
     let s = start (passed c.before).before in
-    ap (apart s) (sym c.if2.true) ∙ rest c.before t S l
+    ap (apart s) (sym c.if-count-eq0.true) ∙ rest c.before t S l
 
-keep-apart-requires : tie.Need-keep-apart-requires
+keep-apart-requires : tie.Need-keep_apart-requires
 keep-apart-requires c κs =
-    let d = c.before.before in
-    let s = start (passed d).before in
-    let (t, S, l) = s.pre.1.1 in
-    let e = d.wide2.ensures in
+    let d = c in
+    let s = start (passed d.before.before).before in
+    let (t, S, l) = s.requires.1.1 in
+    let e = d.wide-count.ensures in
     let n = rows_inside S in
-    (omega arith, (λ i k. rows-small S i (omega arith), s.pre.0))
+    (omega arith, (λ i k. rows-small S i (omega arith), s.requires.0))
 
-returns-3 : tie.Need-returns-3
+returns-3 : tie.Need-returns
 returns-3 c = λ t S l. c.keep_apart.ensures ∙ rest c.before.before.before t S l
 
-pub is-schema-step-spec : {M : Type 1} → statement M
-is-schema-step-spec =
+pub is_schema_step_spec : {M : Type 1} → statement M
+is_schema_step_spec =
     tie.close
     (tie.spec (λ c. search rules) (λ c. search rules) (λ c. search rules) (λ c κs. search rules) are-within-requires
     returns (λ c. search rules) (λ c κs. search rules) returns-2 keep-apart-requires returns-3)

@@ -13,47 +13,47 @@ use Rattle.blocks.proofs.SplitTests.{split-short, split-unknown}
 use Rattle.blocks.proofs.folding.is_split_step.Statement.{statement}
 
 -- past the tests of the length and the schema
-abbrev start : tie.Else2 → tie.Start
+abbrev start : tie.Else-splits-number → tie.Start
 start c = c.before.before.before.before
 
-whole : (c : tie.Else2) → step_size * (start c).args.i + step_size ≤ length (start c).args.steps.now
-whole c = let l = c.before.before.if1.false in let h = (start c).requires.0 in omega arith
+whole : (c : tie.Else-splits-number) → step_size * (start c).args.i + step_size ≤ length (start c).args.steps.now
+whole c = let l = c.if-steps-at-lt-STEP_SIZE.false in let h = (start c).requires.0 in omega arith
 
-known : (c : tie.Else2) (t : Task) → (start c).args.splits ≡ first_of t (length t.schemas) →
+known : (c : tie.Else-splits-number) (t : Task) → (start c).args.splits ≡ first_of t (length t.schemas) →
     get_or (start c).args.steps.now (step_size * (start c).args.i) 0 < first_of t (length t.schemas)
-known c t f = let e = c.before.schema-at.ensures in let l = c.if2.false in omega arith
+known c t f = let e = c.schema_at-number.ensures in let l = c.if-splits-number.false in omega arith
 
-returns : tie.Need-returns
+returns : tie.Need-returns-then-steps-at-lt-STEP_SIZE
 returns c = λ t S f.
-    let a = c.before.before.args in
-    let h = c.before.before.requires.0 in
-    let l = c.if1.true in
+    let a = c.args in
+    let h = c.requires.0 in
+    let l = c.if-steps-at-lt-STEP_SIZE.true in
     sym (split-short S a.steps.now a.i (omega arith))
 
-returns-2 : tie.Need-returns-2
+returns-2 : tie.Need-returns-then-splits-number
 returns-2 c = λ t S f.
-    let d = c.before in
-    let a = d.before.before.before.args in
-    let e = d.schema-at.ensures in
-    let l = c.if2.true in
+    let d = c in
+    let a = d.args in
+    let e = d.schema_at-number.ensures in
+    let l = c.if-splits-number.true in
     sym (split-unknown S a.steps.now a.i (omega arith))
 
-is-schema-step-requires : tie.Need-is-schema-step-requires
+is-schema-step-requires : tie.Need-is_schema_step-requires
 is-schema-step-requires c κs =
     let (t, S, f) = (start c).requires.1 in
-    let e = c.before.schema-at.ensures in
+    let e = c.schema_at-number.ensures in
     let l = known c t f in
     (whole c, (e, (t, S, omega arith)))
 
-returns-3 : tie.Need-returns-3
+returns-3 : tie.Need-returns
 returns-3 c = λ t S f.
-    let d = c.before in
-    let e = d.before.schema-at.ensures in
-    let l = known d t f in
-    c.is-schema-step.ensures t S (omega arith)
+    let d = c in
+    let e = d.schema_at-number.ensures in
+    let l = known d.before t f in
+    c.is_schema_step.ensures t S (omega arith)
 
-pub is-split-step-spec : {M : Type 1} → statement M
-is-split-step-spec =
+pub is_split_step_spec : {M : Type 1} → statement M
+is_split_step_spec =
     tie.close
     (tie.spec (λ c. search rules) (λ c. search rules) returns (λ c κs. search rules) returns-2
     is-schema-step-requires returns-3)

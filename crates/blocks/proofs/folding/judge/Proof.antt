@@ -35,154 +35,154 @@ blocks : (s : tie.Start) → BlocksKept (task s) s.args.kept.now
 blocks s = (table_kept s.requires.0).blocks
 
 -- ---- what is looked up
-abbrev start : tie.After-pairs-of → tie.Start
+abbrev start : tie.After-pairs_of-pairs → tie.Start
 start c = c.before.before.before.before.before.before.before.before
 
-schemas : (c : tie.After-pairs-of) →
-    c.before.before.before.before.before.schema-count.result ≡ length (task (start c)).schemas
-schemas c = c.before.before.before.before.before.schema-count.ensures
+schemas : (c : tie.After-pairs_of-pairs) →
+    c.schema_count-schemas.result ≡ length (task (start c)).schemas
+schemas c = c.schema_count-schemas.ensures
 
-steps-known : (c : tie.After-pairs-of) →
-    StepsKnown (task (start c)) c.before.before.before.before.params_of.result c.before.Limits-of.result
-    c.pairs_of.result
+steps-known : (c : tie.After-pairs_of-pairs) →
+    StepsKnown (task (start c)) c.params_of-params.result c.limits_of-limits.result
+    c.pairs_of-pairs.result
 steps-known c =
     let s = start c in
-    let well : well_formed (task s) ≡ true = (of-table s.args.table.now s.pre.0.table).0 in
+    let well : well_formed (task s) ≡ true = (of-table s.args.table.now s.requires.0.table).0 in
     record {
-      well = split-well (task s) (split_task (task s)) well s.pre.0.accepted;
+      well = split-well (task s) (split_task (task s)) well s.requires.0.accepted;
       few = (blocks s).few-splits;
-      counts = c.before.before.before.before.params_of.ensures (task s) (blocks s) (schemas c);
-      bounds = c.before.Limits-of.ensures ∙ ap limits_for c.before.before.object-count.ensures;
-      carried = c.pairs_of.ensures;
+      counts = c.params_of-params.ensures (task s) (blocks s) (schemas c);
+      bounds = c.limits_of-limits.ensures ∙ ap limits_for c.object_count.ensures;
+      carried = c.pairs_of-pairs.ensures;
     }
 
-known : (c : tie.After-pairs-of) → let s = start c in
-    BlocksKnown (task s) s.args.kept.now c.before.before.before.before.params_of.result
-    s.args.origins.now c.before.before.before.places_of.result c.before.Limits-of.result
-    c.pairs_of.result
+known : (c : tie.After-pairs_of-pairs) → let s = start c in
+    BlocksKnown (task s) s.args.kept.now c.params_of-params.result
+    s.args.origins.now c.places_of-places.result c.limits_of-limits.result
+    c.pairs_of-pairs.result
 known c =
     let s = start c in
     record {
       blocks = blocks s;
       known = steps-known c;
-      origin = s.pre.1.1;
-      place = c.before.before.before.places_of.ensures (task s) (blocks s) (schemas c);
+      origin = s.requires.1.1;
+      place = c.before.before.before.places_of-places.ensures (task s) (blocks s) (schemas c);
     }
 
 splits : (s : tie.Start) → s.args.sizes.schemas ≡ first_of (task s) (length (task s).schemas)
 splits s = s.requires.0.sized.schemas ∙ split-count (task s)
 
 -- ---- a first look at the pairs
-abbrev noted : tie.After-equal-step → tie.After-pairs-of
+abbrev noted : tie.After-equal_step-equal → tie.After-pairs_of-pairs
 noted c = c.before.before.before.before
 
-equal : (c : tie.After-equal-step) →
-    EqualTold (task (start (noted c))) (words (start (noted c))) c.equal-step.result
+equal : (c : tie.After-equal_step-equal) →
+    EqualTold (task (start (noted c))) (words (start (noted c))) c.equal_step-equal.result
 equal c =
-    let s = start (noted c) in c.equal-step.ensures (task s) (steps-known (noted c)) (splits s)
+    let s = start (noted c) in c.equal_step-equal.ensures (task s) (steps-known (noted c)) (splits s)
 
-none_equal : (c : tie.After-enum-told) →
-    let s = start (noted c.before.before) in KeepApart (task s) (words s)
+none_equal : (c : tie.In_default) →
+    let s = start (noted c.before) in KeepApart (task s) (words s)
 unfolding EqualTold
 none_equal c =
-    let s = start (noted c.before.before) in
-    subst (EqualTold (task s) (words s)) c.enum_told.given.1 (equal c.before.before)
+    let s = start (noted c.before) in
+    subst (EqualTold (task s) (words s)) c.in_default.is (equal c.before)
 
 -- ---- the list is taken apart
-abbrev none_told : tie.After-take-apart → tie.After-enum-told
+abbrev none_told : tie.After-take_apart-taken → tie.In_default
 none_told c = c.before.before.before.before
 
-abbrev looked : tie.After-take-apart → tie.After-pairs-of
-looked c = noted (none_told c).before.before
+abbrev looked : tie.After-take_apart-taken → tie.After-pairs_of-pairs
+looked c = noted (none_told c).before
 
-apart : (c : tie.After-take-apart) →
-    TakenTold (task (start (looked c))) (words (start (looked c))) c.take-apart.result
+apart : (c : tie.After-take_apart-taken) →
+    TakenTold (task (start (looked c))) (words (start (looked c))) c.take_apart-taken.result
 apart c =
     let s = start (looked c) in
-    c.take-apart.ensures (task s) s.args.origins.now (looked c).pairs_of.result (known (looked c))
-    (none_equal (none_told c)) s.pre.1.0
+    c.take_apart-taken.ensures (task s) s.args.origins.now (looked c).pairs_of-pairs.result (known (looked c))
+    (none_equal (none_told c)) s.requires.1.0
 
 -- ---- and its first bad step found
-abbrev parted : tie.After-bad-from → tie.After-take-apart
+abbrev parted : tie.After-bad_from-bad → tie.After-take_apart-taken
 parted c = c.before.before.before.before.before
 
-abbrev from : tie.After-bad-from → tie.Start
+abbrev from : tie.After-bad_from-bad → tie.Start
 from c = start (looked (parted c))
 
-abbrev bad : tie.After-bad-from → Type 0
-bad c = bad_step_found c.bad-from.result ≡ bad_step (split_task (task (from c))) (words (from c))
+abbrev bad : tie.After-bad_from-bad → Type 0
+bad c = bad_step_found c.bad_from-bad.result ≡ bad_step (split_task (task (from c))) (words (from c))
 
-found : (c : tie.After-bad-from) → bad c
+found : (c : tie.After-bad_from-bad) → bad c
 found c =
     let s = from c in
-    c.bad-from.ensures (task s) (steps-known (looked (parted c))) (splits s)
-    (subst (GoodBefore (task s) (words s)) (sym c.before.before.before.before.reached.ensures)
+    c.bad_from-bad.ensures (task s) (steps-known (looked (parted c))) (splits s)
+    (subst (GoodBefore (task s) (words s)) (sym c.reached.ensures)
     (apart (parted c)).good)
 
 abbrev folding : tie.Start → Folding
 folding s = fold_steps (task s) (steps_in (split_task (task s)) (words s))
 
-none-bad : (g : tie.After-enum-told2) → let s = from g.before.before in
+none-bad : (g : tie.In_default-bad) → let s = from g.before in
     bad_step (split_task (task s)) (words s) ≡ none
 unfolding bad_step_found
-none-bad g = sym (found g.before.before) ∙ ap bad_step_found g.enum-told2.given.1
+none-bad g = sym (found g.before) ∙ ap bad_step_found g.in_default-bad.is
 
 -- ---- the needs
-params-of-requires : tie.Need-params-of-requires
-params-of-requires c κs = let s = c.before.before.before in (task s, blocks s, c.schema-count.ensures)
+params-of-requires : tie.Need-params_of-params-requires
+params-of-requires c κs = let s = c in (task s.before.before.before, blocks s.before.before.before, c.schema_count-schemas.ensures)
 
-places-of-requires : tie.Need-places-of-requires
+places-of-requires : tie.Need-places_of-places-requires
 places-of-requires c κs =
-    let s = c.before.before.before.before in (task s, blocks s, c.before.schema-count.ensures)
+    let s = c in (task s.before.before.before.before, blocks s.before.before.before.before, c.schema_count-schemas.ensures)
 
-equal-step-requires : tie.Need-equal-step-requires
-equal-step-requires c κs = let d = c.before.before.before in (task (start d), steps-known d, splits (start d))
+equal-step-requires : tie.Need-equal_step-equal-requires
+equal-step-requires c κs = let d = c in (task (start d.before.before.before), steps-known d.before.before.before, splits (start d.before.before.before))
 
-take-apart-requires : tie.Need-take-apart-requires
+take-apart-requires : tie.Need-take_apart-taken-requires
 take-apart-requires c κs =
-    let told = c.before.before.before in
-    let d = noted told.before.before in
-    (task (start d), (start d).args.origins.now, d.pairs_of.result, known d, none_equal told, (start d).pre.1.0)
+    let told = c in
+    let d = noted told.before.before.before.before in
+    (task (start d), (start d).args.origins.now, d.pairs_of-pairs.result, known d, none_equal told.before.before.before, (start d).requires.1.0)
 
-bad-from-requires : tie.Need-bad-from-requires
+bad-from-requires : tie.Need-bad_from-bad-requires
 bad-from-requires c κs =
     let d = looked c.before.before.before.before in
     (task (start d), steps-known d, splits (start d))
 
-returns : tie.Need-returns
+returns : tie.Need-returns-in-At
 unfolding EqualTold
 returns c =
-    let d = c.before.before.before in
-    let s = start (noted d) in
+    let d = c in
+    let s = start (noted d.before) in
     judged-bad (bad_step (split_task (task s)) (words s)) (folding s) _
-    (subst (EqualTold (task s) (words s)) c.before.equal.given.1 (equal d))
+    (subst (EqualTold (task s) (words s)) c.in-At.is (equal d.before))
 
-returns-2 : tie.Need-returns-2
+returns-2 : tie.Need-returns-in-At-bad
 unfolding bad_step_found
 returns-2 c =
-    let d = c.before.before.before in
-    let s = from d in
+    let d = c in
+    let s = from d.before in
     judged-bad (bad_step (split_task (task s)) (words s)) (folding s) _
-    (sym (found d) ∙ ap bad_step_found c.before.bad.given.1)
+    (sym (found d.before) ∙ ap bad_step_found c.in-At-bad.is)
 
-returns-3 : tie.Need-returns-3
+returns-3 : tie.Need-returns-in-Whole
 returns-3 c =
-    let g = c.before.before.before in
-    let d = g.before.before in
-    let s = from d in
-    judged-whole (bad_step (split_task (task s)) (words s)) (folding s) _ (none-bad g)
-    (sym c.before.taken.given.1 ∙ (apart (parted d)).right (none-bad g))
+    let g = c in
+    let d = g in
+    let s = from d.before.before in
+    judged-whole (bad_step (split_task (task s)) (words s)) (folding s) _ (none-bad g.before)
+    (sym c.in-Whole.is ∙ (apart (parted d.before.before)).right (none-bad g.before))
 
-returns-4 : tie.Need-returns-4
+returns-4 : tie.Need-returns-in-Misfit
 returns-4 c =
-    let g = c.before.before.before in
-    let d = g.before.before in
-    let s = from d in
-    judged-misfit (bad_step (split_task (task s)) (words s)) (folding s) _ (none-bad g)
-    (sym c.before.taken2.given.1 ∙ (apart (parted d)).right (none-bad g))
+    let g = c in
+    let d = g in
+    let s = from d.before.before in
+    judged-misfit (bad_step (split_task (task s)) (words s)) (folding s) _ (none-bad g.before)
+    (sym c.in-Misfit.is ∙ (apart (parted d.before.before)).right (none-bad g.before))
 
-pub judge-spec : {M : Type 1} → statement M
-judge-spec =
+pub judge_spec : {M : Type 1} → statement M
+judge_spec =
     tie.close
     (tie.spec (λ c κs. search rules) params-of-requires places-of-requires (λ c κs. search rules) (λ c κs. search rules)
     (λ c κs. search rules) equal-step-requires (λ c. search rules) returns (λ c. search rules) take-apart-requires

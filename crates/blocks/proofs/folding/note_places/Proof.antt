@@ -14,84 +14,84 @@ use Rattle.blocks.proofs.SplitParams.{schema-passed, part-looked}
 use Rattle.blocks.proofs.Places.{places-more}
 use Rattle.blocks.proofs.folding.note_places.Statement.{statement}
 
-abbrev invariant-loop : tie.invariant-loop
-invariant-loop kept s origins places₀ first parts j₀ places j =
+abbrev invariant-loop-j : tie.invariant-loop-j
+invariant-loop-j kept s origins places₀ first parts j₀ places j =
     (j ≤ parts) × (length places ≡ origin_words) ×
     ((t : Task) → BlocksKept t kept → s < length t.schemas → PlacesNoted t kept origins (first_of t s) places₀ →
     PlacesNoted t kept origins (first_of t s + j) places)
 
-abbrev decreases-loop : tie.decreases-loop
-decreases-loop kept s origins places₀ first parts j₀ places j = parts - j
+abbrev decreases-loop-j : tie.decreases-loop-j
+decreases-loop-j kept s origins places₀ first parts j₀ places j = parts - j
 
 -- the schema is one of the task's, for the task that the caller knows of
-known : (c : tie.Start invariant-loop decreases-loop) → c.args.s < 200
+known : (c : tie.Start invariant-loop-j decreases-loop-j) → c.args.s < 200
 known c = let (t, K, l) = c.requires.1 in let n = K.few-schemas in omega arith
 
 -- the part of this turn, for any task
-part : (c : tie.In-loop invariant-loop decreases-loop) (t : Task) → let a = c.before.before.before.before.args in
-    BlocksKept t a.kept.now → a.s < length t.schemas → c.before.loop.j < length (orders t a.s)
-part c t K l = omega (arith, c.before.before.count_of.ensures, K.count _ l, c.loop-test.true)
+part : (c : tie.In-loop-j invariant-loop-j decreases-loop-j) (t : Task) → let a = c.args in
+    BlocksKept t a.kept.now → a.s < length t.schemas → c.loop-j.j < length (orders t a.s)
+part c t K l = omega (arith, c.count_of-parts.ensures, K.count _ l, c.loop-j-test.true)
 
 -- it and its number in the split are within the limits
-small : (c : tie.In-loop invariant-loop decreases-loop) →
-    (c.before.loop.j < 16) × (c.before.before.before.first_of.result + c.before.loop.j < 200)
+small : (c : tie.In-loop-j invariant-loop-j decreases-loop-j) →
+    (c.loop-j.j < 16) × (c.first_of-first.result + c.loop-j.j < 200)
 small c =
-    let (t, K, l) = c.before.before.before.before.requires.1 in
-    let (e, a, b) = part-looked K _ _ l (part c t K l) _ c.before.before.before.first_of.ensures in
+    let (t, K, l) = c.requires.1 in
+    let (e, a, b) = part-looked K _ _ l (part c t K l) _ c.first_of-first.ensures in
     (a, b)
 
-loop-holds : tie.Need-loop-init invariant-loop decreases-loop
+loop-holds : tie.Need-loop-j-init invariant-loop-j decreases-loop-j
 loop-holds c =
-    let a = c.before.before.args in (
+    let a = c.args in (
       omega arith,
-      c.before.before.requires.0,
+      c.requires.0,
       λ t K l h. let e : first_of t a.s ≡ first_of t a.s + 0 = omega arith in
           subst (λ (n : ℕ). PlacesNoted t a.kept.now a.origins.now n a.places.now) e h,
     )
 
-own-at-requires : tie.Need-own-at-requires invariant-loop decreases-loop
+own-at-requires : tie.Need-own_at-requires invariant-loop-j decreases-loop-j
 own-at-requires c κs = (known c.before.before.before.before, (small c).0)
 
-place-part-requires : tie.Need-place-part-requires invariant-loop decreases-loop
+place-part-requires : tie.Need-place_part-requires invariant-loop-j decreases-loop-j
 place-part-requires c κs =
-    let turn = c.before.before in
-    ((known turn.before.before.before.before, (small turn).1), turn.before.loop.invariant.1)
+    let turn = c in
+    ((known turn.before.before.before.before.before.before, (small turn.before.before).1), turn.loop-j.invariant.1)
 
-loop-again : tie.Need-loop-preserved invariant-loop decreases-loop
+loop-again : tie.Need-loop-j-preserved invariant-loop-j decreases-loop-j
 loop-again c =
-    let turn = c.before.before.before in
-    let h = turn.before.loop in
-    let a = turn.before.before.before.before.args in
-    let d = c.place-part.ensures in
-    let after = c.place-part.new.1.1.1.1.0 in (
-      omega (arith, turn.loop-test.true),
+    let turn = c in
+    let h = turn.loop-j in
+    let a = turn.args in
+    let d = c.place_part.ensures in
+    let after = c.place_part.new.places in (
+      omega (arith, turn.loop-j-test.true),
       d.long ∙ h.invariant.1,
       λ t K l n.
-          let m = part turn t K l in
-          let e = (part-looked K _ _ l m _ turn.before.before.before.first_of.ensures).0 in
+          let m = part turn.before.before.before t K l in
+          let e = (part-looked K _ _ l m _ turn.first_of-first.ensures).0 in
           let f : first_of t a.s + h.j + 1 ≡ first_of t a.s + (h.j + 1) = omega arith in
           subst (λ (i : ℕ). PlacesNoted t a.kept.now a.origins.now i after) f
           (places-more a.s h.j (first_of t a.s + h.j) m refl (h.invariant.2 t K l n)
           (subst (λ (i : ℕ). PartPlaced (kept_own a.kept.now a.s h.j) a.s i 12 a.origins.now h.places
           after) e
-          (subst (λ (o : ℕ). PartPlaced o a.s (turn.before.before.before.first_of.result + h.j) 12
-          a.origins.now h.places after) c.before.before.own_at.ensures d))),
+          (subst (λ (o : ℕ). PartPlaced o a.s (turn.first_of-first.result + h.j) 12
+          a.origins.now h.places after) c.own_at.ensures d))),
     )
 
-returns : tie.Need-returns invariant-loop decreases-loop
+returns : tie.Need-returns invariant-loop-j decreases-loop-j
 returns c =
-    let h = c.before.loop in
-    let a = c.before.before.before.before.args in (
+    let h = c.loop-j in
+    let a = c.args in (
       h.invariant.1,
       λ t K l n.
           subst (λ (i : ℕ). PlacesNoted t a.kept.now a.origins.now i h.places)
-          (schema-passed K _ h.j _ l c.before.before.count_of.ensures c.loop-test.false h.invariant.0)
+          (schema-passed K _ h.j _ l c.count_of-parts.ensures c.loop-j-test.false h.invariant.0)
           (h.invariant.2 t K l n),
     )
 
-pub note-places-spec : {M : Type 1} → statement M
-note-places-spec =
+pub note_places_spec : {M : Type 1} → statement M
+note_places_spec =
     tie.close
-    (tie.spec invariant-loop decreases-loop (λ c κs. let l = known c in omega arith) (λ c κs. known c.before) loop-holds
+    (tie.spec invariant-loop-j decreases-loop-j (λ c κs. let l = known c in omega arith) (λ c κs. known c.before) loop-holds
     own-at-requires (λ c. let l = (small c.before).1 in omega arith) place-part-requires
     (λ c. let l = (small c.before.before.before).0 in omega arith) (λ c. omega arith) loop-again returns)

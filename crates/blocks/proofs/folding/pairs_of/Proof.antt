@@ -21,25 +21,25 @@ task s = task_of s.args.table.now
 well : (s : tie.Start) → well_formed (split_task (task s)) ≡ true
 well s = split-well (task s) (split_task (task s)) (of-table s.args.table.now s.requires.table).0 s.requires.accepted
 
-cast-pairs : tie.Need-overflow-cast-pairs
+cast-pairs : tie.Need-overflow_cast-pairs
 cast-pairs c =
-    let s = c.before.before in
+    let s = c in
     let e = s.requires.sized.pairs in
-    let (few, _) = rows-room (task s) (well s) in
+    let (few, _) = rows-room (task s.before.before) (well s.before.before) in
     omega arith
 
-all-pairs-requires : tie.Need-all-pairs-requires
+all-pairs-requires : tie.Need-all_pairs-requires
 all-pairs-requires c κs =
-    let s = c.before.before.before in
-    let (few, e) = rows-room (task s) (well s) in
+    let s = c in
+    let (few, e) = rows-room (task s.before.before.before) (well s.before.before.before) in
     ((s.args.sizes, s.requires), omega arith)
 
 returns : tie.Need-returns
 returns c =
-    let s = c.before.before.before.before.before in
-    rows-noted (task s) (well s) (replicate carried_room 0) _ _ _ refl s.requires.sized.pairs
-    c.before.all-pairs.ensures
+    let s = c in
+    rows-noted (task s.before.before.before.before.before) (well s.before.before.before.before.before) (replicate carried_room 0) _ _ _ refl s.requires.sized.pairs
+    c.all_pairs.ensures
 
-pub pairs-of-spec : {M : Type 1} → statement M
-pairs-of-spec =
+pub pairs_of_spec : {M : Type 1} → statement M
+pairs_of_spec =
     tie.close (tie.spec cast-pairs (λ c. search rules) (λ c. search rules) all-pairs-requires returns)

@@ -12,37 +12,37 @@ use Rattle.blocks.specs.FoldCode.{ParamsNoted}
 use Rattle.blocks.proofs.SplitParams.{params-start}
 use Rattle.blocks.proofs.folding.params_of.Statement.{statement}
 
-abbrev invariant-loop : tie.invariant-loop
-invariant-loop kept schemas params₀ s₀ params s =
+abbrev invariant-loop-s : tie.invariant-loop-s
+invariant-loop-s kept schemas params₀ s₀ params s =
     (s ≤ schemas) ×
     ((t : Task) → BlocksKept t kept → schemas ≡ length t.schemas → ParamsNoted t (first_of t s) params)
 
-abbrev decreases-loop : tie.decreases-loop
-decreases-loop kept schemas params₀ s₀ params s = schemas - s
+abbrev decreases-loop-s : tie.decreases-loop-s
+decreases-loop-s kept schemas params₀ s₀ params s = schemas - s
 
-loop-holds : tie.Need-loop-init invariant-loop decreases-loop
+loop-holds : tie.Need-loop-s-init invariant-loop-s decreases-loop-s
 loop-holds c = (omega arith, λ t K e. params-start t refl)
 
-note-params-requires : tie.Need-note-params-requires invariant-loop decreases-loop
+note-params-requires : tie.Need-note_params-requires invariant-loop-s decreases-loop-s
 note-params-requires c κs =
-    let d = c.before in
-    let (t, K, e) = d.before.before.requires in
-    (t, K, omega (arith, d.loop-test.true), d.before.loop.invariant.1 t K e)
+    let d = c in
+    let (t, K, e) = d.requires in
+    (t, K, omega (arith, d.loop-s-test.true), d.loop-s.invariant.1 t K e)
 
-loop-again : tie.Need-loop-preserved invariant-loop decreases-loop
+loop-again : tie.Need-loop-s-preserved invariant-loop-s decreases-loop-s
 loop-again c =
-    let d = c.before.before in
-    let l = d.loop-test.true in
-    (omega arith, λ t K e. c.note-params.ensures t K (omega arith) (d.before.loop.invariant.1 t K e))
+    let d = c in
+    let l = d.loop-s-test.true in
+    (omega arith, λ t K e. c.note_params.ensures t K (omega arith) (d.loop-s.invariant.1 t K e))
 
-returns : tie.Need-returns invariant-loop decreases-loop
+returns : tie.Need-returns invariant-loop-s decreases-loop-s
 returns c = λ t K e.
-    let h = c.before.loop in
-    let z : h.s ≡ length t.schemas = omega (arith, c.loop-test.false) in
+    let h = c.loop-s in
+    let z : h.s ≡ length t.schemas = omega (arith, c.loop-s-test.false) in
     subst (λ (n : ℕ). ParamsNoted t (first_of t n) h.params) z (h.invariant.1 t K e)
 
-pub params-of-spec : {M : Type 1} → statement M
-params-of-spec =
+pub params_of_spec : {M : Type 1} → statement M
+params_of_spec =
     tie.close
-    (tie.spec invariant-loop decreases-loop loop-holds (λ c. omega arith) note-params-requires (λ c. omega arith) (λ c. omega arith)
+    (tie.spec invariant-loop-s decreases-loop-s loop-holds (λ c. omega arith) note-params-requires (λ c. omega arith) (λ c. omega arith)
     loop-again returns)

@@ -17,14 +17,14 @@ abbrev Noted : ℕ → ℕ → ℕ → List ℕ → List ℕ → ℕ → List �
 Noted own s number origins places₀ p places next =
     (next ≡ next_place own number p) × PartPlaced own s number p origins places₀ places
 
-abbrev invariant-loop : tie.invariant-loop
-invariant-loop own s number origins places₀ next₀ p₀ places next p =
+abbrev invariant-loop-p : tie.invariant-loop-p
+invariant-loop-p own s number origins places₀ next₀ p₀ places next p =
     (p ≤ 12) × Noted own s number origins places₀ p places next
 
-abbrev decreases-loop : tie.decreases-loop
-decreases-loop own s number origins places₀ next₀ p₀ places next p = 12 - p
+abbrev decreases-loop-p : tie.decreases-loop-p
+decreases-loop-p own s number origins places₀ next₀ p₀ places next p = 12 - p
 
-loop-holds : tie.Need-loop-init invariant-loop decreases-loop
+loop-holds : tie.Need-loop-p-init invariant-loop-p decreases-loop-p
 loop-holds c =
     let a = c.args in (
       omega arith,
@@ -32,53 +32,53 @@ loop-holds c =
     )
 
 -- the next place is one of the schema's
-small : (c : tie.Then1 invariant-loop decreases-loop) → c.before.before.before.loop.next < 2400
+small : (c : tie.Then-has invariant-loop-p decreases-loop-p) → c.loop-p.next < 2400
 small c =
-    let h = c.before.before.before.loop in
-    let a = c.before.before.before.before.args in
+    let h = c.loop-p in
+    let a = c.args in
     let n = few-below a.own h.p in
     let e = h.invariant.1.0 in
-    let l = c.before.before.before.before.requires in
-    let q = c.before.before.loop-test.true in
+    let l = c.requires in
+    let q = c.loop-p-test.true in
     omega arith
 
-loop-again : tie.Need-loop-preserved invariant-loop decreases-loop
+loop-again : tie.Need-loop-p-preserved invariant-loop-p decreases-loop-p
 loop-again c =
-    let turn = c.before.before in
-    let h = turn.before.loop in
-    let a = turn.before.before.args in
-    let test = sym c.before.has.ensures in
+    let turn = c in
+    let h = turn.loop-p in
+    let a = turn.args in
+    let test = sym c.has.ensures in
     let P : List ℕ → ℕ → Type 0 = Noted a.own a.s a.number a.origins.now a.places.now (h.p + 1) in (
       omega arith,
       ⊎_elim
           (λ x.
-          let m = test ∙ x.0.taken in
-          let l = small (record { before = c.before; if1 = x.0 }) in
-          both_at P x.2 x.3 (
+          let m = test ∙ x.if-has.true in
+          let l = small (record { before = c.before; if-has = x.if-has }) in
+          both_at P x.places-is x.next-is (
             ap (λ (n : ℕ). n + 1) h.invariant.1.0 ∙ place_in a.own a.number h.p m,
             placed-in a.own a.s a.number a.origins.now h.p h.invariant.1.1 m h.next h.invariant.1.0
                 (omega arith),
           ))
           (λ x.
-          let m = test ∙ x.0.left in
-          both_at P x.1 x.2 (
+          let m = test ∙ x.if-has.false in
+          both_at P x.places-is x.next-is (
             h.invariant.1.0 ∙ place_out a.own a.number h.p m,
             placed-out a.own a.s a.number a.origins.now h.p h.invariant.1.1 m,
           ))
-          c.if1.branch,
+          c.if-has.branch-raw,
     )
 
-returns : tie.Need-returns invariant-loop decreases-loop
+returns : tie.Need-returns invariant-loop-p decreases-loop-p
 returns c =
-    let h = c.before.loop in
-    let a = c.before.before.args in
+    let h = c.loop-p in
+    let a = c.args in
     let e : h.p ≡ 12 = omega arith in
     subst (λ (p : ℕ). PartPlaced a.own a.s a.number p a.origins.now a.places.now h.places) e
     h.invariant.1.1
 
-pub place-part-spec : {M : Type 1} → statement M
-place-part-spec =
+pub place_part_spec : {M : Type 1} → statement M
+place_part_spec =
     tie.close
-    (tie.spec invariant-loop decreases-loop (λ c. omega arith) loop-holds (λ c κs. omega arith) (λ c. omega arith) (λ c. omega arith)
-    (λ c. omega arith) (λ c. omega arith) (λ c. let l = small c.before in omega arith) (λ c. small c.before)
-    (λ c. let l = small c.before in omega arith) (λ c. omega arith) (λ c. omega arith) loop-again returns)
+    (tie.spec invariant-loop-p decreases-loop-p (λ c. omega arith) loop-holds (λ c κs. omega arith) (λ c. omega arith) (λ c. omega arith)
+    (λ c. omega arith) (λ c. omega arith) (λ c. let l = small c.before.before in omega arith) (λ c. small c.before.before.before)
+    (λ c. let l = small c.before.before.before in omega arith) (λ c. omega arith) (λ c. omega arith) loop-again returns)

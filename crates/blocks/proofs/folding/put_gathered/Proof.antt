@@ -16,69 +16,69 @@ use Rattle.blocks.proofs.KeptWords.{put-none, put_next, put_step}
 use Rattle.blocks.proofs.FoldPuts.{objects-start, objects-next}
 use Rattle.blocks.proofs.folding.put_gathered.Statement.{statement}
 
-abbrev invariant-loop : tie.invariant-loop
-invariant-loop steps origins begin s params out₀ to p₀ out p =
+abbrev invariant-loop-p : tie.invariant-loop-p
+invariant-loop-p steps origins begin s params out₀ to p₀ out p =
     (p ≤ params) × Puts out₀ (to + 1) (objects_in steps origins begin s (up_to p)) out (to + 1 + p)
 
-abbrev decreases-loop : tie.decreases-loop
-decreases-loop steps origins begin s params out₀ to p₀ out p = params - p
+abbrev decreases-loop-p : tie.decreases-loop-p
+decreases-loop-p steps origins begin s params out₀ to p₀ out p = params - p
 
 -- the buffer keeps its length
-filled : (c : tie.After-fill invariant-loop decreases-loop) →
-    length c.fill.new.0 ≡ length c.before.before.before.before.args.out.now
+filled : (c : tie.After-fill invariant-loop-p decreases-loop-p) →
+    length c.fill.new.out ≡ length c.args.out.now
 filled c =
-    let a = c.before.before.before.before.args in
+    let a = c.args in
     puts-length c.fill.ensures ∙ length-set a.out.now a.to a.s
 
-fill-requires : tie.Need-fill-requires invariant-loop decreases-loop
-fill-requires c κs = let a = c.before.before.before.args in
+fill-requires : tie.Need-fill-requires invariant-loop-p decreases-loop-p
+fill-requires c κs = let a = c.args in
     let e = length-set a.out.now a.to a.s in omega arith
 
-loop-holds : tie.Need-loop-init invariant-loop decreases-loop
+loop-holds : tie.Need-loop-p-init invariant-loop-p decreases-loop-p
 loop-holds c =
-    let a = c.before.before.before.before.before.before.args in
-    let h = put-none c.before.before.fill.new.0 (a.to + 1)
+    let a = c.args in
+    let h = put-none c.fill.new.out (a.to + 1)
     (objects_in a.steps.now a.origins.now a.begin a.s (up_to 0))
     (objects-start a.steps.now a.origins.now a.begin a.s) in
     (omega arith, record { words = h.words; place = let e = h.place in omega arith })
 
-room : (c : tie.In-loop invariant-loop decreases-loop) →
-    let a = c.before.before.before.before.before.before.before.before.args in
-    a.to + 1 + c.before.loop.p < length c.before.loop.out
+room : (c : tie.In-loop-p invariant-loop-p decreases-loop-p) →
+    let a = c.args in
+    a.to + 1 + c.loop-p.p < length c.loop-p.out
 room c =
-    let d = c.before.before.before.before in
-    let e = puts-length c.before.loop.invariant.1 in
-    let f = filled d in
-    let l = c.loop-test.true in
-    let (few, (room, inside)) = d.before.before.before.before.requires in
+    let d = c in
+    let e = puts-length c.loop-p.invariant.1 in
+    let f = filled d.before.before.before.before in
+    let l = c.loop-p-test.true in
+    let (few, (room, inside)) = d.requires in
     omega arith
 
-object-in-requires : tie.Need-object-in-requires invariant-loop decreases-loop
+object-in-requires : tie.Need-object_in-object-requires invariant-loop-p decreases-loop-p
 object-in-requires c κs =
-    let (few, (room, inside)) = c.before.before.before.before.before.before.before.before.requires in
-    let l = c.loop-test.true in
-    ((few.0, omega arith), inside c.before.loop.p l)
+    let (few, (room, inside)) = c.requires in
+    let l = c.loop-p-test.true in
+    ((few.0, omega arith), inside c.loop-p.p l)
 
-loop-again : tie.Need-loop-preserved invariant-loop decreases-loop
+loop-again : tie.Need-loop-p-preserved invariant-loop-p decreases-loop-p
 loop-again c =
-    let d = c.before in
-    let h = d.before.loop in
-    let a = d.before.before.before.before.before.before.before.before.args in
-    let l = d.loop-test.true in
-    let q = put_next h.invariant.1 c.object-in.result.0
+    let d = c in
+    let h = d.loop-p in
+    let a = d.args in
+    let l = d.loop-p-test.true in
+    let q = put_next h.invariant.1 c.object_in-object.result.0
     (objects_in a.steps.now a.origins.now a.begin a.s (up_to (h.p + 1)))
     (objects-next a.steps.now a.origins.now a.begin a.s h.p
     ∙ ap (λ (v : ℕ). objects_in a.steps.now a.origins.now a.begin a.s (up_to h.p) ++ (v ∷ []))
-    (sym c.object-in.ensures)) in
+    (sym c.object_in-object.ensures)) in
     (omega arith, record { words = q.words; place = let e = q.place in omega arith })
 
-returns : tie.Need-returns invariant-loop decreases-loop
+returns : tie.Need-returns invariant-loop-p decreases-loop-p
 returns c =
-    let h = c.before.loop in
-    let d = c.before.before.before.before in
-    let a = d.before.before.before.before.args in
-    let (few, more) = d.before.before.before.before.requires in
-    let e : h.p ≡ a.params = omega (arith, c.loop-test.false) in
+    let h = c.loop-p in
+    let d = c in
+    let a = d.args in
+    let (few, more) = d.requires in
+    let e : h.p ≡ a.params = omega (arith, c.loop-p-test.false) in
     let os : List ℕ = objects_in a.steps.now a.origins.now a.begin a.s (up_to h.p) in
     let n = length-map (up_to h.p) (object_in a.steps.now a.origins.now a.begin a.s) in
     let m = length-up_to h.p in
@@ -88,14 +88,14 @@ returns c =
     ∙ ap (λ (k : ℕ). put a.out.now a.to
     (step_words (gathered a.steps.now a.origins.now a.begin a.s k))) e))
 
-same_length : tie.Need-same-length invariant-loop decreases-loop
+same_length : tie.Need-shape_of-out invariant-loop-p decreases-loop-p
 same_length c =
-    puts-length c.before.loop.invariant.1 ∙ filled c.before.before.before.before
+    puts-length c.loop-p.invariant.1 ∙ filled c.before.before.before.before
 
-pub put-gathered-spec : {M : Type 1} → statement M
-put-gathered-spec =
+pub put_gathered_spec : {M : Type 1} → statement M
+put_gathered_spec =
     tie.close
-    (tie.spec invariant-loop decreases-loop (λ c. omega arith) (λ c. omega arith) (λ c. omega arith) (λ c. omega arith) fill-requires
+    (tie.spec invariant-loop-p decreases-loop-p (λ c. omega arith) (λ c. omega arith) (λ c. omega arith) (λ c. omega arith) fill-requires
     loop-holds (λ c. omega arith) object-in-requires (λ c. let l = room c.before in omega arith)
     (λ c. let l = room c.before in omega arith) (λ c. let l = room c.before in omega arith)
     (λ c. room c.before) (λ c. omega arith) (λ c. omega arith) loop-again same_length returns)

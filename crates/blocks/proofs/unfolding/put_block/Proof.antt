@@ -22,57 +22,57 @@ abbrev Put : List ℕ → List ℕ → ℕ → List ℕ → ℕ → ℕ → List
 Put steps kept at out₀ to j out next =
     Puts out₀ to (list_words (parts_from steps kept at j)) out next × (next ≡ to + step_size * j)
 
-abbrev invariant-loop : tie.invariant-loop
-invariant-loop steps at kept out₀ to count next₀ j₀ out next j = (j ≤ count) × Put steps kept at out₀ to j out next
+abbrev invariant-loop-j : tie.invariant-loop-j
+invariant-loop-j steps at kept out₀ to count next₀ j₀ out next j = (j ≤ count) × Put steps kept at out₀ to j out next
 
-abbrev decreases-loop : tie.decreases-loop
-decreases-loop steps at kept out₀ to count next₀ j₀ out next j = count - j
+abbrev decreases-loop-j : tie.decreases-loop-j
+decreases-loop-j steps at kept out₀ to count next₀ j₀ out next j = count - j
 
-schema-at-requires : tie.Need-schema-at-requires invariant-loop decreases-loop
-schema-at-requires c κs = let w = c.before.before.requires.0.whole in omega arith
+schema-at-requires : tie.Need-schema_at-requires invariant-loop-j decreases-loop-j
+schema-at-requires c κs = let w = c.requires.0.whole in omega arith
 
-count-of-requires : tie.Need-count-of-requires invariant-loop decreases-loop
+count-of-requires : tie.Need-count_of-count-requires invariant-loop-j decreases-loop-j
 count-of-requires c κs =
-    let k = c.before.before.before.requires.0.known in
-    let e = c.schema-at.ensures in
+    let k = c.requires.0.known in
+    let e = c.schema_at.ensures in
     omega arith
 
 -- how many parts are counted
-abbrev start : tie.After-count-of invariant-loop decreases-loop → tie.Start invariant-loop decreases-loop
+abbrev start : tie.After-count_of-count invariant-loop-j decreases-loop-j → tie.Start invariant-loop-j decreases-loop-j
 start c = c.before.before.before.before
 
-counted : (c : tie.After-count-of invariant-loop decreases-loop) → let a = (start c).args in
-    c.count_of.result ≡ count_from a.steps.now a.kept.now a.at
-counted c = c.count_of.ensures ∙ ap (kept_count (start c).args.kept.now) c.before.schema-at.ensures
+counted : (c : tie.After-count_of-count invariant-loop-j decreases-loop-j) → let a = (start c).args in
+    c.count_of-count.result ≡ count_from a.steps.now a.kept.now a.at
+counted c = c.count_of-count.ensures ∙ ap (kept_count (start c).args.kept.now) c.schema_at.ensures
 
-loop-holds : tie.Need-loop-init invariant-loop decreases-loop
+loop-holds : tie.Need-loop-j-init invariant-loop-j decreases-loop-j
 loop-holds c =
     let a = (start c).args in
     let xs = list_words (parts_from a.steps.now a.kept.now a.at 0) in
     let e = parts_none a.steps.now a.kept.now a.at in
     (omega arith, (put-none a.out.now a.to xs e, omega arith))
 
-put-part-requires : tie.Need-put-part-requires invariant-loop decreases-loop
+put-part-requires : tie.Need-put_part-requires invariant-loop-j decreases-loop-j
 put-part-requires c κs =
-    let l = c.before.before in
-    let h = (start l.before).pre.0 in
-    let e = puts-length l.loop.invariant.1.0 in
-    let n = counted l.before in
+    let l = c in
+    let h = (start l.before.before.before).requires.0 in
+    let e = puts-length l.loop-j.invariant.1.0 in
+    let n = counted l.before.before.before in
     let f = h.few in
     (h, (omega arith, omega arith))
 
-add-next : tie.Need-overflow-add-next invariant-loop decreases-loop
+add-next : tie.Need-overflow_add-next invariant-loop-j decreases-loop-j
 add-next c =
-    let l = c.before.before.before.before.before in
-    let e = puts-length l.loop.invariant.1.0 in
-    let n = counted l.before in
+    let l = c in
+    let e = puts-length l.loop-j.invariant.1.0 in
+    let n = counted l.before.before.before.before.before.before in
     omega arith
 
-loop-again : tie.Need-loop-preserved invariant-loop decreases-loop
+loop-again : tie.Need-loop-j-preserved invariant-loop-j decreases-loop-j
 loop-again c =
-    let l = c.before.before.before.before.before in
-    let h = l.loop in
-    let a = (start l.before).args in
+    let l = c in
+    let h = l.loop-j in
+    let a = (start l.before.before.before.before.before.before).args in
     let w = a.steps.now in
     let part = step_words (part_from w a.kept.now a.at h.j) in
     let n : length part ≡ step_size = part-long w a.kept.now a.at h.j in
@@ -80,28 +80,28 @@ loop-again c =
     let P : List ℕ → ℕ → Type 0 = Puts a.out.now a.to next in (
       omega arith,
       (
-        both_at P c.before.before.put-part.ensures (ap (λ (k : ℕ). h.next + k) (sym n))
+        both_at P c.put_part.ensures (ap (λ (k : ℕ). h.next + k) (sym n))
             (put-more h.invariant.1.0 part next (parts_more w a.kept.now a.at h.j)),
         omega arith,
       ),
     )
 
-same_length : tie.Need-same-length invariant-loop decreases-loop
-same_length c = puts-length c.before.loop.invariant.1.0
+same_length : tie.Need-shape_of-out invariant-loop-j decreases-loop-j
+same_length c = puts-length c.loop-j.invariant.1.0
 
-returns : tie.Need-returns invariant-loop decreases-loop
+returns : tie.Need-returns invariant-loop-j decreases-loop-j
 returns c =
-    let l = c.before in
-    let a = (start l.before).args in
-    let e : l.loop.j ≡ l.before.count_of.result = omega arith in
-    let n = counted l.before in
+    let l = c in
+    let a = (start l.before.before).args in
+    let e : l.loop-j.j ≡ l.count_of-count.result = omega arith in
+    let n = counted l.before.before in
     let P : ℕ → List ℕ → ℕ → Type 0 =
     Put a.steps.now a.kept.now a.at a.out.now a.to in
-    let (q, m) = subst (λ (j : ℕ). P j l.loop.out l.loop.next) (e ∙ n) l.loop.invariant.1 in
+    let (q, m) = subst (λ (j : ℕ). P j l.loop-j.out l.loop-j.next) (e ∙ n) l.loop-j.invariant.1 in
     (m, q.words)
 
-pub put-block-spec : {M : Type 1} → statement M
-put-block-spec =
+pub put_block_spec : {M : Type 1} → statement M
+put_block_spec =
     tie.close
-    (tie.spec invariant-loop decreases-loop schema-at-requires count-of-requires loop-holds put-part-requires add-next
+    (tie.spec invariant-loop-j decreases-loop-j schema-at-requires count-of-requires loop-holds put-part-requires add-next
     (λ c. omega arith) (λ c. omega arith) loop-again same_length returns)

@@ -24,16 +24,16 @@ use Rattle.blocks.specs.Unfolding.{count_from, parts_from, sum_from, blocks_from
 abbrev words_of : List ℕ → List ℕ → ℕ → List ℕ
 words_of steps kept i = list_words (blocks_from steps kept i)
 
-abbrev invariant-loop : tie.invariant-loop
-invariant-loop steps kept out₀ count next₀ i₀ out next i =
+abbrev invariant-loop-i : tie.invariant-loop-i
+invariant-loop-i steps kept out₀ count next₀ i₀ out next i =
     (i ≤ count) × Puts out₀ 0 (words_of steps kept i) out next
 
-abbrev decreases-loop : tie.decreases-loop
-decreases-loop steps kept out₀ count next₀ i₀ out next i = count - i
+abbrev decreases-loop-i : tie.decreases-loop-i
+decreases-loop-i steps kept out₀ count next₀ i₀ out next i = count - i
 
-loop-holds : tie.Need-loop-init invariant-loop decreases-loop
+loop-holds : tie.Need-loop-i-init invariant-loop-i decreases-loop-i
 loop-holds c =
-    let a = c.before.before.args in
+    let a = c.args in
     let e = ap list_words (blocks-none a.steps.now a.kept.now) in (
       omega arith,
       put-none a.out.now 0 (words_of a.steps.now a.kept.now 0)
@@ -41,16 +41,16 @@ loop-holds c =
     )
 
 -- the blocks of all steps have room
-room : (s : tie.Start invariant-loop decreases-loop) →
+room : (s : tie.Start invariant-loop-i decreases-loop-i) →
     step_size * sum_from s.args.steps.now s.args.kept.now (length s.args.steps.now / step_size) ≤
     length s.args.out.now
 room s = let (t, k, r) = s.requires in let e = sum_is k in omega arith
 
-put-block-requires : tie.Need-put-block-requires invariant-loop decreases-loop
+put-block-requires : tie.Need-put_block-next-requires invariant-loop-i decreases-loop-i
 put-block-requires c κs =
-    let turn = c.before in
-    let h = turn.before.loop in
-    let s = turn.before.before.before.before in
+    let turn = c in
+    let h = turn.loop-i in
+    let s = turn in
     let a = s.args in
     let w = a.steps.now in
     let (t, k, r) = s.requires in
@@ -59,17 +59,17 @@ put-block-requires c κs =
     let l = length-words w a.kept.now h.i in
     let m = sum_more w a.kept.now h.i in
     let g = sum-grows w a.kept.now (h.i + 1) (length w / step_size) (omega arith) in
-    let q = room s in
-    (step_kept k h.i turn.loop-test.true, omega arith)
+    let q = room s.before.before.before.before.before in
+    (step_kept k h.i turn.loop-i-test.true, omega arith)
 
-loop-again : tie.Need-loop-preserved invariant-loop decreases-loop
+loop-again : tie.Need-loop-i-preserved invariant-loop-i decreases-loop-i
 loop-again c =
-    let h = c.before.before.before.before.before.loop in
-    let a = c.before.before.before.before.before.before.before.before.args in
+    let h = c.loop-i in
+    let a = c.args in
     let w = a.steps.now in
     let k = a.kept.now in
     let block = parts_from w k (step_size * h.i) (count_from w k (step_size * h.i)) in
-    let b = c.before.before.put-block.ensures in
+    let b = c.put_block-next.ensures in
     let l = length-part-words w k (step_size * h.i) (count_from w k (step_size * h.i)) in
     let P : List ℕ → ℕ → Type 0 = Puts a.out.now 0 (words_of w k (h.i + 1)) in (
       omega arith,
@@ -78,19 +78,19 @@ loop-again c =
           (ap list_words (blocks_more w k h.i) ∙ words_append (blocks_from w k h.i) block)),
     )
 
-same_length : tie.Need-same-length invariant-loop decreases-loop
-same_length c = puts-length c.before.loop.invariant.1
+same_length : tie.Need-shape_of-out invariant-loop-i decreases-loop-i
+same_length c = puts-length c.loop-i.invariant.1
 
-returns : tie.Need-returns invariant-loop decreases-loop
+returns : tie.Need-returns invariant-loop-i decreases-loop-i
 returns c =
-    let h = c.before.loop in
-    let s = c.before.before.before.before in
+    let h = c.loop-i in
+    let s = c in
     let a = s.args in
     let w = a.steps.now in
     let e : h.i ≡ length w / step_size = omega arith in
     let all = words_of w a.kept.now in
     let l = length-words w a.kept.now (length w / step_size) in
-    let q = room s in (
+    let q = room s.before.before.before.before in (
       λ t k.
           let n = h.invariant.1.place ∙ ap (λ (i : ℕ). 0 + length (all i)) e in
           let m = sum_is k in
@@ -102,8 +102,8 @@ returns c =
           ∙ ap (λ (ys : List Step). over (list_words ys) a.out.now) (blocks-are k))),
     )
 
-pub put-blocks-spec : {M : Type 1} → statement M
-put-blocks-spec =
+pub put_blocks_spec : {M : Type 1} → statement M
+put_blocks_spec =
     tie.close
-    (tie.spec invariant-loop decreases-loop loop-holds (λ c. omega arith) put-block-requires (λ c. omega arith) (λ c. omega arith)
+    (tie.spec invariant-loop-i decreases-loop-i loop-holds (λ c. omega arith) put-block-requires (λ c. omega arith) (λ c. omega arith)
     loop-again same_length returns)
