@@ -50,17 +50,13 @@ fn propose_parts(
     requires table_value { is_table table.now ≡ true }
     requires table_words_in_bounds { table_words ≤ length proposed.old }
     requires scratch_words_in_bounds { scratch_words ≤ length scratch.old }
-    ensures told {
-        let t = proposed_task width (task_of table.now) in
+    ensures told { let t = proposed_task width (task_of table.now) in
         propose_answer_told result ≡
-          (settled (too_many t) t (record { proposed = proposed.entry.now; scratch = scratch.old })).told
-    }
-    ensures lent {
-        let t = proposed_task width (task_of table.now) in
+        (settled (too_many t) t (record { proposed = proposed.entry.now; scratch = scratch.old })).told }
+    ensures lent { let t = proposed_task width (task_of table.now) in
         record { proposed = proposed.exit.now; scratch = scratch.new } ≡
-          (settled (too_many t) t
-          (record { proposed = proposed.entry.now; scratch = scratch.old })).buffer
-    }
+        (settled (too_many t) t
+        (record { proposed = proposed.entry.now; scratch = scratch.old })).buffer }
 {
     let mut parts = [0u16; MOST_SCHEMA_ATOMS];
     let many = all_parts(table, width, &mut parts, scratch);

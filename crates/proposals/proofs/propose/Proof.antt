@@ -18,50 +18,50 @@ use Rattle.proposals.proofs.ProposeOutcome.{propose-short, propose-no-table, pro
 use Rattle.proposals.proofs.ProposeOutcome.{tables-short, tables-long, lent-unfit, lent_fits, known-outcome}
 
 -- ---- behind refusal 1, and behind 2
-abbrev start : tie.Else2 → tie.Start
+abbrev start : tie.Else-proposed-lt-TABLE_WORDS → tie.Start
 start c = c.before.before.before.before.before
 
-abbrev tabled : tie.Else3 → tie.Else2
+abbrev tabled : tie.Else-not-is_table → tie.Else-proposed-lt-TABLE_WORDS
 tabled c = c.before.before
 
-room : (c : tie.Else2) → table_length ≤ length (start c).args.proposed.now
-room c = ltb-false _ _ c.if2.false
+room : (c : tie.Else-proposed-lt-TABLE_WORDS) → table_length ≤ length (start c).args.proposed.now
+room c = c.if-proposed-lt-TABLE_WORDS.false
 
-long : (c : tie.Else2) →
+long : (c : tie.Else-proposed-lt-TABLE_WORDS) →
     long_enough (start c).args.table.now && long_enough (start c).args.proposed.now ≡ true
-long c = tables-long (start c).args.table.now (start c).args.proposed.now c.before.if1.false (room c)
+long c = tables-long (start c).args.table.now (start c).args.proposed.now c.if-table-lt-TABLE_WORDS.false (room c)
 
-is-table : (c : tie.Else3) → is_table (start (tabled c)).args.table.now ≡ true
-is-table c = sym c.before.is-table.ensures ∙ c.if3.false
+is-table : (c : tie.Else-not-is_table) → is_table (start (tabled c)).args.table.now ≡ true
+is-table c = sym c.is_table.ensures ∙ c.if-not-is_table.false
 
 -- behind 22
-scratch : (c : tie.Else5) → scratch_words ≤ length (start (tabled c.before.before)).args.scratch.now
-scratch c = has_words (start (tabled c.before.before)).args.scratch.now (ltb-false _ _ c.if5.false)
+scratch : (c : tie.Else-scratch-lt-SCRATCH_WORDS) → scratch_words ≤ length (start (tabled c.before.before)).args.scratch.now
+scratch c = has_words (start (tabled c.before.before)).args.scratch.now c.if-scratch-lt-SCRATCH_WORDS.false
 
-returns : tie.Need-returns
+returns : tie.Need-returns-then-table-lt-TABLE_WORDS
 unfolding propose_answer_told
 returns c =
-    let a = c.before.before.before.before.args in
+    let a = c.args in
     known-outcome
     (propose-short a.table.now a.width a.proposed.now a.scratch.now
     (tables-short a.table.now a.proposed.now
-    (⊎_elim (λ x. inl x.taken) (λ x. inr (ltb-true _ _ x.1.taken)) c.if1.branch)))
+    (⊎_elim (λ x. inl x.if-table-lt-TABLE_WORDS.true) (λ x. inr x.if-proposed-lt-TABLE_WORDS.true) c.then-table-lt-TABLE_WORDS.branch-raw)))
     refl refl
 
-is-table-requires : tie.Need-is-table-requires
-is-table-requires c κs = has-table-words (start c).args.table.now c.before.if1.false
+is-table-requires : tie.Need-is_table-requires
+is-table-requires c κs = has-table-words (start c).args.table.now c.if-table-lt-TABLE_WORDS.false
 
-returns-2 : tie.Need-returns-2
+returns-2 : tie.Need-returns-then-not-is_table
 unfolding propose_answer_told
 returns-2 c =
-    let e = c.before.before in
-    let a = (start e).args in
+    let e = c in
+    let a = (start e.before.before).args in
     known-outcome
-    (propose-no-table a.table.now a.width a.proposed.now a.scratch.now (long e)
-    (sym c.before.is-table.ensures ∙ c.if3.true))
+    (propose-no-table a.table.now a.width a.proposed.now a.scratch.now (long e.before.before)
+    (sym c.is_table.ensures ∙ c.if-not-is_table.true))
     refl refl
 
-returns-3 : tie.Need-returns-3
+returns-3 : tie.Need-returns-then-width
 unfolding propose_answer_told
 returns-3 c =
     let e = tabled c.before in
@@ -70,31 +70,31 @@ returns-3 c =
     (propose-unfit a.table.now a.width a.proposed.now a.scratch.now (long e)
     (is-table c.before)
     (lent-unfit a.width a.scratch.now
-    (⊎_elim (λ x. inl x.taken) (λ x. inr (too_few a.scratch.now (ltb-true _ _ x.1.taken)))
-    c.if4.branch)))
+    (⊎_elim (λ x. inl x.if-width.true) (λ x. inr (too_few a.scratch.now x.if-scratch-lt-SCRATCH_WORDS.true))
+    c.then-width.branch-raw)))
     refl refl
 
-propose-parts-requires : tie.Need-propose-parts-requires
+propose-parts-requires : tie.Need-propose_parts-requires
 propose-parts-requires c κs =
-    let d = c.before.before in
-    let e = d.before.before in
-    (is-table e, (has-table-words (start (tabled e)).args.proposed.now (room (tabled e)), scratch d))
+    let d = c in
+    let e = d in
+    (is-table e.before.before.before.before, (has-table-words (start (tabled e.before.before.before.before)).args.proposed.now (room (tabled e.before.before.before.before)), scratch d.before.before))
 
-returns-4 : tie.Need-returns-4
+returns-4 : tie.Need-returns
 unfolding propose_answer_told
 returns-4 c =
-    let p = c.before.before.before.before in
-    let d = p.before.before.before in
-    let t = d.before.before in
-    let e = tabled t in
+    let p = c in
+    let d = p in
+    let t = d in
+    let e = tabled t.before.before.before.before.before.before.before.before.before in
     let a = (start e).args in
     known-outcome
     (propose-settles a.table.now a.width a.proposed.now a.scratch.now (long e)
-    (is-table t) (lent_fits a.width a.scratch.now d.before.if4.false (scratch d)))
-    p.propose-parts.ensures.0 p.propose-parts.ensures.1
+    (is-table t.before.before.before.before.before.before.before.before.before) (lent_fits a.width a.scratch.now d.if-width.false (scratch d.before.before.before.before.before.before.before)))
+    p.propose_parts.ensures.0 p.propose_parts.ensures.1
 
-pub propose-spec : {M : Type 1} → statement M
-propose-spec =
+pub propose_spec : {M : Type 1} → statement M
+propose_spec =
     tie.close
     (tie.spec returns is-table-requires returns-2 returns-3 propose-parts-requires (λ c. search rules)
     (λ c. search rules) returns-4)

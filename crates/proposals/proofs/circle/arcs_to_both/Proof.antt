@@ -7,14 +7,14 @@ use Rattle.proposals.proofs.circle.arcs_to_both.Tie as tie
 
 returns : tie.Need-returns
 returns c =
-    let at-union = c.before.before in
-    let first = at-union.before.before in
-    arcs-of-both _ _ first.before.before.args.scratch.now _ _ _ first.arcs-to.ensures
-    at-union.before.arcs-to2.ensures at-union.union.ensures c.before.without.ensures
-    c.without2.ensures
+    let at-union = c in
+    let first = at-union in
+    arcs-of-both _ _ first.args.scratch.now _ _ _ first.arcs_to.ensures
+    at-union.arcs_to-2.ensures at-union.union-both.ensures c.without.ensures
+    c.without-2.ensures
 
-pub arcs-to-both-spec : {M : Type 1} → statement M
-arcs-to-both-spec =
+pub arcs_to_both_spec : {M : Type 1} → statement M
+arcs_to_both_spec =
     tie.close
     (tie.spec (λ c κs. search rules) (λ c κs. search rules) (λ c κs. search rules) (λ c κs. search rules)
     (λ c κs. search rules) returns)

@@ -6,11 +6,11 @@ use Rattle.proposals.proofs.CameFrom.{came-low, came-high}
 use Rattle.proposals.proofs.closing.came_from.Statement.{statement}
 use Rattle.proposals.proofs.closing.came_from.Tie as tie
 
-returns : tie.Need-returns
-returns c = sym (came-low c.before.args.b c.before.args.q (omega arith))
+returns : tie.Need-returns-then-q-b
+returns c = sym (came-low c.args.b c.args.q (omega arith))
 
-returns-2 : tie.Need-returns-2
-returns-2 c = sym (came-high c.before.args.b c.before.args.q (omega arith))
+returns-2 : tie.Need-returns-else-q-b
+returns-2 c = sym (came-high c.args.b c.args.q (omega arith))
 
-pub came-from-spec : {M : Type 1} → statement M
-came-from-spec = tie.close (tie.spec (λ c. omega arith) returns returns-2)
+pub came_from_spec : {M : Type 1} → statement M
+came_from_spec = tie.close (tie.spec (λ c. omega arith) returns returns-2)

@@ -13,59 +13,59 @@ use Rattle.proposals.proofs.ClosedArcs.{Closing, closing-start, closing-turn, cl
 use Rattle.proposals.proofs.closing.merge_arcs.Statement.{statement}
 use Rattle.proposals.proofs.closing.merge_arcs.Tie as tie
 
-abbrev invariant-loop : tie.invariant-loop
-invariant-loop scratch₀ n a b q₀ scratch q = (q < n) × (scratch_words ≤ length scratch₀) × Closing a b scratch₀ q scratch
+abbrev invariant-loop-q : tie.invariant-loop-q
+invariant-loop-q scratch₀ n a b q₀ scratch q = (q < n) × (scratch_words ≤ length scratch₀) × Closing a b scratch₀ q scratch
 
-abbrev decreases-loop : tie.decreases-loop
-decreases-loop scratch₀ n a b q₀ scratch q = n - q
+abbrev decreases-loop-q : tie.decreases-loop-q
+decreases-loop-q scratch₀ n a b q₀ scratch q = n - q
 
 -- ---- part a
-abbrev start : tie.After-arcs-to-both invariant-loop decreases-loop → tie.Start invariant-loop decreases-loop
-start c = c.before.before.before
+abbrev start : tie.After-arcs_to_both invariant-loop-q decreases-loop-q → tie.Start invariant-loop-q decreases-loop-q
+start c = c.before.before
 
-slice-write-scratch : tie.Need-slice-write-scratch invariant-loop decreases-loop
+slice-write-scratch : tie.Need-bounds-scratch-a invariant-loop-q decreases-loop-q
 slice-write-scratch c = arcs-inside (start c).requires.0 (omega arith)
 
-loop-holds : tie.Need-loop-init invariant-loop decreases-loop
+loop-holds : tie.Need-loop-q-init invariant-loop-q decreases-loop-q
 loop-holds c =
     let args = (start c).args in
-    let keeps = arcs-set-keeps args.scratch.now args.a (omega arith) c.arcs-to-both.result in
+    let keeps = arcs-set-keeps args.scratch.now args.a (omega arith) c.arcs_to_both.result in
     (omega arith, keeps-room keeps (start c).requires.0, closing-start _ _ _)
 
 -- ---- a turn
-room : (c : tie.At-loop invariant-loop decreases-loop) → scratch_words ≤ length c.loop.scratch
-room c = keeps-room c.loop.invariant.2.keeps c.loop.invariant.1
+room : (c : tie.At-loop-q invariant-loop-q decreases-loop-q) → scratch_words ≤ length c.loop-q.scratch
+room c = keeps-room c.loop-q.invariant.2.keeps c.loop-q.invariant.1
 
-arcs-to-requires : tie.Need-arcs-to-requires invariant-loop decreases-loop
+arcs-to-requires : tie.Need-arcs_to-requires invariant-loop-q decreases-loop-q
 arcs-to-requires c κs =
-    let turn = c.before.before.before in
-    let args = (start turn.before).args in
+    let turn = c in
+    let args = (start turn.before.before.before).args in
     let was = c.came_from.ensures in
-    (room turn, omega (arith, came-below args.b args.n turn.loop.q (omega arith)))
+    (room turn.before.before, omega (arith, came-below args.b args.n turn.loop-q.q (omega arith)))
 
-slice-write-scratch-2 : tie.Need-slice-write-scratch-2 invariant-loop decreases-loop
-slice-write-scratch-2 c = arcs-inside (room c.before.before.before.before.before) (omega arith)
+slice-write-scratch-2 : tie.Need-bounds-scratch-q invariant-loop-q decreases-loop-q
+slice-write-scratch-2 c = arcs-inside (room c.before.before.before.before) (omega arith)
 
-loop-again : tie.Need-loop-preserved invariant-loop decreases-loop
+loop-again : tie.Need-loop-q-preserved invariant-loop-q decreases-loop-q
 loop-again c =
-    let h = c.before.before.before.before.before.loop.invariant in (
+    let h = c.loop-q.invariant in (
       omega arith,
       h.1,
-      closing-turn h.2 h.1 (omega arith) c.before.before.came_from.ensures c.before.arcs-to.ensures _
-          c.merged-set.ensures,
+      closing-turn h.2 h.1 (omega arith) c.came_from.ensures c.arcs_to.ensures _
+          c.merged_set.ensures,
     )
 
 -- ---- the end
-returns : tie.Need-returns invariant-loop decreases-loop
+returns : tie.Need-returns invariant-loop-q decreases-loop-q
 returns c =
-    let at_both = c.before.before in
-    let pre = (start at_both).requires in
-    closing_end _ _ pre.1.1 _ _ at_both.arcs-to-both.ensures pre.1.2 pre.1.0 pre.0
-    c.before.loop.invariant.2 (omega arith)
+    let at_both = c in
+    let pre = (start at_both.before.before).requires in
+    closing_end _ _ pre.1.1 _ _ at_both.arcs_to_both.ensures pre.1.2 pre.1.0 pre.0
+    c.loop-q.invariant.2 (omega arith)
 
-pub merge-arcs-spec : {M : Type 1} → statement M
-merge-arcs-spec =
+pub merge_arcs_spec : {M : Type 1} → statement M
+merge_arcs_spec =
     tie.close
-    (tie.spec invariant-loop decreases-loop (λ c κs. search rules) (λ c. omega arith) slice-write-scratch loop-holds
+    (tie.spec invariant-loop-q decreases-loop-q (λ c κs. search rules) (λ c. omega arith) slice-write-scratch loop-holds
     (λ c. omega arith) (λ c κs. omega arith) arcs-to-requires (λ c κs. search rules) (λ c. omega arith)
     slice-write-scratch-2 (λ c. omega arith) (λ c. omega arith) loop-again (λ c. (returns c).keeps.long) returns)

@@ -7,15 +7,15 @@ use Rattle.proposals.proofs.ClosedArcs.{Joins, joins-with, joins-none, joint-clo
 use Rattle.proposals.proofs.closing.merged_set.Statement.{statement}
 use Rattle.proposals.proofs.closing.merged_set.Tie as tie
 
-joint : (c : tie.Joined1) →
-    Joins c.before.before.args.a c.before.before.args.b c.before.before.args.set c.if1.joint
+joint : (c : tie.Joined-has) →
+    Joins c.args.a c.args.b c.args.set c.if-has.joint
 joint c = ⊎_elim
-    (λ h. joins-with _ _ _ _ h.2 (sym c.before.has.ensures ∙ h.0.taken) h.1.ensures)
-    (λ h. joins-none _ _ _ _ h.1 (sym c.before.has.ensures ∙ h.0.left)) c.if1.branch
+    (λ h. joins-with _ _ _ _ h.joint-is (sym c.has.ensures ∙ h.if-has.true) h.with-joint.ensures)
+    (λ h. joins-none _ _ _ _ h.joint-is (sym c.has.ensures ∙ h.if-has.false)) c.if-has.branch-raw
 
 returns : tie.Need-returns
-returns c = joint-closed _ _ _ _ _ c.before.before.before.requires.0 (joint c.before) c.closed-up.ensures
+returns c = joint-closed _ _ _ _ _ c.requires.0 (joint c.before) c.closed_up.ensures
 
-pub merged-set-spec : {M : Type 1} → statement M
-merged-set-spec =
+pub merged_set_spec : {M : Type 1} → statement M
+merged_set_spec =
     tie.close (tie.spec (λ c κs. search rules) (λ c κs. search rules) (λ c κs. search rules) returns)

@@ -17,124 +17,124 @@ use Rattle.proposals.proofs.MergingTurns.{MergingAny, merging-first, merging-tur
 use Rattle.proposals.proofs.merging.merge_all.Statement.{statement}
 use Rattle.proposals.proofs.merging.merge_all.Tie as tie
 
-abbrev invariant-loop : tie.invariant-loop
-invariant-loop width from to parts₀ scratch₀ n₀ parts scratch n =
+abbrev invariant-loop-a : tie.invariant-loop-a
+invariant-loop-a width from to parts₀ scratch₀ n₀ parts scratch n =
     (n ≤ to - from) × (length parts ≡ most_schema_atoms) × KeepsBehind scratch₀ scratch ×
     MergingAny width from (to - from) parts₀ scratch₀ n parts scratch
 
-abbrev decreases-loop : tie.decreases-loop
-decreases-loop width from to parts₀ scratch₀ n₀ parts scratch n = n
+abbrev decreases-loop-a : tie.decreases-loop-a
+decreases-loop-a width from to parts₀ scratch₀ n₀ parts scratch n = n
 
 -- ---- a turn
 abbrev Turn : Type 0
-Turn = tie.At-loop invariant-loop decreases-loop
+Turn = tie.At-loop-a invariant-loop-a decreases-loop-a
 
-abbrev start : Turn → tie.Start invariant-loop decreases-loop
+abbrev start : Turn → tie.Start invariant-loop-a decreases-loop-a
 start c = c.before.before
 
-loop-holds : tie.Need-loop-init invariant-loop decreases-loop
+loop-holds : tie.Need-loop-a-init invariant-loop-a decreases-loop-a
 loop-holds c =
-    let pre = c.before.requires in
+    let pre = c.requires in
     (omega arith, pre.1.0, keeps-refl _, merging-first _ _ _ _ _)
 
-room : (c : Turn) → scratch_words ≤ length c.loop.scratch
-room c = keeps-room c.loop.invariant.2 (start c).requires.1.1
+room : (c : Turn) → scratch_words ≤ length c.loop-a.scratch
+room c = keeps-room c.loop-a.invariant.2 (start c).requires.1.1
 
-first-pair-requires : tie.Need-first-pair-requires invariant-loop decreases-loop
-first-pair-requires c κs = (room c.before, omega arith)
+first-pair-requires : tie.Need-first_pair-requires invariant-loop-a decreases-loop-a
+first-pair-requires c κs = (room c, omega arith)
 
 -- ---- no pair is found
 abbrev At-none : Type 0
-At-none = tie.After-enum-told invariant-loop decreases-loop
+At-none = tie.In_default invariant-loop-a decreases-loop-a
 
 abbrev last_turn : At-none → Turn
-last_turn c = c.before.before.before.before
+last_turn c = c.before.before
 
-returns : tie.Need-returns invariant-loop decreases-loop
+returns : tie.Need-returns-in_default invariant-loop-a decreases-loop-a
 unfolding pair_found
 returns c =
-    let h = (last_turn c).loop.invariant in
-    let is_none = ap pair_found c.enum_told.given.1 in
-    let found = c.before.before.first-pair.ensures.1 in
+    let h = (last_turn c).loop-a.invariant in
+    let is_none = ap pair_found c.in_default.is in
+    let found = c.first_pair.ensures.1 in
     (h.2, (h.1, merging-end h.3 (λ s ps known play. sym is_none ∙ found s ps known play)))
 
 -- ---- a pair is found
 abbrev At-pair : Type 0
-At-pair = tie.After-known-told invariant-loop decreases-loop
+At-pair = tie.In-Pair invariant-loop-a decreases-loop-a
 
 abbrev turn-of : At-pair → Turn
-turn-of c = c.before.before.before.before.before
+turn-of c = c.before.before
 
 abbrev lower : At-pair → ℕ
-lower c = c.before.a.given.0.0
+lower c = c.in-Pair.a
 
 abbrev higher : At-pair → ℕ
-higher c = c.before.a.given.0.1.0
+higher c = c.in-Pair.b
 
-is-pair : (c : At-pair) → pair_found c.before.before.before.first-pair.result ≡ some (pair (lower c) (higher c))
+is-pair : (c : At-pair) → pair_found c.first_pair.result ≡ some (pair (lower c) (higher c))
 unfolding pair_found
-is-pair c = ap pair_found c.before.a.given.1
+is-pair c = ap pair_found c.in-Pair.is
 
 -- what is asked of them
 two-parts : (c : At-pair) →
-    ((turn-of c).loop.n ≤ most_atoms) × (lower c < higher c) × (higher c < (turn-of c).loop.n)
+    ((turn-of c).loop-a.n ≤ most_atoms) × (lower c < higher c) × (higher c < (turn-of c).loop-a.n)
 two-parts c =
-    let few = (turn-of c).loop.invariant.0 in
-    let most = (start (turn-of c)).pre.0.2 in
-    let ordered = c.before.before.before.first-pair.ensures.0 (lower c) (higher c) (is-pair c) in
+    let few = (turn-of c).loop-a.invariant.0 in
+    let most = (start (turn-of c)).requires.0.2 in
+    let ordered = c.first_pair.ensures.0 (lower c) (higher c) (is-pair c) in
     (omega arith, ordered.0, ordered.1)
 
-renumber-requires : tie.Need-renumber-requires invariant-loop decreases-loop
+renumber-requires : tie.Need-renumber-requires invariant-loop-a decreases-loop-a
 renumber-requires c κs =
     let turn = turn-of c.before in
-    let pre = (start turn).pre.0 in
+    let pre = (start turn).requires.0 in
     let l = two-parts c.before in
-    ((pre.0, pre.1), ((l.1, omega arith), turn.loop.inv.1))
+    ((pre.0, pre.1), ((l.1, omega arith), turn.loop-a.invariant.1))
 
-merge-parameters-requires : tie.Need-merge-parameters-requires invariant-loop decreases-loop
+merge-parameters-requires : tie.Need-merge_parameters-requires invariant-loop-a decreases-loop-a
 merge-parameters-requires c κs =
-    let at_pair = c.before.before.before in
-    (room (turn-of at_pair), two-parts at_pair)
+    let at_pair = c in
+    (room (turn-of at_pair.before.before.before), two-parts at_pair.before.before.before)
 
-merge-arcs-requires : tie.Need-merge-arcs-requires invariant-loop decreases-loop
+merge-arcs-requires : tie.Need-merge_arcs-requires invariant-loop-a decreases-loop-a
 merge-arcs-requires c κs =
-    let merges = c.before.before.before in
-    let at_pair = merges.before.before.before.before in
-    (keeps-room merges.merge-parameters.ensures.keeps (room (turn-of at_pair)), two-parts at_pair)
+    let merges = c in
+    let at_pair = merges in
+    (keeps-room merges.merge_parameters.ensures.keeps (room (turn-of at_pair.before.before.before.before.before.before.before)), two-parts at_pair.before.before.before.before.before.before.before)
 
 -- the turn's end
-abbrev pair_of : tie.After-slice-known3 invariant-loop decreases-loop → At-pair
+abbrev pair_of : tie.After-slice_known-in-loop-a-2-1 invariant-loop-a decreases-loop-a → At-pair
 pair_of c = c.before.before.before.before.before.before.before.before.before.before
 
-sub-n-2 : tie.Need-overflow-sub-n-2 invariant-loop decreases-loop
+sub-n-2 : tie.Need-overflow_sub-n-in-loop-a invariant-loop-a decreases-loop-a
 sub-n-2 c = omega (arith, two-parts (pair_of c))
 
-loop-less : tie.Need-loop-smaller invariant-loop decreases-loop
+loop-less : tie.Need-loop-a-smaller invariant-loop-a decreases-loop-a
 loop-less c = omega (arith, two-parts (pair_of c))
 
-loop-again : tie.Need-loop-preserved invariant-loop decreases-loop
+loop-again : tie.Need-loop-a-preserved invariant-loop-a decreases-loop-a
 loop-again c =
     let at_pair = pair_of c in
     let turn = turn-of at_pair in
-    let h = turn.loop.inv in
+    let h = turn.loop-a.invariant in
     let args = (start turn).args in
-    let pre = (start turn).pre.0 in
+    let pre = (start turn).requires.0 in
     let l = two-parts at_pair in
-    let arcs = c.before.before.merge-arcs.ensures in
-    let named = c.before.before.before.before.before.before.merge-parameters.ensures in
-    let numbers = c.before.before.before.before.before.before.before.before.renumber.ensures in
-    let found = at_pair.before.before.before.first-pair.ensures.1 in (
+    let arcs = c.merge_arcs.ensures in
+    let named = c.merge_parameters.ensures in
+    let numbers = c.renumber.ensures in
+    let found = at_pair.first_pair.ensures.1 in (
       omega arith,
-      renumbered-long (lower at_pair) (higher at_pair) args.from (args.to - args.from) turn.loop.parts numbers
+      renumbered-long (lower at_pair) (higher at_pair) args.from (args.to - args.from) turn.loop-a.parts numbers
           ∙ h.1,
       keeps-trans h.2 (keeps-trans named.keeps arcs.keeps),
       merging-turn h.3 (lower at_pair) (higher at_pair) l.1 l.2 (omega arith)
           (λ s ps known play. sym (is-pair at_pair) ∙ found s ps known play) l.0 numbers named arcs,
     )
 
-pub merge-all-spec : {M : Type 1} → statement M
-merge-all-spec =
+pub merge_all_spec : {M : Type 1} → statement M
+merge_all_spec =
     tie.close
-    (tie.spec invariant-loop decreases-loop (λ c. omega arith) loop-holds first-pair-requires (λ c. search rules) (λ c. search rules)
-    (λ c. (last_turn c).loop.invariant.2.long) returns renumber-requires merge-parameters-requires merge-arcs-requires
+    (tie.spec invariant-loop-a decreases-loop-a (λ c. omega arith) loop-holds first-pair-requires (λ c. search rules) (λ c. search rules)
+    (λ c. (last_turn c).loop-a.invariant.2.long) returns renumber-requires merge-parameters-requires merge-arcs-requires
     sub-n-2 loop-less loop-again)

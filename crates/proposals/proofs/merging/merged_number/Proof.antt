@@ -7,14 +7,14 @@ use Rattle.proposals.proofs.MergedNumbers.{merged-below, merged-higher, merged-b
 use Rattle.proposals.proofs.merging.merged_number.Statement.{statement}
 use Rattle.proposals.proofs.merging.merged_number.Tie as tie
 
-returns : tie.Need-returns
-returns c = sym (merged-higher _ _ _ c.if1.true)
+returns : tie.Need-returns-then-part-b
+returns c = sym (merged-higher _ _ _ c.if-part-b.true)
 
-returns-2 : tie.Need-returns-2
-returns-2 c = sym (merged-beyond _ _ _ c.if2.true)
+returns-2 : tie.Need-returns-then-b-part
+returns-2 c = sym (merged-beyond _ _ _ c.if-b-part.true)
 
-returns-3 : tie.Need-returns-3
-returns-3 c = let apart = c.before.if1.false in sym (merged-below _ _ _ (omega arith))
+returns-3 : tie.Need-returns-else-b-part
+returns-3 c = let apart = c.if-part-b.false in sym (merged-below _ _ _ (omega arith))
 
-pub merged-number-spec : {M : Type 1} → statement M
-merged-number-spec = tie.close (tie.spec (λ c. search rules) returns (λ c. search rules) returns-2 returns-3)
+pub merged_number_spec : {M : Type 1} → statement M
+merged_number_spec = tie.close (tie.spec (λ c. search rules) returns (λ c. search rules) returns-2 returns-3)

@@ -7,23 +7,23 @@ use Rattle.proposals.proofs.Renumbering.{Renumbered, renumbered-none, renumbered
 use Rattle.proposals.proofs.merging.renumber.Statement.{statement}
 use Rattle.proposals.proofs.merging.renumber.Tie as tie
 
-abbrev invariant-loop : tie.invariant-loop
-invariant-loop parts₀ from to a b i₀ parts i = (i ≤ to) × Renumbered a b from parts₀ i parts
+abbrev invariant-loop-i : tie.invariant-loop-i
+invariant-loop-i parts₀ from to a b i₀ parts i = (i ≤ to) × Renumbered a b from parts₀ i parts
 
-abbrev decreases-loop : tie.decreases-loop
-decreases-loop parts₀ from to a b i₀ parts i = to - i
+abbrev decreases-loop-i : tie.decreases-loop-i
+decreases-loop-i parts₀ from to a b i₀ parts i = to - i
 
-loop-holds : tie.Need-loop-init invariant-loop decreases-loop
+loop-holds : tie.Need-loop-i-init invariant-loop-i decreases-loop-i
 loop-holds c = (omega arith, renumbered-none _ _ _ _)
 
-loop-again : tie.Need-loop-preserved invariant-loop decreases-loop
-loop-again c = (omega arith, renumbered-more c.before.before.before.loop.invariant.1 _ c.merged-number.ensures)
+loop-again : tie.Need-loop-i-preserved invariant-loop-i decreases-loop-i
+loop-again c = (omega arith, renumbered-more c.loop-i.invariant.1 _ c.merged_number.ensures)
 
-returns : tie.Need-returns invariant-loop decreases-loop
-returns c = renumbered-end (omega arith) c.before.loop.invariant.1
+returns : tie.Need-returns invariant-loop-i decreases-loop-i
+returns c = renumbered-end (omega arith) c.loop-i.invariant.1
 
-pub renumber-spec : {M : Type 1} → statement M
-renumber-spec =
+pub renumber_spec : {M : Type 1} → statement M
+renumber_spec =
     tie.close
-    (tie.spec invariant-loop decreases-loop loop-holds (λ c. omega arith) (λ c. omega arith) (λ c κs. omega arith) (λ c. omega arith)
+    (tie.spec invariant-loop-i decreases-loop-i loop-holds (λ c. omega arith) (λ c. omega arith) (λ c κs. omega arith) (λ c. omega arith)
     (λ c. omega arith) (λ c. omega arith) (λ c. omega arith) loop-again returns)

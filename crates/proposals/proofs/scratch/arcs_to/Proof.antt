@@ -4,8 +4,8 @@ use Rattle.proposals.proofs.Scratches.{arcs-inside}
 use Rattle.proposals.proofs.scratch.arcs_to.Statement.{statement}
 use Rattle.proposals.proofs.scratch.arcs_to.Tie as tie
 
-shared-slice-read-result : tie.Need-shared-slice-read-result
+shared-slice-read-result : tie.Need-bounds-scratch-q
 shared-slice-read-result c = search arcs-inside
 
-pub arcs-to-spec : {M : Type 1} → statement M
-arcs-to-spec = tie.close (tie.spec (λ c. search rules) shared-slice-read-result (λ c. search rules))
+pub arcs_to_spec : {M : Type 1} → statement M
+arcs_to_spec = tie.close (tie.spec (λ c. search rules) shared-slice-read-result (λ c. search rules))

@@ -21,24 +21,24 @@ both : (c : tie.After-union) (x : ℕ) →
     member (parameters_to a.scratch.now a.a) x || member (parameters_to a.scratch.now a.b) x
 both c x =
     c.union.ensures x
-    ∙ ap₂ (λ (y z : ℕ). member y x || member z x) c.before.before.parameters-to.ensures
-    c.before.parameters-to2.ensures
+    ∙ ap₂ (λ (y z : ℕ). member y x || member z x) c.parameters_to.ensures
+    c.parameters_to-2.ensures
 
-returns : tie.Need-returns
+returns : tie.Need-returns-then-width-size
 returns c s ps known play =
-    let at-union = c.before.before in
-    let pre = (start at-union).requires.1 in
-    too_wide _ known play _ _ pre.1 pre.2 _ (both at-union) (omega arith)
+    let at-union = c in
+    let pre = (start at-union.before.before).requires.1 in
+    too_wide _ known play _ _ pre.1 pre.2 _ (both at-union.before.before) (omega arith)
 
-returns-2 : tie.Need-returns-2
+returns-2 : tie.Need-returns
 returns-2 c s ps known play =
-    let at-union = c.before.before.before in
-    let pre = (start at-union).requires.1 in
-    c.no-circle.ensures (in-play-no-own play) ∙
-    narrow _ known play _ _ pre.1 pre.2 _ (both at-union) (omega arith)
+    let at-union = c in
+    let pre = (start at-union.before.before.before).requires.1 in
+    c.no_circle.ensures (in-play-no-own play) ∙
+    narrow _ known play _ _ pre.1 pre.2 _ (both at-union.before.before.before) (omega arith)
 
-pub can-merge-spec : {M : Type 1} → statement M
-can-merge-spec =
+pub can_merge_spec : {M : Type 1} → statement M
+can_merge_spec =
     tie.close
     (tie.spec (λ c κs. search rules) (λ c κs. search rules) (λ c κs. search rules) (λ c κs. search rules) returns
     (λ c κs. search rules) returns-2)

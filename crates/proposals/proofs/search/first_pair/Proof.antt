@@ -11,39 +11,39 @@ use Rattle.proposals.proofs.PairTests.{searching-found, searching-ends, found_be
 use Rattle.proposals.proofs.search.first_pair.Statement.{statement}
 use Rattle.proposals.proofs.search.first_pair.Tie as tie
 
-abbrev invariant-loop : tie.invariant-loop
-invariant-loop scratch n width rest₀ rest = Searching width n scratch rest₀ rest
+abbrev invariant-loop-rest : tie.invariant-loop-rest
+invariant-loop-rest scratch n width rest₀ rest = Searching width n scratch rest₀ rest
 
-abbrev decreases-loop : tie.decreases-loop
-decreases-loop scratch n width rest₀ rest = length (members rest set_bits)
+abbrev decreases-loop-rest : tie.decreases-loop-rest
+decreases-loop-rest scratch n width rest₀ rest = length (members rest set_bits)
 
-narrow-parts-requires : tie.Need-narrow-parts-requires invariant-loop decreases-loop
-narrow-parts-requires c κs = c.before.requires
+narrow-parts-requires : tie.Need-narrow_parts-rest-requires invariant-loop-rest decreases-loop-rest
+narrow-parts-requires c κs = c.requires
 
-loop-holds : tie.Need-loop-init invariant-loop decreases-loop
-loop-holds c = searching-first _ _ _ _ c.narrow-parts.ensures
+loop-holds : tie.Need-loop-rest-init invariant-loop-rest decreases-loop-rest
+loop-holds c = searching-first _ _ _ _ c.narrow_parts-rest.ensures
 
-lowest-requires : tie.Need-lowest-requires invariant-loop decreases-loop
-lowest-requires c κs = omega (arith, c.loop-test.true)
+lowest-requires : tie.Need-lowest-a-requires invariant-loop-rest decreases-loop-rest
+lowest-requires c κs = omega (arith, c.loop-rest-test.true)
 
 -- ---- a turn
 abbrev Taken-out : Type 0
-Taken-out = tie.After-without-lowest invariant-loop decreases-loop
+Taken-out = tie.After-without_lowest-rest invariant-loop-rest decreases-loop-rest
 
-abbrev turn : Taken-out → tie.At-loop invariant-loop decreases-loop
+abbrev turn : Taken-out → tie.At-loop-rest invariant-loop-rest decreases-loop-rest
 turn c = c.before.before.before
 
-abbrev start : Taken-out → tie.Start invariant-loop decreases-loop
+abbrev start : Taken-out → tie.Start invariant-loop-rest decreases-loop-rest
 start c = (turn c).before.before.before
 
 -- the lowest is out
-out : (c : Taken-out) → Loses (turn c).loop.rest c.before.lowest.result c.without-lowest.result
-out c = c.without-lowest.ensures _ c.before.lowest.ensures
+out : (c : Taken-out) → Loses (turn c).loop-rest.rest c.lowest-a.result c.without_lowest-rest.result
+out c = c.without_lowest-rest.ensures _ c.lowest-a.ensures
 
-first-with-requires : tie.Need-first-with-requires invariant-loop decreases-loop
+first-with-requires : tie.Need-first_with-b-requires invariant-loop-rest decreases-loop-rest
 first-with-requires c κs =
-    let h = (turn c).loop.invariant in
-    let l = c.before.lowest.ensures in (
+    let h = (turn c).loop-rest.invariant in
+    let l = c.lowest-a.ensures in (
       (start c).requires.0,
       (
         (start c).requires.1,
@@ -54,34 +54,34 @@ first-with-requires c κs =
       ),
     )
 
-loop-less : tie.Need-loop-smaller invariant-loop decreases-loop
-loop-less c = lowest-fewer c.before.before.before.lowest.ensures _ (out c.before.before)
+loop-less : tie.Need-loop-rest-smaller invariant-loop-rest decreases-loop-rest
+loop-less c = lowest-fewer c.lowest-a.ensures _ (out c.before.before)
 
-loop-again : tie.Need-loop-preserved invariant-loop decreases-loop
+loop-again : tie.Need-loop-rest-preserved invariant-loop-rest decreases-loop-rest
 loop-again c =
-    let o = c.before.before in
-    let tried = c.before.first-with.ensures in
-    searching-next _ _ _ (turn o).loop.invariant o.before.lowest.ensures _ (out o)
-    (λ s ps known play b m k. (tried.1 s ps known play).0 b m (omega (arith, c.if1.false)))
+    let o = c in
+    let tried = c.first_with-b.ensures in
+    searching-next _ _ _ (turn o.before.before).loop-rest.invariant o.lowest-a.ensures _ (out o.before.before)
+    (λ s ps known play b m k. (tried.1 s ps known play).0 b m (omega (arith, c.if-b-n.false)))
 
-returns : tie.Need-returns invariant-loop decreases-loop
+returns : tie.Need-returns-then-b-n invariant-loop-rest decreases-loop-rest
 unfolding pair_found
 returns c =
-    let o = c.before.before in
-    let tried = c.before.first-with.ensures in
-    let l = tried.0 c.if1.true in (
-      found_below l c.if1.true,
-      searching-found _ _ _ (turn o).loop.invariant o.before.lowest.ensures _ (out o) l
-          c.if1.true tried.1,
+    let o = c in
+    let tried = c.first_with-b.ensures in
+    let l = tried.0 c.if-b-n.true in (
+      found_below l c.if-b-n.true,
+      searching-found _ _ _ (turn o.before.before).loop-rest.invariant o.lowest-a.ensures _ (out o.before.before) l
+          c.if-b-n.true tried.1,
     )
 
-returns-2 : tie.Need-returns-2 invariant-loop decreases-loop
+returns-2 : tie.Need-returns invariant-loop-rest decreases-loop-rest
 unfolding pair_found
 returns-2 c =
-    (λ a b e. absurd (nowhere-none a b e), searching-ends _ _ _ c.before.loop.invariant c.loop-test.false)
+    (λ a b e. absurd (nowhere-none a b e), searching-ends _ _ _ c.loop-rest.invariant c.loop-rest-test.false)
 
-pub first-pair-spec : {M : Type 1} → statement M
-first-pair-spec =
+pub first_pair_spec : {M : Type 1} → statement M
+first_pair_spec =
     tie.close
-    (tie.spec invariant-loop decreases-loop narrow-parts-requires loop-holds lowest-requires (λ c κs. omega arith) first-with-requires
+    (tie.spec invariant-loop-rest decreases-loop-rest narrow-parts-requires loop-holds lowest-requires (λ c κs. omega arith) first-with-requires
     returns loop-less loop-again returns-2)

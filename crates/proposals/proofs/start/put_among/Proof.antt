@@ -25,63 +25,63 @@ abbrev IsWord : List ℕ → ℕ → ℕ → Bool → List ℕ → ℕ → ℕ �
 IsWord table from alike paired partners q word = (pairs : List Pair) → Pairing pairs paired partners → (p : ℕ) →
     member word p ≡ member alike p && gives_arc pairs (atom_in table (from + p)) (atom_in table (from + q))
 
-abbrev invariant-loop : tie.invariant-loop
-invariant-loop table from to alike before paired partners scratch₀ rest₀ scratch rest =
+abbrev invariant-loop-rest : tie.invariant-loop-rest
+invariant-loop-rest table from to alike before paired partners scratch₀ rest₀ scratch rest =
     AmongPut (IsWord table from alike paired partners) alike rest scratch₀ scratch
 
-abbrev decreases-loop : tie.decreases-loop
-decreases-loop table from to alike before paired partners scratch₀ rest₀ scratch rest = length (members rest set_bits)
+abbrev decreases-loop-rest : tie.decreases-loop-rest
+decreases-loop-rest table from to alike before paired partners scratch₀ rest₀ scratch rest = length (members rest set_bits)
 
-abbrev start : tie.At-loop invariant-loop decreases-loop → tie.Start invariant-loop decreases-loop
+abbrev start : tie.At-loop-rest invariant-loop-rest decreases-loop-rest → tie.Start invariant-loop-rest decreases-loop-rest
 start l = l.before.before.before
 
-loop-holds : tie.Need-loop-init invariant-loop decreases-loop
+loop-holds : tie.Need-loop-rest-init invariant-loop-rest decreases-loop-rest
 loop-holds c =
-    let a = c.before.before.args in
+    let a = c.args in
     among_none (IsWord a.table.now a.from a.alike a.paired a.partners.now) a.alike a.scratch.now
 
-arcs-among-requires : tie.Need-arcs-among-requires invariant-loop decreases-loop
+arcs-among-requires : tie.Need-arcs_among-requires invariant-loop-rest decreases-loop-rest
 arcs-among-requires c κs =
-    let low = c.before in
-    let l = low.before.before in
-    let p = (start l).requires in
-    let q = low.lowest.result in
-    let m = l.loop.invariant.left q low.lowest.ensures.is-in in
+    let low = c in
+    let l = low in
+    let p = (start l.before.before.before).requires in
+    let q = low.lowest-q.result in
+    let m = l.loop-rest.invariant.left q low.lowest-q.ensures.is-in in
     let roles = p.1.1.1.1 in
     (p.0, ((p.1.0, p.1.1.0 q m), (p.1.1.0, (λ k i. p.1.1.1.0 k q i m, (roles.0, roles.1.0)))))
 
-slice-write-scratch : tie.Need-slice-write-scratch invariant-loop decreases-loop
+slice-write-scratch : tie.Need-bounds-scratch-q invariant-loop-rest decreases-loop-rest
 slice-write-scratch c =
-    let low = c.before.before in
-    let l = low.before.before in
-    arcs-inside (keeps-room l.loop.invariant.keeps (start l).requires.1.1.1.1.1.1) low.lowest.ensures.below
+    let low = c in
+    let l = low in
+    arcs-inside (keeps-room l.loop-rest.invariant.keeps (start l.before.before.before.before).requires.1.1.1.1.1.1) low.lowest-q.ensures.below
 
 -- the lowest of the rest is out
-out : (c : tie.After-without-lowest invariant-loop decreases-loop) →
-    Loses c.before.before.before.loop.rest c.before.lowest.result c.without-lowest.result
-out c = c.without-lowest.ensures _ c.before.lowest.ensures
+out : (c : tie.After-without_lowest-rest invariant-loop-rest decreases-loop-rest) →
+    Loses c.loop-rest.rest c.lowest-q.result c.without_lowest-rest.result
+out c = c.without_lowest-rest.ensures _ c.lowest-q.ensures
 
-loop-less : tie.Need-loop-smaller invariant-loop decreases-loop
+loop-less : tie.Need-loop-rest-smaller invariant-loop-rest decreases-loop-rest
 loop-less c =
-    let less = c.before in
-    lowest-fewer less.before.lowest.ensures less.without-lowest.result (out less)
+    let less = c in
+    lowest-fewer less.lowest-q.ensures less.without_lowest-rest.result (out less.before)
 
-loop-again : tie.Need-loop-preserved invariant-loop decreases-loop
+loop-again : tie.Need-loop-rest-preserved invariant-loop-rest decreases-loop-rest
 loop-again c =
-    let less = c.before in
-    let l = less.before.before.before in
-    among-more (start l).requires.1.1.1.1.1.1 l.loop.invariant less.before.lowest.ensures _ (out less)
-    c.arcs-among.result c.arcs-among.ensures
+    let less = c in
+    let l = less in
+    among-more (start l.before.before.before.before).requires.1.1.1.1.1.1 l.loop-rest.invariant less.lowest-q.ensures _ (out less.before)
+    c.arcs_among.result c.arcs_among.ensures
 
-returns : tie.Need-returns invariant-loop decreases-loop
+returns : tie.Need-returns invariant-loop-rest decreases-loop-rest
 returns c =
-    let h = c.before.loop in
+    let h = c.loop-rest in
     let none : (q : ℕ) → member h.rest q ≡ false =
-    λ q. ap (λ (set : ℕ). member set q) c.loop-test.false ∙ member-zero q in
+    λ q. ap (λ (set : ℕ). member set q) c.loop-rest-test.false ∙ member-zero q in
     (h.invariant.keeps, (h.invariant.others, λ pairs given p q m. h.invariant.words q m (none q) pairs given p))
 
-pub put-among-spec : {M : Type 1} → statement M
-put-among-spec =
+pub put_among_spec : {M : Type 1} → statement M
+put_among_spec =
     tie.close
-    (tie.spec invariant-loop decreases-loop loop-holds (λ c κs. omega arith) (λ c κs. omega arith) arcs-among-requires
-    (λ c. omega arith) slice-write-scratch loop-less loop-again (λ c. c.before.loop.invariant.keeps.long) returns)
+    (tie.spec invariant-loop-rest decreases-loop-rest loop-holds (λ c κs. omega arith) (λ c κs. omega arith) arcs-among-requires
+    (λ c. omega arith) slice-write-scratch loop-less loop-again (λ c. c.loop-rest.invariant.keeps.long) returns)

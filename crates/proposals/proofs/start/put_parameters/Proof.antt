@@ -14,56 +14,56 @@ use Rattle.proposals.proofs.StartWords.{ParametersPut, parameters-none, paramete
 use Rattle.proposals.proofs.start.put_parameters.Statement.{statement}
 use Rattle.proposals.proofs.start.put_parameters.Tie as tie
 
-abbrev invariant-loop : tie.invariant-loop
-invariant-loop table from to scratch₀ i₀ scratch i =
+abbrev invariant-loop-i : tie.invariant-loop-i
+invariant-loop-i table from to scratch₀ i₀ scratch i =
     (from ≤ i) × (i ≤ to) × ParametersPut (λ p. atom_in table (from + p)) (i - from) scratch₀ scratch
 
-abbrev decreases-loop : tie.decreases-loop
-decreases-loop table from to scratch₀ i₀ scratch i = to - i
+abbrev decreases-loop-i : tie.decreases-loop-i
+decreases-loop-i table from to scratch₀ i₀ scratch i = to - i
 
-abbrev start : tie.At-loop invariant-loop decreases-loop → tie.Start invariant-loop decreases-loop
+abbrev start : tie.At-loop-i invariant-loop-i decreases-loop-i → tie.Start invariant-loop-i decreases-loop-i
 start l = l.before.before.before
 
-loop-holds : tie.Need-loop-init invariant-loop decreases-loop
+loop-holds : tie.Need-loop-i-init invariant-loop-i decreases-loop-i
 loop-holds c =
-    let s = c.before.before in
+    let s = c in
     let a = s.args in (
       omega arith,
       s.requires.0.forward,
       parameters-none (λ p. atom_in a.table.now (a.from + p)) a.from a.scratch.now,
     )
 
-parameters-of-requires : tie.Need-parameters-of-requires invariant-loop decreases-loop
+parameters-of-requires : tie.Need-parameters_of-requires invariant-loop-i decreases-loop-i
 parameters-of-requires c κs =
-    stretch-atom (start c.before).pre.0 c.before.loop.i c.loop-test.true
+    stretch-atom (start c.before).requires.0 c.loop-i.i c.loop-i-test.true
 
-slice-write-scratch : tie.Need-slice-write-scratch invariant-loop decreases-loop
+slice-write-scratch : tie.Need-bounds-scratch-i invariant-loop-i decreases-loop-i
 slice-write-scratch c =
-    let l = c.before.before.before in
-    parameters-inside (keeps-room l.loop.invariant.2.keeps (start l).requires.1.1) (omega arith)
+    let l = c in
+    parameters-inside (keeps-room l.loop-i.invariant.2.keeps (start l.before.before.before).requires.1.1) (omega arith)
 
-loop-again : tie.Need-loop-preserved invariant-loop decreases-loop
+loop-again : tie.Need-loop-i-preserved invariant-loop-i decreases-loop-i
 loop-again c =
-    let l = c.before.before.before in
-    let h = l.loop in
-    let a = (start l).args in
+    let l = c in
+    let h = l.loop-i in
+    let a = (start l.before.before.before).args in
     let here : h.i ≡ a.from + (h.i - a.from) = omega arith in
     let own : (x : ℕ) → member c.held.result x ≡ names x (atom_in a.table.now (a.from + (h.i - a.from))) =
-    λ x. ap (λ (set : ℕ). member set x) c.held.ensures ∙ (c.before.parameters-of.ensures x ∙
+    λ x. ap (λ (set : ℕ). member set x) c.held.ensures ∙ (c.parameters_of.ensures x ∙
     ap (λ (k : ℕ). names x (atom_in a.table.now k)) here) in (
       omega arith,
       omega arith,
-      parameters-more c.held.result (omega arith) (omega arith) (start l).requires.1.1 h.invariant.2 own,
+      parameters-more c.held.result (omega arith) (omega arith) (start l.before.before.before).requires.1.1 h.invariant.2 own,
     )
 
-returns : tie.Need-returns invariant-loop decreases-loop
+returns : tie.Need-returns invariant-loop-i decreases-loop-i
 returns c =
-    let h = c.before.loop in
+    let h = c.loop-i in
     (h.invariant.2.keeps, (h.invariant.2.arcs, λ p x l. h.invariant.2.named p x (omega arith)))
 
-pub put-parameters-spec : {M : Type 1} → statement M
-put-parameters-spec =
+pub put_parameters_spec : {M : Type 1} → statement M
+put_parameters_spec =
     tie.close
-    (tie.spec invariant-loop decreases-loop loop-holds parameters-of-requires (λ c κs. search rules) (λ c. omega arith)
+    (tie.spec invariant-loop-i decreases-loop-i loop-holds parameters-of-requires (λ c κs. search rules) (λ c. omega arith)
     (λ c. omega arith) (λ c. omega arith) slice-write-scratch (λ c. omega arith) (λ c. omega arith) loop-again
-    (λ c. c.before.loop.invariant.2.keeps.long) returns)
+    (λ c. c.loop-i.invariant.2.keeps.long) returns)

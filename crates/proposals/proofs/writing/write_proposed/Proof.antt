@@ -15,85 +15,85 @@ use Rattle.task.proofs.TableReads.{table-roomy, counts-inside}
 use Rattle.tokens.proofs.KeptSchemas.{atoms-few}
 use Rattle.proposals.proofs.FreshParts.{part_word, Fresh, fresh_start, fresh-more, fresh-words, part-inside}
 
-abbrev invariant-loop : tie.invariant-loop
-invariant-loop table parts proposed₀ atoms i₀ proposed i = (i ≤ atoms) × Fresh table parts proposed₀ i proposed
+abbrev invariant-loop-i : tie.invariant-loop-i
+invariant-loop-i table parts proposed₀ atoms i₀ proposed i = (i ≤ atoms) × Fresh table parts proposed₀ i proposed
 
-abbrev decreases-loop : tie.decreases-loop
-decreases-loop table parts proposed₀ atoms i₀ proposed i = atoms - i
+abbrev decreases-loop-i : tie.decreases-loop-i
+decreases-loop-i table parts proposed₀ atoms i₀ proposed i = atoms - i
 
 -- ---- the paths that are named
-abbrev begun : tie.After-copy invariant-loop decreases-loop → tie.Start invariant-loop decreases-loop
+abbrev begun : tie.After-copy invariant-loop-i decreases-loop-i → tie.Start invariant-loop-i decreases-loop-i
 begun c = c.before.before.before.before
 
-abbrev entry : tie.In-loop invariant-loop decreases-loop → tie.After-copy invariant-loop decreases-loop
+abbrev entry : tie.In-loop-i invariant-loop-i decreases-loop-i → tie.After-copy invariant-loop-i decreases-loop-i
 entry c = c.before.before.before.before.before
 
-abbrev start : tie.In-loop invariant-loop decreases-loop → tie.Start invariant-loop decreases-loop
+abbrev start : tie.In-loop-i invariant-loop-i decreases-loop-i → tie.Start invariant-loop-i decreases-loop-i
 start c = begun (entry c)
 
 -- there is room for a table, also in the copy
-copy-room : (c : tie.After-copy invariant-loop decreases-loop) → table_words ≤ length c.copy.new.1.1.1.0
+copy-room : (c : tie.After-copy invariant-loop-i decreases-loop-i) → table_words ≤ length c.copy.new.out
 copy-room c = omega (arith, puts-length c.copy.ensures, (begun c).requires.1)
 
-copy-requires : tie.Need-copy-requires invariant-loop decreases-loop
+copy-requires : tie.Need-copy-requires invariant-loop-i decreases-loop-i
 copy-requires c κs =
-    let s = c.before.before.before in
+    let s = c in
     let e = table_words-is in
     let l = table-long s.args.table.now s.requires.0 in
     (omega arith, omega (arith, s.requires.1))
 
-word-requires : tie.Need-word-requires invariant-loop decreases-loop
+word-requires : tie.Need-word-atoms-requires invariant-loop-i decreases-loop-i
 word-requires c κs =
-    let s = c.before.before.before.before.before.before in
+    let s = c in
     omega (arith, counts-inside s.args.table.now s.requires.0)
 
-loop-holds : tie.Need-loop-init invariant-loop decreases-loop
+loop-holds : tie.Need-loop-i-init invariant-loop-i decreases-loop-i
 loop-holds c = (omega arith, fresh_start)
 
-element-copy-out-proposed : tie.Need-element-copy-out-proposed invariant-loop decreases-loop
-element-copy-out-proposed c = omega (arith, atoms-few (start c).args.table.now (start c).requires.0)
+element-copy-out-proposed : tie.Need-bounds-parts-i invariant-loop-i decreases-loop-i
+element-copy-out-proposed c = omega (arith, atoms-few (start c.before).args.table.now (start c.before).requires.0)
 
 -- the part of atom i lies in the table
-inside : (c : tie.In-loop invariant-loop decreases-loop) → part_word (start c).args.table.now c.before.loop.i < table_words
-inside c = part-inside (start c).args.table.now (start c).requires.0 c.before.loop.i (omega arith)
+inside : (c : tie.In-loop-i invariant-loop-i decreases-loop-i) → part_word (start c).args.table.now c.loop-i.i < table_words
+inside c = part-inside (start c).args.table.now (start c).requires.0 c.loop-i.i (omega arith)
 
-row-of-requires : tie.Need-row-of-requires invariant-loop decreases-loop
+row-of-requires : tie.Need-row_of-requires invariant-loop-i decreases-loop-i
 row-of-requires c κs =
-    (table-roomy (start c.before).args.table.now (start c.before).pre.0, omega arith)
+    (table-roomy (start c.before.before).args.table.now (start c.before.before).requires.0, omega arith)
 
-slice-write-proposed : tie.Need-slice-write-proposed invariant-loop decreases-loop
+slice-write-proposed : tie.Need-bounds-proposed-row_of invariant-loop-i decreases-loop-i
 slice-write-proposed c =
-    let d = c.before.before in
-    let f = d.before.loop.invariant.1.long in
-    let room = copy-room (entry d) in
-    omega (arith, inside d, c.row_of.ensures.0)
+    let d = c in
+    let f = d.loop-i.invariant.1.long in
+    let room = copy-room (entry d.before.before.before) in
+    omega (arith, inside d.before.before.before, c.row_of.ensures.0)
 
-loop-again : tie.Need-loop-preserved invariant-loop decreases-loop
+loop-again : tie.Need-loop-i-preserved invariant-loop-i decreases-loop-i
 loop-again c =
-    let d = c.before.before in
+    let d = c in
     let row = c.row_of.ensures.0 in (
       omega arith,
-      fresh-more d.before.loop.invariant.1 (c.row_of.result + 3) (omega arith) (omega (arith, inside d))
-          (copy-room (entry d)),
+      fresh-more d.loop-i.invariant.1 (c.row_of.result + 3) (omega arith) (omega (arith, inside d.before.before.before))
+          (copy-room (entry d.before.before.before)),
     )
 
-same_length : tie.Need-same-length invariant-loop decreases-loop
+same_length : tie.Need-shape_of-proposed invariant-loop-i decreases-loop-i
 same_length c =
-    let a = c.before.before.before.before.before in
-    c.before.loop.invariant.1.long ∙ puts-length a.copy.ensures
+    let a = c in
+    c.loop-i.invariant.1.long ∙ puts-length a.copy.ensures
 
-returns : tie.Need-returns invariant-loop decreases-loop
+returns : tie.Need-returns invariant-loop-i decreases-loop-i
 returns c width have =
-    let a = c.before.before.before.before.before in
-    fresh-words (begun a).requires.0 (begun a).requires.1 a.copy.ensures c.before.loop.invariant.1 (omega arith) width
+    let a = c in
+    fresh-words (begun a.before.before.before.before.before).requires.0 (begun a.before.before.before.before.before).requires.1 a.copy.ensures c.loop-i.invariant.1 (omega arith) width
     have
 
-pub write-proposed-spec : {M : Type 1} → statement M
-write-proposed-spec =
+pub write_proposed_spec : {M : Type 1} → statement M
+write_proposed_spec =
     tie.close
     (tie.spec
-    invariant-loop
-    decreases-loop
+    invariant-loop-i
+    decreases-loop-i
     copy-requires
     word-requires
     loop-holds
