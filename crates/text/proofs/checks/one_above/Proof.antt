@@ -43,8 +43,8 @@ loop-again c =
     let more = above_more start.args.list.now at-loop.loop-k.k (omega arith) in
     let so_far = at-loop.loop-k.invariant.1 in (
       omega arith,
-      ⊎_elim (λ w. let e = w.1 in let l = w.0.taken in omega arith)
-          (λ w. let e = w.1 in let l = w.0.left in omega arith) c.if-above-number.branch-raw,
+      ⊎_elim (λ w. let e = w.above-is in let l = w.if-above-number.true in omega arith)
+          (λ w. let e = w.above-is in let l = w.if-above-number.false in omega arith) c.if-above-number.branch-raw,
     )
 
 returns : tie.Need-returns invariant-loop-k decreases-loop-k

@@ -73,6 +73,6 @@ returns-3 c =
 pub plan_line_spec : {M : Type 1} → statement M
 plan_line_spec =
     tie.close
-    (tie.spec (λ c. search rules) (λ c κs. search rules) (λ c. search rules) step-line-requires (λ c. search rules)
-    returns (λ c. search rules) (λ c. search rules) (λ c κs. search rules) (λ c. search rules) last-line-requires
-    returns-2 (λ c. search rules) returns-3)
+    (tie.spec (λ c κs. search rules) (λ c. search rules) step-line-requires (λ c. search rules) returns (λ c.
+    search rules) (λ c κs. search rules) (λ c. search rules) last-line-requires returns-2 (λ c. search rules)
+    returns-3)

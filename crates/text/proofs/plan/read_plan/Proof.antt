@@ -84,7 +84,7 @@ module _ (c : tie.After-plan_line invariant-loop-number decreases-loop-number) w
   turned-back : {k n : ℕ} {r : PlanAnswer} {after : List ℕ} →
       let a = (entry head).args in
       read_plan (task_of a.table.now) a.text.now ≡ refused_at k n →
-      c.plan_line.new.steps ≡ head.loop-number.steps → r ≡ answer.refused k (place.Line n) →
+      c.plan_line.new.steps ≡ head.loop-number.steps → r ≡ answer.Refused k (place.Line n) →
       Wrote c.plan_line.new.steps 0 plan_words (λ j. 0) after →
       (plan_answer_told r ≡ (plan_outcome a.table.now a.text.now a.steps.now).told) ×
       (after ≡ (plan_outcome a.table.now a.text.now a.steps.now).buffer)
@@ -143,7 +143,7 @@ returns-3 : tie.Need-returns-in-Finish invariant-loop-number decreases-loop-numb
 unfolding plan_answer_told
 returns-3 c =
     let at-line = ending c.before in
-    let start = entry (head at-line.before.before) in
+    let start = entry (head at-line) in
     let args = start.args in
     let s = sofar at-line in
     let done = turned at-line _ c.in-Finish.is in
@@ -155,19 +155,19 @@ returns-3 c =
     )
 
 add-n : tie.Need-overflow_add-n invariant-loop-number decreases-loop-number
-add-n c = let few = (sofar c.before.before.before.before.before).few in omega arith
+add-n c = let few = (sofar c.before.before.before).few in omega arith
 
 loop-less : tie.Need-loop-number-smaller invariant-loop-number decreases-loop-number
 loop-less c =
-    let line = (turned c.before.before.before.before.before _ c.in-GoOn.is).line in
+    let line = (turned c.before.before.before _ c.in-GoOn.is).line in
     let on = line.on in
     let inside = line.inside in
     omega arith
 
 loop-again : tie.Need-loop-number-preserved invariant-loop-number decreases-loop-number
 loop-again c =
-    let at-line = c in
-    let start = entry (head at-line.before.before.before.before.before) in
+    let at-line = c.before.before.before in
+    let start = entry (head at-line) in
     plan-goes _ _ _ (sofar at-line) (of-table start.args.table.now start.requires.0).0
     (turned at-line _ c.in-GoOn.is)
 

@@ -30,17 +30,17 @@ abbrev table : tie.In-Of → List ℕ
 table l = (start (read l)).args.table.now
 
 abbrev schema : tie.In-Of → ℕ
-schema l = l.schema.given.0.0
+schema l = l.in-Of.schema
 
 abbrev count : tie.In-Of → ℕ
-count l = l.schema.given.0.1.0
+count l = l.in-Of.count
 
 abbrev objects : tie.In-Of → List ℕ
 objects l = (read l).entry_line.new.list
 
 found : (l : tie.In-Of) →
     let s = start (read l) in
-    EntryLine s.args.text.now s.args.from (schema l) (count l) (objects l) l.schema.given.0.1.1.0
+    EntryLine s.args.text.now s.args.from (schema l) (count l) (objects l) l.in-Of.next
 found l = subst (EntryLineAt _ _ _) l.in-Of.is (read l).entry_line.ensures
 
 -- ---- and the step that it has, where the tests pass
@@ -57,7 +57,7 @@ kept : (s : tie.Else-not-is_choice) → StepKept (schema (line s)) (count (line 
 kept s =
     let l = line s in
     let f = found l in
-    step_kept (table l) (start (read l)).requires.0 _ _ _ f.ns (omega (arith, (read l).entry_line.kept.1.1.0))
+    step_kept (table l) (start (read l)).requires.0 _ _ _ f.ns (omega (arith, (read l).entry_line.auto.list))
     f.listed (is_one s)
 
 -- ---- the answers

@@ -21,13 +21,13 @@ use Rattle.text.proofs.plan.write_plan.Statement.{statement}
 use Rattle.text.proofs.plan.write_plan.Tie as tie
 
 abbrev invariant-loop-i : tie.invariant-loop-i
-invariant-loop-i table words text₀ next₀ count i₀ t text next i =
+invariant-loop-i table words text₀ next₀ count i₀ text next i =
     (i ≤ length words / step_size) ×
     Writing text₀ 0 (write_plan (steps_in (task_of table) words))
     (onwards (line_at_step (task_of table) words) i (length words / step_size) ++ end_bytes) text next
 
 abbrev decreases-loop-i : tie.decreases-loop-i
-decreases-loop-i table words text₀ next₀ count i₀ t text next i = length words / step_size - i
+decreases-loop-i table words text₀ next₀ count i₀ text next i = length words / step_size - i
 
 loop-holds : tie.Need-loop-i-init invariant-loop-i decreases-loop-i
 loop-holds c =
@@ -82,19 +82,19 @@ param-count-requires c κs = ((start c.before.before).requires.0, (there c.befor
 
 -- the parameters are those of the step's schema
 params-read : (c : tie.After-param_count-params invariant-loop-i decreases-loop-i) →
-    let at = c in
-    c.param_count-params.result ≡ param_count (task_of (start at.before.before.before).args.table.now)
+    let at = c.before.before in
+    c.param_count-params.result ≡ param_count (task_of (start at.before).args.table.now)
     (get_or (words at) (step_size * i at) 0)
 params-read c = c.param_count-params.ensures
 
 line_read : (c : tie.After-param_count-params invariant-loop-i decreases-loop-i) →
-    let at = c in step_text (words at) (step_size * i at) c.param_count-params.result ≡ lines at
+    let at = c.before.before in step_text (words at) (step_size * i at) c.param_count-params.result ≡ lines at
     (i at)
 line_read c = ap (step_text (words c.before.before) (step_size * i c.before.before)) (params-read c)
 
 write-step-requires : tie.Need-write_step-next-requires invariant-loop-i decreases-loop-i
 write-step-requires c κs =
-    let at = c in
+    let at = c.before.before.before in
     let e = params-read c.before in
     let inside = (there at).inside in
     let few = (there at).few in
@@ -108,8 +108,8 @@ loop-less c = let l = c.loop-i-test.true in omega arith
 
 loop-again : tie.Need-loop-i-preserved invariant-loop-i decreases-loop-i
 loop-again c =
-    let at = c in
-    let l = at.loop-i-test.true in
+    let at = c.before.before.before.before.before.before in
+    let l = c.loop-i-test.true in
     let line = writes-same (line_read c.before.before.before.before) c.write_step-next.ensures in
     (omega arith, writing-on (to-come at) line)
 
@@ -144,6 +144,6 @@ returns c =
 pub write_plan_spec : {M : Type 1} → statement M
 write_plan_spec =
     tie.close
-    (tie.spec invariant-loop-i decreases-loop-i loop-holds mul-base mul-param-count shared-slice-read-param-count param-count-requires
-    write-step-requires (λ c. omega arith) loop-less loop-again (λ c. search rules) write-bytes-requires same_length
-    returns)
+    (tie.spec invariant-loop-i decreases-loop-i loop-holds mul-base mul-param-count shared-slice-read-param-count
+    param-count-requires write-step-requires (λ c. omega arith) loop-less loop-again write-bytes-requires
+    same_length returns)

@@ -57,5 +57,5 @@ returns c =
 pub write_step_spec : {M : Type 1} → statement M
 write_step_spec =
     tie.close
-    (tie.spec (λ c. search rules) write-bytes-requires (λ c. search rules) (λ c. search rules) (λ c. search rules)
+    (tie.spec write-bytes-requires (λ c. search rules) (λ c. search rules) (λ c. search rules)
     write-entry-requires (λ c. search rules) returns)

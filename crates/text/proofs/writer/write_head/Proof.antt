@@ -105,6 +105,5 @@ returns c =
 pub write_head_spec : {M : Type 1} → statement M
 write_head_spec =
     tie.close
-    (tie.spec word-requires (λ c. search rules) write-bytes-requires (λ c. search rules)
-    shared-slice-read-write-number-line write-number-line-requires (λ c. search rules) write-list-line-requires
-    (λ c. search rules) returns)
+    (tie.spec word-requires write-bytes-requires shared-slice-read-write-number-line write-number-line-requires
+    write-list-line-requires (λ c. search rules) returns)

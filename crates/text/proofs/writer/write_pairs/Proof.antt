@@ -14,11 +14,11 @@ use Rattle.text.proofs.writer.write_pairs.Statement.{statement}
 use Rattle.text.proofs.writer.write_pairs.Tie as tie
 
 abbrev invariant-loop-k : tie.invariant-loop-k
-invariant-loop-k text₀ at table base m next₀ k₀ t8 text next k =
+invariant-loop-k text₀ at table base m next₀ k₀ text next k =
     (k ≤ m) × Writing text₀ next₀ (pairs_text table base m) (onwards (pair_line table base) k m) text next
 
 abbrev decreases-loop-k : tie.decreases-loop-k
-decreases-loop-k text₀ at table base m next₀ k₀ t8 text next k = m - k
+decreases-loop-k text₀ at table base m next₀ k₀ text next k = m - k
 
 loop-holds : tie.Need-loop-k-init invariant-loop-k decreases-loop-k
 loop-holds c =
@@ -74,6 +74,6 @@ returns c =
 pub write_pairs_spec : {M : Type 1} → statement M
 write_pairs_spec =
     tie.close
-    (tie.spec invariant-loop-k decreases-loop-k loop-holds (λ c. search rules) mul-write-list-line add-write-list-line
-    add-write-list-line-2 (λ c. omega arith) write-list-line-requires (λ c. omega arith) (λ c. omega arith) loop-again
-    same_length returns)
+    (tie.spec invariant-loop-k decreases-loop-k loop-holds mul-write-list-line add-write-list-line
+    add-write-list-line-2 (λ c. omega arith) write-list-line-requires (λ c. omega arith) (λ c. omega arith)
+    loop-again same_length returns)

@@ -98,5 +98,5 @@ returns c =
 pub write_schema_spec : {M : Type 1} → statement M
 write_schema_spec =
     tie.close
-    (tie.spec (λ c. search rules) write-number-line-requires write-pairs-requires write-atoms-requires
-    (λ c. search rules) (λ c. search rules) write-list-line-requires (λ c. search rules) returns)
+    (tie.spec write-number-line-requires write-pairs-requires write-atoms-requires (λ c. search rules)
+    write-list-line-requires (λ c. search rules) returns)

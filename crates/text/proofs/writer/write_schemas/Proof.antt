@@ -88,7 +88,7 @@ rows c = rows_from (turn c).loop-s.pair c.rows_of-pairs.result (turn c).loop-s.a
     c.rows_of-atoms.result
 
 found : (c : tie.After-params_of invariant-loop-s decreases-loop-s) →
-    Found (words (turn c)) (schemas (turn c)) (turn c).loop-s.pairs-left (turn c).loop-s.atoms-left (turn c).loop-s.s
+    Found (words (turn c)) (schemas (turn c)) (turn c).loop-s.pairs_left (turn c).loop-s.atoms_left (turn c).loop-s.s
     (rows c)
 found c =
     turn-found (start (turn c)).requires.0 (turn c).loop-s.invariant.1.0 c.loop-s-test.true
@@ -143,7 +143,7 @@ loop-again c =
       omega arith,
       (
         (found (ended c)).next,
-        piece-written (schema_lines_in (words at-loop)) at-loop.loop-s.s (schemas at-loop) at-loop.loop-s.inv.1.1
+        piece-written (schema_lines_in (words at-loop)) at-loop.loop-s.s (schemas at-loop) at-loop.loop-s.invariant.1.1
             (ended c).loop-s-test.true
             (writes-same (lines-read (found (ended c)) (ended c).params_of.ensures.0)
             c.write_schema-next.ensures),

@@ -61,12 +61,12 @@ write-schemas-requires : tie.Need-write_schemas-at_facts-requires
 write-schemas-requires c κs =
     let start = start c.before in
     let w = words start in
-    (start.pre, writing-fits (schemas_text w) (facts_text w ++ end_bytes) (behind-head c.before))
+    (start.requires, writing-fits (schemas_text w) (facts_text w ++ end_bytes) (behind-head c.before))
 
 write-facts-requires : tie.Need-write_facts-at_end-requires
 write-facts-requires c κs =
     let start = start (headed c.before) in
-    (start.pre, writing-fits (facts_text (words start)) end_bytes (behind-schemas c.before))
+    (start.requires, writing-fits (facts_text (words start)) end_bytes (behind-schemas c.before))
 
 write-bytes-requires : tie.Need-write_bytes-requires
 write-bytes-requires c κs = last_fits (behind-facts c.before.before.before)
@@ -78,5 +78,5 @@ returns c =
 pub write_text_spec : {M : Type 1} → statement M
 write_text_spec =
     tie.close
-    (tie.spec write-head-requires write-schemas-requires write-facts-requires (λ c. search rules) write-bytes-requires
-    (λ c. search rules) returns)
+    (tie.spec write-head-requires write-schemas-requires write-facts-requires write-bytes-requires (λ c. search
+    rules) returns)
