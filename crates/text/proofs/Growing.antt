@@ -116,6 +116,7 @@ distinct_snoc (x ∷ bs) a h k =
   where
     go : (y : Atom) → In y bs ⊎ In y (a ∷ []) → same_atom x y ≡ true → ⊥
     go y (inl i) e = any-not (same_atom x) bs (and_left (not (any (same_atom x) bs)) (distinct bs) h) y i e
+    go y (inr (there x8)) e = elim x8 [ ]
     go y (inr (here q)) e = any-not (same_atom a) (x ∷ bs) k x (here refl) (same-sym x a (rw q at e))
 
 pub snoc-distinct : (bs : List Atom) (a : Atom) → distinct (bs ++ (a ∷ [])) ≡ true →

@@ -91,7 +91,7 @@ clash-back (x ∷ xs) (y ∷ ys) h = go (eqb x y) refl h (clash-back xs ys)
     go true e h i = picked true (eq-eqb y x (sym (eqb-true x y e))) (i h)
     go false e h i = picked false (ne_eqb y x (λ q. eqb-false x y e (sym q))) refl
 
-two-keys : {ks : List Key} {j k : Key} → apart key_name ks ≡ true → In j ks → In k ks →
+two-keys : {j k : Key} {ks : List Key} → apart key_name ks ≡ true → In j ks → In k ks →
     (j ≡ k) ⊎ (clash (key_bytes j) (key_bytes k) ≡ true)
 unfolding apart
 two-keys h (here e) (here q) = inl (e ∙ sym q)

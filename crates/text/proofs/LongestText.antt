@@ -78,6 +78,7 @@ differ_line-most params few q h =
   where
     each : q.lower < 100 → q.higher < 100 → Within 2 (pair_list q)
     each a b n (here e) = digits-most 2 (omega arith) n (omega arith)
+    each a b n (there (there x6)) = elim x6 [ ]
     each a b n (there (here e)) = digits-most 2 (omega arith) n (omega arith)
 
 part_line-most : (ns : List ℕ) → 1 ≤ length ns → all (λ p. ltb p most_parts) ns ≡ true →

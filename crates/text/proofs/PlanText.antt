@@ -16,7 +16,7 @@ use Rattle.task.specs.Run.{Step, is_choice}
 use Rattle.words.proofs.Lists.{and_left, and_right, here, there, map-append}
 use Rattle.task.proofs.Tests.{TaskTests, task-tests}
 use Rattle.task.proofs.States.{is_choice-is}
-use Rattle.text.specs.Lines.{newline, digits, Entry, entry_bytes, Taken, taken}
+use Rattle.text.specs.Lines.{newline, digits, Entry, entry_bytes, line, Taken, taken}
 use Rattle.text.specs.Reading.{go_on, finish, read}
 use Rattle.text.specs.Plan.{most_plan_steps, PlanKey, step, end, plan_key_name, PlanLine, step_line, end_line}
 use Rattle.text.specs.Plan.{write_plan_line, read_plan_body, step_entry, plan_lines, write_plan, take_plan_line}
@@ -49,11 +49,21 @@ unfolding read_plan_body plan_body_of
 plan-body-read step bs m h = entry-line plan_body_of PlanSays step bs m step_line (λ x h. says-step h) (λ x. refl) h
 plan-body-read end bs m h = number-line plan_body_of PlanSays end bs m end_line (λ n h. says-end h) (λ n. refl) h
 
-pub plan-bodies : Bodies plan_key_name read_plan_body plan_body_of write_plan_line PlanSays
+plan-line-named : (l : PlanLine) → (k : PlanKey) × (write_plan_line l ≡ line (plan_key_name k) (plan_body_of l))
 unfolding write_plan_line plan_body_of
+plan-line-named (step_line x) = (step, refl)
+plan-line-named (end_line n) = (end, refl)
+
+plan-line-says : (k : PlanKey) (l : PlanLine) → PlanSays k l →
+    write_plan_line l ≡ line (plan_key_name k) (plan_body_of l)
+unfolding write_plan_line plan_body_of
+plan-line-says k l (says-step h) = refl
+plan-line-says k l (says-end h) = refl
+
+pub plan-bodies : Bodies plan_key_name read_plan_body plan_body_of write_plan_line PlanSays
 plan-bodies = record {
-  some_byte = λ l. elim l [ step_line x ↦ (step, refl) | end_line n ↦ (end, refl) ];
-  line-is = λ k l s. elim s [ says-step h ↦ refl | says-end h ↦ refl ];
+  some_byte = plan-line-named;
+  line-is = plan-line-says;
   written = plan-body-written;
   was_read = plan-body-read;
 }

@@ -68,12 +68,12 @@ module _ {L D R : Type 0} (line : D → Reader L) (takes : D → L → Turn D R)
   lead-read (comes-last {d = d} {l = l} {r = r} m e) (suc f) n h =
       ap (λ (o : Option (Taken L)). line_at n (takes d) o (read_within line takes f (suc n))) (x.written d l m []) ∙
       ap (λ (t : Turn D R). turn_at n t [] (read_within line takes f (suc n))) e
-  lead-read (goes-on {d = d} {l = l} {ls = ls} m e w) (suc f) n h =
+  lead-read (goes-on {d = d} {e = e'} {l = l} {ls = ls} m e w) (suc f) n h =
       let rest = concat_map text ls in
       let s = x.some_byte l in
       let z = length-append (text l) rest in
       ap (λ (o : Option (Taken L)). line_at n (takes d) o (read_within line takes f (suc n))) (x.written d l m rest) ∙
-      (ap (λ (t : Turn D R). turn_at n t rest (read_within line takes f (suc n))) e ∙ lead-read w f (suc n) (omega arith))
+      (ap (λ (t : Turn D R). turn_at n t rest (read_within line takes f (suc n))) e ∙ lead-read {d = e'} w f (suc n) (omega arith))
 
   pub lines-read : {d : D} {ls : List L} {r : R} → Leads takes May d ls r → (n : ℕ) →
       read_lines line takes n d (concat_map text ls) ≡ read r

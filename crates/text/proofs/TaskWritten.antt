@@ -227,6 +227,7 @@ small-pair n q few h = small
   where
     small : Small (pair_list q)
     small x (here e) = let c = pair_fits-fits n q h in let l = c.ascends in let k = c.known in omega arith
+    small x (there (there x7)) = elim x7 [ ]
     small x (there (here e)) = let k = (pair_fits-fits n q h).known in omega arith
 
 module _ (u t : Task) (n : ℕ) (whole : List Pair) (c : PairTests t n whole) (few : n ≤ 12) (rest : List Line)

@@ -34,10 +34,8 @@ fn keep(list: &mut [u32], at: usize, n: u32)
 // One number or more, "commas between".
 pub fn numbers(text: &[u8], from: Cursor, list: &mut [u32]) -> List
     requires { Placed text.now from }
-    ensures {
-        let bs = text.now in
-        ListAt bs from (number_list (rest bs from)) list.new result
-    }
+    ensures { let bs = text.now in
+        ListAt bs from (number_list (rest bs from)) list.new result }
 {
     let mut here = from;
     let mut count: usize = 0;
@@ -57,10 +55,8 @@ pub fn numbers(text: &[u8], from: Cursor, list: &mut [u32]) -> List
 // "Argument and part lists may be empty in form": then the line ends where the list would begin.
 pub fn listing(text: &[u8], from: Cursor, list: &mut [u32]) -> List
     requires { Placed text.now from }
-    ensures {
-        let bs = text.now in
-        ListAt bs from (any_list (rest bs from)) list.new result
-    }
+    ensures { let bs = text.now in
+        ListAt bs from (any_list (rest bs from)) list.new result }
 {
     let Behind::At(_) = from.word(text, b"\n") else {
         return numbers(text, from, list);
@@ -116,11 +112,9 @@ pub fn one_line(text: &[u8], from: Cursor) -> Behind
 // A line whose body is a list, of one number or more or one that may be empty, as it was found.
 pub fn list_line(text: &[u8], found: List) -> List
     requires { ListPlaced text.now found }
-    ensures {
-        let bs = text.now in
+    ensures { let bs = text.now in
         ((c : Cursor) (body : Option (Taken (Many ℕ))) (kept : Many ℕ) → ListAt bs c body kept found →
-          ListLineAt bs c body kept result)
-    }
+        ListLineAt bs c body kept result) }
 {
     let List::Of(count, behind) = found else {
         return List::Missing;

@@ -84,12 +84,10 @@ fn step_line(table: &[u16], text: &[u8], from: Cursor, steps: &mut [u16], n: usi
     requires table_value { is_table table.now ≡ true }
     requires placed { Placed text.now from }
     requires plan_words_in_bounds { plan_words ≤ length steps.old }
-    ensures {
-        let bs = text.now in
+    ensures { let bs = text.now in
         ((xs : List Step) → length xs ≡ n →
-          PlanTurned (task_of table.now) bs from xs (ended step_line (entry (rest bs from)))
-          steps.old result steps.new)
-    }
+        PlanTurned (task_of table.now) bs from xs (ended step_line (entry (rest bs from)))
+        steps.old result steps.new) }
 {
     let mut objects = [0u32; MOST_PARAMETERS];
     let Atom::Of(schema, count, next) = entry_line(text, from, &mut objects) else {
@@ -108,11 +106,9 @@ fn step_line(table: &[u16], text: &[u8], from: Cursor, steps: &mut [u16], n: usi
 // The body of an `end` line: "end=1".
 fn last_line(text: &[u8], from: Cursor) -> PlanTurn
     requires { Placed text.now from }
-    ensures {
-        let bs = text.now in
+    ensures { let bs = text.now in
         ((t : Task) (xs : List Step) (w : List ℕ) →
-          PlanTurned t bs from xs (ended end_line (number (rest bs from))) w result w)
-    }
+        PlanTurned t bs from xs (ended end_line (number (rest bs from))) w result w) }
 {
     let Behind::At(next) = one_line(text, from) else {
         return PlanTurn::Refuse(3);
@@ -125,12 +121,10 @@ fn plan_line(table: &[u16], text: &[u8], from: Cursor, steps: &mut [u16], n: usi
     requires table_value { is_table table.now ≡ true }
     requires placed { Placed text.now from }
     requires plan_words_in_bounds { plan_words ≤ length steps.old }
-    ensures {
-        let bs = text.now in
+    ensures { let bs = text.now in
         ((xs : List Step) → length xs ≡ n →
-          PlanTurned (task_of table.now) bs from xs (next_plan_line xs (rest bs from))
-          steps.old result steps.new)
-    }
+        PlanTurned (task_of table.now) bs from xs (next_plan_line xs (rest bs from))
+        steps.old result steps.new) }
 {
     if let Behind::At(body) = from.word(text, b"step=") {
         return step_line(table, text, body, steps, n);

@@ -28,11 +28,9 @@ fn head_turn(text: &[u8], table: &mut [u16], body: Cursor, counts: Counts, key: 
     requires key_value { may_stand counts.phase key ≡ true }
     requires key_bound { key < key_number differ }
     ensures touched { Touched table.old table.new }
-    ensures fact {
-        let bs = text.now in
+    ensures fact { let bs = text.now in
         ((d : Draft) (k : Key) → key_number k ≡ key → Holds d table.old counts →
-          Turned bs body d (read_body k (rest bs body)) table.old result table.new)
-    }
+        Turned bs body d (read_body k (rest bs body)) table.old result table.new) }
 {
     if key == TASK {
         return task_line(text, body, counts);
@@ -60,11 +58,9 @@ fn body_turn(text: &[u8], table: &mut [u16], body: Cursor, counts: Counts, key: 
     requires drafted { Drafted table.old counts }
     requires key_value { may_stand counts.phase key ≡ true }
     ensures touched { Touched table.old table.new }
-    ensures fact {
-        let bs = text.now in
+    ensures fact { let bs = text.now in
         ((d : Draft) (k : Key) → key_number k ≡ key → Holds d table.old counts →
-          Turned bs body d (read_body k (rest bs body)) table.old result table.new)
-    }
+        Turned bs body d (read_body k (rest bs body)) table.old result table.new) }
 {
     if key < DIFFER {
         return head_turn(text, table, body, counts, key);
@@ -92,11 +88,9 @@ fn turn_at(text: &[u8], table: &mut [u16], from: Cursor, counts: Counts) -> Turn
     requires placed { Placed text.now from }
     requires drafted { Drafted table.old counts }
     ensures touched { Touched table.old table.new }
-    ensures fact {
-        let bs = text.now in
+    ensures fact { let bs = text.now in
         ((d : Draft) → Holds d table.old counts →
-          Turned bs from d (next_line d (rest bs from)) table.old result table.new)
-    }
+        Turned bs from d (next_line d (rest bs from)) table.old result table.new) }
 {
     let Keyed::Of(key, body) = key_at(text, from) else {
         return Turn::Refuse(3);

@@ -52,10 +52,8 @@ pub fn put_row(
     requires schema_lt_word_bound { (schema < word_bound) × (role < word_bound) × (predicate < word_bound) ×
         (count ≤ length args.now) × (count ≤ most_arity) }
     requires by_index { (k : ℕ) → k < count → get_or args.now k 0 < word_bound }
-    ensures {
-        let a = bare_atom role predicate (take count args.now) in
-        Wrote table.old at atom_size (λ k. get_or (atom_words schema a) k 0) table.new
-    }
+    ensures { let a = bare_atom role predicate (take count args.now) in
+        Wrote table.old at atom_size (λ k. get_or (atom_words schema a) k 0) table.new }
 {
     let a = number_or_zero(args, count, 0);
     let b = number_or_zero(args, count, 1);
@@ -90,10 +88,8 @@ fn named(table: &[u16], first: usize, n: usize, parameter: u16) -> bool
 // "every parameter stands in some atom".
 pub fn all_named(table: &[u16], first: usize, n: usize, params: u16) -> bool
     requires { (i : ℕ) → i < n → RowIn table.now (first + atom_size * i) }
-    ensures {
-        let w = table.now in
-        result ≡ all (λ x. any (λ i. row_names w (first + atom_size * i) x) (up_to n)) (up_to params)
-    }
+    ensures { let w = table.now in
+        result ≡ all (λ x. any (λ i. row_names w (first + atom_size * i) x) (up_to n)) (up_to params) }
 {
     for x in 0..params {
         if !named(table, first, n, x) {

@@ -11,23 +11,23 @@ use Rattle.text.proofs.ReadLoop.{short-outcome, long-outcome}
 use Rattle.text.proofs.read.Statement.{statement}
 use Rattle.task.proofs.Answers.{both}
 
-returns : tie.Need-returns
+returns : tie.Need-returns-then-table-lt-TABLE_WORDS
 unfolding read_answer_told
 returns c =
-    let start = c.before.before.before in
+    let start = c in
     let z = table_words-is in
     let is = short-outcome start.args.text.now start.args.table.now (omega arith) in
     both is
 
-read-task-requires : tie.Need-read-task-requires
+read-task-requires : tie.Need-read_task-requires
 read-task-requires c κs = let z = table_words-is in omega arith
 
-returns-2 : tie.Need-returns-2
+returns-2 : tie.Need-returns
 returns-2 c =
-    let start = c.before.before.before.before.before.before.before in
+    let start = c in
     let z = table_words-is in
     let is = long-outcome start.args.text.now start.args.table.now (omega arith) in
-    let done = c.before.before.read-task.ensures in
+    let done = c.read_task.ensures in
     (done.0 ∙ (both is).0, done.1 ∙ (both is).1)
 
 pub read_spec : {M : Type 1} → statement M

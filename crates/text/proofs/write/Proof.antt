@@ -10,27 +10,27 @@ use Rattle.text.proofs.WriteOutcome.{write-short, write-no-table}
 use Rattle.text.proofs.write.Statement.{statement}
 use Rattle.task.proofs.Answers.{both}
 
-returns : tie.Need-returns
+returns : tie.Need-returns-then-table-lt-TABLE_WORDS
 unfolding write_answer_told
 returns c =
-    let a = c.before.before.before.args in
-    both (write-short a.table.now a.text.now (too_short a.table.now c.if1.true))
+    let a = c.args in
+    both (write-short a.table.now a.text.now (too_short a.table.now c.if-table-lt-TABLE_WORDS.true))
 
-is-table-requires : tie.Need-is-table-requires
-is-table-requires c κs = has-table-words c.before.before.before.args.table.now c.if1.false
+is-table-requires : tie.Need-is_table-requires
+is-table-requires c κs = has-table-words c.args.table.now c.if-table-lt-TABLE_WORDS.false
 
-returns-2 : tie.Need-returns-2
+returns-2 : tie.Need-returns-then-not-is_table
 unfolding write_answer_told
 returns-2 c =
-    let a = c.before.before.before.before.before.args in
-    let long = long-enough a.table.now c.before.before.if1.false in
-    let t = sym c.before.is-table.ensures ∙ c.if2.true in
+    let a = c.args in
+    let long = long-enough a.table.now c.if-table-lt-TABLE_WORDS.false in
+    let t = sym c.is_table.ensures ∙ c.if-not-is_table.true in
     both (write-no-table a.table.now a.text.now long t)
 
-write-task-requires : tie.Need-write-task-requires
+write-task-requires : tie.Need-write_task-requires
 write-task-requires c κs =
-    let t = c.before.before in
-    sym t.is-table.ensures ∙ c.before.if2.false
+    let t = c in
+    sym t.is_table.ensures ∙ c.if-not-is_table.false
 
 pub write_spec : {M : Type 1} → statement M
 write_spec =

@@ -26,11 +26,9 @@ const ABOVE_ARITY: u32 = limits::MOST_ARITY as u32 + 1;
 pub fn task_line(text: &[u8], from: Cursor, counts: Counts) -> Turn
     requires placed { Placed text.now from }
     requires allows { Allows counts task }
-    ensures {
-        let bs = text.now in
+    ensures { let bs = text.now in
         ((d : Draft) (w : Many ℕ) → Holds d w counts →
-          Turned bs from d (ended task_line (number (rest bs from))) w result w)
-    }
+        Turned bs from d (ended task_line (number (rest bs from))) w result w) }
 {
     let Behind::At(next) = one_line(text, from) else {
         return Turn::Refuse(3);
@@ -44,11 +42,9 @@ pub fn task_line(text: &[u8], from: Cursor, counts: Counts) -> Turn
 pub fn objects_line(text: &[u8], from: Cursor, counts: Counts) -> Turn
     requires placed { Placed text.now from }
     requires allows { Allows counts objects }
-    ensures {
-        let bs = text.now in
+    ensures { let bs = text.now in
         ((d : Draft) (w : Many ℕ) → Holds d w counts →
-          Turned bs from d (ended objects_line (number (rest bs from))) w result w)
-    }
+        Turned bs from d (ended objects_line (number (rest bs from))) w result w) }
 {
     let Number::Of(n, next) = number_line(text, from) else {
         return Turn::Refuse(3);
@@ -69,11 +65,9 @@ pub fn objects_line(text: &[u8], from: Cursor, counts: Counts) -> Turn
 pub fn schema_line(text: &[u8], from: Cursor, counts: Counts) -> Turn
     requires placed { Placed text.now from }
     requires allows { Allows counts schema }
-    ensures {
-        let bs = text.now in
+    ensures { let bs = text.now in
         ((d : Draft) (w : Many ℕ) → Holds d w counts →
-          Turned bs from d (ended schema_line (number (rest bs from))) w result w)
-    }
+        Turned bs from d (ended schema_line (number (rest bs from))) w result w) }
 {
     let Number::Of(n, next) = number_line(text, from) else {
         return Turn::Refuse(3);
@@ -93,11 +87,9 @@ pub fn schema_line(text: &[u8], from: Cursor, counts: Counts) -> Turn
 // "end=1".
 pub fn end_line(text: &[u8], from: Cursor) -> Turn
     requires { Placed text.now from }
-    ensures {
-        let bs = text.now in
+    ensures { let bs = text.now in
         ((d : Draft) (w : Many ℕ) → phase_number between ≤ phase_number d.phase →
-          Turned bs from d (ended end_line (number (rest bs from))) w result w)
-    }
+        Turned bs from d (ended end_line (number (rest bs from))) w result w) }
 {
     let Behind::At(next) = one_line(text, from) else {
         return Turn::Refuse(3);

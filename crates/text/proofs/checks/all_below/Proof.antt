@@ -10,27 +10,27 @@ use Rattle.words.specs.Lists.{all}
 use Rattle.words.proofs.Loops.{AllLeft, all_first, all_more, all-fails, all-ends}
 use Rattle.text.proofs.checks.all_below.Statement.{statement}
 
-abbrev invariant-loop : tie.invariant-loop
-invariant-loop list n bound k₀ k =
+abbrev invariant-loop-k : tie.invariant-loop-k
+invariant-loop-k list n bound k₀ k =
     AllLeft (λ j. ltb (get_or list j 0) bound) n (all (λ a. ltb a bound) (take n list)) k
 
-abbrev decreases-loop : tie.decreases-loop
-decreases-loop list n bound k₀ k = n - k
+abbrev decreases-loop-k : tie.decreases-loop-k
+decreases-loop-k list n bound k₀ k = n - k
 
-loop-holds : tie.Need-loop-init invariant-loop decreases-loop
+loop-holds : tie.Need-loop-k-init invariant-loop-k decreases-loop-k
 loop-holds c = all_first _ _ _ c.requires
 
-returns : tie.Need-returns invariant-loop decreases-loop
+returns : tie.Need-returns-then-bound-list invariant-loop-k decreases-loop-k
 returns c = search (all-fails, le-ltb)
 
-loop-again : tie.Need-loop-preserved invariant-loop decreases-loop
+loop-again : tie.Need-loop-k-preserved invariant-loop-k decreases-loop-k
 loop-again c = search (all_more, lt-ltb)
 
-returns-2 : tie.Need-returns-2 invariant-loop decreases-loop
+returns-2 : tie.Need-returns invariant-loop-k decreases-loop-k
 returns-2 c = search all-ends
 
-pub all-below-spec : {M : Type 1} → statement M
-all-below-spec =
+pub all_below_spec : {M : Type 1} → statement M
+all_below_spec =
     tie.close
-    (tie.spec invariant-loop decreases-loop loop-holds (λ c. omega arith) (λ c. omega arith) returns (λ c. omega arith)
+    (tie.spec invariant-loop-k decreases-loop-k loop-holds (λ c. omega arith) (λ c. omega arith) returns (λ c. omega arith)
     (λ c. omega arith) loop-again returns-2)

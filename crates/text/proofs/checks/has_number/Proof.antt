@@ -10,27 +10,27 @@ use Rattle.words.specs.Lists.{any}
 use Rattle.words.proofs.Loops.{AnyLeft, any-first, any-more, any_found, any-ends}
 use Rattle.text.proofs.checks.has_number.Statement.{statement}
 
-abbrev invariant-loop : tie.invariant-loop
-invariant-loop list n number k₀ k =
+abbrev invariant-loop-k : tie.invariant-loop-k
+invariant-loop-k list n number k₀ k =
     AnyLeft (λ j. eqb number (get_or list j 0)) n (any (λ y. eqb number y) (take n list)) k
 
-abbrev decreases-loop : tie.decreases-loop
-decreases-loop list n number k₀ k = n - k
+abbrev decreases-loop-k : tie.decreases-loop-k
+decreases-loop-k list n number k₀ k = n - k
 
-loop-holds : tie.Need-loop-init invariant-loop decreases-loop
+loop-holds : tie.Need-loop-k-init invariant-loop-k decreases-loop-k
 loop-holds c = any-first _ _ _ c.requires
 
-returns : tie.Need-returns invariant-loop decreases-loop
+returns : tie.Need-returns-then-number-list invariant-loop-k decreases-loop-k
 returns c = search (any_found, eq-eqb)
 
-loop-again : tie.Need-loop-preserved invariant-loop decreases-loop
+loop-again : tie.Need-loop-k-preserved invariant-loop-k decreases-loop-k
 loop-again c = search (any-more, ne_eqb)
 
-returns-2 : tie.Need-returns-2 invariant-loop decreases-loop
+returns-2 : tie.Need-returns invariant-loop-k decreases-loop-k
 returns-2 c = search any-ends
 
-pub has-number-spec : {M : Type 1} → statement M
-has-number-spec =
+pub has_number_spec : {M : Type 1} → statement M
+has_number_spec =
     tie.close
-    (tie.spec invariant-loop decreases-loop loop-holds (λ c. omega arith) (λ c. omega arith) returns (λ c. omega arith)
+    (tie.spec invariant-loop-k decreases-loop-k loop-holds (λ c. omega arith) (λ c. omega arith) returns (λ c. omega arith)
     (λ c. omega arith) loop-again returns-2)

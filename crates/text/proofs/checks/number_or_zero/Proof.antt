@@ -11,15 +11,15 @@ use lib.Seq.{get_or-take, length-take-le}
 use Rattle.words.proofs.Words.{past_end}
 use Rattle.text.proofs.checks.number_or_zero.Statement.{statement}
 
-returns : tie.Need-returns
-returns c = sym (get_or-take _ _ _ 0 c.before.if1.true)
+returns : tie.Need-returns-then-k-n
+returns c = sym (get_or-take _ _ _ 0 c.if-k-n.true)
 
-returns-2 : tie.Need-returns-2
+returns-2 : tie.Need-returns
 returns-2 c =
-    let n = c.before.args.n in
-    let list = c.before.args.list.now in
-    let l = length-take-le n list c.before.requires in
-    sym (past_end (take n list) c.before.args.k (omega arith))
+    let n = c.args.n in
+    let list = c.args.list.now in
+    let l = length-take-le n list c.requires in
+    sym (past_end (take n list) c.args.k (omega arith))
 
-pub number-or-zero-spec : {M : Type 1} → statement M
-number-or-zero-spec = tie.close (tie.spec (λ c. search rules) (λ c. search rules) returns returns-2)
+pub number_or_zero_spec : {M : Type 1} → statement M
+number_or_zero_spec = tie.close (tie.spec (λ c. search rules) (λ c. search rules) returns returns-2)

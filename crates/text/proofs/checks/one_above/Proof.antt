@@ -15,45 +15,45 @@ use Rattle.words.proofs.Words.{each_first}
 use Rattle.text.proofs.WordTests.{above_more}
 use Rattle.text.proofs.checks.one_above.Statement.{statement}
 
-abbrev invariant-loop : tie.invariant-loop
-invariant-loop list n above₀ k₀ above k = (k ≤ n) × (above ≡ one_above (take k list))
+abbrev invariant-loop-k : tie.invariant-loop-k
+invariant-loop-k list n above₀ k₀ above k = (k ≤ n) × (above ≡ one_above (take k list))
 
-abbrev decreases-loop : tie.decreases-loop
-decreases-loop list n above₀ k₀ above k = n - k
+abbrev decreases-loop-k : tie.decreases-loop-k
+decreases-loop-k list n above₀ k₀ above k = n - k
 
-loop-holds : tie.Need-loop-init invariant-loop decreases-loop
+loop-holds : tie.Need-loop-k-init invariant-loop-k decreases-loop-k
 unfolding one_above
 loop-holds c = (omega arith, refl)
 
-add-above : tie.Need-overflow-add-above invariant-loop decreases-loop
+add-above : tie.Need-overflow_add-above invariant-loop-k decreases-loop-k
 add-above c =
-    let at-loop = c.before.before.before in
-    let start = at-loop.before in
-    let k = at-loop.loop.k in
+    let at-loop = c in
+    let start = at-loop in
+    let k = at-loop.loop-k.k in
     let list = start.args.list.now in
     let small = ltb-true (get_or list k 0) 16
     (each_first (λ a. ltb a 16) list start.args.n start.requires.0 start.requires.1 k
-    c.before.before.loop-test.true) in
+    c.loop-k-test.true) in
     omega arith
 
-loop-again : tie.Need-loop-preserved invariant-loop decreases-loop
+loop-again : tie.Need-loop-k-preserved invariant-loop-k decreases-loop-k
 loop-again c =
-    let at-loop = c.before.before.before in
-    let start = at-loop.before in
-    let more = above_more start.args.list.now at-loop.loop.k (omega arith) in
-    let so_far = at-loop.loop.invariant.1 in (
+    let at-loop = c in
+    let start = at-loop in
+    let more = above_more start.args.list.now at-loop.loop-k.k (omega arith) in
+    let so_far = at-loop.loop-k.invariant.1 in (
       omega arith,
-      ⊎_elim (λ w. let e = w.1 in let l = w.0.taken in omega arith)
-          (λ w. let e = w.1 in let l = w.0.left in omega arith) c.if1.branch,
+      ⊎_elim (λ w. let e = w.above-is in let l = w.if-above-number.true in omega arith)
+          (λ w. let e = w.above-is in let l = w.if-above-number.false in omega arith) c.if-above-number.branch-raw,
     )
 
-returns : tie.Need-returns invariant-loop decreases-loop
+returns : tie.Need-returns invariant-loop-k decreases-loop-k
 returns c =
-    let e : c.before.loop.k ≡ c.before.before.args.n = omega arith in
-    rw (← e) c.before.loop.invariant.1
+    let e : c.loop-k.k ≡ c.args.n = omega arith in
+    rw (← e) c.loop-k.invariant.1
 
-pub one-above-spec : {M : Type 1} → statement M
-one-above-spec =
+pub one_above_spec : {M : Type 1} → statement M
+one_above_spec =
     tie.close
-    (tie.spec invariant-loop decreases-loop loop-holds (λ c. omega arith) (λ c. omega arith) add-above (λ c. omega arith)
+    (tie.spec invariant-loop-k decreases-loop-k loop-holds (λ c. omega arith) (λ c. omega arith) add-above (λ c. omega arith)
     (λ c. omega arith) loop-again returns)

@@ -11,34 +11,34 @@ use Rattle.text.specs.ReadCode.{no_gap_in}
 use Rattle.words.proofs.Loops.{AllLeft, all-up-to, all_yes, all-no, all-ends}
 use Rattle.text.proofs.checks.without_gap.Statement.{statement}
 
-abbrev invariant-loop : tie.invariant-loop
-invariant-loop list n above p₀ p =
+abbrev invariant-loop-p : tie.invariant-loop-p
+invariant-loop-p list n above p₀ p =
     AllLeft (λ q. any (λ y. eqb q y) (take n list)) above (no_gap_in (take n list)) p
 
-abbrev decreases-loop : tie.decreases-loop
-decreases-loop list n above p₀ p = above - p
+abbrev decreases-loop-p : tie.decreases-loop-p
+decreases-loop-p list n above p₀ p = above - p
 
-one-above-requires : tie.Need-one-above-requires invariant-loop decreases-loop
-one-above-requires c κs = c.before.requires
+one-above-requires : tie.Need-one_above-above-requires invariant-loop-p decreases-loop-p
+one-above-requires c κs = c.requires
 
-loop-holds : tie.Need-loop-init invariant-loop decreases-loop
+loop-holds : tie.Need-loop-p-init invariant-loop-p decreases-loop-p
 unfolding no_gap_in
-loop-holds c = all-up-to (sym c.one-above.ensures)
+loop-holds c = all-up-to (sym c.one_above-above.ensures)
 
-has-number-requires : tie.Need-has-number-requires invariant-loop decreases-loop
-has-number-requires c κs = c.before.before.before.before.requires.0
+has-number-requires : tie.Need-has_number-requires invariant-loop-p decreases-loop-p
+has-number-requires c κs = c.requires.0
 
-returns : tie.Need-returns invariant-loop decreases-loop
+returns : tie.Need-returns-then-not-has_number invariant-loop-p decreases-loop-p
 returns c = search all-no
 
-loop-again : tie.Need-loop-preserved invariant-loop decreases-loop
+loop-again : tie.Need-loop-p-preserved invariant-loop-p decreases-loop-p
 loop-again c = search all_yes
 
-returns-2 : tie.Need-returns-2 invariant-loop decreases-loop
+returns-2 : tie.Need-returns invariant-loop-p decreases-loop-p
 returns-2 c = search all-ends
 
-pub without-gap-spec : {M : Type 1} → statement M
-without-gap-spec =
+pub without_gap_spec : {M : Type 1} → statement M
+without_gap_spec =
     tie.close
-    (tie.spec invariant-loop decreases-loop one-above-requires loop-holds has-number-requires returns (λ c. omega arith)
+    (tie.spec invariant-loop-p decreases-loop-p one-above-requires loop-holds has-number-requires returns (λ c. omega arith)
     (λ c. omega arith) loop-again returns-2)

@@ -6,10 +6,10 @@ use borrow.Author.Rules.{rules}
 use Rattle.text.proofs.counted.write_byte.Statement.{statement}
 use Rattle.text.proofs.counted.write_byte.Tie as tie
 
-returns-2 : tie.Need-returns-2
+returns-2 : tie.Need-returns-else-end-text
 returns-2 c = writes-counted refl (omega arith)
 
-pub write-byte-spec : {M : Type 1} → statement M
-write-byte-spec =
+pub write_byte_spec : {M : Type 1} → statement M
+write_byte_spec =
     tie.close
     (tie.spec (λ c. search rules) (λ c κs. search rules) (λ c. search rules) (λ c. search rules) returns-2)

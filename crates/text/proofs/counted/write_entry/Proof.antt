@@ -29,25 +29,25 @@ begin c =
     writing-left (entry-is c.args.head c.args.words.now c.args.from c.args.n)
     (writing_start c.requires.1)
 
-abbrev start : tie.After-slice-known2 → tie.Start
+abbrev start : tie.After-slice_known-2-1 → tie.Start
 start c = c.before.before.before.before.before.before
 
-behind-head : (c : tie.After-slice-known2) →
-    Left (start c) (list (start c)) c.before.before.write-ended.new.0 c.before.before.write-ended.result
-behind-head c = writing-on (begin (start c)) c.before.before.write-ended.ensures
+behind-head : (c : tie.After-slice_known-2-1) →
+    Left (start c) (list (start c)) c.write_ended-at_list.new.text c.write_ended-at_list.result
+behind-head c = writing-on (begin (start c)) c.write_ended-at_list.ensures
 
-write-ended-requires : tie.Need-write-ended-requires
+write-ended-requires : tie.Need-write_ended-at_list-requires
 write-ended-requires c κs =
-    let start = c.before.before.before in
-    writing-fits (digits start.args.head ++ (colon ∷ [])) (list start) (begin start)
+    let start = c in
+    writing-fits (digits start.args.head ++ (colon ∷ [])) (list start.before.before.before) (begin start.before.before.before)
 
-write-list-requires : tie.Need-write-list-requires
+write-list-requires : tie.Need-write_list-requires
 write-list-requires c κs =
     let inside = (start c.before).requires.0 in
     (λ k h. omega arith, last_fits (behind-head c.before))
 
 returns : tie.Need-returns
-returns c = writing-last (behind-head c.before.before.before.before) c.before.before.write-list.ensures
+returns c = writing-last (behind-head c.before.before.before.before) c.write_list.ensures
 
-pub write-entry-spec : {M : Type 1} → statement M
-write-entry-spec = tie.close (tie.spec write-ended-requires write-list-requires (λ c. search rules) returns)
+pub write_entry_spec : {M : Type 1} → statement M
+write_entry_spec = tie.close (tie.spec write-ended-requires write-list-requires (λ c. search rules) returns)

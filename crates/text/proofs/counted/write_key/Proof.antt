@@ -13,83 +13,82 @@ use Rattle.text.proofs.counted.write_key.Statement.{statement}
 use Rattle.text.proofs.counted.write_key.Tie as tie
 
 -- the arm of every other role
-goal-key : (c : tie.At-match-rest) → key_bytes c.before.before.args.role ≡ key_bytes 4
+goal-key : (c : tie.In_default) → key_bytes c.args.role ≡ key_bytes 4
 goal-key c =
-    let role = c.before.before.args.role in
-    let not_three = c.match.rest.1 in
-    let not-two = c.match.rest.0.1 in
-    let not-one = c.match.rest.0.0.1 in
-    let not-zero = c.match.rest.0.0.0.1 in
+    let role = c.args.role in
+    let not_three = c.in_default.in_default-own.rest.1 in
+    let not-two = c.in_default.in_default-own.rest.0.1 in
+    let not-one = c.in_default.in_default-own.rest.0.0.1 in
+    let not-zero = c.in_default.in_default-own.rest.0.0.0.1 in
     key-other role (omega arith)
 
-write-bytes-requires : tie.Need-write-bytes-requires
+write-bytes-requires : tie.Need-write_bytes-requires
 unfolding key_bytes
 write-bytes-requires c κs =
-    let l = ap (λ (r : ℕ). length (key_bytes r)) c.before.before.match.keys1 in
-    let p = c.before.before.before.before.requires in
+    let l = ap (λ (r : ℕ). length (key_bytes r)) c.in-0.is in
+    let p = c.requires in
     omega arith
 
-write-bytes-requires-2 : tie.Need-write-bytes-requires-2
+write-bytes-requires-2 : tie.Need-write_bytes-requires-in-1
 unfolding key_bytes
 write-bytes-requires-2 c κs =
-    let l = ap (λ (r : ℕ). length (key_bytes r)) c.before.before.match.keys2 in
-    let p = c.before.before.before.before.requires in
+    let l = ap (λ (r : ℕ). length (key_bytes r)) c.in-1.is in
+    let p = c.requires in
     omega arith
 
-write-bytes-requires-3 : tie.Need-write-bytes-requires-3
+write-bytes-requires-3 : tie.Need-write_bytes-requires-in-2
 unfolding key_bytes
 write-bytes-requires-3 c κs =
-    let l = ap (λ (r : ℕ). length (key_bytes r)) c.before.before.match.keys3 in
-    let p = c.before.before.before.before.requires in
+    let l = ap (λ (r : ℕ). length (key_bytes r)) c.in-2.is in
+    let p = c.requires in
     omega arith
 
-write-bytes-requires-4 : tie.Need-write-bytes-requires-4
+write-bytes-requires-4 : tie.Need-write_bytes-requires-in-3
 unfolding key_bytes
 write-bytes-requires-4 c κs =
-    let l = ap (λ (r : ℕ). length (key_bytes r)) c.before.before.match.keys4 in
-    let p = c.before.before.before.before.requires in
+    let l = ap (λ (r : ℕ). length (key_bytes r)) c.in-3.is in
+    let p = c.requires in
     omega arith
 
-write-bytes-requires-5 : tie.Need-write-bytes-requires-5
+write-bytes-requires-5 : tie.Need-write_bytes-requires-in_default
 unfolding key_bytes
 write-bytes-requires-5 c κs =
-    let l = ap length (goal-key c.before.before) in
-    let p = c.before.before.before.before.requires in
+    let l = ap length (goal-key c.before.before.before) in
+    let p = c.requires in
     omega arith
 
-returns : tie.Need-returns
+returns : tie.Need-returns-in-0
 unfolding key_bytes
 returns c =
-    writes-same (sym (ap key_bytes c.before.before.before.before.before.match.keys1))
-    c.before.before.write_bytes.ensures
+    writes-same (sym (ap key_bytes c.in-0.is))
+    c.write_bytes.ensures
 
-returns-2 : tie.Need-returns-2
+returns-2 : tie.Need-returns-in-1
 unfolding key_bytes
 returns-2 c =
-    writes-same (sym (ap key_bytes c.before.before.before.before.before.match.keys2))
-    c.before.before.write-bytes2.ensures
+    writes-same (sym (ap key_bytes c.in-1.is))
+    c.write_bytes-in-1.ensures
 
-returns-3 : tie.Need-returns-3
+returns-3 : tie.Need-returns-in-2
 unfolding key_bytes
 returns-3 c =
-    writes-same (sym (ap key_bytes c.before.before.before.before.before.match.keys3))
-    c.before.before.write-bytes3.ensures
+    writes-same (sym (ap key_bytes c.in-2.is))
+    c.write_bytes-in-2.ensures
 
-returns-4 : tie.Need-returns-4
+returns-4 : tie.Need-returns-in-3
 unfolding key_bytes
 returns-4 c =
-    writes-same (sym (ap key_bytes c.before.before.before.before.before.match.keys4))
-    c.before.before.write-bytes4.ensures
+    writes-same (sym (ap key_bytes c.in-3.is))
+    c.write_bytes-in-3.ensures
 
-returns-5 : tie.Need-returns-5
+returns-5 : tie.Need-returns-in_default
 unfolding key_bytes
 returns-5 c =
-    writes-same (sym (goal-key c.before.before.before.before.before)) c.before.before.write-bytes5.ensures
+    writes-same (sym (goal-key c.before.before.before.before.before.before)) c.write_bytes-in_default.ensures
 
-pub write-key-spec : {M : Type 1} → statement M
-write-key-spec =
+pub write_key_spec : {M : Type 1} → statement M
+write_key_spec =
     tie.close
-    (tie.spec (λ c. search rules) write-bytes-requires (λ c. search rules) write-bytes-requires-2 (λ c. search rules)
-    write-bytes-requires-3 (λ c. search rules) write-bytes-requires-4 (λ c. search rules) write-bytes-requires-5
-    (λ c. search rules) returns (λ c. search rules) returns-2 (λ c. search rules) returns-3 (λ c. search rules)
-    returns-4 (λ c. search rules) returns-5)
+    (tie.spec write-bytes-requires write-bytes-requires-2 write-bytes-requires-3 write-bytes-requires-4
+    write-bytes-requires-5 (λ c. search rules) returns (λ c. search rules) returns-2 (λ c. search rules) returns-3
+    (λ c. search rules) returns-4 (λ c. search rules) returns-5)

@@ -11,25 +11,25 @@ use Rattle.text.proofs.counted.write_list_line.Tie as tie
 abbrev body : tie.Start → List ℕ
 body c = commaed (spaced c.args.words.now c.args.from c.args.step c.args.n) ++ (newline ∷ [])
 
-abbrev start : tie.After-slice-known2 → tie.Start
+abbrev start : tie.After-slice_known-2-1 → tie.Start
 start c = c.before.before.before.before.before.before.before
 
-behind-key : (c : tie.After-slice-known2) →
+behind-key : (c : tie.After-slice_known-2-1) →
     Writing (start c).args.text.now (start c).args.at ((start c).args.key.now ++ body (start c)) (body (start c))
-    c.before.before.write_bytes.new.0 c.before.before.write_bytes.result
-behind-key c = writing-on (writing_start (start c).requires.1) c.before.before.write_bytes.ensures
+    c.write_bytes-at_body.new.text c.write_bytes-at_body.result
+behind-key c = writing-on (writing_start (start c).requires.1) c.write_bytes-at_body.ensures
 
-write-bytes-requires : tie.Need-write-bytes-requires
+write-bytes-requires : tie.Need-write_bytes-at_body-requires
 write-bytes-requires c κs =
-    let start = c.before.before.before.before in
-    first_fits start.args.at start.args.key.now (body start) start.requires.1
+    let start = c in
+    first_fits start.args.at start.args.key.now (body start.before.before.before.before) start.requires.1
 
-write-list-requires : tie.Need-write-list-requires
+write-list-requires : tie.Need-write_list-requires
 write-list-requires c κs = ((start c.before).requires.0, last_fits (behind-key c.before))
 
 returns : tie.Need-returns
-returns c = writing-last (behind-key c.before.before.before.before) c.before.before.write-list.ensures
+returns c = writing-last (behind-key c.before.before.before.before) c.write_list.ensures
 
-pub write-list-line-spec : {M : Type 1} → statement M
-write-list-line-spec =
+pub write_list_line_spec : {M : Type 1} → statement M
+write_list_line_spec =
     tie.close (tie.spec write-bytes-requires write-list-requires (λ c. search rules) returns)

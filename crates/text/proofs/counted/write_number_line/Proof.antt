@@ -11,25 +11,25 @@ use Rattle.text.proofs.counted.write_number_line.Tie as tie
 abbrev body : tie.Start → List ℕ
 body c = digits c.args.n ++ (newline ∷ [])
 
-abbrev start : tie.After-slice-known2 → tie.Start
+abbrev start : tie.After-slice_known-2-1 → tie.Start
 start c = c.before.before.before.before.before.before
 
-behind-key : (c : tie.After-slice-known2) →
+behind-key : (c : tie.After-slice_known-2-1) →
     Writing (start c).args.text.now (start c).args.at ((start c).args.key.now ++ body (start c)) (body (start c))
-    c.before.before.write_bytes.new.0 c.before.before.write_bytes.result
-behind-key c = writing-on (writing_start (start c).requires) c.before.before.write_bytes.ensures
+    c.write_bytes-at_body.new.text c.write_bytes-at_body.result
+behind-key c = writing-on (writing_start (start c).requires) c.write_bytes-at_body.ensures
 
-write-bytes-requires : tie.Need-write-bytes-requires
+write-bytes-requires : tie.Need-write_bytes-at_body-requires
 write-bytes-requires c κs =
-    let start = c.before.before.before in
-    first_fits start.args.at start.args.key.now (body start) start.requires
+    let start = c in
+    first_fits start.args.at start.args.key.now (body start.before.before.before) start.requires
 
-write-ended-requires : tie.Need-write-ended-requires
+write-ended-requires : tie.Need-write_ended-requires
 write-ended-requires c κs = last_fits (behind-key c.before)
 
 returns : tie.Need-returns
-returns c = writing-last (behind-key c.before.before.before.before) c.before.before.write-ended.ensures
+returns c = writing-last (behind-key c.before.before.before.before) c.write_ended.ensures
 
-pub write-number-line-spec : {M : Type 1} → statement M
-write-number-line-spec =
+pub write_number_line_spec : {M : Type 1} → statement M
+write_number_line_spec =
     tie.close (tie.spec write-bytes-requires write-ended-requires (λ c. search rules) returns)

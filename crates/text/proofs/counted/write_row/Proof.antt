@@ -39,29 +39,29 @@ begin c =
     writing-left (row_text-is c.args.words.now c.args.base c.args.arity) (writing_start c.requires.1)
 
 -- the function's entry, behind the role
-abbrev start : tie.After-role-at → tie.Start
+abbrev start : tie.After-role_at → tie.Start
 start c = c.before.before.before.before
 
-behind-key : (c : tie.After-write-key) →
-    Left (start c.before) (entry (start c.before)) c.write-key.new.0 c.write-key.result
+behind-key : (c : tie.After-write_key-at_entry) →
+    Left (start c.before) (entry (start c.before)) c.write_key-at_entry.new.text c.write_key-at_entry.result
 behind-key c =
     writing-on (begin (start c.before))
-    (writes-same (ap key_bytes c.before.role-at.ensures.0) c.write-key.ensures)
+    (writes-same (ap key_bytes c.role_at.ensures.0) c.write_key-at_entry.ensures)
 
-abbrev keyed : tie.After-predicate-at → tie.After-write-key
+abbrev keyed : tie.After-predicate_at → tie.After-write_key-at_entry
 keyed c = c.before.before.before.before
 
 -- the entry that is written has the row's predicate
-entry_read : (c : tie.After-predicate-at) →
-    entry_of (start (keyed c).before) c.predicate-at.result ≡ entry (start (keyed c).before)
-entry_read c = ap (entry_of (start (keyed c).before)) c.predicate-at.ensures.0
+entry_read : (c : tie.After-predicate_at) →
+    entry_of (start (keyed c).before) c.predicate_at.result ≡ entry (start (keyed c).before)
+entry_read c = ap (entry_of (start (keyed c).before)) c.predicate_at.ensures.0
 
-write-key-requires : tie.Need-write-key-requires
+write-key-requires : tie.Need-write_key-at_entry-requires
 write-key-requires c κs =
     let fits = writing-fits (key (start c)) (entry (start c)) (begin (start c)) in
-    omega (arith, ap (λ (r : ℕ). length (key_bytes r)) c.role-at.ensures.0)
+    omega (arith, ap (λ (r : ℕ). length (key_bytes r)) c.role_at.ensures.0)
 
-write-entry-requires : tie.Need-write-entry-requires
+write-entry-requires : tie.Need-write_entry-requires
 write-entry-requires c κs =
     let inside = (start (keyed c).before).requires.0 in
     let fits = last_fits (behind-key (keyed c)) in
@@ -70,12 +70,12 @@ write-entry-requires c κs =
 
 returns : tie.Need-returns
 returns c =
-    let entered = c.before.before.before in
-    writing-last (behind-key (keyed entered))
-    (writes-same (entry_read entered) c.before.before.write-entry.ensures)
+    let entered = c in
+    writing-last (behind-key (keyed entered.before.before.before))
+    (writes-same (entry_read entered.before.before.before) c.write_entry.ensures)
 
-pub write-row-spec : {M : Type 1} → statement M
-write-row-spec =
+pub write_row_spec : {M : Type 1} → statement M
+write_row_spec =
     tie.close
     (tie.spec (λ c κs. search rules) write-key-requires (λ c κs. search rules) (λ c. search rules) write-entry-requires
     (λ c. search rules) returns)

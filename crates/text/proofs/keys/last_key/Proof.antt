@@ -8,17 +8,17 @@ use borrow.Author.Tests.{lt-ltb, le-ltb}
 use Rattle.text.specs.ReadCode.{last_key}
 use Rattle.text.proofs.keys.last_key.Statement.{statement}
 
-returns : tie.Need-returns
+returns : tie.Need-returns-then-phase-lt-DIFFER
 unfolding last_key
-returns c = sym (rw (lt-ltb _ _ c.if1.true) refl)
+returns c = sym (rw (lt-ltb _ _ c.if-phase-lt-DIFFER.true) refl)
 
-returns-2 : tie.Need-returns-2
+returns-2 : tie.Need-returns-then-phase-lt-SCHEMA
 unfolding last_key
-returns-2 c = sym (rw (le-ltb _ _ c.before.if1.false, lt-ltb _ _ c.if2.true) refl)
+returns-2 c = sym (rw (le-ltb _ _ c.if-phase-lt-DIFFER.false, lt-ltb _ _ c.if-phase-lt-SCHEMA.true) refl)
 
-returns-3 : tie.Need-returns-3
+returns-3 : tie.Need-returns
 unfolding last_key
-returns-3 c = sym (rw (le-ltb _ _ c.before.if1.false, le-ltb _ _ c.if2.false) refl)
+returns-3 c = sym (rw (le-ltb _ _ c.if-phase-lt-DIFFER.false, le-ltb _ _ c.if-phase-lt-SCHEMA.false) refl)
 
-pub last-key-spec : {M : Type 1} → statement M
-last-key-spec = tie.close (tie.spec returns returns-2 returns-3)
+pub last_key_spec : {M : Type 1} → statement M
+last_key_spec = tie.close (tie.spec returns returns-2 returns-3)

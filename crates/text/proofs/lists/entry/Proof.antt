@@ -15,61 +15,61 @@ use Rattle.text.proofs.WholeLines.{onward-both}
 use Rattle.text.proofs.lists.entry.Statement.{statement}
 
 -- ---- the number at the head, and the colon behind it
-abbrev start : tie.After-head → tie.Start
-start h = h.before.before.before.before.before
+abbrev start : tie.In-Of → tie.Start
+start h = h.before.before.before.before
 
-head : (h : tie.After-head) →
+head : (h : tie.In-Of) →
     NumberHere (start h).args.text.now (start h).args.from h.head.given.0.0 h.head.given.0.1.0
-head h = subst (NumberAt _ _) h.head.given.1 h.before.before.number.ensures
+head h = subst (NumberAt _ _) h.in-Of.is h.number.ensures
 
-placed : (h : tie.After-head) → Placed (start h).args.text.now h.head.given.0.1.0
+placed : (h : tie.In-Of) → Placed (start h).args.text.now h.head.given.0.1.0
 placed h = moved-placed (start h).requires (head h).moved
 
-abbrev headed : tie.After-word → tie.After-head
+abbrev headed : tie.After-word → tie.In-Of
 headed w = w.before.before.before
 
-abbrev front : tie.After-next → tie.After-head
-front w = headed w.before.before
+abbrev front : tie.In-At → tie.In-Of
+front w = headed w.before
 
-behind : (w : tie.After-next) →
+behind : (w : tie.In-At) →
     let h = front w in
     WordHere (start h).args.text.now h.head.given.0.1.0 (colon ∷ []) w.next.given.0.0
-behind w = subst (WordAt _ _ _) w.next.given.1 w.before.before.word.ensures
+behind w = subst (WordAt _ _ _) w.in-At.is w.word.ensures
 
-abbrev parted : tie.After-listing → tie.After-next
-parted l = l.before.before.before
+abbrev parted : tie.After-listing → tie.In-At
+parted l = l.before.before
 
 -- ---- the answers
-returns : tie.Need-returns
-returns c = no-head _ (subst (NumberAt _ _) c.enum_told.given.1 c.before.before.number.ensures)
+returns : tie.Need-returns-in_default
+returns c = no-head _ (subst (NumberAt _ _) c.in_default.is c.number.ensures)
 
 word-requires : tie.Need-word-requires
 word-requires c κs =
     placed c.before.before
 
-returns-2 : tie.Need-returns-2
+returns-2 : tie.Need-returns-in_default-word
 returns-2 c =
-    let w = c.before.before in
-    no-colon _ _ _ (head (headed w)).is (subst (WordAt _ _ _) c.enum-told2.given.1 w.word.ensures)
+    let w = c in
+    no-colon _ _ _ (head (headed w.before)).is (subst (WordAt _ _ _) c.in_default-word.is w.word.ensures)
 
 listing-requires : tie.Need-listing-requires
 listing-requires c κs =
-    let w = c.before.before in
-    word-placed (placed (front w)) (behind w)
+    let w = c in
+    word-placed (placed (front w.before)) (behind w.before)
 
-returns-3 : tie.Need-returns-3
+returns-3 : tie.Need-returns-in_default-listing
 returns-3 c =
-    let l = c.before.before.before.before in
-    let w = parted l in
+    let l = c in
+    let w = parted l.before.before.before in
     no-list _ _ _ (head (front w)).is _ (behind w).is
-    (subst (ListAt _ _ _ _) c.enum-told3.given.1 l.listing.ensures)
+    (subst (ListAt _ _ _ _) c.in_default-listing.is l.listing.ensures)
 
-returns-4 : tie.Need-returns-4
+returns-4 : tie.Need-returns
 returns-4 c =
-    let l = c.before.before.before.before.before in
-    let w = parted l in
+    let l = c in
+    let w = parted l.before.before.before in
     let h = head (front w) in
-    let list = subst (ListAt _ _ _ _) c.before.count.given.1 l.listing.ensures in
+    let list = subst (ListAt _ _ _ _) c.in-Of-listing.is l.listing.ensures in
     let on = h.moved.on in
     let far = (behind w).far in
     let line = h.moved.line in

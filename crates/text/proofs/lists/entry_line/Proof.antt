@@ -11,33 +11,33 @@ use Rattle.text.proofs.WholeLines.{no_body, no_end, line-whole, onward-placed, t
 use Rattle.text.proofs.lists.entry_line.Statement.{statement}
 
 -- ---- the atom that was read
-abbrev read : tie.After-head → tie.After-entry
-read h = h.before.before.before.before
+abbrev read : tie.In-Of → tie.After-entry
+read h = h.before.before.before
 
-abbrev start : tie.After-head → tie.Start
+abbrev start : tie.In-Of → tie.Start
 start h = (read h).before.before.before.before
 
-body : (h : tie.After-head) → EntryHere (start h).args.text.now (start h).args.from h.head.given.0.0
-    h.head.given.0.1.0 (read h).entry.new.1.1.0 h.head.given.0.1.1.0
-body h = subst (EntryAt _ _ _) h.head.given.1 (read h).entry.ensures
+body : (h : tie.In-Of) → EntryHere (start h).args.text.now (start h).args.from h.head.given.0.0
+    h.head.given.0.1.0 (read h).entry.new.list h.head.given.0.1.1.0
+body h = subst (EntryAt _ _ _) h.in-Of.is (read h).entry.ensures
 
 -- ---- the answers
-returns : tie.Need-returns
-returns c = no_body _ (subst (EntryAt _ _ _) c.enum_told.given.1
-    c.before.before.before.before.entry.ensures)
+returns : tie.Need-returns-in_default
+returns c = no_body _ (subst (EntryAt _ _ _) c.in_default.is
+    c.entry.ensures)
 
-line-end-requires : tie.Need-line-end-requires
-line-end-requires c κs = onward-placed (start c.before).requires (body c.before).onward
+line-end-requires : tie.Need-line_end-requires
+line-end-requires c κs = onward-placed (start c).requires (body c).onward
 
-returns-2 : tie.Need-returns-2
+returns-2 : tie.Need-returns-in_default-line_end
 returns-2 c =
-    no_end _ _ _ (body c.before.before.before.before).is
-    (subst (EndAt _ _) c.enum-told2.given.1 c.before.before.line-end.ensures)
+    no_end _ _ _ (body c.before.before).is
+    (subst (EndAt _ _) c.in_default-line_end.is c.line_end.ensures)
 
-returns-3 : tie.Need-returns-3
+returns-3 : tie.Need-returns
 returns-3 c =
-    let b = body c.before.before.before.before.before in
-    let e = subst (EndAt _ _) c.before.next.given.1 c.before.before.before.line-end.ensures in
+    let b = body c.before.before in
+    let e = subst (EndAt _ _) c.in-At.is c.line_end.ensures in
     record {
       ns = b.ns;
       is = line-whole _ _ _ b.is _ e.is;
@@ -45,8 +45,8 @@ returns-3 c =
       line = to-next b.onward.on b.onward.line e;
     }
 
-pub entry-line-spec : {M : Type 1} → statement M
-entry-line-spec =
+pub entry_line_spec : {M : Type 1} → statement M
+entry_line_spec =
     tie.close
     (tie.spec (λ c κs. search rules) (λ c. search rules) (λ c. search rules) (λ c. search rules) returns
     line-end-requires (λ c. search rules) (λ c. search rules) (λ c. search rules) returns-2 (λ c. search rules)

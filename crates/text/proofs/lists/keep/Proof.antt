@@ -7,8 +7,8 @@ use borrow.Author.Rules.{rules}
 use lib.Seq.{set_out}
 use Rattle.text.proofs.lists.keep.Statement.{statement}
 
-returns-2 : tie.Need-returns-2
-returns-2 c = sym (set_out _ _ _ c.if1.false)
+returns-2 : tie.Need-returns-else-at-list
+returns-2 c = sym (set_out _ _ _ c.if-at-list.false)
 
 pub keep_spec : {M : Type 1} → statement M
 keep_spec =

@@ -11,29 +11,29 @@ use Rattle.text.proofs.WholeLines.{listing-ends, listing_begins}
 use Rattle.text.proofs.ListLoop.{listed-none}
 use Rattle.text.proofs.lists.listing.Statement.{statement}
 
-returns : tie.Need-returns
+returns : tie.Need-returns-in_default
 returns c =
-    let numbers = c.before.before in
-    let told = c.before.before.before.before in
-    rw (listing_begins _ (subst (WordAt _ _ _) told.enum-told2.given.1 told.before.before.word.ensures))
+    let numbers = c in
+    let told = c in
+    rw (listing_begins _ (subst (WordAt _ _ _) told.in_default.is told.word.ensures))
     numbers.numbers.ensures
 
-returns-2 : tie.Need-returns-2
+returns-2 : tie.Need-returns
 returns-2 c =
-    let w = subst (WordAt _ _ _) c.enum_told.given.1 c.before.before.word.ensures in
+    let w = subst (WordAt _ _ _) c.in-At.is c.word.ensures in
     record {
       ns = _;
       is = listing-ends _ _ w.is;
       listed = listed-none _;
       onward = record {
         on = omega arith;
-        inside = c.before.before.before.before.before.before.requires.inside;
+        inside = c.requires.inside;
         line = refl;
       };
     }
 
-pub listing-spec : {M : Type 1} → statement M
-listing-spec =
+pub listing_spec : {M : Type 1} → statement M
+listing_spec =
     tie.close
     (tie.spec (λ c. search rules) (λ c κs. search rules) (λ c. search rules) (λ c. search rules) (λ c κs. search rules)
     (λ c. search rules) returns returns-2)

@@ -13,90 +13,90 @@ use Rattle.text.proofs.ListLoop.{ListSoFar, list-begins, no_number, list-ends, l
 use Rattle.text.proofs.WholeLines.{moved-placed}
 use Rattle.text.proofs.lists.numbers.Statement.{statement}
 
-abbrev invariant-loop : tie.invariant-loop
-invariant-loop text list₀ here₀ count₀ t9 list here count = (length list ≡ length list₀) ×
+abbrev invariant-loop-n : tie.invariant-loop-n
+invariant-loop-n text list₀ here₀ count₀ t9 list here count = (length list ≡ length list₀) ×
     ListSoFar text here₀ here count list
 
-abbrev decreases-loop : tie.decreases-loop
-decreases-loop text list₀ here₀ count₀ t9 list here count = length text - here.at
+abbrev decreases-loop-n : tie.decreases-loop-n
+decreases-loop-n text list₀ here₀ count₀ t9 list here count = length text - here.at
 
 -- ---- a turn of the loop: the number that is read, and the comma behind it
-abbrev turn : tie.After-n invariant-loop decreases-loop → tie.At-loop invariant-loop decreases-loop
-turn n = n.before.before.before
+abbrev turn : tie.In-Of invariant-loop-n decreases-loop-n → tie.At-loop-n invariant-loop-n decreases-loop-n
+turn n = n.before.before
 
-abbrev text : tie.After-n invariant-loop decreases-loop → List ℕ
-text n = (turn n).before.before.before.args.text.now
+abbrev text : tie.In-Of invariant-loop-n decreases-loop-n → List ℕ
+text n = (turn n).args.text.now
 
-read : (n : tie.After-n invariant-loop decreases-loop) →
-    NumberHere (text n) (turn n).loop.here n.n.given.0.0 n.n.given.0.1.0
-read n = subst (NumberAt _ _) n.n.given.1 n.before.before.number.ensures
+read : (n : tie.In-Of invariant-loop-n decreases-loop-n) →
+    NumberHere (text n) (turn n).loop-n.here n.n.given.0.0 n.n.given.0.1.0
+read n = subst (NumberAt _ _) n.in-Of.is n.number.ensures
 
-abbrev storing : tie.After-word-arg invariant-loop decreases-loop → tie.After-keep invariant-loop decreases-loop
+abbrev storing : tie.After-word-arg-1 invariant-loop-n decreases-loop-n → tie.After-keep invariant-loop-n decreases-loop-n
 storing c = c.before.before.before
 
-abbrev numbered : tie.After-keep invariant-loop decreases-loop → tie.After-n invariant-loop decreases-loop
-numbered k = k.before.before.before
+abbrev numbered : tie.After-keep invariant-loop-n decreases-loop-n → tie.In-Of invariant-loop-n decreases-loop-n
+numbered k = k.before.before
 
-abbrev stored : tie.After-next invariant-loop decreases-loop → tie.After-keep invariant-loop decreases-loop
+abbrev stored : tie.In-At invariant-loop-n decreases-loop-n → tie.After-keep invariant-loop-n decreases-loop-n
 stored w = storing w.before.before.before
 
-behind : (w : tie.After-next invariant-loop decreases-loop) →
+behind : (w : tie.In-At invariant-loop-n decreases-loop-n) →
     let n = numbered (stored w) in
     WordHere (text n) n.n.given.0.1.0 (comma ∷ []) w.next.given.0.0
-behind w = subst (WordAt _ _ _) w.next.given.1 w.before.before.word.ensures
+behind w = subst (WordAt _ _ _) w.in-At.is w.word.ensures
 
 -- ---- the answers
-loop-holds : tie.Need-loop-init invariant-loop decreases-loop
-loop-holds c = (refl, list-begins _ _ _ c.before.before.requires)
+loop-holds : tie.Need-loop-n-init invariant-loop-n decreases-loop-n
+loop-holds c = (refl, list-begins _ _ _ c.requires)
 
-number-requires : tie.Need-number-requires invariant-loop decreases-loop
+number-requires : tie.Need-number-requires invariant-loop-n decreases-loop-n
 number-requires c κs = tt
 
-same_length : tie.Need-same-length invariant-loop decreases-loop
-same_length c = c.before.before.before.loop.invariant.0
+same_length : tie.Need-shape_of-list-in_default invariant-loop-n decreases-loop-n
+same_length c = c.loop-n.invariant.0
 
-returns : tie.Need-returns invariant-loop decreases-loop
+returns : tie.Need-returns-in_default invariant-loop-n decreases-loop-n
 returns c =
-    no_number c.before.before.before.loop.invariant.1
-    (subst (NumberAt _ _) c.enum_told.given.1 c.before.before.number.ensures)
+    no_number c.loop-n.invariant.1
+    (subst (NumberAt _ _) c.in_default.is c.number.ensures)
 
-keep-requires : tie.Need-keep-requires invariant-loop decreases-loop
+keep-requires : tie.Need-keep-requires invariant-loop-n decreases-loop-n
 keep-requires c κs = tt
 
-word-requires : tie.Need-word-requires invariant-loop decreases-loop
+word-requires : tie.Need-word-requires invariant-loop-n decreases-loop-n
 word-requires c κs =
-    let n = numbered (storing c) in
-    moved-placed (turn n).loop.inv.1.placed (read n).moved
+    let n = numbered (storing c.before) in
+    moved-placed (turn n).loop-n.inv.1.placed (read n).moved
 
-same-length-2 : tie.Need-same-length-2 invariant-loop decreases-loop
+same-length-2 : tie.Need-shape_of-list-in_default-word invariant-loop-n decreases-loop-n
 same-length-2 c =
     let k = storing c.before.before.before in
-    k.keep.kept.0 ∙ (turn (numbered k)).loop.inv.0
+    k.keep.kept.0 ∙ (turn (numbered k)).loop-n.inv.0
 
-returns-2 : tie.Need-returns-2 invariant-loop decreases-loop
+returns-2 : tie.Need-returns-in_default-word invariant-loop-n decreases-loop-n
 returns-2 c =
-    let w = c.before.before in
-    let k = storing w.before in
-    let none = subst (WordAt _ _ _) c.enum-told2.given.1 w.word.ensures in
-    rw k.keep.ensures (list-ends (turn (numbered k)).loop.inv.1 (read (numbered k)) none)
+    let w = c in
+    let k = storing w.before.before.before in
+    let none = subst (WordAt _ _ _) c.in_default-word.is w.word.ensures in
+    rw k.keep.ensures (list-ends (turn (numbered k)).loop-n.inv.1 (read (numbered k)) none)
 
-loop-less : tie.Need-loop-smaller invariant-loop decreases-loop
+loop-less : tie.Need-loop-n-smaller invariant-loop-n decreases-loop-n
 loop-less c =
-    let w = c.before in
+    let w = c in
     let far = (behind w).far in
     let inside = (behind w).inside in
     let on = (read (numbered (stored w))).moved.on in
     omega arith
 
-loop-again : tie.Need-loop-preserved invariant-loop decreases-loop
+loop-again : tie.Need-loop-n-preserved invariant-loop-n decreases-loop-n
 loop-again c =
-    let k = stored c.before in
-    let (long, sofar) = (turn (numbered k)).loop.inv in
-    (k.keep.kept.0 ∙ long, rw k.keep.ensures (list-goes-on sofar (read (numbered k)) (behind c.before)))
+    let k = stored c in
+    let (long, sofar) = (turn (numbered k)).loop-n.inv in
+    (k.keep.kept.0 ∙ long, rw k.keep.ensures (list-goes-on sofar (read (numbered k)) (behind c)))
 
-pub numbers-spec : {M : Type 1} → statement M
-numbers-spec =
+pub numbers_spec : {M : Type 1} → statement M
+numbers_spec =
     tie.close
-    (tie.spec invariant-loop decreases-loop loop-holds number-requires (λ c. search rules) (λ c. search rules) same_length returns
+    (tie.spec invariant-loop-n decreases-loop-n loop-holds number-requires (λ c. search rules) (λ c. search rules) same_length returns
     keep-requires (λ c. omega arith) (λ c. search rules) word-requires (λ c. search rules) (λ c. search rules)
     same-length-2 returns-2 loop-less loop-again)

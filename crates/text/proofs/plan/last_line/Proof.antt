@@ -10,17 +10,17 @@ use Rattle.text.proofs.PlanLoop.{end-taken, end-wrong}
 use Rattle.text.proofs.plan.last_line.Statement.{statement}
 use Rattle.text.proofs.plan.last_line.Tie as tie
 
-returns : tie.Need-returns
+returns : tie.Need-returns-in_default
 returns c = λ t xs w. (
   not-one end_line _ (take_plan_line t xs)
-      (subst (OneLineAt _ _) c.enum_told.given.1 c.before.before.one_line.ensures) (end-wrong t xs),
+      (subst (OneLineAt _ _) c.in_default.is c.one_line.ensures) (end-wrong t xs),
   refl,
 )
 
-returns-2 : tie.Need-returns-2
+returns-2 : tie.Need-returns
 returns-2 c =
-    let line = c.before.before.before.one_line in
-    let read = subst (OneLineAt _ _) c.before.next.given.1 line.ensures in
+    let line = c.one_line in
+    let read = subst (OneLineAt _ _) c.in-At.is line.ensures in
     λ t xs w. (
       record {
         is = λ k next. turn-ends end_line _ (take_plan_line t xs) _ _ read.is k next xs (end-taken t xs _ refl);
@@ -29,5 +29,5 @@ returns-2 c =
       refl,
     )
 
-pub last-line-spec : {M : Type 1} → statement M
-last-line-spec = tie.close (tie.spec (λ c κs. search rules) (λ c. search rules) (λ c. search rules) returns returns-2)
+pub last_line_spec : {M : Type 1} → statement M
+last_line_spec = tie.close (tie.spec (λ c κs. search rules) (λ c. search rules) (λ c. search rules) returns returns-2)

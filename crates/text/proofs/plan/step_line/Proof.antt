@@ -20,61 +20,61 @@ use Rattle.text.proofs.plan.step_line.Statement.{statement}
 use Rattle.text.proofs.plan.step_line.Tie as tie
 
 -- ---- the line that was read
-abbrev start : tie.After-entry-line → tie.Start
+abbrev start : tie.After-entry_line → tie.Start
 start r = r.before.before.before.before.before
 
-abbrev read : tie.After-schema → tie.After-entry-line
-read l = l.before.before.before
+abbrev read : tie.In-Of → tie.After-entry_line
+read l = l.before.before
 
-abbrev table : tie.After-schema → List ℕ
+abbrev table : tie.In-Of → List ℕ
 table l = (start (read l)).args.table.now
 
-abbrev schema : tie.After-schema → ℕ
-schema l = l.schema.given.0.0
+abbrev schema : tie.In-Of → ℕ
+schema l = l.in-Of.schema
 
-abbrev count : tie.After-schema → ℕ
-count l = l.schema.given.0.1.0
+abbrev count : tie.In-Of → ℕ
+count l = l.in-Of.count
 
-abbrev objects : tie.After-schema → List ℕ
-objects l = (read l).entry-line.new.1.1.0
+abbrev objects : tie.In-Of → List ℕ
+objects l = (read l).entry_line.new.list
 
-found : (l : tie.After-schema) →
+found : (l : tie.In-Of) →
     let s = start (read l) in
-    EntryLine s.args.text.now s.args.from (schema l) (count l) (objects l) l.schema.given.0.1.1.0
-found l = subst (EntryLineAt _ _ _) l.schema.given.1 (read l).entry-line.ensures
+    EntryLine s.args.text.now s.args.from (schema l) (count l) (objects l) l.in-Of.next
+found l = subst (EntryLineAt _ _ _) l.in-Of.is (read l).entry_line.ensures
 
 -- ---- and the step that it has, where the tests pass
-abbrev line : tie.Else2 → tie.After-schema
-line s = s.before.before.before.before.before
+abbrev line : tie.Else-not-is_choice → tie.In-Of
+line s = s.before.before.before.before
 
-is_one : (s : tie.Else2) →
+is_one : (s : tie.Else-not-is_choice) →
     is_choice (task_of (table (line s))) (step_of (schema (line s)) (found (line s)).ns) ≡ true
 is_one s =
     let f = found (line s) in
-    sym (s.before.is-choice.ensures f.ns f.listed) ∙ s.if2.false
+    sym (s.is_choice.ensures f.ns f.listed) ∙ s.if-not-is_choice.false
 
-kept : (s : tie.Else2) → StepKept (schema (line s)) (count (line s)) (objects (line s))
+kept : (s : tie.Else-not-is_choice) → StepKept (schema (line s)) (count (line s)) (objects (line s))
 kept s =
     let l = line s in
     let f = found l in
-    step_kept (table l) (start (read l)).requires.0 _ _ _ f.ns (omega (arith, (read l).entry-line.kept.1.1.0))
+    step_kept (table l) (start (read l)).requires.0 _ _ _ f.ns (omega (arith, (read l).entry_line.auto.list))
     f.listed (is_one s)
 
 -- ---- the answers
-returns : tie.Need-returns
+returns : tie.Need-returns-in_default
 returns c =
-    let r = c.before.before.before in
+    let r = c in
     λ xs e. (
-      no-turn step_line _ (take_plan_line (task_of (start r).args.table.now) xs)
-          (subst (EntryLineAt _ _ _) c.enum_told.given.1 r.entry-line.ensures),
+      no-turn step_line _ (take_plan_line (task_of (start r.before.before).args.table.now) xs)
+          (subst (EntryLineAt _ _ _) c.in_default.is r.entry_line.ensures),
       refl,
     )
 
-returns-2 : tie.Need-returns-2
+returns-2 : tie.Need-returns-then-n-ge-MOST_STEPS
 returns-2 c =
-    let f = found c.before.before in
-    let t = task_of (table c.before.before) in
-    let many = c.if1.true in
+    let f = found c.before in
+    let t = task_of (table c.before) in
+    let many = c.if-n-ge-MOST_STEPS.true in
     λ xs e. (
       λ n next.
           turn-refused step_line _ (take_plan_line t xs) _ _ f.is n next 4
@@ -82,13 +82,13 @@ returns-2 c =
       refl,
     )
 
-returns-3 : tie.Need-returns-3
+returns-3 : tie.Need-returns-then-not-is_choice
 returns-3 c =
-    let l = c.before.before.before.before.before in
-    let f = found l in
-    let t = task_of (table l) in
-    let few = c.before.before.before.if1.false in
-    let wrong = sym (c.before.is-choice.ensures f.ns f.listed) ∙ c.if2.true in
+    let l = c in
+    let f = found l.before.before.before.before in
+    let t = task_of (table l.before.before.before.before) in
+    let few = c.if-n-ge-MOST_STEPS.false in
+    let wrong = sym (c.is_choice.ensures f.ns f.listed) ∙ c.if-not-is_choice.true in
     λ xs e. (
       λ n next.
           turn-refused step_line _ (take_plan_line t xs) _ _ f.is n next 5
@@ -96,32 +96,32 @@ returns-3 c =
       refl,
     )
 
-put-step-requires : tie.Need-put-step-requires
+put-step-requires : tie.Need-put_step-requires
 put-step-requires c κs =
-    let s = c.before.before in
-    let k = kept s in (
-      step_room (start (read (line s))).requires.1.1 s.before.before.before.if1.false,
+    let s = c in
+    let k = kept s.before.before in (
+      step_room (start (read (line s.before.before))).requires.1.1 s.if-n-ge-MOST_STEPS.false,
       ((k.schema, k.few, k.enough), k.small),
     )
 
-returns-4 : tie.Need-returns-4
+returns-4 : tie.Need-returns
 returns-4 c =
-    let s = c.before.before.before.before.before in
-    let f = found (line s) in
-    let t = task_of (table (line s)) in
-    let few = s.before.before.before.if1.false in
+    let s = c in
+    let f = found (line s.before.before.before.before.before) in
+    let t = task_of (table (line s.before.before.before.before.before)) in
+    let few = s.if-n-ge-MOST_STEPS.false in
     λ xs e. record {
       last = step_of _ f.ns;
-      is-choice = is_one s;
+      is-choice = is_one s.before.before.before.before.before;
       room = omega arith;
       is = λ n next. turn-goes-on step_line _ (take_plan_line t xs) _ _ f.is n next _
-          (step-taken t xs _ f.ns (omega arith) (is_one s));
-      put = rw (e, ← (listed-take f.listed (kept s).enough)) c.before.before.put_step.ensures;
+          (step-taken t xs _ f.ns (omega arith) (is_one s.before.before.before.before.before));
+      put = rw (e, ← (listed-take f.listed (kept s.before.before.before.before.before).enough)) c.put_step.ensures;
       line = f.line;
     }
 
-pub step-line-spec : {M : Type 1} → statement M
-step-line-spec =
+pub step_line_spec : {M : Type 1} → statement M
+step_line_spec =
     tie.close
     (tie.spec (λ c. search rules) (λ c κs. search rules) (λ c. search rules) (λ c. search rules) returns returns-2
     (λ c. search rules) (λ c κs. search rules) returns-3 (λ c. search rules) (λ c. search rules) put-step-requires

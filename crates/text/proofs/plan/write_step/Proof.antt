@@ -32,30 +32,30 @@ begin : (c : tie.Start) → Left c (step_key ++ entry c) c.args.text.now c.args.
 begin c =
     writing-left (step_text-is c.args.words.now c.args.base c.args.params) (writing_start c.requires.1)
 
-abbrev start : tie.After-write-bytes → tie.Start
-start c = c.before.before.before.before.before
+abbrev start : tie.After-write_bytes-at_schema → tie.Start
+start c = c.before.before.before.before.before.before
 
-behind-key : (c : tie.After-write-bytes) →
-    Left (start c) (entry (start c)) c.write_bytes.new.0 c.write_bytes.result
-behind-key c = writing-on (begin (start c)) c.write_bytes.ensures
+behind-key : (c : tie.After-write_bytes-at_schema) →
+    Left (start c) (entry (start c)) c.write_bytes-at_schema.new.text c.write_bytes-at_schema.result
+behind-key c = writing-on (begin (start c)) c.write_bytes-at_schema.ensures
 
-write-bytes-requires : tie.Need-write-bytes-requires
+write-bytes-requires : tie.Need-write_bytes-at_schema-requires
 write-bytes-requires c κs =
-    let start = c.before.before.before.before in
-    writing-fits step_key (entry start) (begin start)
+    let start = c in
+    writing-fits step_key (entry start.before.before.before.before.before) (begin start.before.before.before.before.before)
 
-write-entry-requires : tie.Need-write-entry-requires
+write-entry-requires : tie.Need-write_entry-requires
 write-entry-requires c κs =
-    let keyed = c.before.before.before.before in
-    ((start keyed).requires.0, last_fits (behind-key keyed))
+    let keyed = c in
+    ((start keyed.before.before.before.before).requires.0, last_fits (behind-key keyed.before.before.before.before))
 
 returns : tie.Need-returns
 returns c =
-    let entered = c.before.before in
-    writing-last (behind-key entered.before.before.before.before.before) entered.write-entry.ensures
+    let entered = c in
+    writing-last (behind-key entered.before.before.before.before.before.before.before) entered.write_entry.ensures
 
-pub write-step-spec : {M : Type 1} → statement M
-write-step-spec =
+pub write_step_spec : {M : Type 1} → statement M
+write_step_spec =
     tie.close
-    (tie.spec (λ c. search rules) write-bytes-requires (λ c. search rules) (λ c. search rules) (λ c. search rules)
+    (tie.spec write-bytes-requires (λ c. search rules) (λ c. search rules) (λ c. search rules)
     write-entry-requires (λ c. search rules) returns)

@@ -6,28 +6,28 @@ use Rattle.text.proofs.DigitSteps.{one-digit-long, digits_long}
 use Rattle.text.proofs.put.number_size.Statement.{statement}
 use Rattle.text.proofs.put.number_size.Tie as tie
 
-returns : tie.Need-returns
-returns c = let e = one-digit-long c.before.args.n (omega arith) in omega arith
+returns : tie.Need-returns-then-n-lt10
+returns c = let e = one-digit-long c.args.n (omega arith) in omega arith
 
-returns-2 : tie.Need-returns-2
+returns-2 : tie.Need-returns-then-n-lt100
 returns-2 c =
-    let e = digits_long 1 c.before.before.args.n (omega arith) (omega arith) (omega arith) in
+    let e = digits_long 1 c.args.n (omega arith) (omega arith) (omega arith) in
     omega arith
 
-returns-3 : tie.Need-returns-3
+returns-3 : tie.Need-returns-then-n-lt1000
 returns-3 c =
-    let e = digits_long 2 c.before.before.before.args.n (omega arith) (omega arith) (omega arith) in
+    let e = digits_long 2 c.args.n (omega arith) (omega arith) (omega arith) in
     omega arith
 
-returns-4 : tie.Need-returns-4
+returns-4 : tie.Need-returns-then-n-lt10000
 returns-4 c =
-    let e = digits_long 3 c.before.before.before.before.args.n (omega arith) (omega arith) (omega arith) in
+    let e = digits_long 3 c.args.n (omega arith) (omega arith) (omega arith) in
     omega arith
 
-returns-5 : tie.Need-returns-5
+returns-5 : tie.Need-returns
 returns-5 c =
-    let e = digits_long 4 c.before.before.before.before.args.n (omega arith) (omega arith) (omega arith) in
+    let e = digits_long 4 c.args.n (omega arith) (omega arith) (omega arith) in
     omega arith
 
-pub number-size-spec : {M : Type 1} → statement M
-number-size-spec = tie.close (tie.spec returns returns-2 returns-3 returns-4 returns-5)
+pub number_size_spec : {M : Type 1} → statement M
+number_size_spec = tie.close (tie.spec returns returns-2 returns-3 returns-4 returns-5)

@@ -6,9 +6,9 @@ use Rattle.text.proofs.put.put_number.Statement.{statement}
 use Rattle.text.proofs.put.put_number.Tie as tie
 
 returns : tie.Need-returns
-returns c = puts-ended (omega arith) c.before.before.put-digits.ensures
+returns c = puts-ended (omega arith) c.put_digits.ensures
 
-pub put-number-spec : {M : Type 1} → statement M
-put-number-spec =
+pub put_number_spec : {M : Type 1} → statement M
+put_number_spec =
     tie.close
     (tie.spec (λ c κs. search rules) (λ c. search rules) (λ c κs. search rules) (λ c. search rules) returns)

@@ -15,10 +15,10 @@ use Rattle.text.proofs.Dispatch.{schema-body, fact-body, end_body, stands-as, ro
 use Rattle.text.proofs.reader.body_turn.Statement.{statement}
 
 -- ---- the function's entry, from the tests on the key
-abbrev start : tie.Else1 → tie.Start
+abbrev start : tie.Else-key-lt-DIFFER → tie.Start
 start c = c.before.before.before
 
-abbrev later : tie.Else4 → tie.Start
+abbrev later : tie.Else-key-eq-PART → tie.Start
 later c = start c.before.before.before
 
 abbrev text : tie.Start → List ℕ
@@ -31,112 +31,112 @@ abbrev behind : tie.Start → List ℕ
 behind s = rest (text s) s.args.body
 
 -- ---- the answers
-head-turn-requires : tie.Need-head-turn-requires
+head-turn-requires : tie.Need-head_turn-requires
 head-turn-requires c κs =
-    let start = c.before.before.before.before in
-    (start.requires.0, (start.requires.1.0, (start.requires.1.1, c.before.if1.true)))
+    let start = c in
+    (start.requires.0, (start.requires.1.0, (start.requires.1.1, c.if-key-lt-DIFFER.true)))
 
-differ-line-requires : tie.Need-differ-line-requires
+differ-line-requires : tie.Need-differ_line-requires
 differ-line-requires c κs =
     let s = start c.before.before in
-    (s.pre.0, (s.pre.1.0, stands-as s.args.counts.phase c.before.if2.true s.pre.1.1))
+    (s.requires.0, (s.requires.1.0, stands-as s.args.counts.phase c.if-key-eq-DIFFER.true s.requires.1.1))
 
-returns-2 : tie.Need-returns-2
+returns-2 : tie.Need-returns-then-key-eq-DIFFER
 returns-2 c =
-    let line = c.before.before.differ-line in
-    let arm = c.before.before.before.before in
-    let s = start arm.before in (
+    let line = c.differ_line in
+    let arm = c in
+    let s = start arm.before.before.before.before.before in (
       line.ensures.0,
       λ d k e h.
-          turned-of (text s) s.args.body d k (table s) line.result line.new.1.0
-          (differ-body k (behind s) (e ∙ arm.if2.true)) (line.ensures.1 d h),
+          turned-of (text s) s.args.body d k (table s) line.result line.new.table
+          (differ-body k (behind s) (e ∙ arm.if-key-eq-DIFFER.true)) (line.ensures.1 d h),
     )
 
-atom-line-requires : tie.Need-atom-line-requires
+atom-line-requires : tie.Need-atom_line-requires
 atom-line-requires c κs =
     let s = start c.before.before.before in
-    let low = c.before.before.before.if1.false in
-    let other = c.before.before.if2.false in
-    let high = c.before.if3.true in
+    let low = c.if-key-lt-DIFFER.false in
+    let other = c.if-key-eq-DIFFER.false in
+    let high = c.if-key-lt-PART.true in
     let known : s.args.key - 4 ≤ 2 = omega arith in
     let z = role-number (s.args.key - 4) known in (
-      s.pre.0,
+      s.requires.0,
       (
-        s.pre.1.0,
-        record { known = known; allowed = stands-as s.args.counts.phase (omega arith) s.pre.1.1 },
+        s.requires.1.0,
+        record { known = known; allowed = stands-as s.args.counts.phase (omega arith) s.requires.1.1 },
       ),
     )
 
-returns-3 : tie.Need-returns-3
+returns-3 : tie.Need-returns-then-key-lt-PART
 returns-3 c =
-    let line = c.before.before.atom-line in
-    let arm = c.before.before.before.before in
-    let s = start arm.before.before in
-    let low = arm.before.before.if1.false in
-    let other = arm.before.if2.false in
-    let high = arm.if3.true in (
+    let line = c.atom_line in
+    let arm = c in
+    let s = start arm.before.before.before.before.before.before in
+    let low = arm.if-key-lt-DIFFER.false in
+    let other = arm.if-key-eq-DIFFER.false in
+    let high = arm.if-key-lt-PART.true in (
       line.ensures.0,
       λ d k e h.
           let z : key_number k - 4 ≡ s.args.key - 4 = ap (λ (n : ℕ). n - 4) e in
-          turned-of (text s) s.args.body d k (table s) line.result line.new.1.0
+          turned-of (text s) s.args.body d k (table s) line.result line.new.table
           (atom-body k (behind s) (omega arith) (omega arith) ∙
           ap (λ (n : ℕ). ended (atom_line n) (entry (behind s))) z)
           (line.ensures.1 d h),
     )
 
-part-line-requires : tie.Need-part-line-requires
+part-line-requires : tie.Need-part_line-requires
 part-line-requires c κs =
     let s = start c.before.before.before.before in
-    (s.pre.0, (s.pre.1.0, stands-as s.args.counts.phase c.before.if4.true s.pre.1.1))
+    (s.requires.0, (s.requires.1.0, stands-as s.args.counts.phase c.if-key-eq-PART.true s.requires.1.1))
 
-returns-4 : tie.Need-returns-4
+returns-4 : tie.Need-returns-then-key-eq-PART
 returns-4 c =
-    let line = c.before.before.part-line in
-    let arm = c.before.before.before.before in
-    let s = start arm.before.before.before in (
+    let line = c.part_line in
+    let arm = c in
+    let s = start arm.before.before.before.before.before.before.before in (
       line.ensures.0,
       λ d k e h.
-          turned-of (text s) s.args.body d k (table s) line.result line.new.1.0
-          (part_body k (behind s) (e ∙ arm.if4.true)) (line.ensures.1 d h),
+          turned-of (text s) s.args.body d k (table s) line.result line.new.table
+          (part_body k (behind s) (e ∙ arm.if-key-eq-PART.true)) (line.ensures.1 d h),
     )
 
-schema-line-requires : tie.Need-schema-line-requires
+schema-line-requires : tie.Need-schema_line-requires
 schema-line-requires c κs =
     let s = later c.before in
-    (s.pre.0, stands-as s.args.counts.phase c.if5.true s.pre.1.1)
+    (s.requires.0, stands-as s.args.counts.phase c.if-key-eq-SCHEMA.true s.requires.1.1)
 
-returns-5 : tie.Need-returns-5
+returns-5 : tie.Need-returns-then-key-eq-SCHEMA
 returns-5 c =
     let s = later c.before.before in (
       untouched _,
       λ d k e h.
-          turned-of (text s) s.args.body d k (table s) c.schema-line.result (table s)
-          (schema-body k (behind s) (e ∙ c.before.if5.true)) (c.schema-line.ensures d (table s) h),
+          turned-of (text s) s.args.body d k (table s) c.schema_line.result (table s)
+          (schema-body k (behind s) (e ∙ c.if-key-eq-SCHEMA.true)) (c.schema_line.ensures d (table s) h),
     )
 
-fact-line-requires : tie.Need-fact-line-requires
+fact-line-requires : tie.Need-fact_line-requires
 fact-line-requires c κs =
     let s = later c.before.before.before.before in
-    (s.pre.0, (s.pre.1.0, stands-as s.args.counts.phase (sym c.kind-of.ensures) s.pre.1.1))
+    (s.requires.0, (s.requires.1.0, stands-as s.args.counts.phase (sym c.kind_of.ensures) s.requires.1.1))
 
-returns-6 : tie.Need-returns-6
+returns-6 : tie.Need-returns-then-key-lt-END
 returns-6 c =
-    let line = c.before.before.fact-line in
-    let named = c.before.before.before in
-    let s = later named.before.before.before.before in (
+    let line = c.fact_line in
+    let named = c in
+    let s = later named.before.before.before.before.before.before.before in (
       line.ensures.0,
       λ d k e h.
-          turned-of (text s) s.args.body d k (table s) line.result line.new.1.0
-          (fact-body k (behind s) named.kind-of.result (e ∙ sym named.kind-of.ensures))
+          turned-of (text s) s.args.body d k (table s) line.result line.new.table
+          (fact-body k (behind s) named.kind_of.result (e ∙ sym named.kind_of.ensures))
           (line.ensures.1 d h),
     )
 
-returns-7 : tie.Need-returns-7
+returns-7 : tie.Need-returns
 returns-7 c =
     let s = later c.before.before.before in
     let phase = s.args.counts.phase in
-    let last = c.before.if6.false in
-    let stands : Stands phase s.args.key = may-stand phase s.args.key s.pre.1.1 in (
+    let last = c.if-key-lt-END.false in
+    let stands : Stands phase s.args.key = may-stand phase s.args.key s.requires.1.1 in (
       untouched _,
       λ d k e h.
           let held = h.phase in
@@ -145,8 +145,8 @@ returns-7 c =
           (end_body k (behind s) (last-number k (omega arith))) (c.end_line.ensures d (table s) (omega arith)),
     )
 
-pub body-turn-spec : {M : Type 1} → statement M
-body-turn-spec =
+pub body_turn_spec : {M : Type 1} → statement M
+body_turn_spec =
     tie.close
     (tie.spec head-turn-requires (λ c. search rules) (λ c. search rules) differ-line-requires (λ c. search rules)
     returns-2 (λ c. search rules) atom-line-requires (λ c. search rules) returns-3 part-line-requires

@@ -11,7 +11,7 @@ use Rattle.text.proofs.HeldAtoms.{untouched}
 use Rattle.text.proofs.Dispatch.{turned-of, task-body, objects-body, arity-body, stands-as}
 use Rattle.text.proofs.reader.head_turn.Statement.{statement}
 
-abbrev start : tie.Else1 → tie.Start
+abbrev start : tie.Else-key-eq-TASK → tie.Start
 start c = c.before.before.before
 
 abbrev text : tie.Start → List ℕ
@@ -24,53 +24,53 @@ abbrev behind : tie.Start → List ℕ
 behind s = rest (text s) s.args.body
 
 -- ---- the answers
-task-line-requires : tie.Need-task-line-requires
+task-line-requires : tie.Need-task_line-requires
 task-line-requires c κs =
-    let start = c.before.before.before in
-    (start.requires.0, stands-as start.args.counts.phase c.if1.true start.requires.1.1.0)
+    let start = c in
+    (start.requires.0, stands-as start.args.counts.phase c.if-key-eq-TASK.true start.requires.1.1.0)
 
-returns : tie.Need-returns
+returns : tie.Need-returns-then-key-eq-TASK
 returns c =
-    let s = c.before.before.before.before in (
+    let s = c in (
       untouched _,
       λ d k e h.
-          turned-of (text s) s.args.body d k (table s) c.task-line.result (table s)
-          (task-body k (behind s) (e ∙ c.before.if1.true)) (c.task-line.ensures d (table s) h),
+          turned-of (text s.before.before.before.before) s.args.body d k (table s.before.before.before.before) c.task_line.result (table s.before.before.before.before)
+          (task-body k (behind s.before.before.before.before) (e ∙ c.if-key-eq-TASK.true)) (c.task_line.ensures d (table s.before.before.before.before) h),
     )
 
-objects-line-requires : tie.Need-objects-line-requires
+objects-line-requires : tie.Need-objects_line-requires
 objects-line-requires c κs =
     let s = start c.before in
-    (s.pre.0, stands-as s.args.counts.phase c.if2.true s.pre.1.1.0)
+    (s.requires.0, stands-as s.args.counts.phase c.if-key-eq-OBJECTS.true s.requires.1.1.0)
 
-returns-2 : tie.Need-returns-2
+returns-2 : tie.Need-returns-then-key-eq-OBJECTS
 returns-2 c =
     let s = start c.before.before in (
       untouched _,
       λ d k e h.
-          turned-of (text s) s.args.body d k (table s) c.objects-line.result (table s)
-          (objects-body k (behind s) (e ∙ c.before.if2.true)) (c.objects-line.ensures d (table s) h),
+          turned-of (text s) s.args.body d k (table s) c.objects_line.result (table s)
+          (objects-body k (behind s) (e ∙ c.if-key-eq-OBJECTS.true)) (c.objects_line.ensures d (table s) h),
     )
 
-arity-line-requires : tie.Need-arity-line-requires
+arity-line-requires : tie.Need-arity_line-requires
 arity-line-requires c κs =
     let s = start c.before.before in
-    let few = s.pre.1.1.1 in
-    (s.pre.0, (s.pre.1.0, stands-as s.args.counts.phase (omega arith) s.pre.1.1.0))
+    let few = s.requires.1.1.1 in
+    (s.requires.0, (s.requires.1.0, stands-as s.args.counts.phase (omega arith) s.requires.1.1.0))
 
-returns-3 : tie.Need-returns-3
+returns-3 : tie.Need-returns
 returns-3 c =
-    let line = c.before.before.arity-line in
+    let line = c.arity_line in
     let s = start c.before.before.before.before.before in
-    let few = s.pre.1.1.1 in (
+    let few = s.requires.1.1.1 in (
       line.ensures.0,
       λ d k e h.
-          turned-of (text s) s.args.body d k (table s) line.result line.new.1.0
+          turned-of (text s) s.args.body d k (table s) line.result line.new.table
           (arity-body k (behind s) (omega arith)) (line.ensures.1 d h),
     )
 
-pub head-turn-spec : {M : Type 1} → statement M
-head-turn-spec =
+pub head_turn_spec : {M : Type 1} → statement M
+head_turn_spec =
     tie.close
     (tie.spec task-line-requires returns objects-line-requires returns-2 arity-line-requires (λ c. search rules)
     returns-3)

@@ -10,10 +10,10 @@ use Rattle.text.proofs.WroteWords.{wrote-all}
 use Rattle.text.proofs.reader.refused.Statement.{statement}
 
 clear-requires : tie.Need-clear-requires
-clear-requires c κs = let z = table_words-is in let l = c.before.before.requires in omega arith
+clear-requires c κs = let z = table_words-is in let l = c.requires in omega arith
 
 returns : tie.Need-returns
-returns c = (refl, wrote-all (sym table_words-is) c.before.before.clear.ensures)
+returns c = (refl, wrote-all (sym table_words-is) c.clear.ensures)
 
-pub refused-spec : {M : Type 1} → statement M
-refused-spec = tie.close (tie.spec clear-requires (λ c. search rules) returns)
+pub refused_spec : {M : Type 1} → statement M
+refused_spec = tie.close (tie.spec clear-requires (λ c. search rules) returns)

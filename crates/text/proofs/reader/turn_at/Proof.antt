@@ -14,57 +14,57 @@ use Rattle.text.proofs.KeyLines.{next-missing, next-refused, next-allowed}
 use Rattle.text.proofs.Dispatch.{turned-at}
 use Rattle.text.proofs.reader.turn_at.Statement.{statement}
 
-abbrev start : tie.After-key → tie.Start
-start k = k.before.before.before.before.before
+abbrev start : tie.In-Of → tie.Start
+start k = k.before.before.before.before
 
 -- the key that was found
-found : (k : tie.After-key) →
+found : (k : tie.In-Of) →
     KeyHere (start k).args.text.now (start k).args.from k.key.given.0.0 k.key.given.0.1.0
-found k = subst (KeyAt _ _) k.key.given.1 k.before.before.key-at.ensures
+found k = subst (KeyAt _ _) k.in-Of.is k.key_at.ensures
 
 -- ---- the answers
-returns : tie.Need-returns
+returns : tie.Need-returns-in_default
 returns c = (
   untouched _,
   λ d h. none-refused d _ (next-missing d _
-      (subst (KeyAt _ _) c.enum_told.given.1 c.before.before.key-at.ensures)),
+      (subst (KeyAt _ _) c.in_default.is c.key_at.ensures)),
 )
 
-returns-2 : tie.Need-returns-2
+returns-2 : tie.Need-returns-then-not-allowed
 returns-2 c =
-    let key = found c.before.before.before in (
+    let key = found c.before.before in (
       untouched _,
       λ d h. none-refused d _ (next-refused d _ key.key _ key.is
-          (ap₂ may_stand (sym h.phase) key.numbered ∙ (sym c.before.allowed.ensures ∙ c.if1.true))),
+          (ap₂ may_stand (sym h.phase) key.numbered ∙ (sym c.allowed.ensures ∙ c.if-not-allowed.true))),
     )
 
-body-turn-requires : tie.Need-body-turn-requires
+body-turn-requires : tie.Need-body_turn-requires
 body-turn-requires c κs =
-    let k = c.before.before.before.before in (
-      moved-placed (start k).requires.0 (found k).moved,
-      ((start k).requires.1, sym c.before.before.allowed.ensures ∙ c.before.if1.false),
+    let k = c in (
+      moved-placed (start k.before.before.before).requires.0 (found k.before.before.before).moved,
+      ((start k.before.before.before).requires.1, sym c.allowed.ensures ∙ c.if-not-allowed.false),
     )
 
-returns-3 : tie.Need-returns-3
+returns-3 : tie.Need-returns
 returns-3 c =
-    let done = c.before.before.body-turn in
-    let allows = c.before.before.before.before in
-    let k = allows.before.before.before in
-    let key = found k in
-    let args = (start k).args in
+    let done = c.body_turn in
+    let allows = c in
+    let k = allows in
+    let key = found k.before.before.before.before.before.before in
+    let args = (start k.before.before.before.before.before.before).args in
     let bs = args.text.now in
     let body = k.key.given.0.1.0 in
-    let may = sym allows.before.allowed.ensures ∙ allows.if1.false in (
+    let may = sym allows.allowed.ensures ∙ allows.if-not-allowed.false in (
       done.ensures.0,
       λ d h.
           turned-at bs args.from body d (next_line d (rest bs args.from)) (read_body key.key (rest bs body))
-          args.table.now done.result done.new.1.0 key.moved
+          args.table.now done.result done.new.table key.moved
           (next-allowed d _ key.key _ key.is (ap₂ may_stand (sym h.phase) key.numbered ∙ may))
           (done.ensures.1 d key.key key.numbered h),
     )
 
-pub turn-at-spec : {M : Type 1} → statement M
-turn-at-spec =
+pub turn_at_spec : {M : Type 1} → statement M
+turn_at_spec =
     tie.close
     (tie.spec (λ c κs. search rules) (λ c. search rules) (λ c. search rules) returns (λ c κs. search rules) returns-2
     body-turn-requires (λ c. search rules) returns-3)

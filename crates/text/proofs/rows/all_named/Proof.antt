@@ -15,30 +15,30 @@ use Rattle.text.proofs.rows.all_named.Tie as tie
 abbrev some_names : List ℕ → ℕ → ℕ → ℕ → Bool
 some_names table first n x = any (λ i. row_names table (first + atom_size * i) x) (up_to n)
 
-abbrev invariant-loop : tie.invariant-loop
-invariant-loop table first n params x₀ x =
+abbrev invariant-loop-x : tie.invariant-loop-x
+invariant-loop-x table first n params x₀ x =
     AllLeft (some_names table first n) params (all (some_names table first n) (up_to params)) x
 
-abbrev decreases-loop : tie.decreases-loop
-decreases-loop table first n params x₀ x = params - x
+abbrev decreases-loop-x : tie.decreases-loop-x
+decreases-loop-x table first n params x₀ x = params - x
 
-loop-holds : tie.Need-loop-init invariant-loop decreases-loop
+loop-holds : tie.Need-loop-x-init invariant-loop-x decreases-loop-x
 loop-holds c = all-up-to refl
 
-named-requires : tie.Need-named-requires invariant-loop decreases-loop
-named-requires c κs = c.before.before.before.requires
+named-requires : tie.Need-named-requires invariant-loop-x decreases-loop-x
+named-requires c κs = c.requires
 
-returns : tie.Need-returns invariant-loop decreases-loop
+returns : tie.Need-returns-then-not-named invariant-loop-x decreases-loop-x
 returns c = search all-no
 
-loop-again : tie.Need-loop-preserved invariant-loop decreases-loop
+loop-again : tie.Need-loop-x-preserved invariant-loop-x decreases-loop-x
 loop-again c = search all_yes
 
-returns-2 : tie.Need-returns-2 invariant-loop decreases-loop
+returns-2 : tie.Need-returns invariant-loop-x decreases-loop-x
 returns-2 c = search all-ends
 
-pub all-named-spec : {M : Type 1} → statement M
-all-named-spec =
+pub all_named_spec : {M : Type 1} → statement M
+all_named_spec =
     tie.close
-    (tie.spec invariant-loop decreases-loop loop-holds named-requires returns (λ c. omega arith) (λ c. omega arith) loop-again
+    (tie.spec invariant-loop-x decreases-loop-x loop-holds named-requires returns (λ c. omega arith) (λ c. omega arith) loop-again
     returns-2)

@@ -8,31 +8,31 @@ use Rattle.text.proofs.RowTests.{no-part-put, part-put, parts_all}
 use Rattle.text.proofs.rows.put_parts.Statement.{statement}
 use Rattle.text.proofs.rows.put_parts.Tie as tie
 
-abbrev invariant-loop : tie.invariant-loop
-invariant-loop table₀ first parts n k₀ table k = (k ≤ n) × PartsPut table₀ first k parts table
+abbrev invariant-loop-k : tie.invariant-loop-k
+invariant-loop-k table₀ first parts n k₀ table k = (k ≤ n) × PartsPut table₀ first k parts table
 
-abbrev decreases-loop : tie.decreases-loop
-decreases-loop table₀ first parts n k₀ table k = n - k
+abbrev decreases-loop-k : tie.decreases-loop-k
+decreases-loop-k table₀ first parts n k₀ table k = n - k
 
-loop-holds : tie.Need-loop-init invariant-loop decreases-loop
+loop-holds : tie.Need-loop-k-init invariant-loop-k decreases-loop-k
 loop-holds c = (omega arith, no-part-put _ _ _)
 
-cast-table : tie.Need-overflow-cast-table invariant-loop decreases-loop
-cast-table c = let l = c.before.before.before.requires.1 c.before.before.loop.k c.before.loop-test.true in
+cast-table : tie.Need-overflow_cast-table invariant-loop-k decreases-loop-k
+cast-table c = let l = c.requires.1 c.loop-k.k c.loop-k-test.true in
     omega arith
 
-loop-again : tie.Need-loop-preserved invariant-loop decreases-loop
-loop-again c = (omega arith, part-put c.before.before.loop.invariant.1 (omega arith))
+loop-again : tie.Need-loop-k-preserved invariant-loop-k decreases-loop-k
+loop-again c = (omega arith, part-put c.loop-k.invariant.1 (omega arith))
 
-same_length : tie.Need-same-length invariant-loop decreases-loop
-same_length c = c.before.loop.invariant.1.size
+same_length : tie.Need-shape_of-table invariant-loop-k decreases-loop-k
+same_length c = c.loop-k.invariant.1.size
 
-returns : tie.Need-returns invariant-loop decreases-loop
-returns c = parts_all (omega arith) c.before.loop.invariant.1
+returns : tie.Need-returns invariant-loop-k decreases-loop-k
+returns c = parts_all (omega arith) c.loop-k.invariant.1
 
-pub put-parts-spec : {M : Type 1} → statement M
-put-parts-spec =
+pub put_parts_spec : {M : Type 1} → statement M
+put_parts_spec =
     tie.close
-    (tie.spec invariant-loop decreases-loop loop-holds (λ c. omega arith) (λ c. omega arith) cast-table (λ c. omega arith)
+    (tie.spec invariant-loop-k decreases-loop-k loop-holds (λ c. omega arith) (λ c. omega arith) cast-table (λ c. omega arith)
     (λ c. omega arith) (λ c. omega arith) (λ c. omega arith) (λ c. omega arith) (λ c. omega arith) (λ c. omega arith)
     loop-again same_length returns)

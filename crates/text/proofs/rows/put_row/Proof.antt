@@ -14,43 +14,43 @@ use Rattle.text.proofs.RowTests.{small-taken, eight-words, row_words}
 use Rattle.text.proofs.rows.put_row.Statement.{statement}
 use Rattle.text.proofs.rows.put_row.Tie as tie
 
-abbrev start : tie.After-number-or-zero → tie.Start
+abbrev start : tie.After-number_or_zero-a → tie.Start
 start n = n.before.before.before
 
-abbrev first : tie.After-row → tie.After-number-or-zero
+abbrev first : tie.After-row-1 → tie.After-number_or_zero-a
 first r = r.before.before.before.before.before
 
 -- ---- the answers
-put-words-requires : tie.Need-put-words-requires
+put-words-requires : tie.Need-put_words-requires
 put-words-requires c κs =
     let s = start (first c) in
-    let (schema, role, predicate, enough, few) = s.pre.1.0 in
-    let small = small-taken s.args.args.now s.args.count enough s.pre.1.1 in (
-      s.pre.0,
+    let (schema, role, predicate, enough, few) = s.requires.1.0 in
+    let small = small-taken s.args.args.now s.args.count enough s.requires.1.1 in (
+      s.requires.0,
       eight-words schema role predicate (omega arith)
-          (rw (first c).number-or-zero.ensures (small 0))
-          (rw c.before.before.before.before.number-or-zero2.ensures (small 1))
-          (rw c.before.before.before.number-or-zero3.ensures (small 2))
-          (rw c.before.before.number-or-zero4.ensures (small 3)),
+          (rw (first c).number_or_zero-a.ensures (small 0))
+          (rw c.number_or_zero-b.ensures (small 1))
+          (rw c.number_or_zero-c.ensures (small 2))
+          (rw c.number_or_zero-d.ensures (small 3)),
     )
 
 returns : tie.Need-returns
 returns c =
-    let put = c.before.before in
-    let row = put.before in
-    let s = start (first row) in
+    let put = c in
+    let row = put in
+    let s = start (first row.before.before.before) in
     let args = s.args in
     let ns = take args.count args.args.now in
-    let (schema, role, predicate, enough, few) = s.pre.1.0 in
+    let (schema, role, predicate, enough, few) = s.requires.1.0 in
     let l = length-take-le args.count args.args.now enough in
-    subst (λ (xs : List ℕ). Wrote args.table.now args.at atom_size (λ k. get_or xs k 0) put.put-words.new.0)
+    subst (λ (xs : List ℕ). Wrote args.table.now args.at atom_size (λ k. get_or xs k 0) put.put_words.new.table)
     (row_words args.schema args.role args.predicate ns (omega arith) _ _ _ _
-    (first row).number-or-zero.ensures row.before.before.before.before.number-or-zero2.ensures
-    row.before.before.before.number-or-zero3.ensures row.before.before.number-or-zero4.ensures)
-    put.put-words.ensures
+    (first row.before.before.before).number_or_zero-a.ensures row.number_or_zero-b.ensures
+    row.number_or_zero-c.ensures row.number_or_zero-d.ensures)
+    put.put_words.ensures
 
-pub put-row-spec : {M : Type 1} → statement M
-put-row-spec =
+pub put_row_spec : {M : Type 1} → statement M
+put_row_spec =
     tie.close
     (tie.spec (λ c κs. search rules) (λ c κs. search rules) (λ c κs. search rules) (λ c κs. search rules)
     (λ c. search rules) put-words-requires (λ c. search rules) returns)

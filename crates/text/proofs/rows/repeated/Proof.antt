@@ -15,26 +15,26 @@ use Rattle.text.proofs.rows.repeated.Tie as tie
 abbrev same : List ℕ → ℕ → ℕ → ℕ → Bool
 same table row first i = row_same table row (first + atom_size * i)
 
-abbrev invariant-loop : tie.invariant-loop
-invariant-loop table row first n i₀ i = AnyLeft (same table row first) n (any (same table row first) (up_to n)) i
+abbrev invariant-loop-i : tie.invariant-loop-i
+invariant-loop-i table row first n i₀ i = AnyLeft (same table row first) n (any (same table row first) (up_to n)) i
 
-abbrev decreases-loop : tie.decreases-loop
-decreases-loop table row first n i₀ i = n - i
+abbrev decreases-loop-i : tie.decreases-loop-i
+decreases-loop-i table row first n i₀ i = n - i
 
-loop-holds : tie.Need-loop-init invariant-loop decreases-loop
+loop-holds : tie.Need-loop-i-init invariant-loop-i decreases-loop-i
 loop-holds c = any-up-to refl
 
-returns : tie.Need-returns invariant-loop decreases-loop
+returns : tie.Need-returns-then-same_atom invariant-loop-i decreases-loop-i
 returns c = search any-yes
 
-loop-again : tie.Need-loop-preserved invariant-loop decreases-loop
+loop-again : tie.Need-loop-i-preserved invariant-loop-i decreases-loop-i
 loop-again c = search any-no
 
-returns-2 : tie.Need-returns-2 invariant-loop decreases-loop
+returns-2 : tie.Need-returns invariant-loop-i decreases-loop-i
 returns-2 c = search any-ends
 
-pub repeated-spec : {M : Type 1} → statement M
-repeated-spec =
+pub repeated_spec : {M : Type 1} → statement M
+repeated_spec =
     tie.close
-    (tie.spec invariant-loop decreases-loop loop-holds (λ c. omega arith) (λ c. omega arith) (λ c κs. omega arith) returns
+    (tie.spec invariant-loop-i decreases-loop-i loop-holds (λ c. omega arith) (λ c. omega arith) (λ c κs. omega arith) returns
     (λ c. omega arith) (λ c. omega arith) loop-again returns-2)

@@ -9,17 +9,17 @@ use Rattle.text.specs.ReadCode.{row_same}
 use Rattle.text.proofs.rows.same_atom.Statement.{statement}
 use Rattle.text.proofs.rows.same_atom.Tie as tie
 
-returns : tie.Need-returns
+returns : tie.Need-returns-then-not-same_words
 unfolding row_same
-returns c = sym (rw (sym c.before.same-words.ensures ∙ c.if1.true) refl)
+returns c = sym (rw (sym c.same_words.ensures ∙ c.if-not-same_words.true) refl)
 
-returns-2 : tie.Need-returns-2
+returns-2 : tie.Need-returns
 unfolding row_same
-returns-2 c = c.same-words2.ensures ∙
-    sym (rw (sym c.before.before.same-words.ensures ∙ c.before.if1.false) refl)
+returns-2 c = c.same_words-2.ensures ∙
+    sym (rw (sym c.same_words.ensures ∙ c.if-not-same_words.false) refl)
 
-pub same-atom-spec : {M : Type 1} → statement M
-same-atom-spec =
+pub same_atom_spec : {M : Type 1} → statement M
+same_atom_spec =
     tie.close
     (tie.spec (λ c. search rules) (λ c. search rules) (λ c κs. search rules) returns (λ c. search rules)
     (λ c. search rules) (λ c κs. search rules) returns-2)

@@ -10,16 +10,16 @@ use borrow.Author.Rules.{rules}
 use Rattle.text.proofs.sizes.further_size.Statement.{statement}
 use Rattle.text.proofs.sizes.further_size.Tie as tie
 
-write-ended-requires : tie.Need-write-ended-requires
+write-ended-requires : tie.Need-write_ended-requires
 write-ended-requires c κs =
-    let n = c.before.args.n in
+    let n = c.args.n in
     let five = at-most-five n in
     omega (arith, length-append (digits n) (comma ∷ []))
 
 returns : tie.Need-returns
 returns c =
-    let size = writes-size c.before.write-ended.ensures in
-    omega (arith, length-append (digits c.before.before.before.args.n) (comma ∷ []))
+    let size = writes-size c.write_ended.ensures in
+    omega (arith, length-append (digits c.args.n) (comma ∷ []))
 
-pub further-size-spec : {M : Type 1} → statement M
-further-size-spec = tie.close (tie.spec (λ c. search rules) write-ended-requires returns)
+pub further_size_spec : {M : Type 1} → statement M
+further_size_spec = tie.close (tie.spec (λ c. search rules) write-ended-requires returns)

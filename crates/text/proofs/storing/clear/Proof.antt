@@ -9,26 +9,26 @@ use Rattle.text.proofs.WroteWords.{wrote_none, wrote-more, wrote-all}
 use Rattle.text.proofs.storing.clear.Statement.{statement}
 use Rattle.text.proofs.storing.clear.Tie as tie
 
-abbrev invariant-loop : tie.invariant-loop
-invariant-loop table₀ at n k₀ table k = (k ≤ n) × Wrote table₀ at k (λ j. 0) table
+abbrev invariant-loop-k : tie.invariant-loop-k
+invariant-loop-k table₀ at n k₀ table k = (k ≤ n) × Wrote table₀ at k (λ j. 0) table
 
-abbrev decreases-loop : tie.decreases-loop
-decreases-loop table₀ at n k₀ table k = n - k
+abbrev decreases-loop-k : tie.decreases-loop-k
+decreases-loop-k table₀ at n k₀ table k = n - k
 
-loop-holds : tie.Need-loop-init invariant-loop decreases-loop
+loop-holds : tie.Need-loop-k-init invariant-loop-k decreases-loop-k
 loop-holds c = (omega arith, wrote_none _ _ _)
 
-loop-again : tie.Need-loop-preserved invariant-loop decreases-loop
-loop-again c = (omega arith, wrote-more c.before.loop.invariant.1 0 (omega arith) refl)
+loop-again : tie.Need-loop-k-preserved invariant-loop-k decreases-loop-k
+loop-again c = (omega arith, wrote-more c.loop-k.invariant.1 0 (omega arith) refl)
 
-same_length : tie.Need-same-length invariant-loop decreases-loop
-same_length c = c.before.loop.invariant.1.size
+same_length : tie.Need-shape_of-table invariant-loop-k decreases-loop-k
+same_length c = c.loop-k.invariant.1.size
 
-returns : tie.Need-returns invariant-loop decreases-loop
-returns c = wrote-all (omega arith) c.before.loop.invariant.1
+returns : tie.Need-returns invariant-loop-k decreases-loop-k
+returns c = wrote-all (omega arith) c.loop-k.invariant.1
 
 pub clear_spec : {M : Type 1} → statement M
 clear_spec =
     tie.close
-    (tie.spec invariant-loop decreases-loop loop-holds (λ c. omega arith) (λ c. omega arith) (λ c. omega arith) (λ c. omega arith)
+    (tie.spec invariant-loop-k decreases-loop-k loop-holds (λ c. omega arith) (λ c. omega arith) (λ c. omega arith) (λ c. omega arith)
     (λ c. omega arith) loop-again same_length returns)

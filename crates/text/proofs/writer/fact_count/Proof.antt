@@ -7,19 +7,19 @@ use Rattle.text.proofs.writer.fact_count.Statement.{statement}
 use Rattle.text.proofs.writer.fact_count.Tie as tie
 
 word-requires : tie.Need-word-requires
-word-requires c κs = let l = counts-inside c.before.args.table.now c.before.requires in omega arith
+word-requires c κs = let l = counts-inside c.args.table.now c.requires in omega arith
 
 word-requires-2 : tie.Need-word-requires-2
 word-requires-2 c κs =
-    let l = counts-inside c.before.before.args.table.now c.before.before.requires in
+    let l = counts-inside c.args.table.now c.requires in
     omega arith
 
 returns : tie.Need-returns
 unfolding fact_count
 returns c =
-    let e = c.before.word.ensures.0 in
-    let f = c.word2.ensures.0 in
+    let e = c.word.ensures.0 in
+    let f = c.word-2.ensures.0 in
     omega arith
 
-pub fact-count-spec : {M : Type 1} → statement M
-fact-count-spec = tie.close (tie.spec word-requires word-requires-2 (λ c. search rules) returns)
+pub fact_count_spec : {M : Type 1} → statement M
+fact_count_spec = tie.close (tie.spec word-requires word-requires-2 (λ c. search rules) returns)

@@ -17,17 +17,17 @@ use borrow.Author.Rules.{rules}
 use Rattle.text.proofs.writer.has_room.Statement.{statement}
 use Rattle.text.proofs.writer.has_room.Tie as tie
 
-returns : tie.Need-returns
+returns : tie.Need-returns-then-bytes-ge-LONGEST_TEXT
 unfolding longest_text
 returns c =
-    let start = c.before.before in
+    let start = c in
     let m = text-most (task_of start.args.table.now) (of-table start.args.table.now start.requires).0 in
     sym (le-leb (length (write (task_of start.args.table.now))) start.args.bytes (omega arith))
 
-returns-2 : tie.Need-returns-2
+returns-2 : tie.Need-returns
 returns-2 c =
-    ap (λ (n : ℕ). leb n c.before.before.before.before.before.args.bytes)
-    (writes-size c.before.write-text.ensures)
+    ap (λ (n : ℕ). leb n c.args.bytes)
+    (writes-size c.write_text.ensures)
 
-pub has-room-spec : {M : Type 1} → statement M
-has-room-spec = tie.close (tie.spec returns (λ c. search rules) (λ c κs. search rules) returns-2)
+pub has_room_spec : {M : Type 1} → statement M
+has_room_spec = tie.close (tie.spec returns (λ c. search rules) (λ c κs. search rules) returns-2)

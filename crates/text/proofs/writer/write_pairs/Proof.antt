@@ -13,67 +13,67 @@ use Rattle.text.proofs.SchemaLines.{pair_line, pairs-onwards, pair_inside}
 use Rattle.text.proofs.writer.write_pairs.Statement.{statement}
 use Rattle.text.proofs.writer.write_pairs.Tie as tie
 
-abbrev invariant-loop : tie.invariant-loop
-invariant-loop text₀ at table base m next₀ k₀ t8 text next k =
+abbrev invariant-loop-k : tie.invariant-loop-k
+invariant-loop-k text₀ at table base m next₀ k₀ text next k =
     (k ≤ m) × Writing text₀ next₀ (pairs_text table base m) (onwards (pair_line table base) k m) text next
 
-abbrev decreases-loop : tie.decreases-loop
-decreases-loop text₀ at table base m next₀ k₀ t8 text next k = m - k
+abbrev decreases-loop-k : tie.decreases-loop-k
+decreases-loop-k text₀ at table base m next₀ k₀ text next k = m - k
 
-loop-holds : tie.Need-loop-init invariant-loop decreases-loop
+loop-holds : tie.Need-loop-k-init invariant-loop-k decreases-loop-k
 loop-holds c =
-    let start = c.before.before in (
+    let start = c in (
       omega arith,
       writing-left (sym (pairs-onwards start.args.table.now start.args.base start.args.m))
           (writing_start start.requires.1),
     )
 
 -- the function's entry, from the loop's head
-abbrev start : tie.At-loop invariant-loop decreases-loop → tie.Start invariant-loop decreases-loop
+abbrev start : tie.At-loop-k invariant-loop-k decreases-loop-k → tie.Start invariant-loop-k decreases-loop-k
 start c = c.before.before.before
 
-mul-write-list-line : tie.Need-overflow-mul-write-list-line invariant-loop decreases-loop
-mul-write-list-line c = omega (arith, (start c.before.before.before).pre.0)
+mul-write-list-line : tie.Need-overflow_mul-k invariant-loop-k decreases-loop-k
+mul-write-list-line c = omega (arith, (start c.before.before.before.before).requires.0)
 
-add-write-list-line : tie.Need-overflow-add-write-list-line invariant-loop decreases-loop
-add-write-list-line c = omega (arith, (start c.before.before.before).pre.0)
+add-write-list-line : tie.Need-overflow_add-base invariant-loop-k decreases-loop-k
+add-write-list-line c = omega (arith, (start c.before.before.before.before).requires.0)
 
-add-write-list-line-2 : tie.Need-overflow-add-write-list-line-2 invariant-loop decreases-loop
-add-write-list-line-2 c = omega (arith, (start c.before.before.before).pre.0)
+add-write-list-line-2 : tie.Need-overflow_add-base-in-loop-k invariant-loop-k decreases-loop-k
+add-write-list-line-2 c = omega (arith, (start c.before.before.before.before).requires.0)
 
-write-list-line-requires : tie.Need-write-list-line-requires invariant-loop decreases-loop
+write-list-line-requires : tie.Need-write_list_line-next-requires invariant-loop-k decreases-loop-k
 unfolding line bytes
 write-list-line-requires c κs =
-    let at-loop = c.before.before.before in
-    let args = (start at-loop).args in (
-      pair_inside args.table.now args.base (start at-loop).requires.0 at-loop.loop.k
-          c.before.before.loop-test.true,
-      piece-fits (pair_line args.table.now args.base) at-loop.loop.k args.m at-loop.loop.invariant.1
-          c.before.before.loop-test.true,
+    let at-loop = c in
+    let args = (start at-loop.before.before.before.before).args in (
+      pair_inside args.table.now args.base (start at-loop.before.before.before.before).requires.0 at-loop.loop-k.k
+          c.loop-k-test.true,
+      piece-fits (pair_line args.table.now args.base) at-loop.loop-k.k args.m at-loop.loop-k.invariant.1
+          c.loop-k-test.true,
     )
 
-loop-again : tie.Need-loop-preserved invariant-loop decreases-loop
+loop-again : tie.Need-loop-k-preserved invariant-loop-k decreases-loop-k
 unfolding line bytes
 loop-again c =
-    let turn = c.before.before.before.before.before in
-    let args = (start turn.before).args in (
+    let turn = c in
+    let args = (start turn.before.before.before.before.before.before.before).args in (
       omega arith,
-      piece-written (pair_line args.table.now args.base) turn.before.loop.k args.m
-          turn.before.loop.invariant.1 turn.loop-test.true c.before.before.write-list-line.ensures,
+      piece-written (pair_line args.table.now args.base) turn.loop-k.k args.m
+          turn.loop-k.invariant.1 turn.loop-k-test.true c.write_list_line-next.ensures,
     )
 
-same_length : tie.Need-same-length invariant-loop decreases-loop
-same_length c = writing-long c.before.loop.invariant.1
+same_length : tie.Need-shape_of-text invariant-loop-k decreases-loop-k
+same_length c = writing-long c.loop-k.invariant.1
 
-returns : tie.Need-returns invariant-loop decreases-loop
+returns : tie.Need-returns invariant-loop-k decreases-loop-k
 returns c =
     let args = (start c.before).args in
-    pieces_end (pair_line args.table.now args.base) c.before.loop.k args.m c.before.loop.invariant.1
+    pieces_end (pair_line args.table.now args.base) c.loop-k.k args.m c.loop-k.invariant.1
     (omega arith)
 
-pub write-pairs-spec : {M : Type 1} → statement M
-write-pairs-spec =
+pub write_pairs_spec : {M : Type 1} → statement M
+write_pairs_spec =
     tie.close
-    (tie.spec invariant-loop decreases-loop loop-holds (λ c. search rules) mul-write-list-line add-write-list-line
-    add-write-list-line-2 (λ c. omega arith) write-list-line-requires (λ c. omega arith) (λ c. omega arith) loop-again
-    same_length returns)
+    (tie.spec invariant-loop-k decreases-loop-k loop-holds mul-write-list-line add-write-list-line
+    add-write-list-line-2 (λ c. omega arith) write-list-line-requires (λ c. omega arith) (λ c. omega arith)
+    loop-again same_length returns)

@@ -37,66 +37,66 @@ begin c =
     (schema_text-is c.args.table.now c.args.params rows.pair rows.pairs rows.atom rows.atoms)
     (writing_start c.requires.1)
 
-abbrev start : tie.After-slice-known2 → tie.Start
-start c = c.before.before.before.before.before.before.before
+abbrev start : tie.After-slice_known-2-1 → tie.Start
+start c = c.before.before.before.before.before.before.before.before
 
-behind-schema : (c : tie.After-slice-known2) →
+behind-schema : (c : tie.After-slice_known-2-1) →
     Left (start c) (pairs (start c) ++ (atoms (start c) ++ part_line (start c)))
-    c.before.before.write-number-line.new.0 c.before.before.write-number-line.result
+    c.write_number_line-at_pairs.new.text c.write_number_line-at_pairs.result
 unfolding line bytes
 behind-schema c =
-    writing-on {ys = schema_line (start c)} (begin (start c)) c.before.before.write-number-line.ensures
+    writing-on {ys = schema_line (start c)} (begin (start c)) c.write_number_line-at_pairs.ensures
 
-abbrev opened : tie.After-slice-known3 → tie.After-slice-known2
+abbrev opened : tie.After-slice_known-3-1 → tie.After-slice_known-2-1
 opened c = c.before.before.before.before
 
-behind-pairs : (c : tie.After-slice-known3) →
+behind-pairs : (c : tie.After-slice_known-3-1) →
     Left (start (opened c)) (atoms (start (opened c)) ++ part_line (start (opened c)))
-    c.before.before.write-pairs.new.0 c.before.before.write-pairs.result
-behind-pairs c = writing-on (behind-schema (opened c)) c.before.before.write-pairs.ensures
+    c.write_pairs-at_atoms.new.text c.write_pairs-at_atoms.result
+behind-pairs c = writing-on (behind-schema (opened c)) c.write_pairs-at_atoms.ensures
 
-abbrev paired : tie.After-slice-known4 → tie.After-slice-known3
+abbrev paired : tie.After-slice_known-4-1 → tie.After-slice_known-3-1
 paired c = c.before.before.before.before
 
-behind-atoms : (c : tie.After-slice-known4) →
+behind-atoms : (c : tie.After-slice_known-4-1) →
     Left (start (opened (paired c))) (part_line (start (opened (paired c))))
-    c.before.before.write-atoms.new.0 c.before.before.write-atoms.result
-behind-atoms c = writing-on (behind-pairs (paired c)) c.before.before.write-atoms.ensures
+    c.write_atoms-at_parts.new.text c.write_atoms-at_parts.result
+behind-atoms c = writing-on (behind-pairs (paired c)) c.write_atoms-at_parts.ensures
 
-write-number-line-requires : tie.Need-write-number-line-requires
+write-number-line-requires : tie.Need-write_number_line-at_pairs-requires
 unfolding line bytes
 write-number-line-requires c κs =
-    let start = c.before.before.before.before in
-    writing-fits (schema_line start) (pairs start ++ (atoms start ++ part_line start)) (begin start)
+    let start = c in
+    writing-fits (schema_line start.before.before.before.before.before) (pairs start.before.before.before.before.before ++ (atoms start.before.before.before.before.before ++ part_line start.before.before.before.before.before)) (begin start.before.before.before.before.before)
 
-write-pairs-requires : tie.Need-write-pairs-requires
+write-pairs-requires : tie.Need-write_pairs-at_atoms-requires
 write-pairs-requires c κs =
     let start = start c.before in
-    (start.pre.0.pairs, writing-fits (pairs start) (atoms start ++ part_line start) (behind-schema c.before))
+    (start.requires.0.pairs, writing-fits (pairs start) (atoms start ++ part_line start) (behind-schema c.before))
 
-write-atoms-requires : tie.Need-write-atoms-requires
+write-atoms-requires : tie.Need-write_atoms-at_parts-requires
 write-atoms-requires c κs =
     let start = start (opened c.before) in
-    (start.pre.0.atoms, writing-fits (atoms start) (part_line start) (behind-pairs c.before))
+    (start.requires.0.atoms, writing-fits (atoms start) (part_line start) (behind-pairs c.before))
 
-write-list-line-requires : tie.Need-write-list-line-requires
+write-list-line-requires : tie.Need-write_list_line-requires
 unfolding line bytes
 write-list-line-requires c κs =
-    let put = c.before.before.before in
-    let start = start (opened (paired put)) in
+    let put = c in
+    let start = start (opened (paired put.before.before.before.before)) in
     let rows = start.args.rows in (
-      parts-inside start.args.table.now rows.atom rows.atoms start.pre.0.atoms,
-      last_fits (behind-atoms put),
+      parts-inside start.args.table.now rows.atom rows.atoms start.requires.0.atoms,
+      last_fits (behind-atoms put.before.before.before.before),
     )
 
 returns : tie.Need-returns
 unfolding line bytes
 returns c =
-    writing-last (behind-atoms c.before.before.before.before.before.before)
-    c.before.before.write-list-line.ensures
+    writing-last (behind-atoms c.before.before.before.before.before.before.before)
+    c.write_list_line.ensures
 
-pub write-schema-spec : {M : Type 1} → statement M
-write-schema-spec =
+pub write_schema_spec : {M : Type 1} → statement M
+write_schema_spec =
     tie.close
-    (tie.spec (λ c. search rules) write-number-line-requires write-pairs-requires write-atoms-requires
-    (λ c. search rules) (λ c. search rules) write-list-line-requires (λ c. search rules) returns)
+    (tie.spec write-number-line-requires write-pairs-requires write-atoms-requires (λ c. search rules)
+    write-list-line-requires (λ c. search rules) returns)

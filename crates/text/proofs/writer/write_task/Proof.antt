@@ -18,36 +18,36 @@ use Rattle.text.proofs.writer.write_task.Statement.{statement}
 use Rattle.text.proofs.writer.write_task.Tie as tie
 use Rattle.task.proofs.Answers.{both}
 
-returns : tie.Need-returns
+returns : tie.Need-returns-then-not-has_room
 unfolding write_answer_told
 returns c =
-    let start = c.before.before.before.before in
+    let start = c in
     let none = outcome-none start.args.table.now start.args.text.now start.requires
-    (sym c.before.has_room.ensures ∙ c.if1.true) in
+    (sym c.has_room.ensures ∙ c.if-not-has_room.true) in
     both none
 
-abbrev start : tie.Else1 → tie.Start
+abbrev start : tie.Else-not-has_room → tie.Start
 start c = c.before.before.before.before
 
-room : (c : tie.Else1) →
+room : (c : tie.Else-not-has_room) →
     leb (length (write (task_of (start c).args.table.now))) (length (start c).args.text.now) ≡ true
-room c = sym c.before.has_room.ensures ∙ c.if1.false
+room c = sym c.has_room.ensures ∙ c.if-not-has_room.false
 
-write-text-requires : tie.Need-write-text-requires
+write-text-requires : tie.Need-write_text-requires
 write-text-requires c κs = (start c.before).requires
 
-returns-2 : tie.Need-returns-2
+returns-2 : tie.Need-returns
 unfolding write_answer_told
 returns-2 c =
     let s = start c.before.before.before.before in
     let w = s.args.table.now in
     let text = s.args.text.now in
     let fits = room c.before.before.before.before in
-    let o = outcome-room w text s.pre fits in
-    let written = c.before.before.write-text.ensures in (
+    let o = outcome-room w text s.requires fits in
+    let written = c.write_text.ensures in (
       ap (λ (n : ℕ). result (n ∷ [])) (writes-size written) ∙ (both o).0,
       writes-over written (leb-true _ _ fits) ∙ (both o).1,
     )
 
-pub write-task-spec : {M : Type 1} → statement M
-write-task-spec = tie.close (tie.spec (λ c κs. search rules) returns write-text-requires (λ c. search rules) returns-2)
+pub write_task_spec : {M : Type 1} → statement M
+write_task_spec = tie.close (tie.spec (λ c κs. search rules) returns write-text-requires (λ c. search rules) returns-2)

@@ -26,57 +26,57 @@ begin c =
     let fits = write-fits (words c) c.requires in
     writing-left (write-by-words (words c)) (writing_start (omega arith))
 
-abbrev start : tie.After-slice-known2 → tie.Start
+abbrev start : tie.After-slice_known-2-1 → tie.Start
 start c = c.before.before.before.before.before.before
 
-behind-head : (c : tie.After-slice-known2) →
+behind-head : (c : tie.After-slice_known-2-1) →
     Left (start c) (schemas_text (words (start c)) ++ (facts_text (words (start c)) ++ end_bytes))
-    c.before.before.write-head.new.0 c.before.before.write-head.result
-behind-head c = writing-on (begin (start c)) c.before.before.write-head.ensures
+    c.write_head-at_schemas.new.text c.write_head-at_schemas.result
+behind-head c = writing-on (begin (start c)) c.write_head-at_schemas.ensures
 
-abbrev headed : tie.After-slice-known3 → tie.After-slice-known2
+abbrev headed : tie.After-slice_known-3-1 → tie.After-slice_known-2-1
 headed c = c.before.before.before.before
 
-behind-schemas : (c : tie.After-slice-known3) →
+behind-schemas : (c : tie.After-slice_known-3-1) →
     Left (start (headed c)) (facts_text (words (start (headed c))) ++ end_bytes)
-    c.before.before.write-schemas.new.0 c.before.before.write-schemas.result
-behind-schemas c = writing-on (behind-head (headed c)) c.before.before.write-schemas.ensures
+    c.write_schemas-at_facts.new.text c.write_schemas-at_facts.result
+behind-schemas c = writing-on (behind-head (headed c)) c.write_schemas-at_facts.ensures
 
-abbrev listed : tie.After-slice-known4 → tie.After-slice-known3
+abbrev listed : tie.After-slice_known-4-1 → tie.After-slice_known-3-1
 listed c = c.before.before.before.before
 
-behind-facts : (c : tie.After-slice-known4) →
+behind-facts : (c : tie.After-slice_known-4-1) →
     Left (start (headed (listed c))) end_bytes
-    c.before.before.write-facts.new.0 c.before.before.write-facts.result
-behind-facts c = writing-on (behind-schemas (listed c)) c.before.before.write-facts.ensures
+    c.write_facts-at_end.new.text c.write_facts-at_end.result
+behind-facts c = writing-on (behind-schemas (listed c)) c.write_facts-at_end.ensures
 
-write-head-requires : tie.Need-write-head-requires
+write-head-requires : tie.Need-write_head-at_schemas-requires
 write-head-requires c κs =
-    let start = c.before.before.before in
-    let w = words start in
-    let fits = writing-fits (head_text w) (schemas_text w ++ (facts_text w ++ end_bytes)) (begin start) in
+    let start = c in
+    let w = words start.before.before.before in
+    let fits = writing-fits (head_text w) (schemas_text w ++ (facts_text w ++ end_bytes)) (begin start.before.before.before) in
     (start.requires, omega arith)
 
-write-schemas-requires : tie.Need-write-schemas-requires
+write-schemas-requires : tie.Need-write_schemas-at_facts-requires
 write-schemas-requires c κs =
     let start = start c.before in
     let w = words start in
-    (start.pre, writing-fits (schemas_text w) (facts_text w ++ end_bytes) (behind-head c.before))
+    (start.requires, writing-fits (schemas_text w) (facts_text w ++ end_bytes) (behind-head c.before))
 
-write-facts-requires : tie.Need-write-facts-requires
+write-facts-requires : tie.Need-write_facts-at_end-requires
 write-facts-requires c κs =
     let start = start (headed c.before) in
-    (start.pre, writing-fits (facts_text (words start)) end_bytes (behind-schemas c.before))
+    (start.requires, writing-fits (facts_text (words start)) end_bytes (behind-schemas c.before))
 
-write-bytes-requires : tie.Need-write-bytes-requires
-write-bytes-requires c κs = last_fits (behind-facts c.before.before)
+write-bytes-requires : tie.Need-write_bytes-requires
+write-bytes-requires c κs = last_fits (behind-facts c.before.before.before)
 
 returns : tie.Need-returns
 returns c =
-    writing-last (behind-facts c.before.before.before.before.before) c.before.before.write_bytes.ensures
+    writing-last (behind-facts c.before.before.before.before.before.before) c.write_bytes.ensures
 
-pub write-text-spec : {M : Type 1} → statement M
-write-text-spec =
+pub write_text_spec : {M : Type 1} → statement M
+write_text_spec =
     tie.close
-    (tie.spec write-head-requires write-schemas-requires write-facts-requires (λ c. search rules) write-bytes-requires
-    (λ c. search rules) returns)
+    (tie.spec write-head-requires write-schemas-requires write-facts-requires write-bytes-requires (λ c. search
+    rules) returns)

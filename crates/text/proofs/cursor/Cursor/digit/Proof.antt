@@ -12,26 +12,26 @@ use Rattle.text.proofs.Digits.{is-digit}
 use Rattle.text.proofs.DigitLoop.{low-no-digit, high-no-digit}
 use Rattle.text.proofs.cursor.Cursor.digit.Statement.{statement}
 
-returns : tie.Need-returns
-returns c = no-digit-left c.before.args.text.now c.before.args.self.at (omega arith)
+returns : tie.Need-returns-then-text-at
+returns c = no-digit-left c.args.text.now c.args.self.at (omega arith)
 
-returns-2 : tie.Need-returns-2
+returns-2 : tie.Need-returns-then-byte-lt48
 returns-2 c =
-    let start = c.before.before.before in
-    no-digit-here start.args.text.now start.args.self.at (omega arith) (low-no-digit _ c.if2.true)
+    let start = c in
+    no-digit-here start.args.text.now start.args.self.at (omega arith) (low-no-digit _ c.if-byte-lt48.true)
 
-returns-3 : tie.Need-returns-3
+returns-3 : tie.Need-returns-then-byte-gt57
 returns-3 c =
-    let start = c.before.before.before.before in
-    no-digit-here start.args.text.now start.args.self.at (omega arith) (high-no-digit _ c.if3.true)
+    let start = c in
+    no-digit-here start.args.text.now start.args.self.at (omega arith) (high-no-digit _ c.if-byte-gt57.true)
 
-returns-4 : tie.Need-returns-4
+returns-4 : tie.Need-returns
 returns-4 c =
-    let start = c.before.before.before.before in
+    let start = c in
     let text = start.args.text.now in
     let at = start.args.self.at in
-    let low = c.before.if2.false in
-    let high = c.if3.false in
+    let low = c.if-byte-lt48.false in
+    let high = c.if-byte-gt57.false in
     let b = get_or text at 0 in
     let inside : at < length text = omega arith in
     let e : 48 + (b - 48) ≡ b = omega arith in
@@ -43,7 +43,7 @@ returns-4 c =
       moved = record { on = omega arith; inside = omega arith; line = refl };
     }
 
-pub digit-spec : {M : Type 1} → statement M
-digit-spec =
+pub digit_spec : {M : Type 1} → statement M
+digit_spec =
     tie.close
     (tie.spec returns (λ c. search rules) returns-2 returns-3 (λ c. search rules) (λ c. search rules) returns-4)

@@ -9,29 +9,29 @@ use borrow.Author.Rules.{rules}
 use Rattle.text.specs.ReadCode.{WordAt}
 use Rattle.text.proofs.cursor.Cursor.line_end.Statement.{statement}
 
-returns : tie.Need-returns
-returns c = subst (WordAt _ _ _) c.enum_told.given.1 c.before.before.word.ensures
+returns : tie.Need-returns-in_default
+returns c = subst (WordAt _ _ _) c.in_default.is c.word.ensures
 
-add-t10 : tie.Need-overflow-add-t10
+add-t10 : tie.Need-overflow_add-result
 add-t10 c =
-    let start = c.before.before.before.before.before.before in
-    let w = subst (WordAt _ _ _) c.before.next.given.1 c.before.before.before.word.ensures in
+    let start = c in
+    let w = subst (WordAt _ _ _) c.in-At.is c.word.ensures in
     let l = w.line in
     let i = w.inside in
     let f = w.far in
     let p = start.requires.line in
-    let g = start.well-formed in
+    let g = start.well_formed in
     omega arith
 
-returns-2 : tie.Need-returns-2
+returns-2 : tie.Need-returns
 returns-2 c =
-    let w = subst (WordAt _ _ _) c.before.next.given.1 c.before.before.before.word.ensures in
+    let w = subst (WordAt _ _ _) c.in-At.is c.word.ensures in
     let l = w.line in
     let f = w.far in
     record { is = w.is; on = omega arith; inside = w.inside; line = omega arith }
 
-pub line-end-spec : {M : Type 1} → statement M
-line-end-spec =
+pub line_end_spec : {M : Type 1} → statement M
+line_end_spec =
     tie.close
     (tie.spec (λ c. search rules) (λ c κs. search rules) (λ c. search rules) (λ c. search rules) returns add-t10
     returns-2)

@@ -6,13 +6,13 @@ use borrow.Author.Rules.{rules}
 use Rattle.text.specs.Holding.{so_far}
 use Rattle.text.proofs.draft.Counts.facts.Statement.{statement}
 
-returns : tie.Need-returns
-returns c = ap (so_far c.before.before.args.self) (sym c.enum_told.given.1)
+returns : tie.Need-returns-in-Initial
+returns c = ap (so_far c.args.self) (sym c.in-Initial.is)
 
-returns-2 : tie.Need-returns-2
-returns-2 c = ap (so_far c.before.before.args.self) (sym c.enum-told2.given.1)
+returns-2 : tie.Need-returns-in-Goal
+returns-2 c = ap (so_far c.args.self) (sym c.in-Goal.is)
 
-pub facts-spec : {M : Type 1} → statement M
-facts-spec =
+pub facts_spec : {M : Type 1} → statement M
+facts_spec =
     tie.close
     (tie.spec (λ c. search rules) (λ c. search rules) (λ c. search rules) (λ c. search rules) returns returns-2)

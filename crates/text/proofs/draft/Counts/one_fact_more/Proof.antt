@@ -7,13 +7,13 @@ use borrow.Author.Rules.{rules}
 use Rattle.text.specs.Holding.{one_fact_more}
 use Rattle.text.proofs.draft.Counts.one_fact_more.Statement.{statement}
 
-returns : tie.Need-returns
-returns c = ap (one_fact_more c.before.before.before.args.self) (sym c.before.enum_told.given.1)
+returns : tie.Need-returns-in-Initial
+returns c = ap (one_fact_more c.args.self) (sym c.in-Initial.is)
 
-returns-2 : tie.Need-returns-2
-returns-2 c = ap (one_fact_more c.before.before.before.args.self) (sym c.before.enum-told2.given.1)
+returns-2 : tie.Need-returns-in-Goal
+returns-2 c = ap (one_fact_more c.args.self) (sym c.in-Goal.is)
 
-pub one-fact-more-spec : {M : Type 1} → statement M
-one-fact-more-spec =
+pub one_fact_more_spec : {M : Type 1} → statement M
+one_fact_more_spec =
     tie.close
     (tie.spec (λ c. search rules) (λ c. search rules) (λ c. search rules) (λ c. search rules) returns returns-2)

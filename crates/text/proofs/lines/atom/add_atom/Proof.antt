@@ -18,61 +18,61 @@ use Rattle.text.proofs.TableRoom.{in_table, row-numbers, args-small}
 use Rattle.text.proofs.lines.atom.add_atom.Statement.{statement}
 
 -- ---- what is known once it is tested whether the atom fits
-abbrev few : tie.After-fits2 → tie.Else1
+abbrev few : tie.After-fits2 → tie.Else-counts-ge-MOST_ATOMS
 few f = f.before.before.before.before
 
 abbrev entry : tie.After-fits2 → tie.Start
 entry f = (few f).before.before.before.before
 
 total : (f : tie.After-fits2) → (entry f).args.counts.closed + (entry f).args.counts.atoms < 1000
-total f = f.before.before.if2.false
+total f = f.before.before.if-counts-ge-MOST_SCHEMA_ATOMS.false
 
 inside : (f : tie.After-fits2) → row_at (entry f).args.counts + atom_size ≤ table_length
 inside f = few_words (entry f).requires.0.holds.few (total f)
 
 -- ---- and once the row is written
-abbrev fitting : tie.After-put-row → tie.After-fits2
+abbrev fitting : tie.After-put_row → tie.After-fits2
 fitting p = p.before.before.before.before.before
 
-abbrev start : tie.After-put-row → tie.Start
+abbrev start : tie.After-put_row → tie.Start
 start p = entry (fitting p)
 
-abbrev before : tie.After-put-row → List ℕ
+abbrev before : tie.After-put_row → List ℕ
 before p = (start p).args.table.now
 
-abbrev after : tie.After-put-row → List ℕ
-after p = p.put-row.new.0
+abbrev after : tie.After-put_row → List ℕ
+after p = p.put_row.new.table
 
-touched : (p : tie.After-put-row) → Touched (before p) (after p)
+touched : (p : tie.After-put_row) → Touched (before p) (after p)
 touched p =
     inside-touched (inside (fitting p))
-    (row_named (start p).args.role (start p).args.predicate p.before.before.before.next_row.ensures refl refl
-    p.put-row.ensures)
+    (row_named (start p).args.role (start p).args.predicate p.next_row-row.ensures refl refl
+    p.put_row.ensures)
 
-put : (p : tie.After-put-row) (d : Draft) (ns : List ℕ) → Holds d (before p) (start p).args.counts →
+put : (p : tie.After-put_row) (d : Draft) (ns : List ℕ) → Holds d (before p) (start p).args.counts →
     Listed ns (start p).args.count (start p).args.args.now →
     AtomPut d (start p).args.counts (start p).args.role (start p).args.predicate ns (after p)
 put p d ns h s =
-    atom-put h (start p).requires.1.0 (few (fitting p)).if1.false (total (fitting p)) (fitting p).fits2.ensures
-    p.before.before.before.before.if3.false (start p).requires.1.1 s
-    p.before.before.before.next_row.ensures p.put-row.ensures
+    atom-put h (start p).requires.1.0 (few (fitting p)).if-counts-ge-MOST_ATOMS.false (total (fitting p)) (fitting p).fits2.ensures
+    p.if-not-fits.false (start p).requires.1.1 s
+    p.next_row-row.ensures p.put_row.ensures
 
 -- ---- and once it is looked for among the rows before
-abbrev written : tie.After-repeated → tie.After-put-row
-written l = l.before.before.before.before.before
+abbrev written : tie.After-repeated → tie.After-put_row
+written l = l.before.before.before.before
 
 found : (l : tie.After-repeated) →
     again (start (written l)).args.counts (after (written l)) ≡ l.repeated.result
 found l =
-    let row = (written l).before.before.before.next_row.ensures in
-    let first = l.before.first-row.ensures in
+    let row = (written l).next_row-row.ensures in
+    let first = l.first_row.ensures in
     rw (← row, ← first) (sym l.repeated.ensures)
 
 -- ---- the answers
-returns : tie.Need-returns
+returns : tie.Need-returns-then-counts-ge-MOST_ATOMS
 returns c = (untouched _, λ d ns h s. schema-full d _ _ ns (let e = h.atoms in omega arith))
 
-returns-2 : tie.Need-returns-2
+returns-2 : tie.Need-returns-then-counts-ge-MOST_SCHEMA_ATOMS
 returns-2 c = (
   untouched _,
   λ d ns h s. table-full d _ _ ns (let e = h.atoms in omega arith)
@@ -81,26 +81,26 @@ returns-2 c = (
 
 fits-requires : tie.Need-fits-requires
 fits-requires c κs =
-    let h = c.before.before.before.before.before.before.before.requires.0.holds in
+    let h = c.requires.0.holds in
     in_table (omega (arith, h.few.predicates)) h.long
 
-returns-3 : tie.Need-returns-3
+returns-3 : tie.Need-returns-then-not-fits
 returns-3 c =
-    let f = c.before in (
+    let f = c in (
       untouched _,
       λ d ns h s. atom-misfits d _ _ ns (let e = h.atoms in omega arith)
           (let e = h.atoms in let q = h.closed in omega arith)
-          (sym (atom-fits h f.fits2.ensures (entry f).requires.1.1 s) ∙ c.if3.true),
+          (sym (atom-fits h f.fits2.ensures (entry f).requires.1.1 s) ∙ c.if-not-fits.true),
     )
 
-put-row-requires : tie.Need-put-row-requires
+put-row-requires : tie.Need-put_row-requires
 put-row-requires c κs =
-    let f = c.before.before.before.before in
+    let f = c in
     let h = (entry f).requires.0.holds in
     let fits = f.fits2.ensures in
-    let told = c.before.before.before.if3.false in
+    let told = c.if-not-fits.false in
     let room = in_table (inside f) h.long in
-    let row = c.before.before.next_row.ensures in
+    let row = c.next_row-row.ensures in
     let role = (entry f).requires.1.0.known in
     let schemas = h.few.schemas in (
       omega arith,
@@ -110,30 +110,30 @@ put-row-requires c κs =
       ),
     )
 
-first-row-requires : tie.Need-first-row-requires
-first-row-requires c κs = (start c.before.before.before).requires.0.holds.few
+first-row-requires : tie.Need-first_row-requires
+first-row-requires c κs = (start c.before.before).requires.0.holds.few
 
 repeated-requires : tie.Need-repeated-requires
 repeated-requires c κs =
-    let p = c.before.before.before.before in
-    let row = p.before.before.before.next_row.ensures in
-    let first = c.first-row.ensures in
-    let size = p.put-row.auto.0 in
-    let room = in_table (inside (fitting p)) (start p).requires.0.holds.long in
+    let p = c in
+    let row = p.next_row-row.ensures in
+    let first = c.first_row.ensures in
+    let size = p.put_row.auto.table in
+    let room = in_table (inside (fitting p.before.before.before)) (start p.before.before.before).requires.0.holds.long in
     (omega arith, omega arith)
 
-returns-4 : tie.Need-returns-4
+returns-4 : tie.Need-returns-then-repeated
 returns-4 c =
     let p = written c.before in
-    (touched p, λ d ns h s. (put p d ns h s).repeats (found c.before ∙ c.if4.true))
+    (touched p, λ d ns h s. (put p d ns h s).repeats (found c.before ∙ c.if-repeated.true))
 
-returns-5 : tie.Need-returns-5
+returns-5 : tie.Need-returns
 returns-5 c =
     let p = written c.before in
-    (touched p, λ d ns h s. (put p d ns h s).taken (found c.before ∙ c.if4.false))
+    (touched p, λ d ns h s. (put p d ns h s).taken (found c.before ∙ c.if-repeated.false))
 
-pub add-atom-spec : {M : Type 1} → statement M
-add-atom-spec =
+pub add_atom_spec : {M : Type 1} → statement M
+add_atom_spec =
     tie.close
     (tie.spec returns (λ c. search rules) returns-2 fits-requires (λ c. search rules) returns-3 (λ c κs. search rules)
     (λ c. search rules) put-row-requires first-row-requires repeated-requires (λ c. search rules) returns-4

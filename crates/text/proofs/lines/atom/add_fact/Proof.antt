@@ -19,98 +19,98 @@ use Rattle.text.proofs.TableRoom.{in_table, row-numbers, args-small}
 use Rattle.text.proofs.lines.atom.add_fact.Statement.{statement}
 
 -- ---- what is known once it is tested whether the atom fits
-abbrev facts : tie.After-fits2 → tie.After-facts
+abbrev facts : tie.After-fits2 → tie.After-facts-facts
 facts f = f.before.before.before.before
 
 abbrev entry : tie.After-fits2 → tie.Start
 entry f = (facts f).before.before.before
 
-below : (f : tie.After-fits2) → (facts f).facts.result.read < (facts f).facts.result.most
-below f = f.before.before.if1.false
+below : (f : tie.After-fits2) → (facts f).facts-facts.result.read < (facts f).facts-facts.result.most
+below f = f.before.before.if-facts.false
 
-place : (f : tie.After-fits2) → FactPlace (entry f).args.counts (facts f).facts.result
-place f = fact-place (entry f).args.kind (entry f).requires.0.holds.few (facts f).facts.ensures
+place : (f : tie.After-fits2) → FactPlace (entry f).args.counts (facts f).facts-facts.result
+place f = fact-place (entry f).args.kind (entry f).requires.0.holds.few (facts f).facts-facts.ensures
 
 inside : (f : tie.After-fits2) → row_at (entry f).args.counts + atom_size ≤ table_length
 inside f = fact-room (entry f).requires.0.holds.few ((place f).few (below f))
 
 -- ---- and once the row is written
-abbrev fitting : tie.After-put-row → tie.After-fits2
+abbrev fitting : tie.After-put_row → tie.After-fits2
 fitting p = p.before.before.before.before
 
-abbrev start : tie.After-put-row → tie.Start
+abbrev start : tie.After-put_row → tie.Start
 start p = entry (fitting p)
 
-abbrev known : tie.After-put-row → tie.After-facts
+abbrev known : tie.After-put_row → tie.After-facts-facts
 known p = facts (fitting p)
 
-abbrev before : tie.After-put-row → List ℕ
+abbrev before : tie.After-put_row → List ℕ
 before p = (start p).args.table.now
 
-abbrev after : tie.After-put-row → List ℕ
-after p = p.put-row.new.0
+abbrev after : tie.After-put_row → List ℕ
+after p = p.put_row.new.table
 
 -- a draft that the code holds, and the arguments that were read
-abbrev Given : tie.After-put-row → Draft → List ℕ → Type 0
+abbrev Given : tie.After-put_row → Draft → List ℕ → Type 0
 Given p d ns =
     Holds d (before p) (start p).args.counts × Listed ns (start p).args.count (start p).args.args.now
 
-touched : (p : tie.After-put-row) → Touched (before p) (after p)
+touched : (p : tie.After-put_row) → Touched (before p) (after p)
 touched p =
     inside-touched (inside (fitting p))
-    (fact-row (known p).facts.result.role (start p).args.predicate p.before.before.next_row.ensures refl
-    p.put-row.ensures)
+    (fact-row (known p).facts-facts.result.role (start p).args.predicate p.next_row-row.ensures refl
+    p.put_row.ensures)
 
-put : (p : tie.After-put-row) (d : Draft) (ns : List ℕ) → Given p d ns →
-    FactPut (start p).args.kind (known p).facts.result d (start p).args.counts (start p).args.predicate ns
+put : (p : tie.After-put_row) (d : Draft) (ns : List ℕ) → Given p d ns →
+    FactPut (start p).args.kind (known p).facts-facts.result d (start p).args.counts (start p).args.predicate ns
     (after p)
 put p d ns (h, s) =
-    fact-put (start p).args.kind h (start p).requires.1.0 (known p).facts.ensures (below (fitting p))
-    (fitting p).fits2.ensures p.before.before.before.if2.false
-    (start p).requires.1.1 s p.before.before.next_row.ensures p.put-row.ensures
+    fact-put (start p).args.kind h (start p).requires.1.0 (known p).facts-facts.ensures (below (fitting p))
+    (fitting p).fits2.ensures p.if-not-fits.false
+    (start p).requires.1.1 s p.next_row-row.ensures p.put_row.ensures
 
 -- ---- and once it is compared with the row before
-abbrev written : tie.After-less-words → tie.After-put-row
-written l = l.before.before.before.before.before.before
+abbrev written : tie.After-less_words → tie.After-put_row
+written l = l.before.before.before.before.before
 
-order : (l : tie.After-less-words) (d : Draft) (ns : List ℕ) → Given (written l) d ns → l.less-words.result ≡
+order : (l : tie.After-less_words) (d : Draft) (ns : List ℕ) → Given (written l) d ns → l.less_words.result ≡
     follows (facts_of (start (written l)).args.kind d.task) (fact_of (start (written l)).args.predicate ns)
 order l d ns given =
     let p = written l in
-    let row = p.before.before.next_row.ensures in
-    let found = l.less-words.ensures in
-    (rw row at found) ∙ (put p d ns given).later l.before.before.if3.true
+    let row = p.next_row-row.ensures in
+    let found = l.less_words.ensures in
+    (rw row at found) ∙ (put p d ns given).later l.if-facts-gt0.true
 
 -- ---- the answers
-returns : tie.Need-returns
+returns : tie.Need-returns-then-facts
 returns c =
-    let start = c.before.before.before.before.before in (
+    let start = c in (
       untouched _,
-      λ d ns h s. full-refused start.args.kind h c.before.before.facts.ensures _ ns
-          c.if1.true,
+      λ d ns h s. full-refused start.args.kind h c.facts-facts.ensures _ ns
+          c.if-facts.true,
     )
 
 fits-requires : tie.Need-fits-requires
 fits-requires c κs =
-    let h = c.before.before.before.before.before.before.requires.0.holds in
+    let h = c.requires.0.holds in
     in_table (omega (arith, h.few.predicates)) h.long
 
-returns-2 : tie.Need-returns-2
+returns-2 : tie.Need-returns-then-not-fits
 returns-2 c =
-    let f = c.before in (
+    let f = c in (
       untouched _,
-      λ d ns h s. misfit-refused (entry f).args.kind h (facts f).facts.ensures _ ns (below f)
-          (sym (fact-fits h f.fits2.ensures (entry f).requires.1.1 s) ∙ c.if2.true),
+      λ d ns h s. misfit-refused (entry f).args.kind h (facts f).facts-facts.ensures _ ns (below f)
+          (sym (fact-fits h f.fits2.ensures (entry f).requires.1.1 s) ∙ c.if-not-fits.true),
     )
 
-put-row-requires : tie.Need-put-row-requires
+put-row-requires : tie.Need-put_row-requires
 put-row-requires c κs =
-    let f = c.before.before.before in
+    let f = c in
     let h = (entry f).requires.0.holds in
     let fits = f.fits2.ensures in
-    let told = c.before.before.if2.false in
+    let told = c.if-not-fits.false in
     let room = in_table (inside f) h.long in
-    let row = c.before.next_row.ensures in
+    let row = c.next_row-row.ensures in
     let role = (place f).known in (
       omega arith,
       (
@@ -119,39 +119,39 @@ put-row-requires c κs =
       ),
     )
 
-less-words-requires : tie.Need-less-words-requires
+less-words-requires : tie.Need-less_words-requires
 less-words-requires c κs =
-    let p = c.before.before.before.before.before in
-    let row = p.before.before.next_row.ensures in
-    let size = p.put-row.auto.0 in
-    let room = in_table (inside (fitting p)) (start p).requires.0.holds.long in
+    let p = c in
+    let row = p.next_row-row.ensures in
+    let size = p.put_row.auto.table in
+    let room = in_table (inside (fitting p.before.before.before.before)) (start p.before.before.before.before).requires.0.holds.long in
     (omega arith, omega arith)
 
-returns-3 : tie.Need-returns-3
+returns-3 : tie.Need-returns-then-not-less_words
 returns-3 c =
     let p = written c.before in (
       touched p,
-      λ d ns h s. (put p d ns (h, s)).unordered (sym (order c.before d ns (h, s)) ∙ c.if4.true),
+      λ d ns h s. (put p d ns (h, s)).unordered (sym (order c.before d ns (h, s)) ∙ c.if-not-less_words.true),
     )
 
-returns-4 : tie.Need-returns-4
+returns-4 : tie.Need-returns-else-not-less_words
 returns-4 c =
     let p = written c.before in (
       touched p,
-      λ d ns h s. (put p d ns (h, s)).taken (sym (order c.before d ns (h, s)) ∙ c.if4.false),
+      λ d ns h s. (put p d ns (h, s)).taken (sym (order c.before d ns (h, s)) ∙ c.if-not-less_words.false),
     )
 
-returns-5 : tie.Need-returns-5
+returns-5 : tie.Need-returns-else-facts-gt0
 returns-5 c =
-    let p = c.before.before.before.before in (
-      touched p,
+    let p = c in (
+      touched p.before.before.before.before,
       λ d ns h s.
-          let has = put p d ns (h, s) in
-          has.taken (has.first (let none = c.if3.false in omega arith)),
+          let has = put p.before.before.before.before d ns (h, s) in
+          has.taken (has.first (let none = c.if-facts-gt0.false in omega arith)),
     )
 
-pub add-fact-spec : {M : Type 1} → statement M
-add-fact-spec =
+pub add_fact_spec : {M : Type 1} → statement M
+add_fact_spec =
     tie.close
     (tie.spec (λ c κs. search rules) returns fits-requires (λ c. search rules) returns-2 (λ c κs. search rules)
     put-row-requires (λ c. search rules) (λ c. search rules) less-words-requires (λ c. search rules) returns-3

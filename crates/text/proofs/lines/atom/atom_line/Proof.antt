@@ -13,53 +13,53 @@ use Rattle.text.proofs.LineTurns.{no_line, atom-refused, atom-goes-on}
 use Rattle.text.proofs.lines.atom.atom_line.Statement.{statement}
 
 -- ---- the atom that was read
-abbrev start : tie.After-entry-line → tie.Start
+abbrev start : tie.After-entry_line → tie.Start
 start l = l.before.before.before.before
 
-abbrev line : tie.After-predicate → tie.After-entry-line
-line a = a.before.before.before
+abbrev line : tie.In-Of → tie.After-entry_line
+line a = a.before.before
 
-abbrev atom : tie.After-add-atom → tie.After-predicate
-atom a = a.before.before.before.before
+abbrev atom : tie.After-add_atom-check → tie.In-Of
+atom a = a.before.before.before
 
-abbrev begun : tie.After-add-atom → tie.Start
+abbrev begun : tie.After-add_atom-check → tie.Start
 begun a = start (line (atom a))
 
-read : (a : tie.After-add-atom) → EntryLine (begun a).args.text.now (begun a).args.from
+read : (a : tie.After-add_atom-check) → EntryLine (begun a).args.text.now (begun a).args.from
     (atom a).predicate.given.0.0 (atom a).predicate.given.0.1.0
-    (line (atom a)).entry-line.new.1.1.0 (atom a).predicate.given.0.1.1.0
-read a = subst (EntryLineAt _ _ _) (atom a).predicate.given.1 (line (atom a)).entry-line.ensures
+    (line (atom a)).entry_line.new.list (atom a).predicate.given.0.1.1.0
+read a = subst (EntryLineAt _ _ _) (atom a).in-Of.is (line (atom a)).entry_line.ensures
 
 -- ---- the answers
-returns : tie.Need-returns
+returns : tie.Need-returns-in_default
 returns c =
-    let l = c.before.before.before in (
+    let l = c in (
       untouched _,
-      λ d h. no_line (atom_line (start l).args.role) d _
-          (subst (EntryLineAt _ _ _) c.enum_told.given.1 l.entry-line.ensures),
+      λ d h. no_line (atom_line (start l.before.before).args.role) d _
+          (subst (EntryLineAt _ _ _) c.in_default.is l.entry_line.ensures),
     )
 
-returns-2 : tie.Need-returns-2
+returns-2 : tie.Need-returns-in-Refuses
 returns-2 c =
-    let a = c.before.before.before.before.before in (
-      a.add-atom.ensures.0,
-      λ d h. atom-refused (atom_line _) d (read a) _ _ _ c.before.check.given.1
-          (a.add-atom.ensures.1 d (read a).ns h (read a).listed),
+    let a = c in (
+      a.add_atom-check.ensures.0,
+      λ d h. atom-refused (atom_line _) d (read a.before.before.before) _ _ _ c.in-Refuses.is
+          (a.add_atom-check.ensures.1 d (read a.before.before.before).ns h (read a.before.before.before).listed),
     )
 
-add-read-2 : tie.Need-overflow-add-read-2
-add-read-2 c = omega (arith, (begun c.before.before.before.before.before).requires.1.0.holds.few.atoms)
+add-read-2 : tie.Need-overflow_add-read-2
+add-read-2 c = omega (arith, (begun c.before.before.before.before).requires.1.0.holds.few.atoms)
 
-returns-3 : tie.Need-returns-3
+returns-3 : tie.Need-returns
 returns-3 c =
-    let a = c.before.before.before.before.before in (
-      a.add-atom.ensures.0,
-      λ d h. atom-goes-on (atom_line _) d (read a) _ _ refl c.before.enum-told2.given.1
-          (a.add-atom.ensures.1 d (read a).ns h (read a).listed),
+    let a = c in (
+      a.add_atom-check.ensures.0,
+      λ d h. atom-goes-on (atom_line _) d (read a.before.before.before.before) _ _ refl c.in_default-check.is
+          (a.add_atom-check.ensures.1 d (read a.before.before.before.before).ns h (read a.before.before.before.before).listed),
     )
 
-pub atom-line-spec : {M : Type 1} → statement M
-atom-line-spec =
+pub atom_line_spec : {M : Type 1} → statement M
+atom_line_spec =
     tie.close
     (tie.spec (λ c. search rules) (λ c κs. search rules) (λ c. search rules) (λ c. search rules) returns
     (λ c. search rules) (λ c κs. search rules) (λ c. search rules) (λ c. search rules) returns-2 (λ c. search rules)

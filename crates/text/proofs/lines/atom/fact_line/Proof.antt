@@ -13,51 +13,51 @@ use Rattle.text.proofs.lines.atom.fact_line.Statement.{statement}
 use Rattle.text.specs.declared.draft.Counts.{Counts}
 
 -- ---- the atom that was read
-abbrev atom : tie.After-add-fact → tie.After-predicate
-atom a = a.before.before.before.before
+abbrev atom : tie.After-add_fact-check → tie.In-Of
+atom a = a.before.before.before
 
-abbrev line : tie.After-add-fact → tie.After-entry-line
+abbrev line : tie.After-add_fact-check → tie.After-entry_line
 line a = (atom a).before.before.before
 
-abbrev start : tie.After-add-fact → tie.Start
+abbrev start : tie.After-add_fact-check → tie.Start
 start a = (line a).before.before.before.before
 
-read : (a : tie.After-add-fact) → EntryLine (start a).args.text.now (start a).args.from
+read : (a : tie.After-add_fact-check) → EntryLine (start a).args.text.now (start a).args.from
     (atom a).predicate.given.0.0 (atom a).predicate.given.0.1.0
-    (line a).entry-line.new.1.1.0 (atom a).predicate.given.0.1.1.0
-read a = subst (EntryLineAt _ _ _) (atom a).predicate.given.1 (line a).entry-line.ensures
+    (line a).entry_line.new.list (atom a).predicate.given.0.1.1.0
+read a = subst (EntryLineAt _ _ _) (atom a).in-Of.is (line a).entry_line.ensures
 
-abbrev grown : tie.After-add-fact → Counts
+abbrev grown : tie.After-add_fact-check → Counts
 grown a = one_fact_more (start a).args.counts (start a).args.kind
 
 -- ---- the answers
-returns : tie.Need-returns
+returns : tie.Need-returns-in_default
 returns c =
-    let start = c.before.before.before.before.before.before.before in (
+    let start = c in (
       untouched _,
       λ d h. no_line (fact_line start.args.kind) d _
-          (subst (EntryLineAt _ _ _) c.enum_told.given.1 c.before.before.before.entry-line.ensures),
+          (subst (EntryLineAt _ _ _) c.in_default.is c.entry_line.ensures),
     )
 
-returns-2 : tie.Need-returns-2
+returns-2 : tie.Need-returns-in-Refuses
 returns-2 c =
-    let a = c.before.before.before.before.before in (
-      a.add-fact.ensures.0,
-      λ d h. atom-refused (fact_line (start a).args.kind) d (read a) (grown a) a.add-fact.new.0 _
-          c.before.check.given.1 (a.add-fact.ensures.1 d (read a).ns h (read a).listed),
+    let a = c in (
+      a.add_fact-check.ensures.0,
+      λ d h. atom-refused (fact_line (start a.before.before.before).args.kind) d (read a.before.before.before) (grown a.before.before.before) a.add_fact-check.new.table _
+          c.in-Refuses.is (a.add_fact-check.ensures.1 d (read a.before.before.before).ns h (read a.before.before.before).listed),
     )
 
-returns-3 : tie.Need-returns-3
+returns-3 : tie.Need-returns
 returns-3 c =
-    let a = c.before.before.before.before.before in (
-      a.add-fact.ensures.0,
-      λ d h. atom-goes-on (fact_line (start a).args.kind) d (read a) (grown a) a.add-fact.new.0
-          c.one-fact-more.ensures c.before.enum-told2.given.1
-          (a.add-fact.ensures.1 d (read a).ns h (read a).listed),
+    let a = c in (
+      a.add_fact-check.ensures.0,
+      λ d h. atom-goes-on (fact_line (start a.before.before.before.before).args.kind) d (read a.before.before.before.before) (grown a.before.before.before.before) a.add_fact-check.new.table
+          c.one_fact_more.ensures c.in_default-check.is
+          (a.add_fact-check.ensures.1 d (read a.before.before.before.before).ns h (read a.before.before.before.before).listed),
     )
 
-pub fact-line-spec : {M : Type 1} → statement M
-fact-line-spec =
+pub fact_line_spec : {M : Type 1} → statement M
+fact_line_spec =
     tie.close
     (tie.spec (λ c. search rules) (λ c κs. search rules) (λ c. search rules) (λ c. search rules) returns
     (λ c. search rules) (λ c κs. search rules) (λ c. search rules) (λ c. search rules) returns-2 (λ c. search rules)

@@ -9,15 +9,15 @@ use Rattle.text.proofs.HeldHeads.{end_refused, end-taken}
 use Rattle.text.proofs.LineTurns.{not-one, line-ends}
 use Rattle.text.proofs.lines.head.end_line.Statement.{statement}
 
-returns : tie.Need-returns
+returns : tie.Need-returns-in_default
 returns c = λ d w closed.
     not-one end_line _ (take_line d)
-    (subst (OneLineAt _ _) c.enum_told.given.1 c.before.before.one_line.ensures) (end_refused d)
+    (subst (OneLineAt _ _) c.in_default.is c.one_line.ensures) (end_refused d)
 
-returns-2 : tie.Need-returns-2
+returns-2 : tie.Need-returns
 returns-2 c =
-    let line = c.before.before.before.one_line in
-    let read = subst (OneLineAt _ _) c.before.next.given.1 line.ensures in
+    let line = c.one_line in
+    let read = subst (OneLineAt _ _) c.in-At.is line.ensures in
     λ d w closed. (
       record {
         is = line-ends end_line d _ _ _ read.is _ (end-taken d _ refl);
@@ -27,5 +27,5 @@ returns-2 c =
       refl,
     )
 
-pub end-line-spec : {M : Type 1} → statement M
-end-line-spec = tie.close (tie.spec (λ c κs. search rules) (λ c. search rules) (λ c. search rules) returns returns-2)
+pub end_line_spec : {M : Type 1} → statement M
+end_line_spec = tie.close (tie.spec (λ c κs. search rules) (λ c. search rules) (λ c. search rules) returns returns-2)

@@ -11,37 +11,37 @@ use Rattle.text.proofs.HeldHeads.{schema-many, params-many, schema-taken, schema
 use Rattle.text.proofs.LineTurns.{no_line, line_refused, line-goes-on}
 use Rattle.text.proofs.lines.head.schema_line.Statement.{statement}
 
-returns : tie.Need-returns
+returns : tie.Need-returns-in_default
 returns c = λ d w h.
-    no_line schema_line d _ (subst (NumberLineAt _ _) c.enum_told.given.1 c.before.before.number-line.ensures)
+    no_line schema_line d _ (subst (NumberLineAt _ _) c.in_default.is c.number_line.ensures)
 
-returns-2 : tie.Need-returns-2
+returns-2 : tie.Need-returns-then-counts-ge-MOST_SCHEMAS
 returns-2 c =
-    let n = c.before.before.before in
-    let read = subst (NumberLineAt _ _) n.n.given.1 n.before.before.number-line.ensures in
+    let n = c in
+    let read = subst (NumberLineAt _ _) n.in-Of.is n.number_line.ensures in
     λ d w h. line_refused schema_line d _ _ _ read.is 4 (schema-many d _ (let e = h.schemas in omega arith))
 
-returns-3 : tie.Need-returns-3
+returns-3 : tie.Need-returns-then-n-gt-MOST_PARAMETERS
 returns-3 c =
-    let n = c.before.before.before.before in
-    let read = subst (NumberLineAt _ _) n.n.given.1 n.before.before.number-line.ensures in
-    λ d w h. line_refused schema_line d _ _ _ read.is 4 (params-many d _ c.if2.true)
+    let n = c in
+    let read = subst (NumberLineAt _ _) n.in-Of.is n.number_line.ensures in
+    λ d w h. line_refused schema_line d _ _ _ read.is 4 (params-many d _ c.if-n-gt-MOST_PARAMETERS.true)
 
-returns-4 : tie.Need-returns-4
+returns-4 : tie.Need-returns
 returns-4 c =
-    let n = c.before.before.before.before in
-    let read = subst (NumberLineAt _ _) n.n.given.1 n.before.before.number-line.ensures in
+    let n = c in
+    let read = subst (NumberLineAt _ _) n.in-Of.is n.number_line.ensures in
     λ d w h. record {
       draft = _;
       is = line-goes-on schema_line d _ _ _ read.is _
-          (schema-taken d _ (let e = h.schemas in omega arith) c.if2.false);
-      holds = schema-held h _ n.before.before.before.before.requires.1 c.if2.false
+          (schema-taken d _ (let e = h.schemas in omega arith) c.if-n-gt-MOST_PARAMETERS.false);
+      holds = schema-held h _ n.requires.1 c.if-n-gt-MOST_PARAMETERS.false
           (let e = h.schemas in omega arith);
       line = read.line;
     }
 
-pub schema-line-spec : {M : Type 1} → statement M
-schema-line-spec =
+pub schema_line_spec : {M : Type 1} → statement M
+schema_line_spec =
     tie.close
     (tie.spec (λ c κs. search rules) (λ c. search rules) (λ c. search rules) returns returns-2 returns-3
     (λ c. search rules) returns-4)

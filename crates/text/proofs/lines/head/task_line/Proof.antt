@@ -9,21 +9,21 @@ use Rattle.text.proofs.HeldHeads.{task-refused, task-taken, task-held}
 use Rattle.text.proofs.LineTurns.{not-one, line-goes-on}
 use Rattle.text.proofs.lines.head.task_line.Statement.{statement}
 
-returns : tie.Need-returns
+returns : tie.Need-returns-in_default
 returns c = λ d w h.
     not-one task_line _ (take_line d)
-    (subst (OneLineAt _ _) c.enum_told.given.1 c.before.before.one_line.ensures) (task-refused d)
+    (subst (OneLineAt _ _) c.in_default.is c.one_line.ensures) (task-refused d)
 
-returns-2 : tie.Need-returns-2
+returns-2 : tie.Need-returns
 returns-2 c =
-    let line = c.before.before.before.one_line in
-    let read = subst (OneLineAt _ _) c.before.next.given.1 line.ensures in
+    let line = c.one_line in
+    let read = subst (OneLineAt _ _) c.in-At.is line.ensures in
     λ d w h. record {
       draft = _;
       is = line-goes-on task_line d _ _ _ read.is _ (task-taken d _ refl);
-      holds = task-held h c.before.before.before.before.before.requires.1;
+      holds = task-held h c.requires.1;
       line = read.line;
     }
 
-pub task-line-spec : {M : Type 1} → statement M
-task-line-spec = tie.close (tie.spec (λ c κs. search rules) (λ c. search rules) (λ c. search rules) returns returns-2)
+pub task_line_spec : {M : Type 1} → statement M
+task_line_spec = tie.close (tie.spec (λ c κs. search rules) (λ c. search rules) (λ c. search rules) returns returns-2)
