@@ -44,7 +44,6 @@ returns-5 c =
 pub head_key_at_spec : {M : Type 1} → statement M
 head_key_at_spec =
     tie.close
-    (tie.spec (λ c. search rules) (λ c κs. search rules) (λ c. search rules) returns (λ c. search rules)
-    (λ c. search rules) (λ c κs. search rules) (λ c. search rules) returns-2 (λ c. search rules) (λ c. search rules)
-    (λ c κs. search rules) (λ c. search rules) returns-3 (λ c. search rules) (λ c. search rules) (λ c κs. search rules)
-    (λ c. search rules) returns-4 (λ c. search rules) returns-5)
+    (tie.spec (λ c κs. search rules) (λ c. search rules) returns (λ c. search rules) (λ c κs. search rules)
+    (λ c. search rules) returns-2 (λ c. search rules) (λ c κs. search rules) (λ c. search rules) returns-3
+    (λ c. search rules) (λ c κs. search rules) (λ c. search rules) returns-4 (λ c. search rules) returns-5)

@@ -20,10 +20,10 @@ differ₁ c = c.before.before.before.before
 abbrev schema₁ : tie.In_default-word-6 → tie.In_default-word-4
 schema₁ c = (differ₁ c).before.before.before.before
 
-abbrev part₁ : tie.In_default-word-6 → tie.In_default-word
+abbrev part₁ : tie.In_default-word-6 → tie.In_default-word-3
 part₁ c = (schema₁ c).before.before.before.before
 
-abbrev del₁ : tie.In_default-word-6 → tie.In_default-word
+abbrev del₁ : tie.In_default-word-6 → tie.In_default-word-2
 del₁ c = (part₁ c).before.before.before.before
 
 abbrev add₁ : tie.In_default-word-6 → tie.In_default-word
@@ -94,11 +94,10 @@ returns-9 c =
 pub key_at_spec : {M : Type 1} → statement M
 key_at_spec =
     tie.close
-    (tie.spec (λ c. search rules) (λ c κs. search rules) (λ c. search rules) returns (λ c. search rules)
-    (λ c. search rules) (λ c κs. search rules) (λ c. search rules) returns-2 (λ c. search rules) (λ c. search rules)
-    (λ c κs. search rules) (λ c. search rules) returns-3 (λ c. search rules) (λ c. search rules) (λ c κs. search rules)
-    (λ c. search rules) returns-4 (λ c. search rules) (λ c. search rules) (λ c κs. search rules) (λ c. search rules)
-    returns-5 (λ c. search rules) (λ c. search rules) (λ c κs. search rules) (λ c. search rules) returns-6
-    (λ c. search rules) (λ c. search rules) (λ c κs. search rules) (λ c. search rules) returns-7 (λ c. search rules)
-    (λ c. search rules) word-requires-8 (λ c. search rules) returns-8 (λ c. search rules)
-    head-key-at-requires returns-9)
+    (tie.spec (λ c κs. search rules) (λ c. search rules) returns (λ c. search rules) (λ c κs. search rules)
+    (λ c. search rules) returns-2 (λ c. search rules) (λ c κs. search rules) (λ c. search rules) returns-3
+    (λ c. search rules) (λ c κs. search rules) (λ c. search rules) returns-4 (λ c. search rules)
+    (λ c κs. search rules) (λ c. search rules) returns-5 (λ c. search rules) (λ c κs. search rules)
+    (λ c. search rules) returns-6 (λ c. search rules) (λ c κs. search rules) (λ c. search rules) returns-7
+    (λ c. search rules) word-requires-8 (λ c. search rules) returns-8 (λ c. search rules) head-key-at-requires
+    returns-9)

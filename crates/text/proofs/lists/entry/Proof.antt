@@ -19,10 +19,10 @@ abbrev start : tie.In-Of → tie.Start
 start h = h.before.before.before.before
 
 head : (h : tie.In-Of) →
-    NumberHere (start h).args.text.now (start h).args.from h.head.given.0.0 h.head.given.0.1.0
+    NumberHere (start h).args.text.now (start h).args.from h.in-Of.head h.in-Of.behind
 head h = subst (NumberAt _ _) h.in-Of.is h.number.ensures
 
-placed : (h : tie.In-Of) → Placed (start h).args.text.now h.head.given.0.1.0
+placed : (h : tie.In-Of) → Placed (start h).args.text.now h.in-Of.behind
 placed h = moved-placed (start h).requires (head h).moved
 
 abbrev headed : tie.After-word → tie.In-Of
@@ -33,7 +33,7 @@ front w = headed w.before
 
 behind : (w : tie.In-At) →
     let h = front w in
-    WordHere (start h).args.text.now h.head.given.0.1.0 (colon ∷ []) w.next.given.0.0
+    WordHere (start h).args.text.now h.in-Of.behind (colon ∷ []) w.in-At.next
 behind w = subst (WordAt _ _ _) w.in-At.is w.word.ensures
 
 abbrev parted : tie.After-listing → tie.In-At
@@ -84,6 +84,6 @@ returns-4 c =
 pub entry_spec : {M : Type 1} → statement M
 entry_spec =
     tie.close
-    (tie.spec (λ c κs. search rules) (λ c. search rules) (λ c. search rules) returns (λ c. search rules) word-requires
-    (λ c. search rules) (λ c. search rules) returns-2 listing-requires (λ c. search rules) (λ c. search rules)
-    (λ c. search rules) returns-3 (λ c. search rules) returns-4)
+    (tie.spec (λ c κs. search rules) (λ c. search rules) (λ c. search rules) returns word-requires (λ c. search rules)
+    (λ c. search rules) returns-2 listing-requires (λ c. search rules) (λ c. search rules) (λ c. search rules)
+    returns-3 (λ c. search rules) returns-4)

@@ -17,8 +17,8 @@ read h = h.before.before.before
 abbrev start : tie.In-Of → tie.Start
 start h = (read h).before.before.before.before
 
-body : (h : tie.In-Of) → EntryHere (start h).args.text.now (start h).args.from h.head.given.0.0
-    h.head.given.0.1.0 (read h).entry.new.list h.head.given.0.1.1.0
+body : (h : tie.In-Of) → EntryHere (start h).args.text.now (start h).args.from h.in-Of.head
+    h.in-Of.count (read h).entry.new.list h.in-Of.behind
 body h = subst (EntryAt _ _ _) h.in-Of.is (read h).entry.ensures
 
 -- ---- the answers

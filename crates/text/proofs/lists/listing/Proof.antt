@@ -35,5 +35,5 @@ returns-2 c =
 pub listing_spec : {M : Type 1} → statement M
 listing_spec =
     tie.close
-    (tie.spec (λ c. search rules) (λ c κs. search rules) (λ c. search rules) (λ c. search rules) (λ c κs. search rules)
+    (tie.spec (λ c κs. search rules) (λ c. search rules) (λ c. search rules) (λ c κs. search rules)
     (λ c. search rules) returns returns-2)

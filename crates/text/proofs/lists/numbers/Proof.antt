@@ -14,11 +14,11 @@ use Rattle.text.proofs.WholeLines.{moved-placed}
 use Rattle.text.proofs.lists.numbers.Statement.{statement}
 
 abbrev invariant-loop-n : tie.invariant-loop-n
-invariant-loop-n text list₀ here₀ count₀ t9 list here count = (length list ≡ length list₀) ×
+invariant-loop-n text list₀ here₀ count₀ list here count = (length list ≡ length list₀) ×
     ListSoFar text here₀ here count list
 
 abbrev decreases-loop-n : tie.decreases-loop-n
-decreases-loop-n text list₀ here₀ count₀ t9 list here count = length text - here.at
+decreases-loop-n text list₀ here₀ count₀ list here count = length text - here.at
 
 -- ---- a turn of the loop: the number that is read, and the comma behind it
 abbrev turn : tie.In-Of invariant-loop-n decreases-loop-n → tie.At-loop-n invariant-loop-n decreases-loop-n
@@ -28,7 +28,7 @@ abbrev text : tie.In-Of invariant-loop-n decreases-loop-n → List ℕ
 text n = (turn n).args.text.now
 
 read : (n : tie.In-Of invariant-loop-n decreases-loop-n) →
-    NumberHere (text n) (turn n).loop-n.here n.n.given.0.0 n.n.given.0.1.0
+    NumberHere (text n) (turn n).loop-n.here n.in-Of.n n.in-Of.behind
 read n = subst (NumberAt _ _) n.in-Of.is n.number.ensures
 
 abbrev storing : tie.After-word-arg-1 invariant-loop-n decreases-loop-n → tie.After-keep invariant-loop-n decreases-loop-n
@@ -42,7 +42,7 @@ stored w = storing w.before.before.before
 
 behind : (w : tie.In-At invariant-loop-n decreases-loop-n) →
     let n = numbered (stored w) in
-    WordHere (text n) n.n.given.0.1.0 (comma ∷ []) w.next.given.0.0
+    WordHere (text n) n.in-Of.behind (comma ∷ []) w.in-At.next
 behind w = subst (WordAt _ _ _) w.in-At.is w.word.ensures
 
 -- ---- the answers
@@ -66,19 +66,19 @@ keep-requires c κs = tt
 word-requires : tie.Need-word-requires invariant-loop-n decreases-loop-n
 word-requires c κs =
     let n = numbered (storing c.before) in
-    moved-placed (turn n).loop-n.inv.1.placed (read n).moved
+    moved-placed (turn n).loop-n.invariant.1.placed (read n).moved
 
 same-length-2 : tie.Need-shape_of-list-in_default-word invariant-loop-n decreases-loop-n
 same-length-2 c =
     let k = storing c.before.before.before in
-    k.keep.kept.0 ∙ (turn (numbered k)).loop-n.inv.0
+    k.keep.auto.list ∙ (turn (numbered k)).loop-n.invariant.0
 
 returns-2 : tie.Need-returns-in_default-word invariant-loop-n decreases-loop-n
 returns-2 c =
     let w = c in
     let k = storing w.before.before.before in
     let none = subst (WordAt _ _ _) c.in_default-word.is w.word.ensures in
-    rw k.keep.ensures (list-ends (turn (numbered k)).loop-n.inv.1 (read (numbered k)) none)
+    rw k.keep.ensures (list-ends (turn (numbered k)).loop-n.invariant.1 (read (numbered k)) none)
 
 loop-less : tie.Need-loop-n-smaller invariant-loop-n decreases-loop-n
 loop-less c =
@@ -91,12 +91,12 @@ loop-less c =
 loop-again : tie.Need-loop-n-preserved invariant-loop-n decreases-loop-n
 loop-again c =
     let k = stored c in
-    let (long, sofar) = (turn (numbered k)).loop-n.inv in
-    (k.keep.kept.0 ∙ long, rw k.keep.ensures (list-goes-on sofar (read (numbered k)) (behind c)))
+    let (long, sofar) = (turn (numbered k)).loop-n.invariant in
+    (k.keep.auto.list ∙ long, rw k.keep.ensures (list-goes-on sofar (read (numbered k)) (behind c)))
 
 pub numbers_spec : {M : Type 1} → statement M
 numbers_spec =
     tie.close
     (tie.spec invariant-loop-n decreases-loop-n loop-holds number-requires (λ c. search rules) (λ c. search rules) same_length returns
-    keep-requires (λ c. omega arith) (λ c. search rules) word-requires (λ c. search rules) (λ c. search rules)
+    keep-requires (λ c. omega arith) word-requires (λ c. search rules) (λ c. search rules)
     same-length-2 returns-2 loop-less loop-again)

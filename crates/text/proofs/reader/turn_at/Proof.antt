@@ -19,7 +19,7 @@ start k = k.before.before.before.before
 
 -- the key that was found
 found : (k : tie.In-Of) →
-    KeyHere (start k).args.text.now (start k).args.from k.key.given.0.0 k.key.given.0.1.0
+    KeyHere (start k).args.text.now (start k).args.from k.in-Of.key k.in-Of.body
 found k = subst (KeyAt _ _) k.in-Of.is k.key_at.ensures
 
 -- ---- the answers
@@ -53,7 +53,7 @@ returns-3 c =
     let key = found k.before.before.before.before.before.before in
     let args = (start k.before.before.before.before.before.before).args in
     let bs = args.text.now in
-    let body = k.key.given.0.1.0 in
+    let body = k.in-Of.body in
     let may = sym allows.allowed.ensures ∙ allows.if-not-allowed.false in (
       done.ensures.0,
       λ d h.

@@ -33,5 +33,5 @@ returns-2 c =
 pub line_end_spec : {M : Type 1} → statement M
 line_end_spec =
     tie.close
-    (tie.spec (λ c. search rules) (λ c κs. search rules) (λ c. search rules) (λ c. search rules) returns add-t10
+    (tie.spec (λ c κs. search rules) (λ c. search rules) (λ c. search rules) returns add-t10
     returns-2)

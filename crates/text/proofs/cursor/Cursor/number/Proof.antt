@@ -62,7 +62,7 @@ loop-again : tie.Need-loop-digit-preserved invariant-loop-digit decreases-loop-d
 loop-again c =
     let here = c in
     one_more here.loop-digit.invariant (omega arith)
-    (λ p q. ⊎_elim (λ w. w.1.left q) (λ w. w.left p) c.if-digits-eq1.branch)
+    (λ p q. ⊎_elim (λ w. w.if-value-eq0.false q) (λ w. w.if-digits-eq1.false p) c.if-digits-eq1.branch-raw)
     (subst (DigitAt _ _) here.in-Of.is here.digit.ensures)
 
 pub number_spec : {M : Type 1} → statement M

@@ -18,20 +18,20 @@ use Rattle.text.proofs.TableRoom.{in_table, row-numbers, args-small}
 use Rattle.text.proofs.lines.atom.add_atom.Statement.{statement}
 
 -- ---- what is known once it is tested whether the atom fits
-abbrev few : tie.After-fits2 → tie.Else-counts-ge-MOST_ATOMS
-few f = f.before.before.before.before
+abbrev few : tie.After-fits → tie.Else-counts-ge-MOST_ATOMS
+few f = f.before.before.before
 
-abbrev entry : tie.After-fits2 → tie.Start
+abbrev entry : tie.After-fits → tie.Start
 entry f = (few f).before.before.before.before
 
-total : (f : tie.After-fits2) → (entry f).args.counts.closed + (entry f).args.counts.atoms < 1000
-total f = f.before.before.if-counts-ge-MOST_SCHEMA_ATOMS.false
+total : (f : tie.After-fits) → (entry f).args.counts.closed + (entry f).args.counts.atoms < 1000
+total f = f.if-counts-ge-MOST_SCHEMA_ATOMS.false
 
-inside : (f : tie.After-fits2) → row_at (entry f).args.counts + atom_size ≤ table_length
+inside : (f : tie.After-fits) → row_at (entry f).args.counts + atom_size ≤ table_length
 inside f = few_words (entry f).requires.0.holds.few (total f)
 
 -- ---- and once the row is written
-abbrev fitting : tie.After-put_row → tie.After-fits2
+abbrev fitting : tie.After-put_row → tie.After-fits
 fitting p = p.before.before.before.before.before
 
 abbrev start : tie.After-put_row → tie.Start
@@ -53,7 +53,7 @@ put : (p : tie.After-put_row) (d : Draft) (ns : List ℕ) → Holds d (before p)
     Listed ns (start p).args.count (start p).args.args.now →
     AtomPut d (start p).args.counts (start p).args.role (start p).args.predicate ns (after p)
 put p d ns h s =
-    atom-put h (start p).requires.1.0 (few (fitting p)).if-counts-ge-MOST_ATOMS.false (total (fitting p)) (fitting p).fits2.ensures
+    atom-put h (start p).requires.1.0 (few (fitting p)).if-counts-ge-MOST_ATOMS.false (total (fitting p)) (fitting p).fits.ensures
     p.if-not-fits.false (start p).requires.1.1 s
     p.next_row-row.ensures p.put_row.ensures
 
@@ -90,22 +90,22 @@ returns-3 c =
       untouched _,
       λ d ns h s. atom-misfits d _ _ ns (let e = h.atoms in omega arith)
           (let e = h.atoms in let q = h.closed in omega arith)
-          (sym (atom-fits h f.fits2.ensures (entry f).requires.1.1 s) ∙ c.if-not-fits.true),
+          (sym (atom-fits h f.fits.ensures (entry f.before).requires.1.1 s) ∙ c.if-not-fits.true),
     )
 
 put-row-requires : tie.Need-put_row-requires
 put-row-requires c κs =
     let f = c in
-    let h = (entry f).requires.0.holds in
-    let fits = f.fits2.ensures in
+    let h = (entry f.before.before.before.before).requires.0.holds in
+    let fits = f.fits.ensures in
     let told = c.if-not-fits.false in
-    let room = in_table (inside f) h.long in
+    let room = in_table (inside f.before.before.before.before) h.long in
     let row = c.next_row-row.ensures in
-    let role = (entry f).requires.1.0.known in
+    let role = (entry f.before.before.before.before).requires.1.0.known in
     let schemas = h.few.schemas in (
       omega arith,
       (
-        row-numbers fits told (omega arith) (omega arith) h.few.predicates (entry f).requires.1.1,
+        row-numbers fits told (omega arith) (omega arith) h.few.predicates (entry f.before.before.before.before).requires.1.1,
         args-small fits told (omega (arith, h.few.params)),
       ),
     )

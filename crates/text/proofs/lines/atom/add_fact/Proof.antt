@@ -19,23 +19,23 @@ use Rattle.text.proofs.TableRoom.{in_table, row-numbers, args-small}
 use Rattle.text.proofs.lines.atom.add_fact.Statement.{statement}
 
 -- ---- what is known once it is tested whether the atom fits
-abbrev facts : tie.After-fits2 → tie.After-facts-facts
-facts f = f.before.before.before.before
+abbrev facts : tie.After-fits → tie.After-facts-facts
+facts f = f.before.before.before
 
-abbrev entry : tie.After-fits2 → tie.Start
+abbrev entry : tie.After-fits → tie.Start
 entry f = (facts f).before.before.before
 
-below : (f : tie.After-fits2) → (facts f).facts-facts.result.read < (facts f).facts-facts.result.most
-below f = f.before.before.if-facts.false
+below : (f : tie.After-fits) → (facts f).facts-facts.result.read < (facts f).facts-facts.result.most
+below f = f.if-facts.false
 
-place : (f : tie.After-fits2) → FactPlace (entry f).args.counts (facts f).facts-facts.result
+place : (f : tie.After-fits) → FactPlace (entry f).args.counts (facts f).facts-facts.result
 place f = fact-place (entry f).args.kind (entry f).requires.0.holds.few (facts f).facts-facts.ensures
 
-inside : (f : tie.After-fits2) → row_at (entry f).args.counts + atom_size ≤ table_length
+inside : (f : tie.After-fits) → row_at (entry f).args.counts + atom_size ≤ table_length
 inside f = fact-room (entry f).requires.0.holds.few ((place f).few (below f))
 
 -- ---- and once the row is written
-abbrev fitting : tie.After-put_row → tie.After-fits2
+abbrev fitting : tie.After-put_row → tie.After-fits
 fitting p = p.before.before.before.before
 
 abbrev start : tie.After-put_row → tie.Start
@@ -66,7 +66,7 @@ put : (p : tie.After-put_row) (d : Draft) (ns : List ℕ) → Given p d ns →
     (after p)
 put p d ns (h, s) =
     fact-put (start p).args.kind h (start p).requires.1.0 (known p).facts-facts.ensures (below (fitting p))
-    (fitting p).fits2.ensures p.if-not-fits.false
+    (fitting p).fits.ensures p.if-not-fits.false
     (start p).requires.1.1 s p.next_row-row.ensures p.put_row.ensures
 
 -- ---- and once it is compared with the row before
@@ -99,22 +99,22 @@ returns-2 : tie.Need-returns-then-not-fits
 returns-2 c =
     let f = c in (
       untouched _,
-      λ d ns h s. misfit-refused (entry f).args.kind h (facts f).facts-facts.ensures _ ns (below f)
-          (sym (fact-fits h f.fits2.ensures (entry f).requires.1.1 s) ∙ c.if-not-fits.true),
+      λ d ns h s. misfit-refused (entry f.before).args.kind h (facts f.before).facts-facts.ensures _ ns (below f.before)
+          (sym (fact-fits h f.fits.ensures (entry f.before).requires.1.1 s) ∙ c.if-not-fits.true),
     )
 
 put-row-requires : tie.Need-put_row-requires
 put-row-requires c κs =
     let f = c in
-    let h = (entry f).requires.0.holds in
-    let fits = f.fits2.ensures in
+    let h = (entry f.before.before.before).requires.0.holds in
+    let fits = f.fits.ensures in
     let told = c.if-not-fits.false in
-    let room = in_table (inside f) h.long in
+    let room = in_table (inside f.before.before.before) h.long in
     let row = c.next_row-row.ensures in
-    let role = (place f).known in (
+    let role = (place f.before.before.before).known in (
       omega arith,
       (
-        row-numbers fits told (omega arith) (omega arith) h.few.predicates (entry f).requires.1.1,
+        row-numbers fits told (omega arith) (omega arith) h.few.predicates (entry f.before.before.before).requires.1.1,
         args-small fits told (omega (arith, h.few.objects)),
       ),
     )

@@ -26,8 +26,8 @@ abbrev begun : tie.After-add_atom-check → tie.Start
 begun a = start (line (atom a))
 
 read : (a : tie.After-add_atom-check) → EntryLine (begun a).args.text.now (begun a).args.from
-    (atom a).predicate.given.0.0 (atom a).predicate.given.0.1.0
-    (line (atom a)).entry_line.new.list (atom a).predicate.given.0.1.1.0
+    (atom a).in-Of.predicate (atom a).in-Of.count
+    (line (atom a)).entry_line.new.list (atom a).in-Of.next
 read a = subst (EntryLineAt _ _ _) (atom a).in-Of.is (line (atom a)).entry_line.ensures
 
 -- ---- the answers

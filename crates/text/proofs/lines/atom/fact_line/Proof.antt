@@ -17,14 +17,14 @@ abbrev atom : tie.After-add_fact-check → tie.In-Of
 atom a = a.before.before.before
 
 abbrev line : tie.After-add_fact-check → tie.After-entry_line
-line a = (atom a).before.before.before
+line a = (atom a).before.before
 
 abbrev start : tie.After-add_fact-check → tie.Start
 start a = (line a).before.before.before.before
 
 read : (a : tie.After-add_fact-check) → EntryLine (start a).args.text.now (start a).args.from
-    (atom a).predicate.given.0.0 (atom a).predicate.given.0.1.0
-    (line a).entry_line.new.list (atom a).predicate.given.0.1.1.0
+    (atom a).in-Of.predicate (atom a).in-Of.count
+    (line a).entry_line.new.list (atom a).in-Of.next
 read a = subst (EntryLineAt _ _ _) (atom a).in-Of.is (line a).entry_line.ensures
 
 abbrev grown : tie.After-add_fact-check → Counts

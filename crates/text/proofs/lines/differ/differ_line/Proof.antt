@@ -24,8 +24,8 @@ begun l = (heard l).before.before.before.before
 
 read : (l : tie.In-Of) →
     let text = (begun l).args.text.now in
-    ListLine text (begun l).args.from (numbers (rest text (begun l).args.from)) l.count.given.0.0
-    (heard l).numbers.new.list l.count.given.0.1.0
+    ListLine text (begun l).args.from (numbers (rest text (begun l).args.from)) l.in-Of.count
+    (heard l).numbers.new.list l.in-Of.next
 read l =
     subst (ListLineAt _ _ _ _) l.in-Of.is
     (l.list_line.ensures _ _ _ (heard l).numbers.ensures)

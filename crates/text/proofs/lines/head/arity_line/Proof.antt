@@ -31,7 +31,7 @@ start l = (heard l).before.before.before.before
 read : (l : tie.In-Of) →
     let s = start l in
     ListLine s.args.text.now s.args.from (numbers (rest s.args.text.now s.args.from))
-    l.count.given.0.0 (heard l).numbers.new.list l.count.given.0.1.0
+    l.in-Of.count (heard l).numbers.new.list l.in-Of.next
 read l =
     subst (ListLineAt _ _ _ _) l.in-Of.is
     (l.list_line.ensures _ _ _ (heard l).numbers.ensures)

@@ -74,14 +74,14 @@ returns-2 c = λ d ns h s. not_named d ns (some c.before d h) (named c.before d 
 
 returns-3 : tie.Need-returns-then-count-counts
 returns-3 c =
-    let names = c in
+    let names = c.before.before.before in
     λ d ns h s. wrong-length d ns (some names d h) (named names d h ∙ c.if-not-all_named.false)
     (λ q. c.if-count-counts.true (let e = h.atoms in let n = s.counted in omega arith))
 
 returns-4 : tie.Need-returns-then-not-all_below
 returns-4 c =
-    let t = c in
-    λ d ns h s. part-high d ns (some (tested t.before) d h) (all-named t d ns h s) (same t d ns h s)
+    let t = c.before in
+    λ d ns h s. part-high d ns (some (tested t) d h) (all-named t d ns h s) (same t d ns h s)
     (low t d ns h s ∙ c.if-not-all_below.true)
 
 without-gap-requires : tie.Need-without_gap-requires
@@ -93,17 +93,17 @@ without-gap-requires c κs =
 
 returns-5 : tie.Need-returns-then-not-without_gap
 returns-5 c =
-    let t = c in
-    λ d ns h s. part-gap d ns (some (tested t.before.before.before) d h) (all-named t d ns h s) (same t d ns h s)
+    let t = c.before.before.before in
+    λ d ns h s. part-gap d ns (some (tested t) d h) (all-named t d ns h s) (same t d ns h s)
     (low t d ns h s ∙ c.if-not-all_below.false)
     (ap no_gap_in (sym (kept t d ns h s)) ∙ (sym c.without_gap.ensures ∙ c.if-not-without_gap.true))
 
 returns-6 : tie.Need-returns
 returns-6 c =
-    let t = c in
+    let t = c.before.before.before in
     λ d ns h s.
     let below = low t d ns h s ∙ c.if-not-all_below.false in (
-      parts-close d ns (some (tested t.before.before.before) d h) (all-named t d ns h s) (same t d ns h s) below
+      parts-close d ns (some (tested t) d h) (all-named t d ns h s) (same t d ns h s) below
           (ap no_gap_in (sym (kept t d ns h s)) ∙ (sym c.without_gap.ensures ∙ c.if-not-without_gap.false)),
       same t d ns h s,
       below,

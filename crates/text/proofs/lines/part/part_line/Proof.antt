@@ -38,8 +38,8 @@ kept l = (heard l).listing.new.list
 
 read : (l : tie.In-Of) →
     let text = (begun l).args.text.now in
-    ListLine text (begun l).args.from (listing (rest text (begun l).args.from)) l.count.given.0.0 (kept l)
-    l.count.given.0.1.0
+    ListLine text (begun l).args.from (listing (rest text (begun l).args.from)) l.in-Of.count (kept l)
+    l.in-Of.next
 read l =
     subst (ListLineAt _ _ _ _) l.in-Of.is
     (l.list_line.ensures _ _ _ (heard l).listing.ensures)
