@@ -16,7 +16,7 @@ use Rattle.task.specs.Task.{Fact, Task}
 use Rattle.task.specs.Run.{Step, schema_at, applies, next, ran, run_from}
 use Rattle.tokens.specs.Split.{parts, procnone, do_token, orders, free, first_of}
 use Rattle.blocks.specs.Blocks.{part_step, block, unfold_steps}
-use Rattle.words.proofs.Lists.{bool_cases, In, here, in_right, in-append, map-in, length-up_to}
+use Rattle.words.proofs.Lists.{bool_cases, In, here, there, in_right, in-append, map-in, length-up_to}
 use Rattle.task.proofs.States.{applies-in, run_on, run-stop, State, IsChoice, is-is_choice, IsStep, next-state}
 use Rattle.tokens.proofs.Ground.{bare, the-bare}
 use Rattle.tokens.proofs.Accepted.{do-schema, do-position, do-not-free, token_at, required-is, token-zero, token-inside}
@@ -29,7 +29,7 @@ use Rattle.correspondence.proofs.OneBlock.{object_of, TokensIn, block_runs, bloc
 use Rattle.correspondence.proofs.OneList.{ran-inj, ran-not-stopped}
 use Rattle.correspondence.proofs.OneWay.{one-more-block}
 use Rattle.correspondence.proofs.NextPart.{merged, own-part, merged-choice, merged-tokens, merged-parts}
-use Rattle.blocks.proofs.Given.{head_step, tail-steps, last-steps, part-count, filled}
+use Rattle.blocks.proofs.Given.{Given, head_step, tail-steps, last-steps, part-count, filled}
 use Rattle.blocks.proofs.SplitSteps.{block-step}
 
 -- the steps `pre` of the split lead from the state s₀ with procnone to S, whatever follows
@@ -57,13 +57,13 @@ pub record CameApart (t : Task) (ys : List Step) (E : List Fact) : Type 0 where
   pub free-alone : In (bare (procnone t)) E → rest ≡ []
   pub alone-free : rest ≡ [] → In (bare (procnone t)) E
 
-module _ {t t' : Task} where
+module _ {t t' : Task} (G : Given t t') where
   -- ---- which part a step that runs is
   -- it asks for the bare token of its position
   bare-token-stands : (s j : ℕ) → s < length t.schemas → j < length (orders t s) → (y : Step) →
       y.schema ≡ first_of t s + j → (S : List Fact) → applies t' S y ≡ true → In (bare (token_at t s (orders t s) j)) S
   bare-token-stands s j l h y at S ok = applies-in t' S y ok (bare (token_at t s (orders t s) j))
-      (asks-token (own-part s j l h y at) (bare (token_at t s (orders t s) j))
+      (asks-token (own-part G s j l h y at) (bare (token_at t s (orders t s) j))
       (the-bare (ap bare (sym (required-is t s (orders t s) j h)))))
 
   starts : (s j : ℕ) → s < length t.schemas → j < length (orders t s) → (y : Step) → y.schema ≡ first_of t s + j →
@@ -75,6 +75,7 @@ module _ {t t' : Task} where
           j ≡ 0
       go (inl i) = absurd (let z = state-low t s₀ st (bare (token_at t s (orders t s) j)) i in
           omega (arith, token-high t s (orders t s) j))
+      go (inr (there x4)) = elim x4 [ ]
       go (inr (here e)) = elim (dec_lt 0 j) [
         | yes q ↦
             absurd (do-not-free t s j q (sym (token-inside t s (orders t s) j q h) ∙ ap (λ f. f.pred) e))
@@ -145,7 +146,7 @@ module _ {t t' : Task} where
         whole x step e
         (between (next t s₀ x) (next-state t s₀ x G.well st step)
         (ran-inj (sym came ∙ block_runs st step a 0 [])) refl)
-    | inr a ↦ let (m, E, l, q) = block-stops st step a 0 [] in absurd (ran-not-stopped came q)
+    | inr a ↦ let (m, E, l, q) = block-stops G st step a 0 [] in absurd (ran-not-stopped came q)
   ]
     where
       step : IsStep t x
@@ -169,13 +170,13 @@ module _ {t t' : Task} where
       x' = merged t x j y
 
       choice : IsChoice t x'
-      choice = merged-choice s₀ hx j hj S tk hy at ok
+      choice = merged-choice G s₀ hx j hj S tk hy at ok
 
       tokens : TokensIn t s₀ x' (suc j) (next t' S y)
-      tokens = merged-tokens s₀ hx j hj S tk hy at ok
+      tokens = merged-tokens G s₀ hx j hj S tk hy at ok
 
       list : pre ++ (y ∷ []) ≡ map (part_step t x') (up_to (suc j))
-      list = merged-parts s₀ hx j hj S tk hy at ok pre e
+      list = merged-parts G s₀ hx j hj S tk hy at ok pre e
 
       after : Leads t t' s₀ (pre ++ (y ∷ [])) (next t' S y)
       after = leads-on s₀ pre S leads y hy ok

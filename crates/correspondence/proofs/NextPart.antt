@@ -23,6 +23,7 @@ use Rattle.task.proofs.States.{applies-in, IsChoice, IsStep}
 use Rattle.tokens.proofs.Places.{in_params, params-in, At, at-first, index-small, index-get_or}
 use Rattle.tokens.proofs.Ground.{single, a-par}
 use Rattle.tokens.proofs.Predicates.{par-high, par-fixes}
+use Rattle.blocks.proofs.Given.{Given}
 use Rattle.blocks.proofs.Numbers.{split-schema}
 use Rattle.correspondence.proofs.Standing.{Token, AlikeBefore, tokens-alike}
 use Rattle.correspondence.proofs.PartAtoms.{IsPart, asks-token}
@@ -45,18 +46,18 @@ module _ (t : Task) (x : Step) (j : ℕ) where
     merged = record { schema = x.schema; objects = map choose (up_to (schema_at t x.schema).params) }
 
 -- a step of the split with the number of a part is that part, with its own objects
-pub own-part : {t t' : Task} → (s j : ℕ) → s < length t.schemas → j < length (orders t s) →
+pub own-part : {t t' : Task} → Given t t' → (s j : ℕ) → s < length t.schemas → j < length (orders t s) →
     (y : Step) → y.schema ≡ first_of t s + j →
     IsPart t t' s (λ p. get_or y.objects (index_of p (own t s (orders t s) j)) 0) j y
-own-part {t} {t'} s j l h y at = record {
-  given = 𝓛;
+own-part {t} {t'} G s j l h y at = record {
+  given = G;
   known = l;
   here = h;
-  schema = ap₂ schema_at 𝓛.is at ∙ split-schema t s j l h;
+  schema = ap₂ schema_at G.is at ∙ split-schema t s j l h;
   objects = λ x i. refl;
 }
 
-module _ {t t' : Task} (s₀ : List Fact) {x : Step} (hx : IsChoice t x) (j : ℕ)
+module _ {t t' : Task} (G : Given t t') (s₀ : List Fact) {x : Step} (hx : IsChoice t x) (j : ℕ)
     (hj : j < length (orders t x.schema)) (S : List Fact) (tk : TokensIn t s₀ x j S)
     {y : Step} (hy : IsStep t' y) (at : y.schema ≡ first_of t x.schema + j) (ok : applies t' S y ≡ true) where
   abbrev sx : Schema
@@ -66,7 +67,7 @@ module _ {t t' : Task} (s₀ : List Fact) {x : Step} (hx : IsChoice t x) (j : �
   ox = orders t x.schema
 
   this : IsPart t t' x.schema (given_by t x j y) j y
-  this = own-part x.schema j hx.known hj y at
+  this = own-part G x.schema j hx.known hj y at
 
   mine-has : (p : ℕ) → In p (mine t x j) → (p < sx.params) × (has sx p (get_or ox j 0) ≡ true)
   unfolding own

@@ -14,7 +14,7 @@ use Rattle.task.specs.Task.{Fact, Task, precondition, addition, deletion}
 use Rattle.task.specs.Run.{Step, schema_at, ground, ground_role, applies, next, stopped, run_from}
 use Rattle.tokens.specs.Split.{procnone, orders, free, first_of}
 use Rattle.blocks.specs.Blocks.{part_step, block}
-use Rattle.words.proofs.Lists.{both-ft, bool_cases, false-if, In, here, in-eq, in_left, in_right, in-append}
+use Rattle.words.proofs.Lists.{both-ft, bool_cases, false-if, In, here, there, in-eq, in_left, in_right, in-append}
 use Rattle.task.proofs.States.{asc-ext, in-role, role-in, in-next, next-add, next-keep, applies-in, in-applies, run_on}
 use Rattle.task.proofs.States.{run-stop, State, IsStep, next-state}
 use Rattle.tokens.proofs.Places.{last-at, some_at}
@@ -26,7 +26,7 @@ use Rattle.correspondence.proofs.Standing.{Done, OldFact, Token, TokensStand, St
 use Rattle.correspondence.proofs.Standing.{stands-start}
 use Rattle.correspondence.proofs.PartAtoms.{IsPart}
 use Rattle.correspondence.proofs.OnePart.{Needs, runs-needs, needs-run, stands-next}
-use Rattle.blocks.proofs.Given.{place_of}
+use Rattle.blocks.proofs.Given.{Given, place_of}
 
 -- the objects that a step gives its parameters
 abbrev pub object_of : Step → ℕ → ℕ
@@ -44,7 +44,7 @@ TokensIn t s₀ x j S = TokensStand t s₀ x.schema (object_of x) j S
 abbrev pub StepNeeds : Task → List Fact → Step → ℕ → Type 0
 StepNeeds t s₀ x j = Needs t s₀ x.schema (object_of x) j
 
-module _ {t t' : Task} {s₀ : List Fact} (st : State t s₀) {x : Step} (hx : IsStep t x) where
+module _ {t t' : Task} (G : Given t t') {s₀ : List Fact} (st : State t s₀) {x : Step} (hx : IsStep t x) where
   abbrev size : ℕ
   size = length (orders t x.schema)
 
@@ -102,6 +102,7 @@ module _ {t t' : Task} {s₀ : List Fact} (st : State t s₀) {x : Step} (hx : I
 
       back : (f : Fact) → In f (next t s₀ x) ⊎ In f (bare (procnone t) ∷ []) → In f S
       back f (inl i) = h.old-is f (state-low t (next t s₀ x) after f i) (end-is-old f (in-next t s₀ x f i))
+      back f (inr (there x5)) = elim x5 [ ]
       back f (inr (here e)) =
           h.tokens.token-is f (let z = ap (λ f. f.pred) e in omega arith)
           (inl (e ∙ ap bare (sym (token_end t x.schema (orders t x.schema) size refl))))

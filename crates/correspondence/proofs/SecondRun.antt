@@ -12,7 +12,7 @@ use Rattle.task.specs.Task.{Fact, Task, args_fit, facts_fit}
 use Rattle.task.specs.Run.{Step, is_step, schema_at}
 use Rattle.tokens.specs.Split.{procnone, parts, split_task, free}
 use Rattle.blocks.specs.Blocks.{unfold_steps}
-use Rattle.words.proofs.Lists.{and_both, In, here, in-empty, in-append, all_in, in_all, map_same}
+use Rattle.words.proofs.Lists.{and_both, In, here, there, in-empty, in-append, all_in, in_all, map_same}
 use Rattle.task.proofs.States.{State, facts_fit-state, is_step-is, fitting-args_fit, asc-ascending}
 use Rattle.tokens.proofs.Ground.{bare}
 use Rattle.blocks.proofs.Unfolded.{parts_of, length-unfold}
@@ -51,6 +51,7 @@ module _ {t t' : Task} (G : Given t t') where
       go : (f : Fact) → In f s ⊎ In f (bare (procnone t) ∷ []) →
           args_fit (split_task t).arities t.objects f.pred f.args ≡ true
       go f (inl i) = old f i
+      go f (inr (there x4)) = elim x4 [ ]
       go f (inr (here e)) = subst (λ f. args_fit (split_task t).arities t.objects f.pred f.args ≡ true) (sym e)
           (fitting-args_fit t.objects (split_task t).arities (procnone t) [] (record {
             known = simp length-append (omega arith);

@@ -12,7 +12,7 @@ use lib.ListN.{length, get_or}
 use Rattle.task.specs.Task.{Fact, Task, addition, deletion}
 use Rattle.task.specs.Run.{schema_at}
 use Rattle.tokens.specs.Split.{first_position, last_position, procnone, par_token, own, orders, free}
-use Rattle.words.proofs.Lists.{In, here, in_left, in_right, in-append}
+use Rattle.words.proofs.Lists.{In, here, there, in_left, in_right, in-append}
 use Rattle.task.proofs.States.{Asc, asc-snoc, State, less-pred}
 use Rattle.tokens.proofs.Places.{has-small, params-in, first-at, some_at}
 use Rattle.tokens.proofs.Ground.{bare, single, OldOf, old_of, TokenOf, the-bare, a-par}
@@ -95,10 +95,12 @@ stands-start t s₀ st s v = record {
 
     old : (f : Fact) → f.pred < procnone t → In f s₀ ⊎ In f (bare (procnone t) ∷ []) → OldFact t s₀ s v 0 f
     old f h (inl i) = inr (i, λ d. none_before d.1)
+    old f h (inr (there x4)) = elim x4 [ ]
     old f h (inr (here e)) = absurd (let z = ap (λ f. f.pred) e in omega arith)
 
     token : (f : Fact) → procnone t ≤ f.pred → In f s₀ ⊎ In f (bare (procnone t) ∷ []) → Token t s₀ s v 0 f
     token f h (inl i) = absurd (let z = state-low t s₀ st f i in omega arith)
+    token f h (inr (there x4)) = elim x4 [ ]
     token f h (inr (here e)) = inl (e ∙ ap bare (sym (token-zero t s (orders t s))))
 
 -- ---- which tokens stand depends only on the objects of parameters found before j

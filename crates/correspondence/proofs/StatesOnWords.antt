@@ -53,6 +53,7 @@ asc-front [] r h = asc-nil
 asc-front (f ∷ s) r (asc-cons b h) = asc-cons (λ g i. b g (in_left r i)) (asc-front s r h)
 
 asc-last : (s : List Fact) (f g : Fact) → Asc (s ++ (f ∷ [])) → In g s → Less (key g) (key f)
+asc-last [] f g _ x3 = elim x3 [ ]
 asc-last (h ∷ s) f g (asc-cons b k) (here e) = rw e (b f (in_right s (here refl)))
 asc-last (h ∷ s) f g (asc-cons b k) (there i) = asc-last s f g k i
 
