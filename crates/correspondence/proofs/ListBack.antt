@@ -145,7 +145,7 @@ module _ {t t' : Task} (G : Given t t') where
     | inl a ↦
         whole x step e
         (between (next t s₀ x) (next-state t s₀ x G.well st step)
-        (ran-inj (sym came ∙ block_runs st step a 0 [])) refl)
+        (ran-inj (sym came ∙ block_runs G st step a 0 [])) refl)
     | inr a ↦ let (m, E, l, q) = block-stops G st step a 0 [] in absurd (ran-not-stopped came q)
   ]
     where
