@@ -69,10 +69,8 @@ pub fn put_pairs(text: &mut [u8], at: usize, table: &[u16], schema: usize, from:
     requires schema_in_bounds { at + length (pairs_in table.now from (first_pair (task_of table.now) (suc schema))) ≤
         length text.old }
     ensures pair_value { result.pair ≡ first_pair (task_of table.now) (suc schema) }
-    ensures fact {
-        let w = table.now in
-        Puts text.old at (pairs_in w from (first_pair (task_of w) (suc schema))) text.new result.at
-    }
+    ensures fact { let w = table.now in
+        Puts text.old at (pairs_in w from (first_pair (task_of w) (suc schema))) text.new result.at }
 {
     let count = word(table, PAIRS);
     let mut next = at;

@@ -11,22 +11,22 @@ use borrow.Author.Rules.{rules}
 use Rattle.defines.proofs.actions.parameters_size.Statement.{statement}
 use Rattle.defines.proofs.actions.parameters_size.Tie as tie
 
-returns : tie.Need-returns
-returns c = sym (ap length (ap parameters c.if1.true ∙ no-neighbours parameter))
+returns : tie.Need-returns-then-params-eq0
+returns c = sym (ap length (ap parameters c.if-params-eq0.true ∙ no-neighbours parameter))
 
-add-result : tie.Need-overflow-add-result
+add-result : tie.Need-overflow_add-result
 add-result c =
-    let b = below-long c.before.before.args.params (omega arith) in
-    let e = c.below-size.ensures in
+    let b = below-long c.args.params (omega arith) in
+    let e = c.below_size.ensures in
     omega arith
 
-returns-2 : tie.Need-returns-2
+returns-2 : tie.Need-returns
 returns-2 c =
-    let l = parameters-long c.before.before.args.params in
-    let e = c.below-size.ensures in
+    let l = parameters-long c.args.params in
+    let e = c.below_size.ensures in
     omega arith
 
-pub parameters-size-spec : {M : Type 1} → statement M
-parameters-size-spec =
+pub parameters_size_spec : {M : Type 1} → statement M
+parameters_size_spec =
     tie.close
     (tie.spec returns (λ c. search rules) (λ c κs. search rules) add-result (λ c. search rules) returns-2)

@@ -91,74 +91,74 @@ begin : (c : tie.Start) → Left c (head c ++ from-preconditions c) c.args.text.
 begin c = going-left (action-in (words c) (table c) c.args.schema (known c)) (going_start c.requires.1.1.1.1)
 
 -- ---- the head, by the parameter count that was read
-params-of-requires : tie.Need-params-of-requires
+params-of-requires : tie.Need-params_of-params-requires
 params-of-requires c κs =
-    let start = c.before.before.before in
-    count-inside (words start) c.wide.ensures (table start) (known start)
+    let start = c in
+    count-inside (words start.before.before.before) c.wide-number.ensures (table start.before.before.before) (known start.before.before.before)
 
-abbrev entry : tie.After-params-of → tie.Start
+abbrev entry : tie.After-params_of-params → tie.Start
 entry c = c.before.before.before.before
 
-head-said : (c : tie.After-params-of) → head_text (entry c).args.schema c.params_of.result ≡ head (entry c)
-head-said c = head_read (words (entry c)) c.before.wide.ensures c.params_of.ensures.0
+head-said : (c : tie.After-params_of-params) → head_text (entry c).args.schema c.params_of-params.result ≡ head (entry c)
+head-said c = head_read (words (entry c)) c.wide-number.ensures c.params_of-params.ensures.0
 
-put-head-requires : tie.Need-put-head-requires
+put-head-requires : tie.Need-put_head-at_preconditions-requires
 put-head-requires c κs =
     let start = entry c.before in
     let e = ap length (head-said c.before) in
     let r = going-room (head start) (from-preconditions start) (begin start) in
     omega arith
 
-abbrev read : tie.After-slice-known2 → tie.After-params-of
+abbrev read : tie.After-slice_known-2-1 → tie.After-params_of-params
 read c = c.before.before.before.before
 
-abbrev start : tie.After-slice-known2 → tie.Start
+abbrev start : tie.After-slice_known-2-1 → tie.Start
 start c = entry (read c)
 
-abbrev number : (c : tie.After-slice-known2) → (read c).before.wide.result ≡ (start c).args.schema
-number c = (read c).before.wide.ensures
+abbrev number : (c : tie.After-slice_known-2-1) → (read c).wide-number.result ≡ (start c).args.schema
+number c = (read c).wide-number.ensures
 
-behind-head : (c : tie.After-slice-known2) →
-    Left (start c) (from-preconditions (start c)) c.before.before.put-head.new.0
-    c.before.before.put-head.result
-behind-head c = going_on (begin (start c)) (puts-same (head-said (read c)) c.before.before.put-head.ensures)
+behind-head : (c : tie.After-slice_known-2-1) →
+    Left (start c) (from-preconditions (start c)) c.put_head-at_preconditions.new.text
+    c.put_head-at_preconditions.result
+behind-head c = going_on (begin (start c)) (puts-same (head-said (read c)) c.put_head-at_preconditions.ensures)
 
 -- ---- the preconditions
-put-run-requires : tie.Need-put-run-requires
+put-run-requires : tie.Need-put_run-adds-requires
 put-run-requires c κs =
     let start = start c.before in (
       table start,
-      run-asked (first_run start) (number c.before) start.pre.1.1.0 _
+      run-asked (first_run start) (number c.before) start.requires.1.1.0 _
           (going-room (preconditions start) (pairs start ++ from-effect start) (behind-head c.before)),
     )
 
-abbrev headed : tie.After-slice-known3 → tie.After-slice-known2
+abbrev headed : tie.After-slice_known-3-1 → tie.After-slice_known-2-1
 headed c = c.before.before.before.before
 
-behind-preconditions : (c : tie.After-slice-known3) →
+behind-preconditions : (c : tie.After-slice_known-3-1) →
     Left (start (headed c)) (pairs (start (headed c)) ++ from-effect (start (headed c)))
-    c.before.before.put-run.new.0 c.before.before.put-run.result.at
+    c.put_run-adds.new.text c.put_run-adds.result.at
 behind-preconditions c =
     let start = start (headed c) in
     going_on (behind-head (headed c))
-    (run-puts (first_run start) (number (headed c)) start.pre.1.1.0 c.before.before.put-run.ensures)
+    (run-puts (first_run start) (number (headed c)) start.requires.1.1.0 c.put_run-adds.ensures)
 
-adds-found : (c : tie.After-slice-known3) → c.before.before.put-run.result.atom ≡ to-adds (start (headed c))
+adds-found : (c : tie.After-slice_known-3-1) → c.put_run-adds.result.atom ≡ to-adds (start (headed c))
 adds-found c =
     let start = start (headed c) in
-    run_ends (first_run start) (number (headed c)) start.pre.1.1.0 c.before.before.put-run.ensures
+    run_ends (first_run start) (number (headed c)) start.requires.1.1.0 c.put_run-adds.ensures
 
 -- ---- the pairs, by the schema as code holds it and by the place that was handed over
-pairs-said : (c : tie.After-slice-known3) →
+pairs-said : (c : tie.After-slice_known-3-1) →
     let start = start (headed c) in
     pairs_in (words start) start.args.pair
-    (first_pair (task_of (words start)) (suc (read (headed c)).before.wide.result)) ≡ pairs start
+    (first_pair (task_of (words start)) (suc (read (headed c)).before.wide-number.result)) ≡ pairs start
 pairs-said c =
     let start = start (headed c) in
     let t = task_of (words start) in
-    ap₂ (λ (i s : ℕ). pairs_in (words start) i (first_pair t (suc s))) start.pre.1.1.1.0 (number (headed c))
+    ap₂ (λ (i s : ℕ). pairs_in (words start) i (first_pair t (suc s))) start.requires.1.1.1.0 (number (headed c))
 
-put-pairs-requires : tie.Need-put-pairs-requires
+put-pairs-requires : tie.Need-put_pairs-apart-requires
 put-pairs-requires c κs =
     let start = start (headed c.before) in
     let schema = number (headed c.before) in
@@ -169,46 +169,46 @@ put-pairs-requires c κs =
       (
         omega arith,
         (
-          start.pre.1.1.1.0 ∙ ap (first_pair (task_of (words start))) (sym schema),
+          start.requires.1.1.1.0 ∙ ap (first_pair (task_of (words start))) (sym schema),
           omega arith,
         ),
       ),
     )
 
-abbrev required : tie.After-slice-known4 → tie.After-slice-known3
+abbrev required : tie.After-slice_known-4-1 → tie.After-slice_known-3-1
 required c = c.before.before.before.before
 
-behind-pairs : (c : tie.After-slice-known4) →
+behind-pairs : (c : tie.After-slice_known-4-1) →
     Left (start (headed (required c))) (from-effect (start (headed (required c))))
-    c.before.before.put-pairs.new.0 c.before.before.put-pairs.result.at
+    c.put_pairs-apart.new.text c.put_pairs-apart.result.at
 behind-pairs c =
     going_on (behind-preconditions (required c))
-    (puts-same (pairs-said (required c)) c.before.before.put-pairs.ensures.1)
+    (puts-same (pairs-said (required c)) c.put_pairs-apart.ensures.1)
 
-put-bytes-requires : tie.Need-put-bytes-requires
+put-bytes-requires : tie.Need-put_bytes-at_effects-requires
 unfolding bytes
 put-bytes-requires c κs =
-    going-room (bytes ") :effect (and") (from-adds (start (headed (required c.before.before))))
-    (behind-pairs c.before.before)
+    going-room (bytes ") :effect (and") (from-adds (start (headed (required c.before.before.before))))
+    (behind-pairs c.before.before.before)
 
-abbrev paired : tie.After-slice-known5 → tie.After-slice-known4
-paired c = c.before.before.before.before.before
+abbrev paired : tie.After-slice_known-5-1 → tie.After-slice_known-4-1
+paired c = c.before.before.before.before.before.before
 
-abbrev told : tie.After-slice-known5 → tie.After-slice-known3
+abbrev told : tie.After-slice_known-5-1 → tie.After-slice_known-3-1
 told c = required (paired c)
 
-abbrev started : tie.After-slice-known5 → tie.Start
+abbrev started : tie.After-slice_known-5-1 → tie.Start
 started c = start (headed (told c))
 
-behind-effect : (c : tie.After-slice-known5) →
-    Left (started c) (from-adds (started c)) c.before.before.put-bytes.new.0
-    c.before.before.put-bytes.result
+behind-effect : (c : tie.After-slice_known-5-1) →
+    Left (started c) (from-adds (started c)) c.put_bytes-at_effects.new.text
+    c.put_bytes-at_effects.result
 unfolding bytes
 behind-effect c =
-    going_on {ys = bytes ") :effect (and"} (behind-pairs (paired c)) c.before.before.put-bytes.ensures
+    going_on {ys = bytes ") :effect (and"} (behind-pairs (paired c)) c.put_bytes-at_effects.ensures
 
 -- ---- the adds
-put-run-requires-2 : tie.Need-put-run-requires-2
+put-run-requires-2 : tie.Need-put_run-deletes-requires
 put-run-requires-2 c κs =
     let start = started c.before in (
       table start,
@@ -216,25 +216,25 @@ put-run-requires-2 c κs =
           (going-room (adds start) (from-deletes start) (behind-effect c.before)),
     )
 
-abbrev opened : tie.After-slice-known6 → tie.After-slice-known5
+abbrev opened : tie.After-slice_known-6-1 → tie.After-slice_known-5-1
 opened c = c.before.before.before.before
 
-behind-adds : (c : tie.After-slice-known6) →
-    Left (started (opened c)) (from-deletes (started (opened c))) c.before.before.put-run2.new.0
-    c.before.before.put-run2.result.at
+behind-adds : (c : tie.After-slice_known-6-1) →
+    Left (started (opened c)) (from-deletes (started (opened c))) c.put_run-deletes.new.text
+    c.put_run-deletes.result.at
 behind-adds c =
     going_on (behind-effect (opened c))
     (run-puts (second_run (started (opened c))) (number (headed (told (opened c))))
-    (adds-found (told (opened c))) c.before.before.put-run2.ensures)
+    (adds-found (told (opened c))) c.put_run-deletes.ensures)
 
-deletes-found : (c : tie.After-slice-known6) →
-    c.before.before.put-run2.result.atom ≡ to-deletes (started (opened c))
+deletes-found : (c : tie.After-slice_known-6-1) →
+    c.put_run-deletes.result.atom ≡ to-deletes (started (opened c))
 deletes-found c =
     run_ends (second_run (started (opened c))) (number (headed (told (opened c))))
-    (adds-found (told (opened c))) c.before.before.put-run2.ensures
+    (adds-found (told (opened c))) c.put_run-deletes.ensures
 
 -- ---- the deletes
-put-run-requires-3 : tie.Need-put-run-requires-3
+put-run-requires-3 : tie.Need-put_run-end-requires
 put-run-requires-3 c κs =
     let start = started (opened c.before) in (
       table start,
@@ -242,46 +242,46 @@ put-run-requires-3 c κs =
           (going-room (deletes start) (bytes "))") (behind-adds c.before)),
     )
 
-abbrev added : tie.After-slice-known7 → tie.After-slice-known6
+abbrev added : tie.After-slice_known-7-1 → tie.After-slice_known-6-1
 added c = c.before.before.before.before
 
-behind-deletes : (c : tie.After-slice-known7) →
-    Left (started (opened (added c))) (bytes "))") c.before.before.put-run3.new.0
-    c.before.before.put-run3.result.at
+behind-deletes : (c : tie.After-slice_known-7-1) →
+    Left (started (opened (added c))) (bytes "))") c.put_run-end.new.text
+    c.put_run-end.result.at
 behind-deletes c =
     let opened = opened (added c) in
     going_on (behind-adds (added c))
     (run-puts (third-run (started opened)) (number (headed (told opened))) (deletes-found (added c))
-    c.before.before.put-run3.ensures)
+    c.put_run-end.ensures)
 
-put-bytes-requires-2 : tie.Need-put-bytes-requires-2
+put-bytes-requires-2 : tie.Need-put_bytes-behind-requires
 unfolding bytes
-put-bytes-requires-2 c κs = last-room (behind-deletes c.before.before)
+put-bytes-requires-2 c κs = last-room (behind-deletes c.before.before.before)
 
-same_length : tie.Need-same-length
+same_length : tie.Need-shape_of-text
 unfolding bytes
 same_length c =
-    puts-length (going-last (behind-deletes c.before.before.before.before.before)
-    c.before.before.put-bytes2.ensures)
+    puts-length (going-last (behind-deletes c.before.before.before.before.before.before)
+    c.put_bytes-behind.ensures)
 
 returns : tie.Need-returns
 unfolding bytes
 returns c =
-    let ended = c.before.before.before.before.before in
-    let opened = opened (added ended) in
+    let ended = c in
+    let opened = opened (added ended.before.before.before.before.before.before) in
     let schema = number (headed (told opened)) in
     let t = task_of (words (started opened)) in (
-      run_ends (third-run (started opened)) schema (deletes-found (added ended))
-          ended.before.before.put-run3.ensures,
+      run_ends (third-run (started opened)) schema (deletes-found (added ended.before.before.before.before.before.before))
+          ended.put_run-end.ensures,
       (
-        (paired opened).before.before.put-pairs.ensures.0 ∙ ap (λ (s : ℕ). first_pair t (suc s)) schema,
-        going-last (behind-deletes ended) c.before.before.put-bytes2.ensures,
+        (paired opened).put_pairs-apart.ensures.0 ∙ ap (λ (s : ℕ). first_pair t (suc s)) schema,
+        going-last (behind-deletes ended.before.before.before.before.before.before) c.put_bytes-behind.ensures,
       ),
     )
 
-pub put-action-spec : {M : Type 1} → statement M
-put-action-spec =
+pub put_action_spec : {M : Type 1} → statement M
+put_action_spec =
     tie.close
     (tie.spec (λ c κs. search rules) params-of-requires (λ c. search rules) put-head-requires put-run-requires
-    put-pairs-requires (λ c. search rules) put-bytes-requires put-run-requires-2 put-run-requires-3 (λ c. search rules)
-    put-bytes-requires-2 same_length returns)
+    put-pairs-requires put-bytes-requires put-run-requires-2 put-run-requires-3 put-bytes-requires-2 same_length
+    returns)

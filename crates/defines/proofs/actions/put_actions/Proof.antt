@@ -16,94 +16,94 @@ use Rattle.defines.specs.ByWords.{action_in}
 use Rattle.defines.proofs.actions.put_actions.Statement.{statement}
 use Rattle.defines.proofs.actions.put_actions.Tie as tie
 
-abbrev invariant-loop : tie.invariant-loop
-invariant-loop text₀ at table schemas acted₀ s₀ text acted s =
+abbrev invariant-loop-s : tie.invariant-loop-s
+invariant-loop-s text₀ at table schemas acted₀ s₀ text acted s =
     (s ≤ schemas) × ((acted.atom ≡ first_atom (task_of table) s) × ((acted.pair ≡ first_pair (task_of table) s) ×
     Going text₀ at (concat_map (action_in table) (up_to (head_in table).schemas)) (onwards (action_in table) s schemas) text
     acted.at))
 
-abbrev decreases-loop : tie.decreases-loop
-decreases-loop text₀ at table schemas acted₀ s₀ text acted s = schemas - s
+abbrev decreases-loop-s : tie.decreases-loop-s
+decreases-loop-s text₀ at table schemas acted₀ s₀ text acted s = schemas - s
 
-loop-holds : tie.Need-loop-init invariant-loop decreases-loop
+loop-holds : tie.Need-loop-s-init invariant-loop-s decreases-loop-s
 unfolding sum
 loop-holds c =
-    let start = c.before.before.before in
+    let start = c in
     let pieces = action_in start.args.table.now in
-    let e = ap (onwards pieces 0) c.word_at.ensures in
+    let e = ap (onwards pieces 0) c.word_at-schemas.ensures in
     (omega arith, (refl, (refl, going-left (sym (e ∙ onwards-all pieces _)) (going_start start.requires.1))))
 
 -- what the loop's head knows: the function's entry, and the count that was read
-abbrev start : tie.At-loop invariant-loop decreases-loop → tie.Start invariant-loop decreases-loop
+abbrev start : tie.At-loop-s invariant-loop-s decreases-loop-s → tie.Start invariant-loop-s decreases-loop-s
 start c = c.before.before.before.before
 
-abbrev words : tie.At-loop invariant-loop decreases-loop → List ℕ
+abbrev words : tie.At-loop-s invariant-loop-s decreases-loop-s → List ℕ
 words c = (start c).args.table.now
 
-abbrev schemas : tie.At-loop invariant-loop decreases-loop → ℕ
-schemas c = c.before.word_at.result
+abbrev schemas : tie.At-loop-s invariant-loop-s decreases-loop-s → ℕ
+schemas c = c.word_at-schemas.result
 
 -- what is to come is the action of schema s, and then those from s + 1 on
-abbrev behind : tie.At-loop invariant-loop decreases-loop → List ℕ
-behind c = onwards (action_in (words c)) (c.loop.s + 1) (schemas c)
+abbrev behind : tie.At-loop-s invariant-loop-s decreases-loop-s → List ℕ
+behind c = onwards (action_in (words c)) (c.loop-s.s + 1) (schemas c)
 
-to-come : (c : tie.In-loop invariant-loop decreases-loop) →
-    let at-loop = c.before in
-    Going (start at-loop).args.text.now (start at-loop).args.at
-    (concat_map (action_in (words at-loop)) (up_to (head_in (words at-loop)).schemas))
-    (action_in (words at-loop) at-loop.loop.s ++ behind at-loop) at-loop.loop.text at-loop.loop.acted.at
+to-come : (c : tie.In-loop-s invariant-loop-s decreases-loop-s) →
+    let at-loop = c in
+    Going (start at-loop.before).args.text.now (start at-loop.before).args.at
+    (concat_map (action_in (words at-loop.before)) (up_to (head_in (words at-loop.before)).schemas))
+    (action_in (words at-loop.before) at-loop.loop-s.s ++ behind at-loop.before) at-loop.loop-s.text at-loop.loop-s.acted.at
 to-come c =
-    let at-loop = c.before in
-    going-left (onwards-next (action_in (words at-loop)) at-loop.loop.s (schemas at-loop) c.loop-test.true)
-    at-loop.loop.invariant.1.1.1
+    let at-loop = c in
+    going-left (onwards-next (action_in (words at-loop.before)) at-loop.loop-s.s (schemas at-loop.before) c.loop-s-test.true)
+    at-loop.loop-s.invariant.1.1.1
 
-put-action-requires : tie.Need-put-action-requires invariant-loop decreases-loop
+put-action-requires : tie.Need-put_action-acted-requires invariant-loop-s decreases-loop-s
 put-action-requires c κs =
-    let at-loop = c.before.before in
-    let n = at-loop.before.word_at.ensures in (
-      (start at-loop).requires.0,
+    let at-loop = c in
+    let n = at-loop.word_at-schemas.ensures in (
+      (start at-loop.before.before).requires.0,
       (
         omega arith,
         (
-          at-loop.loop.invariant.1.0,
+          at-loop.loop-s.invariant.1.0,
           (
-            at-loop.loop.invariant.1.1.0,
-            going-room (action_in (words at-loop) at-loop.loop.s) (behind at-loop) (to-come c.before),
+            at-loop.loop-s.invariant.1.1.0,
+            going-room (action_in (words at-loop.before.before) at-loop.loop-s.s) (behind at-loop.before.before) (to-come c.before),
           ),
         ),
       ),
     )
 
-loop-again : tie.Need-loop-preserved invariant-loop decreases-loop
+loop-again : tie.Need-loop-s-preserved invariant-loop-s decreases-loop-s
 loop-again c =
-    let at-loop = c.before.before.before.before.before in
-    let e : suc at-loop.loop.s ≡ at-loop.loop.s + 1 = omega arith in
-    let put = c.before.before.put-action.ensures in (
+    let at-loop = c in
+    let e : suc at-loop.loop-s.s ≡ at-loop.loop-s.s + 1 = omega arith in
+    let put = c.put_action-acted.ensures in (
       omega arith,
       (
-        put.0 ∙ ap (first_atom (task_of (words at-loop))) e,
+        put.0 ∙ ap (first_atom (task_of (words at-loop.before.before.before.before.before))) e,
         (
-          put.1.0 ∙ ap (first_pair (task_of (words at-loop))) e,
+          put.1.0 ∙ ap (first_pair (task_of (words at-loop.before.before.before.before.before))) e,
           going_on (to-come c.before.before.before.before) put.1.1,
         ),
       ),
     )
 
-same_length : tie.Need-same-length invariant-loop decreases-loop
-same_length c = going-long c.before.loop.invariant.1.1.1
+same_length : tie.Need-shape_of-text invariant-loop-s decreases-loop-s
+same_length c = going-long c.loop-s.invariant.1.1.1
 
-returns : tie.Need-returns invariant-loop decreases-loop
+returns : tie.Need-returns invariant-loop-s decreases-loop-s
 returns c =
-    let at-loop = c.before in
-    let w = words at-loop in
-    let e : at-loop.loop.s ≡ (head_in w).schemas = let n = at-loop.before.word_at.ensures in omega arith in
-    let none = onwards-none (action_in w) at-loop.loop.s (schemas at-loop) (omega arith) in (
-      at-loop.loop.invariant.1.0 ∙ (ap (first_atom (task_of w)) e ∙ start-end w (table-frame w (start at-loop).requires.0)),
-      going_end (going-left none at-loop.loop.invariant.1.1.1),
+    let at-loop = c in
+    let w = words at-loop.before in
+    let e : at-loop.loop-s.s ≡ (head_in w).schemas = let n = at-loop.word_at-schemas.ensures in omega arith in
+    let none = onwards-none (action_in w) at-loop.loop-s.s (schemas at-loop.before) (omega arith) in (
+      at-loop.loop-s.invariant.1.0 ∙ (ap (first_atom (task_of w)) e ∙ start-end w (table-frame w (start at-loop.before).requires.0)),
+      going_end (going-left none at-loop.loop-s.invariant.1.1.1),
     )
 
-pub put-actions-spec : {M : Type 1} → statement M
-put-actions-spec =
+pub put_actions_spec : {M : Type 1} → statement M
+put_actions_spec =
     tie.close
-    (tie.spec invariant-loop decreases-loop (λ c κs. omega (arith, counts-inside _ c.before.before.requires.0)) loop-holds
+    (tie.spec invariant-loop-s decreases-loop-s (λ c κs. omega (arith, counts-inside _ c.requires.0)) loop-holds
     put-action-requires (λ c. omega arith) (λ c. omega arith) loop-again same_length returns)

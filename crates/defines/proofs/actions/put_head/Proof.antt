@@ -31,76 +31,76 @@ Left c left text next =
 begin : (c : tie.Start) → Left c (bytes " (:action a" ++ from-number c) c.args.text.now c.args.at
 begin c = going-left (head-pieces c.args.schema c.args.params) (going_start c.requires)
 
-abbrev start : tie.After-slice-known2 → tie.Start
-start c = c.before.before.before.before.before.before
+abbrev start : tie.After-slice_known-2-1 → tie.Start
+start c = c.before.before.before.before.before.before.before
 
-behind-letter : (c : tie.After-slice-known2) →
-    Left (start c) (from-number (start c)) c.before.before.put-bytes.new.0
-    c.before.before.put-bytes.result
+behind-letter : (c : tie.After-slice_known-2-1) →
+    Left (start c) (from-number (start c)) c.put_bytes-at_number.new.text
+    c.put_bytes-at_number.result
 unfolding bytes
-behind-letter c = going_on {ys = bytes " (:action a"} (begin (start c)) c.before.before.put-bytes.ensures
+behind-letter c = going_on {ys = bytes " (:action a"} (begin (start c)) c.put_bytes-at_number.ensures
 
-abbrev lettered : tie.After-slice-known3 → tie.After-slice-known2
+abbrev lettered : tie.After-slice_known-3-1 → tie.After-slice_known-2-1
 lettered c = c.before.before.before.before
 
-behind-number : (c : tie.After-slice-known3) →
+behind-number : (c : tie.After-slice_known-3-1) →
     Left (start (lettered c)) (from-bracket (start (lettered c)))
-    c.before.before.put-number.new.0 c.before.before.put-number.result
-behind-number c = going_on (behind-letter (lettered c)) c.before.before.put-number.ensures
+    c.put_number-at_bracket.new.text c.put_number-at_bracket.result
+behind-number c = going_on (behind-letter (lettered c)) c.put_number-at_bracket.ensures
 
-abbrev named : tie.After-slice-known4 → tie.After-slice-known3
-named c = c.before.before.before.before.before
+abbrev named : tie.After-slice_known-4-1 → tie.After-slice_known-3-1
+named c = c.before.before.before.before.before.before
 
-abbrev started : tie.After-slice-known4 → tie.Start
+abbrev started : tie.After-slice_known-4-1 → tie.Start
 started c = start (lettered (named c))
 
-behind-bracket : (c : tie.After-slice-known4) →
-    Left (started c) (from-parameters (started c)) c.before.before.put-bytes2.new.0
-    c.before.before.put-bytes2.result
+behind-bracket : (c : tie.After-slice_known-4-1) →
+    Left (started c) (from-parameters (started c)) c.put_bytes-at_parameters.new.text
+    c.put_bytes-at_parameters.result
 unfolding bytes
 behind-bracket c =
-    going_on {ys = bytes " :parameters ("} (behind-number (named c)) c.before.before.put-bytes2.ensures
+    going_on {ys = bytes " :parameters ("} (behind-number (named c)) c.put_bytes-at_parameters.ensures
 
-abbrev opened : tie.After-slice-known5 → tie.After-slice-known4
+abbrev opened : tie.After-slice_known-5-1 → tie.After-slice_known-4-1
 opened c = c.before.before.before.before
 
-behind-parameters : (c : tie.After-slice-known5) →
-    Left (started (opened c)) from_end c.before.before.put-parameters.new.0
-    c.before.before.put-parameters.result
-behind-parameters c = going_on (behind-bracket (opened c)) c.before.before.put-parameters.ensures
+behind-parameters : (c : tie.After-slice_known-5-1) →
+    Left (started (opened c)) from_end c.put_parameters-at_preconditions.new.text
+    c.put_parameters-at_preconditions.result
+behind-parameters c = going_on (behind-bracket (opened c)) c.put_parameters-at_preconditions.ensures
 
-put-bytes-requires : tie.Need-put-bytes-requires
+put-bytes-requires : tie.Need-put_bytes-at_number-requires
 unfolding bytes
 put-bytes-requires c κs =
-    let start = c.before.before.before in
-    going-room (bytes " (:action a") (from-number start) (begin start)
+    let start = c in
+    going-room (bytes " (:action a") (from-number start.before.before.before.before) (begin start.before.before.before.before)
 
-put-number-requires : tie.Need-put-number-requires
+put-number-requires : tie.Need-put_number-at_bracket-requires
 put-number-requires c κs =
     let start = start c.before in
     going-room (digits start.args.schema) (from-bracket start) (behind-letter c.before)
 
-put-bytes-requires-2 : tie.Need-put-bytes-requires-2
+put-bytes-requires-2 : tie.Need-put_bytes-at_parameters-requires
 unfolding bytes
 put-bytes-requires-2 c κs =
-    going-room (bytes " :parameters (") (from-parameters (start (lettered c.before.before)))
-    (behind-number c.before.before)
+    going-room (bytes " :parameters (") (from-parameters (start (lettered c.before.before.before)))
+    (behind-number c.before.before.before)
 
-put-parameters-requires : tie.Need-put-parameters-requires
+put-parameters-requires : tie.Need-put_parameters-at_preconditions-requires
 put-parameters-requires c κs =
     going-room (parameters (started c.before).args.params) from_end (behind-bracket c.before)
 
-put-bytes-requires-3 : tie.Need-put-bytes-requires-3
+put-bytes-requires-3 : tie.Need-put_bytes-requires
 unfolding bytes
-put-bytes-requires-3 c κs = last-room (behind-parameters c.before.before)
+put-bytes-requires-3 c κs = last-room (behind-parameters c.before.before.before)
 
 returns : tie.Need-returns
 unfolding bytes
 returns c =
-    going-last (behind-parameters c.before.before.before.before.before) c.before.before.put-bytes3.ensures
+    going-last (behind-parameters c.before.before.before.before.before.before) c.put_bytes.ensures
 
-pub put-head-spec : {M : Type 1} → statement M
-put-head-spec =
+pub put_head_spec : {M : Type 1} → statement M
+put_head_spec =
     tie.close
-    (tie.spec (λ c. search rules) put-bytes-requires put-number-requires (λ c. search rules) put-bytes-requires-2
-    put-parameters-requires (λ c. search rules) put-bytes-requires-3 (λ c. search rules) returns)
+    (tie.spec put-bytes-requires put-number-requires put-bytes-requires-2 put-parameters-requires
+    put-bytes-requires-3 (λ c. search rules) returns)

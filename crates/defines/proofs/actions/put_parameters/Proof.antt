@@ -27,39 +27,38 @@ begin : (c : tie.Start) → (c.args.params ≡ 0 → ⊥) →
     Left c (bytes "?x0" ++ others c) c.args.text.now c.args.at
 begin c some = going-left (first-parameter c.args.params (omega arith)) (going_start c.requires)
 
-returns : tie.Need-returns
+returns : tie.Need-returns-then-params-eq0
 returns c =
-    let start = c.before.before in
-    puts-same (sym (ap parameters c.if1.true ∙ no-neighbours parameter))
+    let start = c in
+    puts-same (sym (ap parameters c.if-params-eq0.true ∙ no-neighbours parameter))
     (puts_none start.args.text.now start.args.at)
 
-put-bytes-requires : tie.Need-put-bytes-requires
+put-bytes-requires : tie.Need-put_bytes-at_second-requires
 unfolding bytes
 put-bytes-requires c κs =
-    let start = c.before.before.before.before in
-    going-room (bytes "?x0") (others start) (begin start c.before.before.if1.false)
+    let start = c in
+    going-room (bytes "?x0") (others start.before.before.before.before.before) (begin start.before.before.before.before.before c.if-params-eq0.false)
 
-abbrev start : tie.After-slice-known2 → tie.Start
-start c = c.before.before.before.before.before.before.before
+abbrev start : tie.After-slice_known-2-1 → tie.Start
+start c = c.before.before.before.before.before.before.before.before
 
-behind-first : (c : tie.After-slice-known2) →
-    Left (start c) (others (start c)) c.before.before.put-bytes.new.0 c.before.before.put-bytes.result
+behind-first : (c : tie.After-slice_known-2-1) →
+    Left (start c) (others (start c)) c.put_bytes-at_second.new.text c.put_bytes-at_second.result
 unfolding bytes
 behind-first c =
-    going_on {ys = bytes "?x0"} (begin (start c) c.before.before.before.before.before.if1.false)
-    c.before.before.put-bytes.ensures
+    going_on {ys = bytes "?x0"} (begin (start c) c.if-params-eq0.false)
+    c.put_bytes-at_second.ensures
 
-put-numbered-requires : tie.Need-put-numbered-requires
+put-numbered-requires : tie.Need-put_numbered-requires
 unfolding bytes
-put-numbered-requires c κs = last-room (behind-first c.before.before)
+put-numbered-requires c κs = last-room (behind-first c.before.before.before)
 
-returns-2 : tie.Need-returns-2
+returns-2 : tie.Need-returns
 unfolding bytes
 returns-2 c =
-    going-last (behind-first c.before.before.before.before.before) c.before.before.put-numbered.ensures
+    going-last (behind-first c.before.before.before.before.before.before) c.put_numbered.ensures
 
-pub put-parameters-spec : {M : Type 1} → statement M
-put-parameters-spec =
+pub put_parameters_spec : {M : Type 1} → statement M
+put_parameters_spec =
     tie.close
-    (tie.spec returns (λ c. search rules) put-bytes-requires (λ c. search rules) put-numbered-requires
-    (λ c. search rules) returns-2)
+    (tie.spec returns put-bytes-requires put-numbered-requires (λ c. search rules) returns-2)

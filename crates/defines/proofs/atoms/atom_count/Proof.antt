@@ -5,9 +5,9 @@ use borrow.Author.Rules.{rules}
 use Rattle.defines.proofs.atoms.atom_count.Statement.{statement}
 use Rattle.defines.proofs.atoms.atom_count.Tie as tie
 
-pub atom-count-spec : {M : Type 1} → statement M
-atom-count-spec =
+pub atom_count_spec : {M : Type 1} → statement M
+atom_count_spec =
     tie.close
-    (tie.spec (λ c κs. omega (arith, counts-inside _ c.before.requires))
-    (λ c κs. omega (arith, counts-inside _ c.before.before.requires)) (λ c. search rules)
-    (λ c κs. omega (arith, counts-inside _ c.before.before.before.requires)) (λ c. search rules) (λ c. search rules))
+    (tie.spec (λ c κs. omega (arith, counts-inside _ c.requires))
+    (λ c κs. omega (arith, counts-inside _ c.requires)) (λ c. search rules)
+    (λ c κs. omega (arith, counts-inside _ c.requires)) (λ c. search rules) (λ c. search rules))

@@ -34,83 +34,82 @@ begin c =
     going-left (formula_at-pieces c.args.table.now c.args.base c.args.mark.now) (going_start c.requires.1)
 
 -- the number of arguments is the arity of the atom's predicate
-abbrev start : tie.After-arity-of → tie.Start
+abbrev start : tie.After-arity_of-arity → tie.Start
 start c = c.before.before.before.before.before.before
 
-arity-read : (c : tie.After-arity-of) →
+arity-read : (c : tie.After-arity_of-arity) →
     let w = (start c).args.table.now in
-    c.arity-of.result ≡ arity_in w (pred_at w (start c).args.base)
+    c.arity_of-arity.result ≡ arity_in w (pred_at w (start c).args.base)
 arity-read c =
-    c.arity-of.ensures ∙ ap (arity_in (start c).args.table.now)
-    (c.before.wide.ensures ∙ c.before.before.predicate-at.ensures.0)
+    c.arity_of-arity.ensures ∙ ap (arity_in (start c).args.table.now)
+    (c.wide.ensures ∙ c.predicate_at-predicate.ensures.0)
 
-abbrev arity : tie.After-slice-known2 → tie.After-arity-of
-arity c = c.before.before.before.before.before
+abbrev arity : tie.After-slice_known-2-1 → tie.After-arity_of-arity
+arity c = c.before.before.before.before.before.before
 
-behind-opening : (c : tie.After-slice-known2) →
+behind-opening : (c : tie.After-slice_known-2-1) →
     Left (start (arity c)) (predicate (start (arity c)) ++ (arguments (start (arity c)) ++ (closing ∷ [])))
-    c.before.before.put-bytes.new.0 c.before.before.put-bytes.result
+    c.put_bytes-at_number.new.text c.put_bytes-at_number.result
 unfolding bytes
-behind-opening c = going_on {ys = bytes " (p"} (begin (start (arity c))) c.before.before.put-bytes.ensures
+behind-opening c = going_on {ys = bytes " (p"} (begin (start (arity c))) c.put_bytes-at_number.ensures
 
-abbrev opened : tie.After-slice-known3 → tie.After-slice-known2
+abbrev opened : tie.After-slice_known-3-1 → tie.After-slice_known-2-1
 opened c = c.before.before.before.before
 
-behind-predicate : (c : tie.After-slice-known3) →
+behind-predicate : (c : tie.After-slice_known-3-1) →
     Left (start (arity (opened c))) (arguments (start (arity (opened c))) ++ (closing ∷ []))
-    c.before.before.put-number.new.0 c.before.before.put-number.result
+    c.put_number-at_arguments.new.text c.put_number-at_arguments.result
 behind-predicate c =
     going_on (behind-opening (opened c))
-    (puts-same (ap digits (arity (opened c)).before.before.predicate-at.ensures.0)
-    c.before.before.put-number.ensures)
+    (puts-same (ap digits (arity (opened c)).before.before.predicate_at-predicate.ensures.0)
+    c.put_number-at_arguments.ensures)
 
-abbrev numbered : tie.After-slice-known4 → tie.After-slice-known3
+abbrev numbered : tie.After-slice_known-4-1 → tie.After-slice_known-3-1
 numbered c = c.before.before.before.before
 
 -- the words that are read as arguments
 abbrev read : tie.Start → ℕ → List ℕ
 read c n = marked c.args.mark.now (words_at c.args.table.now (c.args.base + 4) n)
 
-behind-arguments : (c : tie.After-slice-known4) →
-    Left (start (arity (opened (numbered c)))) (closing ∷ []) c.before.before.put-words.new.0
-    c.before.before.put-words.result
+behind-arguments : (c : tie.After-slice_known-4-1) →
+    Left (start (arity (opened (numbered c)))) (closing ∷ []) c.put_words-at_end.new.text
+    c.put_words-at_end.result
 behind-arguments c =
     let at-arity = arity (opened (numbered c)) in
     going_on (behind-predicate (numbered c))
-    (puts-same (ap (read (start at-arity)) (arity-read at-arity)) c.before.before.put-words.ensures)
+    (puts-same (ap (read (start at-arity)) (arity-read at-arity)) c.put_words-at_end.ensures)
 
-put-bytes-requires : tie.Need-put-bytes-requires
+put-bytes-requires : tie.Need-put_bytes-at_number-requires
 unfolding bytes
 put-bytes-requires c κs =
-    let start = start c.before.before in
+    let start = start c.before.before.before in
     going-room (bytes " (p") (predicate start ++ (arguments start ++ (closing ∷ []))) (begin start)
 
-put-number-requires : tie.Need-put-number-requires
+put-number-requires : tie.Need-put_number-at_arguments-requires
 put-number-requires c κs =
     let at-arity = arity c.before in
     let start = start at-arity in
     let r = going-room (predicate start) (arguments start ++ (closing ∷ [])) (behind-opening c.before) in
-    omega (arith, ap (λ (p : ℕ). length (digits p)) at-arity.before.before.predicate-at.ensures.0)
+    omega (arith, ap (λ (p : ℕ). length (digits p)) at-arity.predicate_at-predicate.ensures.0)
 
-put-words-requires : tie.Need-put-words-requires
+put-words-requires : tie.Need-put_words-at_end-requires
 put-words-requires c κs =
     let at-arity = arity (opened c.before) in
     let start = start at-arity in
     let e = arity-read at-arity in
-    let inside = start.pre.0 in
+    let inside = start.requires.0 in
     let r = going-room (arguments start) (closing ∷ []) (behind-predicate c.before) in
     let l = ap (λ (n : ℕ). length (read start n)) e in
     (omega arith, omega arith)
 
-put-byte-requires : tie.Need-put-byte-requires
+put-byte-requires : tie.Need-put_byte-requires
 put-byte-requires c κs = byte-room closing [] (behind-arguments c.before)
 
 returns : tie.Need-returns
-returns c = going-last (behind-arguments c.before.before.before.before) c.before.before.put_byte.ensures
+returns c = going-last (behind-arguments c.before.before.before.before) c.put_byte.ensures
 
-pub put-atom-spec : {M : Type 1} → statement M
-put-atom-spec =
+pub put_atom_spec : {M : Type 1} → statement M
+put_atom_spec =
     tie.close
-    (tie.spec (λ c κs. search rules) (λ c κs. search rules) (λ c κs. search rules) (λ c. search rules)
-    put-bytes-requires put-number-requires (λ c. search rules) put-words-requires put-byte-requires (λ c. search rules)
-    returns)
+    (tie.spec (λ c κs. search rules) (λ c κs. search rules) (λ c κs. search rules) put-bytes-requires
+    put-number-requires (λ c. search rules) put-words-requires put-byte-requires (λ c. search rules) returns)

@@ -23,43 +23,42 @@ Left c left text next =
 begin : (c : tie.Start) → Left c (bytes " (not" ++ (atom c ++ (closing ∷ []))) c.args.text.now c.args.at
 begin c = going-left (item-delete c.args.table.now c.args.base) (going_start c.requires.1)
 
-abbrev start : tie.After-slice-known2 → tie.Start
-start c = c.before.before.before.before.before.before.before
+abbrev start : tie.After-slice_known-2-1 → tie.Start
+start c = c.before.before.before.before.before.before.before.before
 
-behind-not : (c : tie.After-slice-known2) →
-    Left (start c) (atom (start c) ++ (closing ∷ [])) c.before.before.put-bytes.new.0
-    c.before.before.put-bytes.result
+behind-not : (c : tie.After-slice_known-2-1) →
+    Left (start c) (atom (start c) ++ (closing ∷ [])) c.put_bytes-at_atom.new.text
+    c.put_bytes-at_atom.result
 unfolding bytes
-behind-not c = going_on {ys = bytes " (not"} (begin (start c)) c.before.before.put-bytes.ensures
+behind-not c = going_on {ys = bytes " (not"} (begin (start c)) c.put_bytes-at_atom.ensures
 
-abbrev opened : tie.After-slice-known3 → tie.After-slice-known2
-opened c = c.before.before.before.before.before
+abbrev opened : tie.After-slice_known-3-1 → tie.After-slice_known-2-1
+opened c = c.before.before.before.before.before.before
 
-behind-atom : (c : tie.After-slice-known3) →
-    Left (start (opened c)) (closing ∷ []) c.before.before.put-atom.new.0 c.before.before.put-atom.result
+behind-atom : (c : tie.After-slice_known-3-1) →
+    Left (start (opened c)) (closing ∷ []) c.put_atom-at_end.new.text c.put_atom-at_end.result
 unfolding bytes
-behind-atom c = going_on (behind-not (opened c)) c.before.before.put-atom.ensures
+behind-atom c = going_on (behind-not (opened c)) c.put_atom-at_end.ensures
 
-put-bytes-requires : tie.Need-put-bytes-requires
+put-bytes-requires : tie.Need-put_bytes-at_atom-requires
 unfolding bytes
 put-bytes-requires c κs =
-    let start = c.before.before.before.before in
-    going-room (bytes " (not") (atom start ++ (closing ∷ [])) (begin start)
+    let start = c in
+    going-room (bytes " (not") (atom start.before.before.before.before.before ++ (closing ∷ [])) (begin start.before.before.before.before.before)
 
-put-atom-requires : tie.Need-put-atom-requires
+put-atom-requires : tie.Need-put_atom-at_end-requires
 unfolding bytes
 put-atom-requires c κs =
-    let put = c.before.before in
-    ((start put).requires.0, going-room (atom (start put)) (closing ∷ []) (behind-not put))
+    let put = c in
+    ((start put.before.before.before).requires.0, going-room (atom (start put.before.before.before)) (closing ∷ []) (behind-not put.before.before.before))
 
-put-byte-requires : tie.Need-put-byte-requires
+put-byte-requires : tie.Need-put_byte-requires
 put-byte-requires c κs = byte-room closing [] (behind-atom c.before)
 
 returns : tie.Need-returns
-returns c = going-last (behind-atom c.before.before.before.before) c.before.before.put_byte.ensures
+returns c = going-last (behind-atom c.before.before.before.before) c.put_byte.ensures
 
-pub put-delete-spec : {M : Type 1} → statement M
-put-delete-spec =
+pub put_delete_spec : {M : Type 1} → statement M
+put_delete_spec =
     tie.close
-    (tie.spec (λ c. search rules) put-bytes-requires (λ c. search rules) put-atom-requires put-byte-requires
-    (λ c. search rules) returns)
+    (tie.spec put-bytes-requires put-atom-requires put-byte-requires (λ c. search rules) returns)

@@ -26,56 +26,56 @@ room : (c : tie.Start) (bs : List ℕ) → item c c.args.role ≡ bs →
     c.args.at + length bs ≤ length c.args.text.now
 room c bs e = subst (λ (bs : List ℕ). c.args.at + length bs ≤ length c.args.text.now) e c.requires.1
 
-first : (c : tie.Then1) →
-    let start = c.before.before.before in
-    item start start.args.role ≡ atom start (bytes " ?x")
+first : (c : tie.Then-role-lt-DELETION) →
+    let start = c in
+    item start.before.before.before start.args.role ≡ atom start.before.before.before (bytes " ?x")
 first c =
-    let args = c.before.before.before.args in
-    item-first args.table.now args.base args.role c.if1.true
+    let args = c.args in
+    item-first args.table.now args.base args.role c.if-role-lt-DELETION.true
 
-other : (c : tie.Else2) →
-    let start = c.before.before.before.before in
-    item start start.args.role ≡ atom start (bytes " o")
+other : (c : tie.Else-role-eq-DELETION) →
+    let start = c in
+    item start.before.before.before.before start.args.role ≡ atom start.before.before.before.before (bytes " o")
 other c =
-    let args = c.before.before.before.before.args in
-    let n = c.if2.false in
+    let args = c.args in
+    let n = c.if-role-eq-DELETION.false in
     item-other args.table.now args.base args.role (omega arith)
 
-put-atom-requires : tie.Need-put-atom-requires
+put-atom-requires : tie.Need-put_atom-requires
 unfolding bytes
 put-atom-requires c κs =
-    let start = c.before.before.before.before.before in
-    (start.requires.0, room start (atom start (bytes " ?x")) (first c.before.before))
+    let start = c in
+    (start.requires.0, room start.before.before.before.before.before.before (atom start.before.before.before.before.before.before (bytes " ?x")) (first c.before.before.before))
 
-returns : tie.Need-returns
+returns : tie.Need-returns-then-role-lt-DELETION
 unfolding bytes
 returns c =
-    puts-same (sym (first c.before.before.before.before.before)) c.before.before.put-atom.ensures
+    puts-same (sym (first c.before.before.before.before.before.before)) c.put_atom.ensures
 
-put-delete-requires : tie.Need-put-delete-requires
+put-delete-requires : tie.Need-put_delete-requires
 put-delete-requires c κs =
-    let start = c.before.before.before.before.before in
-    (start.requires.0, room start (item start deletion) (ap (item start) c.before.if2.true))
+    let start = c in
+    (start.requires.0, room start.before.before.before.before.before (item start.before.before.before.before.before deletion) (ap (item start.before.before.before.before.before) c.if-role-eq-DELETION.true))
 
-returns-2 : tie.Need-returns-2
+returns-2 : tie.Need-returns-then-role-eq-DELETION
 returns-2 c =
-    let branch = c.before.before.before.before in
-    puts-same (sym (ap (item branch.before.before.before.before) branch.if2.true))
-    c.before.before.put-delete.ensures
+    let branch = c in
+    puts-same (sym (ap (item branch.before.before.before.before.before.before.before.before) branch.if-role-eq-DELETION.true))
+    c.put_delete.ensures
 
-put-atom-requires-2 : tie.Need-put-atom-requires-2
+put-atom-requires-2 : tie.Need-put_atom-requires-2
 unfolding bytes
 put-atom-requires-2 c κs =
-    let start = c.before.before.before.before.before.before in
-    (start.requires.0, room start (atom start (bytes " o")) (other c.before.before))
+    let start = c in
+    (start.requires.0, room start.before.before.before.before.before.before.before (atom start.before.before.before.before.before.before.before (bytes " o")) (other c.before.before.before))
 
-returns-3 : tie.Need-returns-3
+returns-3 : tie.Need-returns
 unfolding bytes
 returns-3 c =
-    puts-same (sym (other c.before.before.before.before.before)) c.before.before.put-atom2.ensures
+    puts-same (sym (other c.before.before.before.before.before.before)) c.put_atom-2.ensures
 
-pub put-item-spec : {M : Type 1} → statement M
-put-item-spec =
+pub put_item_spec : {M : Type 1} → statement M
+put_item_spec =
     tie.close
-    (tie.spec (λ c. search rules) put-atom-requires (λ c. search rules) returns put-delete-requires (λ c. search rules)
-    returns-2 (λ c. search rules) put-atom-requires-2 (λ c. search rules) returns-3)
+    (tie.spec put-atom-requires (λ c. search rules) returns put-delete-requires (λ c. search rules) returns-2
+    put-atom-requires-2 (λ c. search rules) returns-3)

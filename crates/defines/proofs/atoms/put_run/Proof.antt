@@ -19,117 +19,117 @@ use Rattle.defines.proofs.RunsPut.{Belongs, Turn, turn-first, turn-room, turn-ne
 use Rattle.defines.proofs.atoms.put_run.Statement.{statement}
 use Rattle.defines.proofs.atoms.put_run.Tie as tie
 
-abbrev invariant-loop : tie.invariant-loop
-invariant-loop text₀ at table schema role from count next₀ atom₀ text next atom =
+abbrev invariant-loop-atom : tie.invariant-loop-atom
+invariant-loop-atom text₀ at table schema role from count next₀ atom₀ text next atom =
     Turn table schema role from text₀ at atom text next
 
-abbrev decreases-loop : tie.decreases-loop
-decreases-loop text₀ at table schema role from count next₀ atom₀ text next atom = count - atom
+abbrev decreases-loop-atom : tie.decreases-loop-atom
+decreases-loop-atom text₀ at table schema role from count next₀ atom₀ text next atom = count - atom
 
 -- the function's entry, from the loop's head, and its table
-abbrev start : tie.At-loop invariant-loop decreases-loop → tie.Start invariant-loop decreases-loop
+abbrev start : tie.At-loop-atom invariant-loop-atom decreases-loop-atom → tie.Start invariant-loop-atom decreases-loop-atom
 start c = c.before.before.before.before
 
-abbrev words : tie.At-loop invariant-loop decreases-loop → List ℕ
+abbrev words : tie.At-loop-atom invariant-loop-atom decreases-loop-atom → List ℕ
 words c = (start c).args.table.now
 
 -- the turn's atom is one of the run's schema and role
-abbrev Own : tie.At-loop invariant-loop decreases-loop → Type 0
-Own c = Belongs (words c) (start c).args.schema (start c).args.role c.loop.atom
+abbrev Own : tie.At-loop-atom invariant-loop-atom decreases-loop-atom → Type 0
+Own c = Belongs (words c) (start c).args.schema (start c).args.role c.loop-atom.atom
 
-loop-holds : tie.Need-loop-init invariant-loop decreases-loop
+loop-holds : tie.Need-loop-atom-init invariant-loop-atom decreases-loop-atom
 loop-holds c =
-    let start = c.before.before.before in
+    let start = c in
     turn-first start.args.table.now start.args.schema start.args.role start.args.from
     start.requires.1.0 start.requires.1.1 start.requires.1.2
 
-known : (c : tie.In-loop invariant-loop decreases-loop) → c.before.loop.atom < atom_total (words c.before)
-known c = let e = c.before.before.atom-count.ensures in omega arith
+known : (c : tie.In-loop-atom invariant-loop-atom decreases-loop-atom) → c.loop-atom.atom < atom_total (words c.before)
+known c = let e = c.atom_count-count.ensures in omega arith
 
-row-of-requires : tie.Need-row-of-requires invariant-loop decreases-loop
-row-of-requires c κs = (table-roomy (words c.before) (start c.before).pre.0, known c)
+row-of-requires : tie.Need-row_of-row-requires invariant-loop-atom decreases-loop-atom
+row-of-requires c κs = (table-roomy (words c.before) (start c.before).requires.0, known c)
 
-word-requires : tie.Need-word-requires invariant-loop decreases-loop
-word-requires c κs = let l = c.row_of.ensures.1 in omega arith
+word-requires : tie.Need-word-requires invariant-loop-atom decreases-loop-atom
+word-requires c κs = let l = c.row_of-row.ensures.1 in omega arith
 
 -- the words that are read are the atom's schema and its role
-named : (c : tie.After-word invariant-loop decreases-loop) →
-    let at-loop = c.before.before.before in
-    c.word.result ≡ schema_number_in (words at-loop) at-loop.loop.atom
+named : (c : tie.After-word invariant-loop-atom decreases-loop-atom) →
+    let at-loop = c in
+    c.word.result ≡ schema_number_in (words at-loop.before.before.before) at-loop.loop-atom.atom
 named c =
-    let at-loop = c.before.before.before in
-    c.word.ensures.0 ∙ row-schema (words at-loop) at-loop.loop.atom _ c.before.row_of.ensures.0
+    let at-loop = c in
+    c.word.ensures.0 ∙ row-schema (words at-loop.before.before.before) at-loop.loop-atom.atom _ c.row_of-row.ensures.0
 
-plays : (c : tie.After-role-at invariant-loop decreases-loop) →
-    let at-loop = c.before.before.before.before.before in
-    c.role-at.result ≡ (atom_in (words at-loop) at-loop.loop.atom).role
-plays c = c.role-at.ensures.1 _ c.before.before.before.row_of.ensures.0
+plays : (c : tie.After-role_at invariant-loop-atom decreases-loop-atom) →
+    let at-loop = c in
+    c.role_at.result ≡ (atom_in (words at-loop.before.before.before.before.before) at-loop.loop-atom.atom).role
+plays c = c.role_at.ensures.1 _ c.row_of-row.ensures.0
 
 -- ---- a turn
-own : (c : tie.Else2 invariant-loop decreases-loop) → Own c.before.before.before.before.before.before
+own : (c : tie.Else-role_at-role invariant-loop-atom decreases-loop-atom) → Own c.before.before.before.before.before.before
 own c = record {
   inside = known c.before.before.before.before.before;
-  named = sym (named c.before.before.before) ∙ c.before.before.if1.false;
-  plays = sym (plays c.before) ∙ c.if2.false;
+  named = sym (named c.before.before.before) ∙ c.if-word-schema.false;
+  plays = sym (plays c.before) ∙ c.if-role_at-role.false;
 }
 
 -- what is put is the atom's item
-item-read : (c : tie.Else2 invariant-loop decreases-loop) →
-    let read = c.before.before.before.before in
-    let at-loop = read.before.before in
-    item_at (start at-loop).args.role (words at-loop) read.row_of.result ≡
-    item_in (words at-loop) at-loop.loop.atom
+item-read : (c : tie.Else-role_at-role invariant-loop-atom decreases-loop-atom) →
+    let read = c in
+    let at-loop = read in
+    item_at (start at-loop.before.before.before.before.before.before).args.role (words at-loop.before.before.before.before.before.before) read.row_of-row.result ≡
+    item_in (words at-loop.before.before.before.before.before.before) at-loop.loop-atom.atom
 item-read c =
-    let read = c.before.before.before.before in
-    let at-loop = read.before.before in
-    item-row (words at-loop) at-loop.loop.atom (start at-loop).args.role read.row_of.result
-    (sym (own c).plays) read.row_of.ensures.0
+    let read = c in
+    let at-loop = read in
+    item-row (words at-loop.before.before.before.before.before.before) at-loop.loop-atom.atom (start at-loop.before.before.before.before.before.before).args.role read.row_of-row.result
+    (sym (own c).plays) read.row_of-row.ensures.0
 
-put-item-requires : tie.Need-put-item-requires invariant-loop decreases-loop
+put-item-requires : tie.Need-put_item-next-requires invariant-loop-atom decreases-loop-atom
 put-item-requires c κs =
-    let read = c.before.before.before.before.before in
-    let at-loop = read.before.before in
-    let args = (start at-loop).args in
-    let r = turn-room (words at-loop) args.schema args.role args.from at-loop.loop.invariant (own c.before) in
+    let read = c in
+    let at-loop = read in
+    let args = (start at-loop.before.before.before.before.before.before.before).args in
+    let r = turn-room (words at-loop.before.before.before.before.before.before.before) args.schema args.role args.from at-loop.loop-atom.invariant (own c.before) in
     let e = ap length (item-read c.before) in (
-      subst (AtomInside (words at-loop)) (sym read.row_of.ensures.0)
-          (each-inside (words at-loop) (start at-loop).requires.0 at-loop.loop.atom (known read.before)),
+      subst (AtomInside (words at-loop.before.before.before.before.before.before.before)) (sym read.row_of-row.ensures.0)
+          (each-inside (words at-loop.before.before.before.before.before.before.before) (start at-loop.before.before.before.before.before.before.before).requires.0 at-loop.loop-atom.atom (known read.before.before.before.before.before.before)),
       omega arith,
     )
 
-loop-again : tie.Need-loop-preserved invariant-loop decreases-loop
+loop-again : tie.Need-loop-atom-preserved invariant-loop-atom decreases-loop-atom
 loop-again c =
-    let left = c.before.before.before.before in
-    let at-loop = left.before.before.before.before.before.before in
-    let args = (start at-loop).args in
-    turn-next (words at-loop) args.schema args.role args.from at-loop.loop.invariant (own left)
-    (puts-same (item-read left) c.before.before.put_item.ensures)
+    let left = c in
+    let at-loop = left in
+    let args = (start at-loop.before.before.before.before.before.before.before.before.before.before).args in
+    turn-next (words at-loop.before.before.before.before.before.before.before.before.before.before) args.schema args.role args.from at-loop.loop-atom.invariant (own left.before.before.before.before)
+    (puts-same (item-read left.before.before.before.before) c.put_item-next.ensures)
 
 -- ---- the ways out
-ended : (c : tie.At-loop invariant-loop decreases-loop) → (Own c → ⊥) → (to : ℕ) →
-    RoleRun (words c) (start c).args.schema (start c).args.role (start c).args.from to → (c.loop.atom ≡ to) ×
-    Puts (start c).args.text.now (start c).args.at (items_in (words c) (start c).args.from to) c.loop.text
-    c.loop.next
-ended c = turn_end (words c) (start c).args.schema (start c).args.role (start c).args.from c.loop.invariant
+ended : (c : tie.At-loop-atom invariant-loop-atom decreases-loop-atom) → (Own c → ⊥) → (to : ℕ) →
+    RoleRun (words c) (start c).args.schema (start c).args.role (start c).args.from to → (c.loop-atom.atom ≡ to) ×
+    Puts (start c).args.text.now (start c).args.at (items_in (words c) (start c).args.from to) c.loop-atom.text
+    c.loop-atom.next
+ended c = turn_end (words c) (start c).args.schema (start c).args.role (start c).args.from c.loop-atom.invariant
 
-returns : tie.Need-returns invariant-loop decreases-loop
+returns : tie.Need-returns-after-loop-atom invariant-loop-atom decreases-loop-atom
 returns c = ended c.before (λ b.
-    let e = c.before.before.atom-count.ensures in
+    let e = c.atom_count-count.ensures in
     let l = b.inside in
     omega arith)
 
-returns-2 : tie.Need-returns-2 invariant-loop decreases-loop
-returns-2 c = ended c.before.before.before.before (λ b. c.if1.true (named c.before ∙ b.named))
+returns-2 : tie.Need-returns-then-word-schema invariant-loop-atom decreases-loop-atom
+returns-2 c = ended c.before.before.before.before (λ b. c.if-word-schema.true (named c.before ∙ b.named))
 
-returns-3 : tie.Need-returns-3 invariant-loop decreases-loop
+returns-3 : tie.Need-returns-then-role_at-role invariant-loop-atom decreases-loop-atom
 returns-3 c =
-    ended c.before.before.before.before.before.before (λ b. c.if2.true (plays c.before ∙ b.plays))
+    ended c.before.before.before.before.before.before (λ b. c.if-role_at-role.true (plays c.before ∙ b.plays))
 
-pub put-run-spec : {M : Type 1} → statement M
-put-run-spec =
+pub put_run_spec : {M : Type 1} → statement M
+put_run_spec =
     tie.close
-    (tie.spec invariant-loop decreases-loop (λ c κs. c.before.before.requires.0) loop-holds row-of-requires word-requires
-    (λ c κs. c.before.before.row_of.ensures.1) put-item-requires (λ c. omega arith) (λ c. omega arith) loop-again
-    (λ c. going-long c.before.loop.invariant.going) returns
-    (λ c. going-long c.before.before.before.before.loop.invariant.going) returns-2
-    (λ c. going-long c.before.before.before.before.before.before.loop.invariant.going) returns-3)
+    (tie.spec invariant-loop-atom decreases-loop-atom (λ c κs. c.requires.0) loop-holds row-of-requires word-requires
+    (λ c κs. c.row_of-row.ensures.1) put-item-requires (λ c. omega arith) (λ c. omega arith) loop-again
+    (λ c. going-long c.loop-atom.invariant.going) returns
+    (λ c. going-long c.loop-atom.invariant.going) returns-2
+    (λ c. going-long c.loop-atom.invariant.going) returns-3)

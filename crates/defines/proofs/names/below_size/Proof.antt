@@ -7,11 +7,11 @@ use Rattle.defines.proofs.names.below_size.Tie as tie
 
 returns : tie.Need-returns
 returns c =
-    let start = c.before.before in
+    let start = c in
     let l = below-long start.args.n start.requires in
-    omega (arith, c.before.beyond.ensures, c.beyond2.ensures)
+    omega (arith, c.beyond.ensures, c.beyond-2.ensures)
 
-pub below-size-spec : {M : Type 1} → statement M
-below-size-spec =
+pub below_size_spec : {M : Type 1} → statement M
+below_size_spec =
     tie.close
     (tie.spec (λ c κs. search rules) (λ c. search rules) (λ c κs. search rules) (λ c. search rules) returns)

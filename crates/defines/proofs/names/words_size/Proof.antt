@@ -17,45 +17,45 @@ use Rattle.defines.proofs.names.words_size.Tie as tie
 abbrev word_digits : List ℕ → ℕ → ℕ → List ℕ
 word_digits w from k = digits (get_or w (from + k) 0)
 
-abbrev invariant-loop : tie.invariant-loop
-invariant-loop table from n size₀ k₀ size k = Summing (word_digits table from) n size k
+abbrev invariant-loop-k : tie.invariant-loop-k
+invariant-loop-k table from n size₀ k₀ size k = Summing (word_digits table from) n size k
 
-abbrev decreases-loop : tie.decreases-loop
-decreases-loop table from n size₀ k₀ size k = n - k
+abbrev decreases-loop-k : tie.decreases-loop-k
+decreases-loop-k table from n size₀ k₀ size k = n - k
 
 -- the size that was found is that of word k
-found : (c : tie.After-number-size invariant-loop decreases-loop) →
-    let at-loop = c.before.before.before in
-    let args = at-loop.before.before.args in
-    c.number_size.result ≡ length (word_digits args.table.now args.from at-loop.loop.k)
-found c = c.number_size.ensures ∙ ap (λ (n : ℕ). length (digits n)) c.before.word_at.ensures
+found : (c : tie.After-number_size-size invariant-loop-k decreases-loop-k) →
+    let at-loop = c in
+    let args = at-loop.args in
+    c.number_size-size.result ≡ length (word_digits args.table.now args.from at-loop.loop-k.k)
+found c = c.number_size-size.ensures ∙ ap (λ (n : ℕ). length (digits n)) c.word_at.ensures
 
-add-size : tie.Need-overflow-add-size invariant-loop decreases-loop
+add-size : tie.Need-overflow_add-size invariant-loop-k decreases-loop-k
 add-size c =
-    let at-loop = c.before.before.before in
-    let args = at-loop.before.before.args in
+    let at-loop = c in
+    let args = at-loop.args in
     let w = args.table.now in
-    let l = summing-within at-loop.loop.invariant c.before.before.loop-test.true in
+    let l = summing-within at-loop.loop-k.invariant c.loop-k-test.true in
     let f = found c in
     let e = ap length (words-pieces digits w args.from args.n) in
     let d = digits-few (words_at w args.from args.n) in
     let n = length-words_at w args.from args.n in
-    let few = at-loop.before.before.requires.1 in
+    let few = at-loop.requires.1 in
     omega arith
 
-loop-again : tie.Need-loop-preserved invariant-loop decreases-loop
+loop-again : tie.Need-loop-k-preserved invariant-loop-k decreases-loop-k
 loop-again c =
     let f = found c in
-    summing-next c.before.before.before.loop.invariant c.before.before.loop-test.true (omega arith)
+    summing-next c.loop-k.invariant c.loop-k-test.true (omega arith)
 
-returns : tie.Need-returns invariant-loop decreases-loop
+returns : tie.Need-returns invariant-loop-k decreases-loop-k
 returns c =
-    let args = c.before.before.before.args in
-    summing-last c.before.loop.invariant (omega arith) ∙
+    let args = c.args in
+    summing-last c.loop-k.invariant (omega arith) ∙
     sym (ap length (words-pieces digits args.table.now args.from args.n))
 
-pub words-size-spec : {M : Type 1} → statement M
-words-size-spec =
+pub words_size_spec : {M : Type 1} → statement M
+words_size_spec =
     tie.close
-    (tie.spec invariant-loop decreases-loop (λ c. summing-first) (λ c. omega arith) (λ c κs. omega arith) (λ c κs. tt) add-size
+    (tie.spec invariant-loop-k decreases-loop-k (λ c. summing-first) (λ c. omega arith) (λ c κs. omega arith) (λ c κs. tt) add-size
     (λ c. omega arith) (λ c. omega arith) loop-again returns)

@@ -8,12 +8,12 @@ use Rattle.defines.proofs.PairItems.{needs-none, needs-some}
 use Rattle.defines.proofs.pairs.needs_size.Statement.{statement}
 use Rattle.defines.proofs.pairs.needs_size.Tie as tie
 
-returns : tie.Need-returns
-returns c = sym (ap length (needs-none _ (sym c.before.word.ensures.0 ∙ c.if1.true)))
+returns : tie.Need-returns-then-word-eq0
+returns c = sym (ap length (needs-none _ (sym c.word.ensures.0 ∙ c.if-word-eq0.true)))
 
-returns-2 : tie.Need-returns-2
+returns-2 : tie.Need-returns
 unfolding bytes
-returns-2 c = sym (ap length (needs-some _ (λ none. c.if1.false (c.before.word.ensures.0 ∙ none))))
+returns-2 c = sym (ap length (needs-some _ (λ none. c.if-word-eq0.false (c.word.ensures.0 ∙ none))))
 
-pub needs-size-spec : {M : Type 1} → statement M
-needs-size-spec = tie.close (tie.spec (λ c κs. omega (arith, counts-inside _ c.before.requires)) returns returns-2)
+pub needs_size_spec : {M : Type 1} → statement M
+needs_size_spec = tie.close (tie.spec (λ c κs. omega (arith, counts-inside _ c.requires)) returns returns-2)

@@ -17,69 +17,69 @@ use Rattle.defines.proofs.Sizes.{sizes-fit}
 use Rattle.defines.proofs.pairs.pairs_size.Statement.{statement}
 use Rattle.defines.proofs.pairs.pairs_size.Tie as tie
 
-abbrev invariant-loop : tie.invariant-loop
-invariant-loop table count fixed size₀ i₀ size i = Summing (apart_in table) (head_in table).pairs size i
+abbrev invariant-loop-i : tie.invariant-loop-i
+invariant-loop-i table count fixed size₀ i₀ size i = Summing (apart_in table) (head_in table).pairs size i
 
-abbrev decreases-loop : tie.decreases-loop
-decreases-loop table count fixed size₀ i₀ size i = count - i
+abbrev decreases-loop-i : tie.decreases-loop-i
+decreases-loop-i table count fixed size₀ i₀ size i = count - i
 
 -- the function's entry, from the loop's head, and its table
-abbrev start : tie.At-loop invariant-loop decreases-loop → tie.Start invariant-loop decreases-loop
+abbrev start : tie.At-loop-i invariant-loop-i decreases-loop-i → tie.Start invariant-loop-i decreases-loop-i
 start c = c.before.before.before.before.before
 
-abbrev words : tie.At-loop invariant-loop decreases-loop → List ℕ
+abbrev words : tie.At-loop-i invariant-loop-i decreases-loop-i → List ℕ
 words c = (start c).args.table.now
 
 -- pair i is one of the table's
-known : (c : tie.In-loop invariant-loop decreases-loop) → c.before.loop.i < (head_in (words c.before)).pairs
-known c = let e = c.before.before.before.before.word.ensures.0 in omega arith
+known : (c : tie.In-loop-i invariant-loop-i decreases-loop-i) → c.loop-i.i < (head_in (words c.before)).pairs
+known c = let e = c.word-count.ensures.0 in omega arith
 
-words-size-requires : tie.Need-words-size-requires invariant-loop decreases-loop
+words-size-requires : tie.Need-words_size-requires invariant-loop-i decreases-loop-i
 words-size-requires c κs = let inside = c.pair_of.ensures.1 in (omega arith, omega arith)
 
 -- the size that was found is that of pair i
-found : (c : tie.After-words-size invariant-loop decreases-loop) →
-    let at-loop = c.before.before.before in
-    16 + c.words_size.result ≡ length (apart_in (words at-loop) at-loop.loop.i)
+found : (c : tie.After-words_size invariant-loop-i decreases-loop-i) →
+    let at-loop = c in
+    16 + c.words_size.result ≡ length (apart_in (words at-loop.before.before.before) at-loop.loop-i.i)
 found c =
-    let at-loop = c.before.before.before in
+    let at-loop = c in
     let e = c.words_size.ensures in
-    let row = ap (λ (b : ℕ). length (concat_map digits (words_at (words at-loop) (b + 1) 2)))
-    c.before.pair_of.ensures.0 in
-    let l = pair-long (words at-loop) at-loop.loop.i in
+    let row = ap (λ (b : ℕ). length (concat_map digits (words_at (words at-loop.before.before.before) (b + 1) 2)))
+    c.pair_of.ensures.0 in
+    let l = pair-long (words at-loop.before.before.before) at-loop.loop-i.i in
     omega arith
 
-add-size : tie.Need-overflow-add-size invariant-loop decreases-loop
+add-size : tie.Need-overflow_add-size invariant-loop-i decreases-loop-i
 add-size c =
-    let at-loop = c.before.before.before in
+    let at-loop = c in
     let e = found c in
-    let few = pair-few (words at-loop) at-loop.loop.i in
+    let few = pair-few (words at-loop.before.before.before) at-loop.loop-i.i in
     omega arith
 
-add-size-2 : tie.Need-overflow-add-size-2 invariant-loop decreases-loop
+add-size-2 : tie.Need-overflow_add-size-in-loop-i invariant-loop-i decreases-loop-i
 add-size-2 c =
-    let at-loop = c.before.before.before in
-    let w = words at-loop in
-    let l = summing-within at-loop.loop.invariant (known c.before.before) in
+    let at-loop = c in
+    let w = words at-loop.before.before.before in
+    let l = summing-within at-loop.loop-i.invariant (known c.before.before) in
     let e = found c in
     let a = ap length (pairs-all w (head_in w).pairs) in
-    let f = sizes-fit w (start at-loop).requires in
+    let f = sizes-fit w (start at-loop.before.before.before).requires in
     omega arith
 
-loop-again : tie.Need-loop-preserved invariant-loop decreases-loop
+loop-again : tie.Need-loop-i-preserved invariant-loop-i decreases-loop-i
 loop-again c =
-    let e = found c in summing-next c.before.before.before.loop.invariant (known c.before.before) (omega arith)
+    let e = found c in summing-next c.loop-i.invariant (known c.before.before) (omega arith)
 
-returns : tie.Need-returns invariant-loop decreases-loop
+returns : tie.Need-returns invariant-loop-i decreases-loop-i
 returns c =
     let w = words c.before in
-    let e = c.before.before.before.before.word.ensures.0 in
-    summing-last c.before.loop.invariant (omega arith) ∙ ap length (pairs-all w (head_in w).pairs)
+    let e = c.word-count.ensures.0 in
+    summing-last c.loop-i.invariant (omega arith) ∙ ap length (pairs-all w (head_in w).pairs)
 
-pub pairs-size-spec : {M : Type 1} → statement M
-pairs-size-spec =
+pub pairs_size_spec : {M : Type 1} → statement M
+pairs_size_spec =
     tie.close
-    (tie.spec invariant-loop decreases-loop (λ c κs. omega (arith, counts-inside _ c.before.requires)) (λ c. omega arith)
+    (tie.spec invariant-loop-i decreases-loop-i (λ c κs. omega (arith, counts-inside _ c.requires)) (λ c. omega arith)
     (λ c. omega arith) (λ c. omega arith) (λ c. summing-first)
-    (λ c κs. (table-roomy _ (start c.before).pre, known c)) (λ c. omega (arith, c.pair_of.ensures.1))
+    (λ c κs. (table-roomy _ (start c.before).requires, known c)) (λ c. omega (arith, c.pair_of.ensures.1))
     words-size-requires add-size add-size-2 (λ c. omega arith) (λ c. omega arith) loop-again returns)

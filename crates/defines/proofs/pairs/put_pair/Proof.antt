@@ -32,59 +32,58 @@ begin : (c : tie.Start) →
 begin c = going-left (pair-pieces c.args.table.now c.args.i) (going_start c.requires.1.1)
 
 -- the row that was found is the pair's
-abbrev start : tie.After-pair-of → tie.Start
+abbrev start : tie.After-pair_of-row → tie.Start
 start c = c.before.before.before
 
-read : (c : tie.After-pair-of) →
-    names (words_at (start c).args.table.now (c.pair_of.result + 1) 2) ≡ parameters (start c)
-read c = ap (λ (b : ℕ). names (words_at (start c).args.table.now (b + 1) 2)) c.pair_of.ensures.0
+read : (c : tie.After-pair_of-row) →
+    names (words_at (start c).args.table.now (c.pair_of-row.result + 1) 2) ≡ parameters (start c)
+read c = ap (λ (b : ℕ). names (words_at (start c).args.table.now (b + 1) 2)) c.pair_of-row.ensures.0
 
-put-bytes-requires : tie.Need-put-bytes-requires
+put-bytes-requires : tie.Need-put_bytes-at_first-requires
 unfolding bytes
 put-bytes-requires c κs =
-    let start = start c.before.before in
+    let start = start c.before.before.before in
     going-room (bytes " (not (=") (parameters start ++ bytes "))") (begin start)
 
-abbrev found : tie.After-slice-known2 → tie.After-pair-of
-found c = c.before.before.before.before.before
+abbrev found : tie.After-slice_known-2-1 → tie.After-pair_of-row
+found c = c.before.before.before.before.before.before
 
-behind-opened : (c : tie.After-slice-known2) →
-    Left (start (found c)) (parameters (start (found c)) ++ bytes "))") c.before.before.put-bytes.new.0
-    c.before.before.put-bytes.result
+behind-opened : (c : tie.After-slice_known-2-1) →
+    Left (start (found c)) (parameters (start (found c)) ++ bytes "))") c.put_bytes-at_first.new.text
+    c.put_bytes-at_first.result
 unfolding bytes
-behind-opened c = going_on {ys = bytes " (not (="} (begin (start (found c))) c.before.before.put-bytes.ensures
+behind-opened c = going_on {ys = bytes " (not (="} (begin (start (found c))) c.put_bytes-at_first.ensures
 
-put-words-requires : tie.Need-put-words-requires
+put-words-requires : tie.Need-put_words-at_end-requires
 unfolding bytes
 put-words-requires c κs =
-    let found = found c.before.before in
-    let inside = found.pair_of.ensures.1 in
-    let room = going-room (parameters (start found)) (bytes "))") (behind-opened c.before.before) in
+    let found = found c.before.before.before in
+    let inside = found.pair_of-row.ensures.1 in
+    let room = going-room (parameters (start found)) (bytes "))") (behind-opened c.before.before.before) in
     let e = ap length (read found) in
     (omega arith, omega arith)
 
-abbrev opened : tie.After-slice-known3 → tie.After-slice-known2
-opened c = c.before.before.before.before.before
+abbrev opened : tie.After-slice_known-3-1 → tie.After-slice_known-2-1
+opened c = c.before.before.before.before.before.before
 
-behind-parameters : (c : tie.After-slice-known3) →
-    Left (start (found (opened c))) (bytes "))") c.before.before.put-words.new.0
-    c.before.before.put-words.result
+behind-parameters : (c : tie.After-slice_known-3-1) →
+    Left (start (found (opened c))) (bytes "))") c.put_words-at_end.new.text
+    c.put_words-at_end.result
 unfolding bytes
 behind-parameters c =
-    going_on (behind-opened (opened c)) (puts-same (read (found (opened c))) c.before.before.put-words.ensures)
+    going_on (behind-opened (opened c)) (puts-same (read (found (opened c))) c.put_words-at_end.ensures)
 
-put-bytes-requires-2 : tie.Need-put-bytes-requires-2
+put-bytes-requires-2 : tie.Need-put_bytes-requires
 unfolding bytes
-put-bytes-requires-2 c κs = last-room (behind-parameters c.before.before)
+put-bytes-requires-2 c κs = last-room (behind-parameters c.before.before.before)
 
 returns : tie.Need-returns
 unfolding bytes
 returns c =
-    going-last (behind-parameters c.before.before.before.before.before) c.before.before.put-bytes2.ensures
+    going-last (behind-parameters c.before.before.before.before.before.before) c.put_bytes.ensures
 
-pub put-pair-spec : {M : Type 1} → statement M
-put-pair-spec =
+pub put_pair_spec : {M : Type 1} → statement M
+put_pair_spec =
     tie.close
-    (tie.spec (λ c κs. (table-roomy _ c.before.before.requires.0, c.before.before.requires.1.0)) (λ c. search rules)
-    put-bytes-requires (λ c. search rules) (λ c. search rules) put-words-requires (λ c. search rules)
-    put-bytes-requires-2 (λ c. search rules) returns)
+    (tie.spec (λ c κs. (table-roomy _ c.requires.0, c.requires.1.0))
+    put-bytes-requires (λ c. search rules) put-words-requires put-bytes-requires-2 (λ c. search rules) returns)

@@ -18,109 +18,109 @@ use Rattle.defines.proofs.PairItems.{pairs-rise, pairs-inside, pair-before-end, 
 use Rattle.defines.proofs.pairs.put_pairs.Statement.{statement}
 use Rattle.defines.proofs.pairs.put_pairs.Tie as tie
 
-abbrev invariant-loop : tie.invariant-loop
-invariant-loop text₀ at table schema from count next₀ pair₀ text next pair =
+abbrev invariant-loop-pair : tie.invariant-loop-pair
+invariant-loop-pair text₀ at table schema from count next₀ pair₀ text next pair =
     (from ≤ pair) × ((pair ≤ first_pair (task_of table) (suc schema)) ×
     Going text₀ at (pairs_in table from (first_pair (task_of table) (suc schema)))
     (onwards (apart_in table) pair (first_pair (task_of table) (suc schema))) text next)
 
-abbrev decreases-loop : tie.decreases-loop
-decreases-loop text₀ at table schema from count next₀ pair₀ text next pair = count - pair
+abbrev decreases-loop-pair : tie.decreases-loop-pair
+decreases-loop-pair text₀ at table schema from count next₀ pair₀ text next pair = count - pair
 
 -- the function's entry, from the loop's head, its table, and where the schema's pairs end
-abbrev start : tie.At-loop invariant-loop decreases-loop → tie.Start invariant-loop decreases-loop
+abbrev start : tie.At-loop-pair invariant-loop-pair decreases-loop-pair → tie.Start invariant-loop-pair decreases-loop-pair
 start c = c.before.before.before.before
 
-abbrev words : tie.At-loop invariant-loop decreases-loop → List ℕ
+abbrev words : tie.At-loop-pair invariant-loop-pair decreases-loop-pair → List ℕ
 words c = (start c).args.table.now
 
-abbrev end : tie.At-loop invariant-loop decreases-loop → ℕ
+abbrev end : tie.At-loop-pair invariant-loop-pair decreases-loop-pair → ℕ
 end c = first_pair (task_of (words c)) (suc (start c).args.schema)
 
-loop-holds : tie.Need-loop-init invariant-loop decreases-loop
+loop-holds : tie.Need-loop-pair-init invariant-loop-pair decreases-loop-pair
 loop-holds c =
-    let start = c.before.before.before in
+    let start = c in
     let w = start.args.table.now in
     let from = start.requires.1.1.0 in
     let rises = pairs-rise w start.requires.0 start.args.schema (suc start.args.schema) (omega arith) in
     (omega arith, (omega arith, going-left (pairs-onwards w _ _) (going_start start.requires.1.1.1)))
 
 -- ---- a turn
-known : (c : tie.In-loop invariant-loop decreases-loop) → c.before.loop.pair < (head_in (words c.before)).pairs
-known c = let e = c.before.before.word.ensures.0 in omega arith
+known : (c : tie.In-loop-pair invariant-loop-pair decreases-loop-pair) → c.loop-pair.pair < (head_in (words c.before)).pairs
+known c = let e = c.word-count.ensures.0 in omega arith
 
-own : (c : tie.Else1 invariant-loop decreases-loop) → c.before.before.before.loop.pair < end c.before.before.before
+own : (c : tie.Else-pair_number-schema invariant-loop-pair decreases-loop-pair) → c.loop-pair.pair < end c.before.before.before
 own c =
-    let at-loop = c.before.before.before in
-    pair-before-end (words at-loop) (start at-loop).requires.0 (start at-loop).args.schema (start at-loop).requires.1.0
-    at-loop.loop.pair (known c.before.before) (sym c.before.pair-number.ensures ∙ c.if1.false)
+    let at-loop = c in
+    pair-before-end (words at-loop.before.before.before) (start at-loop.before.before.before).requires.0 (start at-loop.before.before.before).args.schema (start at-loop.before.before.before).requires.1.0
+    at-loop.loop-pair.pair (known c.before.before) (sym c.pair_number.ensures ∙ c.if-pair_number-schema.false)
 
 -- what is to come is the pair, and then those behind it
-to-come : (c : tie.Else1 invariant-loop decreases-loop) →
-    let at-loop = c.before.before.before in
-    Going (start at-loop).args.text.now (start at-loop).args.at
-    (pairs_in (words at-loop) (start at-loop).args.from (end at-loop))
-    (apart_in (words at-loop) at-loop.loop.pair ++
-    onwards (apart_in (words at-loop)) (at-loop.loop.pair + 1) (end at-loop))
-    at-loop.loop.text at-loop.loop.next
+to-come : (c : tie.Else-pair_number-schema invariant-loop-pair decreases-loop-pair) →
+    let at-loop = c in
+    Going (start at-loop.before.before.before).args.text.now (start at-loop.before.before.before).args.at
+    (pairs_in (words at-loop.before.before.before) (start at-loop.before.before.before).args.from (end at-loop.before.before.before))
+    (apart_in (words at-loop.before.before.before) at-loop.loop-pair.pair ++
+    onwards (apart_in (words at-loop.before.before.before)) (at-loop.loop-pair.pair + 1) (end at-loop.before.before.before))
+    at-loop.loop-pair.text at-loop.loop-pair.next
 to-come c =
-    let at-loop = c.before.before.before in
-    going-left (onwards-next (apart_in (words at-loop)) at-loop.loop.pair (end at-loop) (own c))
-    at-loop.loop.invariant.1.1
+    let at-loop = c in
+    going-left (onwards-next (apart_in (words at-loop.before.before.before)) at-loop.loop-pair.pair (end at-loop.before.before.before) (own c))
+    at-loop.loop-pair.invariant.1.1
 
-put-pair-requires : tie.Need-put-pair-requires invariant-loop decreases-loop
+put-pair-requires : tie.Need-put_pair-next-requires invariant-loop-pair decreases-loop-pair
 put-pair-requires c κs =
-    let at-loop = c.before.before.before.before in
-    let w = words at-loop in (
-      (start at-loop).requires.0,
+    let at-loop = c in
+    let w = words at-loop.before.before.before.before in (
+      (start at-loop.before.before.before.before).requires.0,
       (
         known c.before.before.before,
-        going-room (apart_in w at-loop.loop.pair) (onwards (apart_in w) (at-loop.loop.pair + 1) (end at-loop))
+        going-room (apart_in w at-loop.loop-pair.pair) (onwards (apart_in w) (at-loop.loop-pair.pair + 1) (end at-loop.before.before.before.before))
             (to-come c.before),
       ),
     )
 
-loop-again : tie.Need-loop-preserved invariant-loop decreases-loop
+loop-again : tie.Need-loop-pair-preserved invariant-loop-pair decreases-loop-pair
 loop-again c =
-    let turn = c.before.before.before.before in
-    let begun = turn.before.before.before.loop.invariant.0 in
-    let own = own turn in
-    (omega arith, (omega arith, going_on (to-come turn) c.before.before.put-pair.ensures))
+    let turn = c in
+    let begun = turn.loop-pair.invariant.0 in
+    let own = own turn.before.before.before.before in
+    (omega arith, (omega arith, going_on (to-come turn.before.before.before.before) c.put_pair-next.ensures))
 
 -- ---- the ways out
-ended : (c : tie.At-loop invariant-loop decreases-loop) → end c ≤ c.loop.pair → (c.loop.pair ≡ end c) ×
+ended : (c : tie.At-loop-pair invariant-loop-pair decreases-loop-pair) → end c ≤ c.loop-pair.pair → (c.loop-pair.pair ≡ end c) ×
     Puts (start c).args.text.now (start c).args.at (pairs_in (words c) (start c).args.from (end c))
-    c.loop.text c.loop.next
+    c.loop-pair.text c.loop-pair.next
 ended c l =
-    let within = c.loop.invariant.1.0 in (
+    let within = c.loop-pair.invariant.1.0 in (
       omega arith,
-      going_end (going-left (onwards-none (apart_in (words c)) c.loop.pair (end c) l) c.loop.invariant.1.1),
+      going_end (going-left (onwards-none (apart_in (words c)) c.loop-pair.pair (end c) l) c.loop-pair.invariant.1.1),
     )
 
-returns : tie.Need-returns invariant-loop decreases-loop
+returns : tie.Need-returns-after-loop-pair invariant-loop-pair decreases-loop-pair
 returns c =
     let start = start c.before in
-    let e = c.before.before.word.ensures.0 in
-    let inside = pairs-inside start.args.table.now start.pre.0 start.args.schema start.pre.1.0 in
+    let e = c.word-count.ensures.0 in
+    let inside = pairs-inside start.args.table.now start.requires.0 start.args.schema start.requires.1.0 in
     ended c.before (omega arith)
 
-returns-2 : tie.Need-returns-2 invariant-loop decreases-loop
+returns-2 : tie.Need-returns-then-pair_number-schema invariant-loop-pair decreases-loop-pair
 returns-2 c =
-    let at-loop = c.before.before.before in
-    let start = start at-loop in
-    let begun = at-loop.loop.invariant.0 in
-    let from = start.pre.1.1.0 in
-    ended at-loop (elim (dec_lt at-loop.loop.pair (end at-loop)) [
-      | yes l ↦ absurd (c.if1.true (c.before.pair-number.ensures ∙
-          pair-names start.args.table.now start.pre.0 start.args.schema start.pre.1.0
-          at-loop.loop.pair (omega arith) l))
+    let at-loop = c in
+    let start = start at-loop.before.before.before in
+    let begun = at-loop.loop-pair.invariant.0 in
+    let from = start.requires.1.1.0 in
+    ended at-loop.before.before.before (elim (dec_lt at-loop.loop-pair.pair (end at-loop.before.before.before)) [
+      | yes l ↦ absurd (c.if-pair_number-schema.true (c.pair_number.ensures ∙
+          pair-names start.args.table.now start.requires.0 start.args.schema start.requires.1.0
+          at-loop.loop-pair.pair (omega arith) l))
       | no l ↦ omega arith
     ])
 
-pub put-pairs-spec : {M : Type 1} → statement M
-put-pairs-spec =
+pub put_pairs_spec : {M : Type 1} → statement M
+put_pairs_spec =
     tie.close
-    (tie.spec invariant-loop decreases-loop (λ c κs. omega (arith, counts-inside _ c.before.before.requires.0)) loop-holds
-    (λ c κs. (table-roomy _ (start c.before).pre.0, known c)) put-pair-requires (λ c. omega arith)
-    (λ c. omega arith) loop-again (λ c. going-long c.before.loop.invariant.1.1) returns
-    (λ c. going-long c.before.before.before.loop.invariant.1.1) returns-2)
+    (tie.spec invariant-loop-pair decreases-loop-pair (λ c κs. omega (arith, counts-inside _ c.requires.0)) loop-holds
+    (λ c κs. (table-roomy _ (start c.before).requires.0, known c)) put-pair-requires (λ c. omega arith)
+    (λ c. omega arith) loop-again (λ c. going-long c.loop-pair.invariant.1.1) returns
+    (λ c. going-long c.loop-pair.invariant.1.1) returns-2)

@@ -14,15 +14,15 @@ use borrow.Author.Rules.{rules}
 use Rattle.defines.proofs.writer.has_room.Statement.{statement}
 use Rattle.defines.proofs.writer.has_room.Tie as tie
 
-returns : tie.Need-returns
+returns : tie.Need-returns-then-bytes-ge-LONGEST_PDDL
 unfolding longest_pddl
 returns c =
-    let start = c.before.before in
+    let start = c in
     let m = table-most start.args.table.now start.requires in
     sym (le-leb (length (pddl (task_of start.args.table.now))) start.args.bytes (omega arith))
 
-returns-2 : tie.Need-returns-2
-returns-2 c = ap (λ (n : ℕ). leb n c.before.before.before.args.bytes) c.pddl-size.ensures
+returns-2 : tie.Need-returns
+returns-2 c = ap (λ (n : ℕ). leb n c.args.bytes) c.pddl_size.ensures
 
-pub has-room-spec : {M : Type 1} → statement M
-has-room-spec = tie.close (tie.spec returns (λ c κs. search rules) returns-2)
+pub has_room_spec : {M : Type 1} → statement M
+has_room_spec = tie.close (tie.spec returns (λ c κs. search rules) returns-2)

@@ -15,27 +15,27 @@ use borrow.Author.Rules.{rules}
 use Rattle.defines.proofs.writer.objects_size.Statement.{statement}
 use Rattle.defines.proofs.writer.objects_size.Tie as tie
 
-few : (c : tie.After-word) → c.word.result ≤ most_objects
-few c = omega (arith, objects-few _ c.before.before.requires, c.word.ensures.0)
+few : (c : tie.After-word-objects) → c.word-objects.result ≤ most_objects
+few c = omega (arith, objects-few _ c.requires, c.word-objects.ensures.0)
 
-add-result : tie.Need-overflow-add-result
+add-result : tie.Need-overflow_add-result
 add-result c =
-    let b = below-long c.before.word.result (few c.before) in
-    let e = c.below-size.ensures in
+    let b = below-long c.word-objects.result (few c.before) in
+    let e = c.below_size.ensures in
     let f = few c.before in
     omega arith
 
 returns : tie.Need-returns
 unfolding bytes
 returns c =
-    let objects = c.before.word.ensures.0 in
-    let l = names-long (bytes " o") c.before.word.result in
-    let e = c.below-size.ensures in
+    let objects = c.word-objects.ensures.0 in
+    let l = names-long (bytes " o") c.word-objects.result in
+    let e = c.below_size.ensures in
     let r = ap (λ (n : ℕ). length (marked (bytes " o") (up_to n))) objects in
     omega arith
 
-pub objects-size-spec : {M : Type 1} → statement M
-objects-size-spec =
+pub objects_size_spec : {M : Type 1} → statement M
+objects_size_spec =
     tie.close
-    (tie.spec (λ c κs. omega (arith, counts-inside _ c.before.requires)) (λ c. search rules) (λ c κs. few c)
+    (tie.spec (λ c κs. omega (arith, counts-inside _ c.requires)) (λ c. search rules) (λ c κs. few c)
     add-result returns)

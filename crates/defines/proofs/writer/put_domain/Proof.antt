@@ -47,106 +47,105 @@ begin c =
     let r = c.requires.1 in
     going-left (domain-in c.args.table.now c.requires.0) (going_start (omega arith))
 
-abbrev start : tie.After-slice-known2 → tie.Start
-start c = c.before.before.before.before.before.before.before
+abbrev start : tie.After-slice_known-2-1 → tie.Start
+start c = c.before.before.before.before.before.before.before.before
 
-put-bytes-requires : tie.Need-put-bytes-requires
+put-bytes-requires : tie.Need-put_bytes-at_needs-requires
 unfolding bytes
 put-bytes-requires c κs =
-    let start = c.before.before.before.before in
-    let r = going-room opened (required start ++ from_key start) (begin start) in
+    let start = c in
+    let r = going-room opened (required start.before.before.before.before.before ++ from_key start.before.before.before.before.before) (begin start.before.before.before.before.before) in
     omega arith
 
-behind-opened : (c : tie.After-slice-known2) →
+behind-opened : (c : tie.After-slice_known-2-1) →
     Left (start c) (required (start c) ++ from_key (start c))
-    c.before.before.put-bytes.new.0 c.before.before.put-bytes.result
+    c.put_bytes-at_needs.new.text c.put_bytes-at_needs.result
 unfolding bytes
-behind-opened c = going_on {ys = opened} (begin (start c)) c.before.before.put-bytes.ensures
+behind-opened c = going_on {ys = opened} (begin (start c)) c.put_bytes-at_needs.ensures
 
-put-needs-requires : tie.Need-put-needs-requires
+put-needs-requires : tie.Need-put_needs-at_key-requires
 put-needs-requires c κs =
     let start = start c.before in
-    (start.pre.0, going-room (required start) (from_key start) (behind-opened c.before))
+    (start.requires.0, going-room (required start) (from_key start) (behind-opened c.before))
 
-abbrev begun : tie.After-slice-known3 → tie.After-slice-known2
+abbrev begun : tie.After-slice_known-3-1 → tie.After-slice_known-2-1
 begun c = c.before.before.before.before
 
-behind-needs : (c : tie.After-slice-known3) →
+behind-needs : (c : tie.After-slice_known-3-1) →
     Left (start (begun c)) (from_key (start (begun c)))
-    c.before.before.put-needs.new.0 c.before.before.put-needs.result
-behind-needs c = going_on (behind-opened (begun c)) c.before.before.put-needs.ensures
+    c.put_needs-at_key.new.text c.put_needs-at_key.result
+behind-needs c = going_on (behind-opened (begun c)) c.put_needs-at_key.ensures
 
-put-bytes-requires-2 : tie.Need-put-bytes-requires-2
+put-bytes-requires-2 : tie.Need-put_bytes-at_predicates-requires
 unfolding bytes
 put-bytes-requires-2 c κs =
-    let start = start (begun c.before.before) in
-    going-room key (predicates start ++ from-bracket start) (behind-needs c.before.before)
+    let start = start (begun c.before.before.before) in
+    going-room key (predicates start ++ from-bracket start) (behind-needs c.before.before.before)
 
-abbrev needed : tie.After-slice-known4 → tie.After-slice-known3
-needed c = c.before.before.before.before.before
+abbrev needed : tie.After-slice_known-4-1 → tie.After-slice_known-3-1
+needed c = c.before.before.before.before.before.before
 
-abbrev entry : tie.After-slice-known4 → tie.Start
+abbrev entry : tie.After-slice_known-4-1 → tie.Start
 entry c = start (begun (needed c))
 
-behind-key : (c : tie.After-slice-known4) →
+behind-key : (c : tie.After-slice_known-4-1) →
     Left (entry c) (predicates (entry c) ++ from-bracket (entry c))
-    c.before.before.put-bytes2.new.0 c.before.before.put-bytes2.result
+    c.put_bytes-at_predicates.new.text c.put_bytes-at_predicates.result
 unfolding bytes
-behind-key c = going_on {ys = key} (behind-needs (needed c)) c.before.before.put-bytes2.ensures
+behind-key c = going_on {ys = key} (behind-needs (needed c)) c.put_bytes-at_predicates.ensures
 
-put-predicates-requires : tie.Need-put-predicates-requires
+put-predicates-requires : tie.Need-put_predicates-at_bracket-requires
 put-predicates-requires c κs =
     let start = entry c.before in
-    (start.pre.0, going-room (predicates start) (from-bracket start) (behind-key c.before))
+    (start.requires.0, going-room (predicates start) (from-bracket start) (behind-key c.before))
 
-abbrev named : tie.After-slice-known5 → tie.After-slice-known4
+abbrev named : tie.After-slice_known-5-1 → tie.After-slice_known-4-1
 named c = c.before.before.before.before
 
-behind-predicates : (c : tie.After-slice-known5) →
+behind-predicates : (c : tie.After-slice_known-5-1) →
     Left (entry (named c)) (from-bracket (entry (named c)))
-    c.before.before.put-predicates.new.0 c.before.before.put-predicates.result
-behind-predicates c = going_on (behind-key (named c)) c.before.before.put-predicates.ensures
+    c.put_predicates-at_bracket.new.text c.put_predicates-at_bracket.result
+behind-predicates c = going_on (behind-key (named c)) c.put_predicates-at_bracket.ensures
 
-abbrev listed : tie.After-slice-known6 → tie.After-slice-known5
+abbrev listed : tie.After-slice_known-6-1 → tie.After-slice_known-5-1
 listed c = c.before.before.before.before
 
-behind-bracket : (c : tie.After-slice-known6) →
+behind-bracket : (c : tie.After-slice_known-6-1) →
     Left (entry (named (listed c))) (actions (entry (named (listed c))) ++ bytes ")\n")
-    c.before.before.put_byte.new.0 c.before.before.put_byte.result
+    c.put_byte-at_actions.new.text c.put_byte-at_actions.result
 unfolding bytes
-behind-bracket c = going_on {ys = bytes ")"} (behind-predicates (listed c)) c.before.before.put_byte.ensures
+behind-bracket c = going_on {ys = bytes ")"} (behind-predicates (listed c)) c.put_byte-at_actions.ensures
 
-abbrev closed : tie.After-slice-known7 → tie.After-slice-known6
+abbrev closed : tie.After-slice_known-7-1 → tie.After-slice_known-6-1
 closed c = c.before.before.before.before
 
-behind-actions : (c : tie.After-slice-known7) →
+behind-actions : (c : tie.After-slice_known-7-1) →
     Left (entry (named (listed (closed c)))) (bytes ")\n")
-    c.before.before.put-actions.new.0 c.before.before.put-actions.result.at
-behind-actions c = going_on (behind-bracket (closed c)) c.before.before.put-actions.ensures.1
+    c.put_actions-facts.new.text c.put_actions-facts.result.at
+behind-actions c = going_on (behind-bracket (closed c)) c.put_actions-facts.ensures.1
 
-put-byte-requires : tie.Need-put-byte-requires
+put-byte-requires : tie.Need-put_byte-at_actions-requires
 unfolding bytes
 put-byte-requires c κs = byte-room _ _ (behind-predicates c.before)
 
-put-actions-requires : tie.Need-put-actions-requires
+put-actions-requires : tie.Need-put_actions-facts-requires
 put-actions-requires c κs =
     let start = entry (named (listed c.before)) in
-    (start.pre.0, going-room (actions start) (bytes ")\n") (behind-bracket c.before))
+    (start.requires.0, going-room (actions start) (bytes ")\n") (behind-bracket c.before))
 
-put-bytes-requires-3 : tie.Need-put-bytes-requires-3
+put-bytes-requires-3 : tie.Need-put_bytes-behind-requires
 unfolding bytes
-put-bytes-requires-3 c κs = last-room (behind-actions c.before.before)
+put-bytes-requires-3 c κs = last-room (behind-actions c.before.before.before)
 
 returns : tie.Need-returns
 unfolding bytes
 returns c =
-    let put = c.before.before.before.before.before in
-    let text = going-last (behind-actions put) c.before.before.put-bytes3.ensures in
-    (put.before.before.put-actions.ensures.0, text)
+    let put = c in
+    let text = going-last (behind-actions put.before.before.before.before.before.before) c.put_bytes-behind.ensures in
+    (put.put_actions-facts.ensures.0, text)
 
-pub put-domain-spec : {M : Type 1} → statement M
-put-domain-spec =
+pub put_domain_spec : {M : Type 1} → statement M
+put_domain_spec =
     tie.close
-    (tie.spec (λ c. search rules) put-bytes-requires put-needs-requires (λ c. search rules) put-bytes-requires-2
-    put-predicates-requires put-byte-requires put-actions-requires (λ c. search rules) put-bytes-requires-3
-    (λ c. search rules) returns)
+    (tie.spec put-bytes-requires put-needs-requires put-bytes-requires-2 put-predicates-requires put-byte-requires
+    put-actions-requires put-bytes-requires-3 (λ c. search rules) returns)

@@ -25,27 +25,27 @@ Left c left text next = Going c.args.text.now 0 (pddl (task_of c.args.table.now)
 begin : (c : tie.Start) → Left c (domain c ++ problem c) c.args.text.now 0
 begin c = let r = c.requires.1 in going-left (pddl-pieces (task_of c.args.table.now)) (going_start (omega arith))
 
-abbrev start : tie.After-slice-known2 → tie.Start
+abbrev start : tie.After-slice_known-2-1 → tie.Start
 start c = c.before.before.before.before.before.before
 
-behind-domain : (c : tie.After-slice-known2) →
+behind-domain : (c : tie.After-slice_known-2-1) →
     Left (start c) (problem (start c))
-    c.before.before.put-domain.new.0 c.before.before.put-domain.result.at
-behind-domain c = going_on (begin (start c)) c.before.before.put-domain.ensures.1
+    c.put_domain-problem.new.text c.put_domain-problem.result.at
+behind-domain c = going_on (begin (start c)) c.put_domain-problem.ensures.1
 
-put-domain-requires : tie.Need-put-domain-requires
+put-domain-requires : tie.Need-put_domain-problem-requires
 put-domain-requires c κs =
-    let start = c.before.before.before in
-    let r = going-room (domain start) (problem start) (begin start) in
+    let start = c in
+    let r = going-room (domain start.before.before.before) (problem start.before.before.before) (begin start.before.before.before) in
     (start.requires.0, omega arith)
 
-put-problem-requires : tie.Need-put-problem-requires
+put-problem-requires : tie.Need-put_problem-requires
 put-problem-requires c κs =
-    let put = c.before in
-    ((start put).requires.0, (put.before.before.put-domain.ensures.0, last-room (behind-domain put)))
+    let put = c in
+    ((start put.before).requires.0, (put.put_domain-problem.ensures.0, last-room (behind-domain put.before)))
 
 returns : tie.Need-returns
-returns c = going-last (behind-domain c.before.before.before.before) c.before.before.put-problem.ensures
+returns c = going-last (behind-domain c.before.before.before.before) c.put_problem.ensures
 
-pub put-pddl-spec : {M : Type 1} → statement M
-put-pddl-spec = tie.close (tie.spec put-domain-requires put-problem-requires (λ c. search rules) returns)
+pub put_pddl_spec : {M : Type 1} → statement M
+put_pddl_spec = tie.close (tie.spec put-domain-requires put-problem-requires (λ c. search rules) returns)

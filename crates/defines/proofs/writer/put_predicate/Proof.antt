@@ -27,59 +27,59 @@ begin : (c : tie.Start) →
     Left c (bytes " (p" ++ (number c ++ (parameters c ++ (closing ∷ [])))) c.args.text.now c.args.at
 begin c = going-left (predicate-pieces c.args.p c.args.arity) (going_start c.requires)
 
-abbrev start : tie.After-slice-known2 → tie.Start
-start c = c.before.before.before.before.before.before
+abbrev start : tie.After-slice_known-2-1 → tie.Start
+start c = c.before.before.before.before.before.before.before
 
-behind-letter : (c : tie.After-slice-known2) →
+behind-letter : (c : tie.After-slice_known-2-1) →
     Left (start c) (number (start c) ++ (parameters (start c) ++ (closing ∷ [])))
-    c.before.before.put-bytes.new.0 c.before.before.put-bytes.result
+    c.put_bytes-at_number.new.text c.put_bytes-at_number.result
 unfolding bytes
-behind-letter c = going_on {ys = bytes " (p"} (begin (start c)) c.before.before.put-bytes.ensures
+behind-letter c = going_on {ys = bytes " (p"} (begin (start c)) c.put_bytes-at_number.ensures
 
-abbrev lettered : tie.After-slice-known3 → tie.After-slice-known2
+abbrev lettered : tie.After-slice_known-3-1 → tie.After-slice_known-2-1
 lettered c = c.before.before.before.before
 
-behind-number : (c : tie.After-slice-known3) →
+behind-number : (c : tie.After-slice_known-3-1) →
     Left (start (lettered c)) (parameters (start (lettered c)) ++ (closing ∷ []))
-    c.before.before.put-number.new.0 c.before.before.put-number.result
-behind-number c = going_on (behind-letter (lettered c)) c.before.before.put-number.ensures
+    c.put_number-at_parameters.new.text c.put_number-at_parameters.result
+behind-number c = going_on (behind-letter (lettered c)) c.put_number-at_parameters.ensures
 
-abbrev counted : tie.After-slice-known4 → tie.After-slice-known3
-counted c = c.before.before.before.before.before
+abbrev counted : tie.After-slice_known-4-1 → tie.After-slice_known-3-1
+counted c = c.before.before.before.before.before.before
 
-behind-parameters : (c : tie.After-slice-known4) →
-    Left (start (lettered (counted c))) (closing ∷ []) c.before.before.put-numbered.new.0
-    c.before.before.put-numbered.result
+behind-parameters : (c : tie.After-slice_known-4-1) →
+    Left (start (lettered (counted c))) (closing ∷ []) c.put_numbered-at_end.new.text
+    c.put_numbered-at_end.result
 unfolding bytes
 behind-parameters c =
     going_on {ys = parameters (start (lettered (counted c)))} (behind-number (counted c))
-    c.before.before.put-numbered.ensures
+    c.put_numbered-at_end.ensures
 
-put-bytes-requires : tie.Need-put-bytes-requires
+put-bytes-requires : tie.Need-put_bytes-at_number-requires
 unfolding bytes
 put-bytes-requires c κs =
-    let start = c.before.before.before in
-    going-room (bytes " (p") (number start ++ (parameters start ++ (closing ∷ []))) (begin start)
+    let start = c in
+    going-room (bytes " (p") (number start.before.before.before.before ++ (parameters start.before.before.before.before ++ (closing ∷ []))) (begin start.before.before.before.before)
 
-put-number-requires : tie.Need-put-number-requires
+put-number-requires : tie.Need-put_number-at_parameters-requires
 put-number-requires c κs =
     let start = start c.before in
     going-room (number start) (parameters start ++ (closing ∷ [])) (behind-letter c.before)
 
-put-numbered-requires : tie.Need-put-numbered-requires
+put-numbered-requires : tie.Need-put_numbered-at_end-requires
 unfolding bytes
 put-numbered-requires c κs =
-    let start = start (lettered c.before.before) in
-    going-room (parameters start) (closing ∷ []) (behind-number c.before.before)
+    let start = start (lettered c.before.before.before) in
+    going-room (parameters start) (closing ∷ []) (behind-number c.before.before.before)
 
-put-byte-requires : tie.Need-put-byte-requires
+put-byte-requires : tie.Need-put_byte-requires
 put-byte-requires c κs = byte-room closing [] (behind-parameters c.before)
 
 returns : tie.Need-returns
-returns c = going-last (behind-parameters c.before.before.before.before) c.before.before.put_byte.ensures
+returns c = going-last (behind-parameters c.before.before.before.before) c.put_byte.ensures
 
-pub put-predicate-spec : {M : Type 1} → statement M
-put-predicate-spec =
+pub put_predicate_spec : {M : Type 1} → statement M
+put_predicate_spec =
     tie.close
-    (tie.spec (λ c. search rules) put-bytes-requires put-number-requires (λ c. search rules) put-numbered-requires
-    put-byte-requires (λ c. search rules) returns)
+    (tie.spec put-bytes-requires put-number-requires put-numbered-requires put-byte-requires (λ c. search rules)
+    returns)

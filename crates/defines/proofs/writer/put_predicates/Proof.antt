@@ -15,88 +15,88 @@ use Rattle.defines.proofs.Frames.{arity-inside, arity-few, predicate-read}
 use Rattle.defines.proofs.writer.put_predicates.Statement.{statement}
 use Rattle.defines.proofs.writer.put_predicates.Tie as tie
 
-abbrev invariant-loop : tie.invariant-loop
-invariant-loop text₀ at table predicates next₀ p₀ text next p =
+abbrev invariant-loop-p : tie.invariant-loop-p
+invariant-loop-p text₀ at table predicates next₀ p₀ text next p =
     Going text₀ at (concat_map (predicate_in table) (up_to (head_in table).predicates))
     (onwards (predicate_in table) p (head_in table).predicates) text next
 
-abbrev decreases-loop : tie.decreases-loop
-decreases-loop text₀ at table predicates next₀ p₀ text next p = predicates - p
+abbrev decreases-loop-p : tie.decreases-loop-p
+decreases-loop-p text₀ at table predicates next₀ p₀ text next p = predicates - p
 
-loop-holds : tie.Need-loop-init invariant-loop decreases-loop
+loop-holds : tie.Need-loop-p-init invariant-loop-p decreases-loop-p
 loop-holds c =
-    let start = c.before.before.before in
+    let start = c in
     going-left (sym (onwards-all (predicate_in start.args.table.now) _)) (going_start start.requires.1)
 
 -- what the loop's head knows: the function's entry, its table, and the table's predicates
-abbrev start : tie.At-loop invariant-loop decreases-loop → tie.Start invariant-loop decreases-loop
+abbrev start : tie.At-loop-p invariant-loop-p decreases-loop-p → tie.Start invariant-loop-p decreases-loop-p
 start c = c.before.before.before.before
 
-abbrev words : tie.At-loop invariant-loop decreases-loop → List ℕ
+abbrev words : tie.At-loop-p invariant-loop-p decreases-loop-p → List ℕ
 words c = (start c).args.table.now
 
-abbrev pieces : tie.At-loop invariant-loop decreases-loop → ℕ → List ℕ
+abbrev pieces : tie.At-loop-p invariant-loop-p decreases-loop-p → ℕ → List ℕ
 pieces c = predicate_in (words c)
 
-abbrev count : tie.At-loop invariant-loop decreases-loop → ℕ
+abbrev count : tie.At-loop-p invariant-loop-p decreases-loop-p → ℕ
 count c = (head_in (words c)).predicates
 
 -- predicate p is one of them
-known : (c : tie.In-loop invariant-loop decreases-loop) → c.before.loop.p < count c.before
-known c = let n = c.before.before.word_at.ensures in omega arith
+known : (c : tie.In-loop-p invariant-loop-p decreases-loop-p) → c.loop-p.p < count c.before
+known c = let n = c.word_at-predicates.ensures in omega arith
 
-arity-of-requires : tie.Need-arity-of-requires invariant-loop decreases-loop
+arity-of-requires : tie.Need-arity_of-requires invariant-loop-p decreases-loop-p
 arity-of-requires c κs =
-    let at-loop = c.before.before.before in
-    arity-inside (words at-loop) c.wide.ensures (start at-loop).requires.0 (known c.before.before)
+    let at-loop = c in
+    arity-inside (words at-loop.before.before.before) c.wide.ensures (start at-loop.before.before.before).requires.0 (known c.before.before)
 
-cast-put-predicate : tie.Need-overflow-cast-put-predicate invariant-loop decreases-loop
+cast-put-predicate : tie.Need-overflow_cast-arity_of invariant-loop-p decreases-loop-p
 cast-put-predicate c =
-    let at-loop = c.before.before.before.before in
-    let few = arity-few (words at-loop) c.before.wide.ensures (start at-loop).requires.0
-    (known c.before.before.before) c.arity-of.ensures in
+    let at-loop = c in
+    let few = arity-few (words at-loop.before.before.before.before) c.wide.ensures (start at-loop.before.before.before.before).requires.0
+    (known c.before.before.before) c.arity_of.ensures in
     omega arith
 
 -- predicate p, and those behind it
-abbrev predicate : tie.After-arity-of invariant-loop decreases-loop → List ℕ
-predicate c = formula (bytes " ?x") c.before.before.before.before.loop.p (up_to c.arity-of.result)
+abbrev predicate : tie.After-arity_of invariant-loop-p decreases-loop-p → List ℕ
+predicate c = formula (bytes " ?x") c.loop-p.p (up_to c.arity_of.result)
 
-abbrev behind : tie.At-loop invariant-loop decreases-loop → List ℕ
-behind c = onwards (pieces c) (c.loop.p + 1) (count c)
+abbrev behind : tie.At-loop-p invariant-loop-p decreases-loop-p → List ℕ
+behind c = onwards (pieces c) (c.loop-p.p + 1) (count c)
 
-to-come : (c : tie.After-arity-of invariant-loop decreases-loop) →
-    let at-loop = c.before.before.before.before in
-    Going (start at-loop).args.text.now (start at-loop).args.at
-    (concat_map (pieces at-loop) (up_to (count at-loop)))
-    (predicate c ++ behind at-loop) at-loop.loop.text at-loop.loop.next
+to-come : (c : tie.After-arity_of invariant-loop-p decreases-loop-p) →
+    let at-loop = c in
+    Going (start at-loop.before.before.before.before).args.text.now (start at-loop.before.before.before.before).args.at
+    (concat_map (pieces at-loop.before.before.before.before) (up_to (count at-loop.before.before.before.before)))
+    (predicate c ++ behind at-loop.before.before.before.before) at-loop.loop-p.text at-loop.loop-p.next
 to-come c =
-    let at-loop = c.before.before.before.before in
+    let at-loop = c in
     let below = known c.before.before.before in
-    let said = predicate-read (words at-loop) c.before.wide.ensures c.arity-of.ensures in
+    let said = predicate-read (words at-loop.before.before.before.before) c.wide.ensures c.arity_of.ensures in
     going-left
-    (onwards-next (pieces at-loop) at-loop.loop.p (count at-loop) below ∙
-    ap (λ (bs : List ℕ). bs ++ behind at-loop) (sym said))
-    at-loop.loop.invariant
+    (onwards-next (pieces at-loop.before.before.before.before) at-loop.loop-p.p (count at-loop.before.before.before.before) below ∙
+    ap (λ (bs : List ℕ). bs ++ behind at-loop.before.before.before.before) (sym said))
+    at-loop.loop-p.invariant
 
-put-predicate-requires : tie.Need-put-predicate-requires invariant-loop decreases-loop
+put-predicate-requires : tie.Need-put_predicate-next-requires invariant-loop-p decreases-loop-p
 put-predicate-requires c κs = going-room (predicate c) (behind c.before.before.before.before) (to-come c)
 
-loop-again : tie.Need-loop-preserved invariant-loop decreases-loop
-loop-again c = going_on (to-come c.before.before.before) c.before.before.put-predicate.ensures
+loop-again : tie.Need-loop-p-preserved invariant-loop-p decreases-loop-p
+loop-again c = going_on (to-come c.before.before.before) c.put_predicate-next.ensures
 
-same_length : tie.Need-same-length invariant-loop decreases-loop
-same_length c = going-long c.before.loop.invariant
+same_length : tie.Need-shape_of-text invariant-loop-p decreases-loop-p
+same_length c = going-long c.loop-p.invariant
 
-returns : tie.Need-returns invariant-loop decreases-loop
+returns : tie.Need-returns invariant-loop-p decreases-loop-p
 returns c =
-    let at-loop = c.before in
-    let n = at-loop.before.word_at.ensures in
-    let none = onwards-none (pieces at-loop) at-loop.loop.p (count at-loop) (omega arith) in
-    going_end (going-left none at-loop.loop.invariant)
+    let at-loop = c in
+    let n = at-loop.word_at-predicates.ensures in
+    let none = onwards-none (pieces at-loop.before) at-loop.loop-p.p (count at-loop.before) (omega arith) in
+    going_end (going-left none at-loop.loop-p.invariant)
 
-pub put-predicates-spec : {M : Type 1} → statement M
-put-predicates-spec =
+pub put_predicates_spec : {M : Type 1} → statement M
+put_predicates_spec =
     tie.close
-    (tie.spec invariant-loop decreases-loop (λ c κs. omega (arith, counts-inside _ c.before.before.requires.0)) loop-holds
+    (tie.spec invariant-loop-p decreases-loop-p (λ c κs. omega (arith, counts-inside _ c.requires.0)) loop-holds
     (λ c κs. tt) arity-of-requires cast-put-predicate put-predicate-requires (λ c. omega arith) (λ c. omega arith)
     loop-again same_length returns)

@@ -61,154 +61,153 @@ begin : (c : tie.Start) → Left c (opened ++ (objects c ++ from-init c)) c.args
 begin c = going-left (problem-in (words c) c.requires.0) (going_start c.requires.1.1)
 
 -- ---- the objects, which were counted first
-put-bytes-requires : tie.Need-put-bytes-requires
+put-bytes-requires : tie.Need-put_bytes-at_objects-requires
 unfolding bytes
 put-bytes-requires c κs =
-    let start = c.before.before.before.before.before in
-    going-room opened (objects start ++ from-init start) (begin start)
+    let start = c in
+    going-room opened (objects start.before.before.before.before.before.before ++ from-init start.before.before.before.before.before.before) (begin start.before.before.before.before.before.before)
 
-abbrev counted : tie.After-slice-known2 → tie.After-word-at
-counted c = c.before.before.before.before.before
+abbrev counted : tie.After-slice_known-2-1 → tie.After-word_at-objects
+counted c = c.before.before.before.before.before.before
 
-abbrev start : tie.After-slice-known2 → tie.Start
+abbrev start : tie.After-slice_known-2-1 → tie.Start
 start c = (counted c).before.before.before
 
-behind-opened : (c : tie.After-slice-known2) →
+behind-opened : (c : tie.After-slice_known-2-1) →
     Left (start c) (objects (start c) ++ from-init (start c))
-    c.before.before.put-bytes.new.0 c.before.before.put-bytes.result
+    c.put_bytes-at_objects.new.text c.put_bytes-at_objects.result
 unfolding bytes
-behind-opened c = going_on {ys = opened} (begin (start c)) c.before.before.put-bytes.ensures
+behind-opened c = going_on {ys = opened} (begin (start c)) c.put_bytes-at_objects.ensures
 
-objects-read : (c : tie.After-slice-known2) →
-    marked (bytes " o") (up_from 0 ((counted c).word_at.result - 0)) ≡ objects (start c)
+objects-read : (c : tie.After-slice_known-2-1) →
+    marked (bytes " o") (up_from 0 ((counted c).word_at-objects.result - 0)) ≡ objects (start c)
 unfolding up_to
 objects-read c =
-    let e : (counted c).word_at.result - 0 ≡ (head_in (words (start c))).objects =
-    omega (arith, (counted c).word_at.ensures) in
+    let e : (counted c).word_at-objects.result - 0 ≡ (head_in (words (start c))).objects =
+    omega (arith, (counted c).word_at-objects.ensures) in
     ap (λ (n : ℕ). marked (bytes " o") (up_from 0 n)) e
 
-put-numbered-requires : tie.Need-put-numbered-requires
+put-numbered-requires : tie.Need-put_numbered-at_initial-requires
 unfolding bytes
 put-numbered-requires c κs =
-    let put = c.before.before in
-    let e = ap length (objects-read put) in
-    let r = going-room (objects (start put)) (from-init (start put)) (behind-opened put) in
+    let put = c in
+    let e = ap length (objects-read put.before.before.before) in
+    let r = going-room (objects (start put.before.before.before)) (from-init (start put.before.before.before)) (behind-opened put.before.before.before) in
     omega arith
 
-abbrev named : tie.After-slice-known3 → tie.After-slice-known2
-named c = c.before.before.before.before.before
+abbrev named : tie.After-slice_known-3-1 → tie.After-slice_known-2-1
+named c = c.before.before.before.before.before.before
 
-behind-objects : (c : tie.After-slice-known3) →
+behind-objects : (c : tie.After-slice_known-3-1) →
     Left (start (named c)) (from-init (start (named c)))
-    c.before.before.put-numbered.new.0 c.before.before.put-numbered.result
+    c.put_numbered-at_initial.new.text c.put_numbered-at_initial.result
 unfolding bytes
 behind-objects c =
-    going_on (behind-opened (named c)) (puts-same (objects-read (named c)) c.before.before.put-numbered.ensures)
+    going_on (behind-opened (named c)) (puts-same (objects-read (named c)) c.put_numbered-at_initial.ensures)
 
 -- ---- the initial atoms
-put-bytes-requires-2 : tie.Need-put-bytes-requires-2
+put-bytes-requires-2 : tie.Need-put_bytes-at_first-requires
 unfolding bytes
 put-bytes-requires-2 c κs =
-    let put = c.before.before in
-    going-room (bytes ") (:init") (from-initials (start (named put))) (behind-objects put)
+    let put = c in
+    going-room (bytes ") (:init") (from-initials (start (named put.before.before.before))) (behind-objects put.before.before.before)
 
-abbrev listed : tie.After-slice-known4 → tie.After-slice-known3
-listed c = c.before.before.before.before.before
+abbrev listed : tie.After-slice_known-4-1 → tie.After-slice_known-3-1
+listed c = c.before.before.before.before.before.before
 
-abbrev started : tie.After-slice-known4 → tie.Start
+abbrev started : tie.After-slice_known-4-1 → tie.Start
 started c = start (named (listed c))
 
-behind-init : (c : tie.After-slice-known4) →
+behind-init : (c : tie.After-slice_known-4-1) →
     Left (started c) (from-initials (started c))
-    c.before.before.put-bytes2.new.0 c.before.before.put-bytes2.result
+    c.put_bytes-at_first.new.text c.put_bytes-at_first.result
 unfolding bytes
-behind-init c = going_on {ys = bytes ") (:init"} (behind-objects (listed c)) c.before.before.put-bytes2.ensures
+behind-init c = going_on {ys = bytes ") (:init"} (behind-objects (listed c)) c.put_bytes-at_first.ensures
 
 first_run : (c : tie.Start) → RoleRun (words c) 0 initial (head_in (words c)).schema_atoms (goals_from (words c))
 first_run c = initial-run (words c) c.requires.0
 
-put-run-requires : tie.Need-put-run-requires
+put-run-requires : tie.Need-put_run-goals-requires
 put-run-requires c κs =
     let start = started c.before in (
-      start.pre.0,
-      run-asked (first_run start) refl start.pre.1.0 _
+      start.requires.0,
+      run-asked (first_run start) refl start.requires.1.0 _
           (going-room (initials start) (from-goal start) (behind-init c.before)),
     )
 
-abbrev begun : tie.After-slice-known5 → tie.After-slice-known4
+abbrev begun : tie.After-slice_known-5-1 → tie.After-slice_known-4-1
 begun c = c.before.before.before.before
 
-behind-initials : (c : tie.After-slice-known5) →
+behind-initials : (c : tie.After-slice_known-5-1) →
     Left (started (begun c)) (from-goal (started (begun c)))
-    c.before.before.put-run.new.0 c.before.before.put-run.result.at
+    c.put_run-goals.new.text c.put_run-goals.result.at
 behind-initials c =
     let start = started (begun c) in
     going_on (behind-init (begun c))
-    (run-puts (first_run start) refl start.pre.1.0 c.before.before.put-run.ensures)
+    (run-puts (first_run start) refl start.requires.1.0 c.put_run-goals.ensures)
 
-goals-found : (c : tie.After-slice-known5) →
-    c.before.before.put-run.result.atom ≡ goals_from (words (started (begun c)))
+goals-found : (c : tie.After-slice_known-5-1) →
+    c.put_run-goals.result.atom ≡ goals_from (words (started (begun c)))
 goals-found c =
     let start = started (begun c) in
-    run_ends (first_run start) refl start.pre.1.0 c.before.before.put-run.ensures
+    run_ends (first_run start) refl start.requires.1.0 c.put_run-goals.ensures
 
 -- ---- the goal atoms
-put-bytes-requires-3 : tie.Need-put-bytes-requires-3
+put-bytes-requires-3 : tie.Need-put_bytes-at_goals-requires
 unfolding bytes
 put-bytes-requires-3 c κs =
-    let put = c.before.before in
-    going-room (bytes ") (:goal (and") (from-goals (started (begun put))) (behind-initials put)
+    let put = c in
+    going-room (bytes ") (:goal (and") (from-goals (started (begun put.before.before.before))) (behind-initials put.before.before.before)
 
-abbrev half : tie.After-slice-known6 → tie.After-slice-known5
-half c = c.before.before.before.before.before
+abbrev half : tie.After-slice_known-6-1 → tie.After-slice_known-5-1
+half c = c.before.before.before.before.before.before
 
-abbrev entry : tie.After-slice-known6 → tie.Start
+abbrev entry : tie.After-slice_known-6-1 → tie.Start
 entry c = started (begun (half c))
 
-behind-goal : (c : tie.After-slice-known6) →
-    Left (entry c) (from-goals (entry c)) c.before.before.put-bytes3.new.0
-    c.before.before.put-bytes3.result
+behind-goal : (c : tie.After-slice_known-6-1) →
+    Left (entry c) (from-goals (entry c)) c.put_bytes-at_goals.new.text
+    c.put_bytes-at_goals.result
 unfolding bytes
 behind-goal c =
-    going_on {ys = bytes ") (:goal (and"} (behind-initials (half c)) c.before.before.put-bytes3.ensures
+    going_on {ys = bytes ") (:goal (and"} (behind-initials (half c)) c.put_bytes-at_goals.ensures
 
 second_run : (c : tie.Start) → RoleRun (words c) 0 goal_role (goals_from (words c)) (atom_total (words c))
 second_run c = goal-run (words c) c.requires.0
 
-put-run-requires-2 : tie.Need-put-run-requires-2
+put-run-requires-2 : tie.Need-put_run-end-requires
 put-run-requires-2 c κs =
     let start = entry c.before in (
-      start.pre.0,
+      start.requires.0,
       run-asked (second_run start) refl (goals-found (half c.before)) _
           (going-room (goals start) (bytes ")))\n") (behind-goal c.before)),
     )
 
-abbrev aimed : tie.After-slice-known7 → tie.After-slice-known6
+abbrev aimed : tie.After-slice_known-7-1 → tie.After-slice_known-6-1
 aimed c = c.before.before.before.before
 
-behind-goals : (c : tie.After-slice-known7) →
+behind-goals : (c : tie.After-slice_known-7-1) →
     Left (entry (aimed c)) (bytes ")))\n")
-    c.before.before.put-run2.new.0 c.before.before.put-run2.result.at
+    c.put_run-end.new.text c.put_run-end.result.at
 behind-goals c =
     going_on (behind-goal (aimed c))
-    (run-puts (second_run (entry (aimed c))) refl (goals-found (half (aimed c))) c.before.before.put-run2.ensures)
+    (run-puts (second_run (entry (aimed c))) refl (goals-found (half (aimed c))) c.put_run-end.ensures)
 
 -- ---- the end
-put-bytes-requires-4 : tie.Need-put-bytes-requires-4
+put-bytes-requires-4 : tie.Need-put_bytes-requires
 unfolding bytes
-put-bytes-requires-4 c κs = last-room (behind-goals c.before.before)
+put-bytes-requires-4 c κs = last-room (behind-goals c.before.before.before)
 
-done : (c : tie.After-slice-known8) →
-    let start = entry (aimed c.before.before.before.before.before) in
+done : (c : tie.After-slice_known-8-1) →
+    let start = entry (aimed c.before.before.before.before.before.before) in
     Puts start.args.text.now start.args.at (problem_text (task_of (words start)) ++ (newline ∷ []))
-    c.before.before.put-bytes4.new.0 c.before.before.put-bytes4.result
+    c.put_bytes.new.text c.put_bytes.result
 unfolding bytes
-done c = going-last (behind-goals c.before.before.before.before.before) c.before.before.put-bytes4.ensures
+done c = going-last (behind-goals c.before.before.before.before.before.before) c.put_bytes.ensures
 
-pub put-problem-spec : {M : Type 1} → statement M
-put-problem-spec =
+pub put_problem_spec : {M : Type 1} → statement M
+put_problem_spec =
     tie.close
-    (tie.spec (λ c κs. omega (arith, counts-inside _ c.before.before.requires.0)) (λ c. search rules)
-    put-bytes-requires (λ c. search rules) put-numbered-requires (λ c. search rules) put-bytes-requires-2
-    put-run-requires (λ c. search rules) put-bytes-requires-3 put-run-requires-2 (λ c. search rules)
+    (tie.spec (λ c κs. omega (arith, counts-inside _ c.requires.0)) put-bytes-requires
+    put-numbered-requires put-bytes-requires-2 put-run-requires put-bytes-requires-3 put-run-requires-2
     put-bytes-requires-4 (λ c. puts-length (done c)) done)
