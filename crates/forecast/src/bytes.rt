@@ -33,10 +33,8 @@ use words::sets;
 // The line of an old atom, renumbered for a part with these parameters.
 fn old_line(table: &[u16], i: usize, own: u64) -> usize
     requires { IsSchemaAtom table.now i }
-    ensures {
-        let a = atom_in table.now i in
-        result ≡ length (row_line (renumbered own a.role a))
-    }
+    ensures { let a = atom_in table.now i in
+        result ≡ length (row_line (renumbered own a.role a)) }
 {
     let mut row = [0u16; ATOM_SIZE];
     let role = role_at(table, row_of(table, i));

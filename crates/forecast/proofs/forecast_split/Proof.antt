@@ -21,75 +21,75 @@ use Rattle.forecast.proofs.Outcome.{too-many-told, counted-told}
 use Rattle.forecast.proofs.forecast_split.Statement.{statement}
 
 -- ---- the powers
-objects : (c : tie.After-word) → c.word.result ≡ (task_of c.before.before.args.table.now).objects
+objects : (c : tie.After-word) → c.word.result ≡ (task_of c.args.table.now).objects
 objects c =
-    let s = c.before.before in
+    let s = c in
     let w = s.args.table.now in
     c.word.ensures.0 ∙ sym (objects-word w (table-frame w s.requires.table))
 
-powers : (c : tie.After-keep-powers) →
-    ArePowers instance_limit (task_of c.before.before.before.before.args.table.now).objects
-    c.keep-powers.new.1.0
+powers : (c : tie.After-keep_powers) →
+    ArePowers instance_limit (task_of c.args.table.now).objects
+    c.keep_powers.new.powers
 powers c =
-    subst (λ n. ArePowers instance_limit n c.keep-powers.new.1.0) (objects c.before.before)
-    c.keep-powers.ensures
+    subst (λ n. ArePowers instance_limit n c.keep_powers.new.powers) (objects c.before.before)
+    c.keep_powers.ensures
 
 word-requires : tie.Need-word-requires
-word-requires c κs = omega (arith, counts-inside c.before.args.table.now c.before.requires.table)
+word-requires c κs = omega (arith, counts-inside c.args.table.now c.requires.table)
 
-keep-powers-requires : tie.Need-keep-powers-requires
+keep-powers-requires : tie.Need-keep_powers-requires
 keep-powers-requires c κs =
-    let s = c.before.before.before in
+    let s = c in
     let t = task_of s.args.table.now in
     (omega (arith, objects c.before, leb-true 1 t.objects (task-tests t (well s.requires)).some-object), refl)
 
-instances-before-requires : tie.Need-instances-before-requires
-instances-before-requires c κs = (c.before.before.before.before.before.requires.table, powers c.before)
+instances-before-requires : tie.Need-instances_before-before-requires
+instances-before-requires c κs = (c.requires.table, powers c.before)
 
-instances-after-requires : tie.Need-instances-after-requires
+instances-after-requires : tie.Need-instances_after-after-requires
 instances-after-requires c κs =
-    ((_, c.before.before.before.before.before.before.before.requires), powers c.before.before.before)
+    ((_, c.requires), powers c.before.before.before)
 
 -- ---- the totals
-abbrev start : tie.After-instances-after → tie.Start
+abbrev start : tie.After-instances_after-after → tie.Start
 start c = c.before.before.before.before.before.before.before.before
 
-returns : tie.Need-returns
+returns : tie.Need-returns-then-before-ge-INSTANCE_LIMIT
 returns c =
-    let d = c.before in
-    too-many-told (start d).requires (sym limit_is) d.before.before.instances-before.ensures
-    d.instances-after.ensures (⊎_elim (λ x. inl x.taken) (λ x. inr (leb-true _ _ x.1.taken)) c.if1.branch)
+    let d = c in
+    too-many-told (start d.before).requires (sym limit_is) d.instances_before-before.ensures
+    d.instances_after-after.ensures (⊎_elim (λ x. inl x.if-before-ge-INSTANCE_LIMIT.true) (λ x. inr x.if-after-ge-INSTANCE_LIMIT.true) c.then-before-ge-INSTANCE_LIMIT.branch-raw)
 
 -- ---- the other sizes
 word-requires-2 : tie.Need-word-requires-2
 word-requires-2 c κs =
     let s = start c.before.before in
-    omega (arith, counts-inside s.args.table.now s.pre.table)
+    omega (arith, counts-inside s.args.table.now s.requires.table)
 
 -- the predicates of an accepted split are few
-few : (c : tie.After-word2) → let s = start c.before.before.before in
-    c.word2.result + 1 + s.args.counted.later + s.args.counted.pars ≤ most_predicates
+few : (c : tie.After-word-2) → let s = start c.before.before.before in
+    c.word-2.result + 1 + s.args.counted.later + s.args.counted.pars ≤ most_predicates
 few c =
     let S = (start c.before.before.before).requires in
-    omega (arith, c.word2.ensures.0, few-predicates S, predicates-word S, S.sized.later, S.sized.pars)
+    omega (arith, c.word-2.ensures.0, few-predicates S, predicates-word S, S.sized.later, S.sized.pars)
 
-add-predicates-2 : tie.Need-overflow-add-predicates-2
+add-predicates-2 : tie.Need-overflow_add-predicates-2
 add-predicates-2 c = omega (arith, few c.before)
 
-add-predicates-3 : tie.Need-overflow-add-predicates-3
+add-predicates-3 : tie.Need-overflow_add-predicates-3
 add-predicates-3 c = omega (arith, few c.before.before)
 
-returns-2 : tie.Need-returns-2
+returns-2 : tie.Need-returns
 returns-2 c =
-    let n = c.before.before.before in
-    let e = n.before in
-    let d = e.before.before in
-    counted-told (start d).requires (sym limit_is) d.before.before.instances-before.ensures
-    d.instances-after.ensures e.before.if1.false (leb-false _ _ e.if2.false)
-    (omega (arith, n.word2.ensures.0)) c.text-bytes.ensures
+    let n = c in
+    let e = n in
+    let d = e in
+    counted-told (start d.before.before.before.before.before.before).requires (sym limit_is) d.instances_before-before.ensures
+    d.instances_after-after.ensures e.if-before-ge-INSTANCE_LIMIT.false e.if-after-ge-INSTANCE_LIMIT.false
+    (omega (arith, n.word-2.ensures.0)) c.text_bytes-bytes.ensures
 
-pub forecast-split-spec : {M : Type 1} → statement M
-forecast-split-spec =
+pub forecast_split_spec : {M : Type 1} → statement M
+forecast_split_spec =
     tie.close
     (tie.spec word-requires keep-powers-requires instances-before-requires instances-after-requires returns
     word-requires-2 (λ c. search rules) add-predicates-2 add-predicates-3 (λ c κs. search rules) returns-2)

@@ -8,21 +8,21 @@ use Rattle.forecast.specs.Forecast.{sizes_answer_told}
 use Rattle.forecast.proofs.Outcome.{sizes-refused}
 use Rattle.forecast.proofs.sizes.Statement.{statement}
 
-forecast-split-requires : tie.Need-forecast-split-requires
+forecast-split-requires : tie.Need-forecast_split-requires
 forecast-split-requires c κs =
-    told-accepted c.before.before.accepted.given.1 c.before.before.before.before.keep-accepted.ensures
+    told-accepted c.in-Accepted.is c.keep_accepted-accepted.ensures
 
 -- "Refused as splitting would"
-returns-2 : tie.Need-returns-2
+returns-2 : tie.Need-returns-in-Refused
 unfolding sizes_answer_told
 returns-2 c =
-    let k = c.before.before.before in
-    let w = k.before.before.before.args.table.now in
+    let k = c in
+    let w = k.args.table.now in
     sym (told-by (sizes-refused w
-    (told-refused w k.keep-accepted.new.1.0 c.before.accepted2.given.1 k.keep-accepted.ensures)))
+    (told-refused w k.keep_accepted-accepted.new.kept c.in-Refused.is k.keep_accepted-accepted.ensures)))
 
-pub sizes-spec : {M : Type 1} → statement M
-sizes-spec =
+pub sizes_spec : {M : Type 1} → statement M
+sizes_spec =
     tie.close
     (tie.spec (λ c κs. search rules) (λ c. search rules) forecast-split-requires (λ c. search rules)
     (λ c. search rules) returns-2)

@@ -12,13 +12,13 @@ use Rattle.forecast.proofs.bytes.bare_line.Statement.{statement}
 returns : tie.Need-returns
 unfolding token
 returns c =
-    let put = c.before.before.before in
-    let a = put.before.before.args in
-    c.row-size.ensures ∙
-    ap length (row-line 0 (token a.role a.predicate []) 0 put.bare-token.ensures.0 (omega arith) refl
+    let put = c in
+    let a = put.args in
+    c.row_size.ensures ∙
+    ap length (row-line 0 (token a.role a.predicate []) 0 put.bare_token.ensures.0 (omega arith) refl
     (omega arith))
 
-pub bare-line-spec : {M : Type 1} → statement M
-bare-line-spec =
+pub bare_line_spec : {M : Type 1} → statement M
+bare_line_spec =
     tie.close
     (tie.spec (λ c. search rules) (λ c κs. search rules) (λ c. search rules) (λ c κs. search rules) returns)

@@ -17,39 +17,39 @@ use Rattle.forecast.specs.Counting.{row_line, facts_bytes}
 use Rattle.forecast.proofs.HeadText.{facts-table, facts-are, facts-fit}
 use Rattle.forecast.proofs.bytes.facts_bytes.Statement.{statement}
 
-abbrev start : tie.After-facts-size → tie.Start
+abbrev start : tie.After-facts_size → tie.Start
 start c = c.before.before.before
 
-abbrev task : tie.After-facts-size → Task
+abbrev task : tie.After-facts_size → Task
 task c = task_of (start c).args.table.now
 
 -- procnone's number
-bare-is : (c : tie.After-facts-size) → c.before.word_at.result ≡ procnone (task c)
+bare-is : (c : tie.After-facts_size) → c.word_at-procnone.result ≡ procnone (task c)
 unfolding procnone
 bare-is c =
     let w = (start c).args.table.now in
-    c.before.word_at.ensures ∙ sym (arities-word w (table-frame w (start c).requires))
+    c.word_at-procnone.ensures ∙ sym (arities-word w (table-frame w (start c).requires))
 
 -- what is counted
-old-counted : (c : tie.After-facts-size) → c.facts-size.result ≡ facts_bytes (task c)
-old-counted c = c.facts-size.ensures ∙ facts-table (start c).args.table.now
+old-counted : (c : tie.After-facts_size) → c.facts_size.result ≡ facts_bytes (task c)
+old-counted c = c.facts_size.ensures ∙ facts-table (start c).args.table.now
 
-init-counted : (c : tie.After-bare-line) →
-    c.bare-line.result ≡ length (row_line (token initial (procnone (task c.before)) []))
-init-counted c = c.bare-line.ensures ∙ ap (λ (p : ℕ). length (row_line (token initial p []))) (bare-is c.before)
+init-counted : (c : tie.After-bare_line) →
+    c.bare_line.result ≡ length (row_line (token initial (procnone (task c.before)) []))
+init-counted c = c.bare_line.ensures ∙ ap (λ (p : ℕ). length (row_line (token initial p []))) (bare-is c.before)
 
-goal-counted : (c : tie.After-bare-line2) →
-    c.bare-line2.result ≡ length (row_line (token goal_role (procnone (task c.before.before)) []))
+goal-counted : (c : tie.After-bare_line-2) →
+    c.bare_line-2.result ≡ length (row_line (token goal_role (procnone (task c.before.before)) []))
 goal-counted c =
-    c.bare-line2.ensures ∙ ap (λ (p : ℕ). length (row_line (token goal_role p []))) (bare-is c.before.before)
+    c.bare_line-2.ensures ∙ ap (λ (p : ℕ). length (row_line (token goal_role p []))) (bare-is c.before.before)
 
-short : (c : tie.After-facts-size) → facts_bytes (split_task (task c)) < 2 ^ 64
+short : (c : tie.After-facts_size) → facts_bytes (split_task (task c)) < 2 ^ 64
 short c = facts-fit (task c) (of-table (start c).args.table.now (start c).requires).0
 
-word-at-requires : tie.Need-word-at-requires
-word-at-requires c κs = omega (arith, counts-inside c.before.args.table.now c.before.requires)
+word-at-requires : tie.Need-word_at-procnone-requires
+word-at-requires c κs = omega (arith, counts-inside c.args.table.now c.requires)
 
-add-result : tie.Need-overflow-add-result
+add-result : tie.Need-overflow_add-result
 add-result c =
     omega (arith, old-counted c.before, init-counted c, facts-are (task c.before), short c.before)
 
@@ -63,11 +63,11 @@ returns c =
       facts-are (task c.before.before),
     )
 
-add-result-2 : tie.Need-overflow-add-result-2
+add-result-2 : tie.Need-overflow_add-result-2
 add-result-2 c = omega (arith, returns c, short c.before.before)
 
-pub facts-bytes-spec : {M : Type 1} → statement M
-facts-bytes-spec =
+pub facts_bytes_spec : {M : Type 1} → statement M
+facts_bytes_spec =
     tie.close
     (tie.spec word-at-requires (λ c κs. search rules) (λ c κs. search rules) add-result (λ c κs. search rules)
     add-result-2 returns)

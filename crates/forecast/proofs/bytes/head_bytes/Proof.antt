@@ -24,17 +24,17 @@ use Rattle.forecast.proofs.HeadText.{head-is, head-fits, arities-spaced}
 use Rattle.forecast.proofs.bytes.head_bytes.Statement.{statement}
 
 -- ---- the places, one from the next
-abbrev start : tie.After-further-size → tie.Start
+abbrev start : tie.After-further_size → tie.Start
 start c = c.before.before.before.before
 
-abbrev bared : tie.After-number-line-size → tie.After-further-size
-bared c = c.before.before.before.before
+abbrev bared : tie.After-number_line_size → tie.After-further_size
+bared c = c.before.before.before.before.before
 
-abbrev titled : tie.After-number-line-size2 → tie.After-number-line-size
-titled c = c.before.before.before
+abbrev titled : tie.After-number_line_size-2 → tie.After-number_line_size
+titled c = c.before.before.before.before
 
-abbrev counted : tie.After-list-line-size → tie.After-number-line-size2
-counted c = c.before.before
+abbrev counted : tie.After-list_line_size → tie.After-number_line_size-2
+counted c = c.before.before.before
 
 abbrev task : tie.Start → Task
 task s = task_of s.args.table.now
@@ -75,96 +75,96 @@ fits : (s : tie.Start) →
 fits s = omega (arith, sum_is s, short s)
 
 -- ---- what is counted of each
-bare-counted : (c : tie.After-further-size) →
-    ((start c).args.counted.later + 1) * c.further-size.result ≡ bare_bytes (start c)
-bare-counted c = ap (λ (n : ℕ). ((start c).args.counted.later + 1) * n) c.further-size.ensures
+bare-counted : (c : tie.After-further_size) →
+    ((start c).args.counted.later + 1) * c.further_size.result ≡ bare_bytes (start c)
+bare-counted c = ap (λ (n : ℕ). ((start c).args.counted.later + 1) * n) c.further_size.ensures
 
-pars-counted : (c : tie.After-further-size2) →
-    (start c.before).args.counted.pars * c.further-size2.result ≡ par_bytes (start c.before)
-pars-counted c = ap (λ (n : ℕ). (start c.before).args.counted.pars * n) c.further-size2.ensures
+pars-counted : (c : tie.After-further_size-2) →
+    (start c.before).args.counted.pars * c.further_size-2.result ≡ par_bytes (start c.before)
+pars-counted c = ap (λ (n : ℕ). (start c.before).args.counted.pars * n) c.further_size-2.ensures
 
-task-counted : (c : tie.After-number-line-size) → c.number-line-size.result ≡ length (line "task" (digits 1))
+task-counted : (c : tie.After-number_line_size) → c.number_line_size.result ≡ length (line "task" (digits 1))
 unfolding line bytes
-task-counted c = c.number-line-size.ensures
+task-counted c = c.number_line_size.ensures
 
-objects-counted : (c : tie.After-number-line-size2) →
-    c.number-line-size2.result ≡ objects_bytes (start (bared (titled c)))
+objects-counted : (c : tie.After-number_line_size-2) →
+    c.number_line_size-2.result ≡ objects_bytes (start (bared (titled c)))
 unfolding line bytes task_of
 objects-counted c =
-    c.number-line-size2.ensures ∙ ap (λ (n : ℕ). length (line "objects" (digits n))) c.before.word_at.ensures
+    c.number_line_size-2.ensures ∙ ap (λ (n : ℕ). length (line "objects" (digits n))) c.word_at.ensures
 
-arities-are : (c : tie.After-further-size) →
-    spaced (start c).args.table.now head_words 1 c.before.before.word.result ≡ (task (start c)).arities
+arities-are : (c : tie.After-further_size) →
+    spaced (start c).args.table.now head_words 1 c.word-predicates.result ≡ (task (start c)).arities
 arities-are c =
     let w = (start c).args.table.now in
-    ap (spaced w head_words 1) c.before.before.word.ensures.0 ∙ arities-spaced w
+    ap (spaced w head_words 1) c.word-predicates.ensures.0 ∙ arities-spaced w
 
-arity-counted : (c : tie.After-list-line-size) →
-    c.list-line-size.result ≡ arity_bytes (start (bared (titled (counted c))))
+arity-counted : (c : tie.After-list_line_size) →
+    c.list_line_size.result ≡ arity_bytes (start (bared (titled (counted c))))
 unfolding line bytes
 arity-counted c =
-    c.list-line-size.ensures ∙
+    c.list_line_size.ensures ∙
     ap (λ (ns : List ℕ). length (line "arity" (commaed ns))) (arities-are (bared (titled (counted c))))
 
 -- ---- the needs
 below : {m n : ℕ} → m ≡ n → n < 2 ^ 64 → m < 2 ^ 64
 below e l = omega arith
 
-word-requires : tie.Need-word-requires
-word-requires c κs = omega (arith, counts-inside c.before.args.table.now c.before.requires.0)
+word-requires : tie.Need-word-predicates-requires
+word-requires c κs = omega (arith, counts-inside c.args.table.now c.requires.0)
 
-mul-bare : tie.Need-overflow-mul-bare
+mul-bare : tie.Need-overflow_mul-bare
 mul-bare c = record { fits = below (bare-counted c) (omega (arith, fits (start c))) }
 
-mul-pars : tie.Need-overflow-mul-pars
+mul-pars : tie.Need-overflow_mul-pars
 mul-pars c = record { fits = below (pars-counted c.before) (omega (arith, fits (start c.before.before))) }
 
-number-line-size-requires : tie.Need-number-line-size-requires
+number-line-size-requires : tie.Need-number_line_size-requires
 unfolding line bytes
-number-line-size-requires c κs = omega (arith, fits (start c.before.before.before))
+number-line-size-requires c κs = omega (arith, fits (start c.before.before.before.before))
 
-word-at-requires : tie.Need-word-at-requires
+word-at-requires : tie.Need-word_at-requires
 word-at-requires c κs =
-    let s = start (bared c.before) in
-    omega (arith, counts-inside s.args.table.now s.pre.0)
+    let s = start (bared c.before.before) in
+    omega (arith, counts-inside s.args.table.now s.requires.0)
 
-number-line-size-requires-2 : tie.Need-number-line-size-requires-2
+number-line-size-requires-2 : tie.Need-number_line_size-requires-2
 unfolding line bytes task_of
 number-line-size-requires-2 c κs =
     omega (
       arith,
-      fits (start (bared c.before.before)),
+      fits (start (bared c.before.before.before)),
       ap (λ (n : ℕ). length (line "objects" (digits n))) c.word_at.ensures,
     )
 
-add-result : tie.Need-overflow-add-result
+add-result : tie.Need-overflow_add-result
 add-result c =
     omega (arith, fits (start (bared (titled c))), task-counted (titled c), objects-counted c)
 
-list-line-size-requires : tie.Need-list-line-size-requires
+list-line-size-requires : tie.Need-list_line_size-requires
 unfolding line bytes
 list-line-size-requires c κs =
-    let b = bared (titled c.before) in
+    let b = bared (titled c.before.before) in
     let s = start b in (
-      λ k l. arities-inside s.args.table.now s.pre.0 k (omega (arith, b.before.before.word.ensures.0)),
+      λ k l. arities-inside s.args.table.now s.requires.0 k (omega (arith, b.before.before.word-predicates.ensures.0)),
       omega (arith, fits s, ap (λ (ns : List ℕ). length (line "arity" (commaed ns))) (arities-are b)),
     )
 
-add-result-2 : tie.Need-overflow-add-result-2
+add-result-2 : tie.Need-overflow_add-result-2
 add-result-2 c =
     let b = bared (titled (counted c)) in
     record { fits = below (ap₂ ◌+◌ (arity-counted c) (bare-counted b)) (omega (arith, fits (start b))) }
 
-arities-counted : (c : tie.After-list-line-size) →
+arities-counted : (c : tie.After-list_line_size) →
     let b = bared (titled (counted c)) in
-    c.list-line-size.result + ((start b).args.counted.later + 1) * b.further-size.result +
-    (start b).args.counted.pars * (titled (counted c)).before.before.before.further-size2.result ≡
+    c.list_line_size.result + ((start b).args.counted.later + 1) * b.further_size.result +
+    (start b).args.counted.pars * (titled (counted c)).before.before.before.further_size-2.result ≡
     arity_bytes (start b) + bare_bytes (start b) + par_bytes (start b)
 arities-counted c =
     let b = bared (titled (counted c)) in
-    ap₂ ◌+◌ (ap₂ ◌+◌ (arity-counted c) (bare-counted b)) (pars-counted (titled (counted c)).before.before.before)
+    ap₂ ◌+◌ (ap₂ ◌+◌ (arity-counted c) (bare-counted b)) (pars-counted (titled (counted c)).before.before.before.before)
 
-add-result-3 : tie.Need-overflow-add-result-3
+add-result-3 : tie.Need-overflow_add-result-3
 add-result-3 c =
     record { fits = below (arities-counted c) (omega (arith, fits (start (bared (titled (counted c)))))) }
 
@@ -173,12 +173,12 @@ returns c =
     ap₂ ◌+◌ (ap₂ ◌+◌ (task-counted (titled (counted c))) (objects-counted (counted c))) (arities-counted c) ∙
     sym (sum_is (start (bared (titled (counted c)))))
 
-add-result-4 : tie.Need-overflow-add-result-4
+add-result-4 : tie.Need-overflow_add-result-4
 add-result-4 c = record { fits = below (returns c) (short (start (bared (titled (counted c))))) }
 
-pub head-bytes-spec : {M : Type 1} → statement M
-head-bytes-spec =
+pub head_bytes_spec : {M : Type 1} → statement M
+head_bytes_spec =
     tie.close
     (tie.spec word-requires (λ c. search rules) (λ c κs. search rules) mul-bare (λ c κs. search rules) mul-pars
-    (λ c. search rules) number-line-size-requires (λ c. search rules) word-at-requires number-line-size-requires-2
-    add-result (λ c. search rules) list-line-size-requires add-result-2 add-result-3 add-result-4 returns)
+    number-line-size-requires word-at-requires number-line-size-requires-2 add-result list-line-size-requires
+    add-result-2 add-result-3 add-result-4 returns)

@@ -15,20 +15,20 @@ use Rattle.forecast.proofs.bytes.old_line.Statement.{statement}
 
 returns : tie.Need-returns
 returns c =
-    let counted = c.before.argument-count in
-    let put = c.before.before.before.before in
-    let read = put.before.before in
-    let a = read.before.before.before.args in
+    let counted = c.argument_count in
+    let put = c in
+    let read = put in
+    let a = read.args in
     let old = atom_in a.table.now a.i in
-    let role = read.role-at.ensures.1 _ read.before.row_of.ensures.0 in
-    c.row-size.ensures ∙
-    ap length (row-line 0 (renumbered a.own read.role-at.result old) counted.result
-    put.old-atom.ensures.0 (omega arith)
+    let role = read.role_at-role.ensures.1 _ read.row_of.ensures.0 in
+    c.row_size.ensures ∙
+    ap length (row-line 0 (renumbered a.own read.role_at-role.result old) counted.result
+    put.old_atom.ensures.0 (omega arith)
     (counted.ensures.0 ∙ sym (length-map old.args (new_number a.own))) counted.ensures.1) ∙
     ap (λ (r : ℕ). length (row_line (renumbered a.own r old))) role
 
-pub old-line-spec : {M : Type 1} → statement M
-old-line-spec =
+pub old_line_spec : {M : Type 1} → statement M
+old_line_spec =
     tie.close
-    (tie.spec (λ c κs. atom-row c.before.requires) (λ c κs. search rules) (λ c. search rules) (λ c κs. search rules)
+    (tie.spec (λ c κs. atom-row c.requires) (λ c κs. search rules) (λ c. search rules) (λ c κs. search rules)
     (λ c. search rules) (λ c κs. search rules) (λ c κs. search rules) returns)

@@ -12,22 +12,22 @@ use Rattle.tokens.specs.Writing.{renumbered_pair}
 use Rattle.forecast.proofs.PairRows.{row_differ, row-differ, differ-short}
 use Rattle.forecast.proofs.bytes.pair_line.Statement.{statement}
 
-list-line-size-requires : tie.Need-list-line-size-requires
+list-line-size-requires : tie.Need-list_line_size-requires
 unfolding bytes
 list-line-size-requires c κs =
-    let put = c.before.before.before.put-pair in
-    (λ k l. omega (arith, puts-length put.ensures), differ-short put.new.1.1.1.1.0)
+    let put = c.put_pair in
+    (λ k l. omega (arith, puts-length put.ensures), differ-short put.new.out)
 
 returns : tie.Need-returns
 unfolding bytes
 returns c =
-    let put = c.before.before.before.before in
-    let a = put.before.before.before.args in
-    ◌∙◌ {b = length (row_differ put.put-pair.new.1.1.1.1.0)} c.list-line-size.ensures
-    (row-differ 0 (renumbered_pair a.own (pair_in a.table.now a.i)) put.put-pair.ensures (omega arith))
+    let put = c in
+    let a = put.args in
+    ◌∙◌ {b = length (row_differ put.put_pair.new.out)} c.list_line_size.ensures
+    (row-differ 0 (renumbered_pair a.own (pair_in a.table.now a.i)) put.put_pair.ensures (omega arith))
 
-pub pair-line-spec : {M : Type 1} → statement M
-pair-line-spec =
+pub pair_line_spec : {M : Type 1} → statement M
+pair_line_spec =
     tie.close
-    (tie.spec (λ c. search rules) (λ c κs. search rules) (λ c. search rules) (λ c. search rules) (λ c. search rules)
+    (tie.spec (λ c. search rules) (λ c κs. search rules) (λ c. search rules) (λ c. search rules)
     list-line-size-requires returns)

@@ -12,13 +12,13 @@ use Rattle.forecast.proofs.bytes.par_line.Statement.{statement}
 returns : tie.Need-returns
 unfolding token
 returns c =
-    let put = c.before.before.before in
-    let a = put.before.before.args in
-    c.row-size.ensures ∙
+    let put = c in
+    let a = put.args in
+    c.row_size.ensures ∙
     ap length (row-line a.here.number (par_in a.here.own a.here.par a.role a.x.0) 1
-    put.par-atom.ensures.0 (omega arith) refl (omega arith))
+    put.par_atom.ensures.0 (omega arith) refl (omega arith))
 
-pub par-line-spec : {M : Type 1} → statement M
-par-line-spec =
+pub par_line_spec : {M : Type 1} → statement M
+par_line_spec =
     tie.close
     (tie.spec (λ c. search rules) (λ c κs. search rules) (λ c. search rules) (λ c κs. search rules) returns)

@@ -9,55 +9,55 @@ use Rattle.forecast.specs.Counting.{atoms_bytes, pars_here}
 use Rattle.forecast.proofs.LinesLeft.{pars_from, pars-whole, pars-taken, pars-left, pars-end}
 use Rattle.forecast.proofs.bytes.par_lines.Statement.{statement}
 
-abbrev invariant-loop : tie.invariant-loop
-invariant-loop here role which params bytes₀ x₀ bytes x =
+abbrev invariant-loop-x : tie.invariant-loop-x
+invariant-loop-x here role which params bytes₀ x₀ bytes x =
     (x ≤ here.params) × (bytes + pars_from here role which x ≡ atoms_bytes (pars_here here role which))
 
-abbrev decreases-loop : tie.decreases-loop
-decreases-loop here role which params bytes₀ x₀ bytes x = here.params - x
+abbrev decreases-loop-x : tie.decreases-loop-x
+decreases-loop-x here role which params bytes₀ x₀ bytes x = here.params - x
 
-abbrev start : tie.In-loop invariant-loop decreases-loop → tie.Start invariant-loop decreases-loop
+abbrev start : tie.In-loop-x invariant-loop-x decreases-loop-x → tie.Start invariant-loop-x decreases-loop-x
 start c = c.before.before
 
-loop-holds : tie.Need-loop-init invariant-loop decreases-loop
+loop-holds : tie.Need-loop-x-init invariant-loop-x decreases-loop-x
 loop-holds c = (omega arith, omega (arith, pars-whole c.args.here c.args.role c.args.which))
 
-par-line-requires : tie.Need-par-line-requires invariant-loop decreases-loop
-par-line-requires c κs = (omega arith, (start c.before.before).pre.1.0)
+par-line-requires : tie.Need-par_line-bytes-requires invariant-loop-x decreases-loop-x
+par-line-requires c κs = (omega arith, (start c.before.before).requires.1.0)
 
-add-bytes : tie.Need-overflow-add-bytes invariant-loop decreases-loop
+add-bytes : tie.Need-overflow_add-bytes invariant-loop-x decreases-loop-x
 add-bytes c =
-    let found = c.before.before in
-    let turn = found.before in
-    let a = (start turn).args in
-    let e = pars-taken a.here a.role a.which turn.before.loop.x turn.loop-test.true
-    (sym found.has.ensures ∙ c.before.if1.true) in
-    omega (arith, turn.before.loop.invariant.1, c.par-line.ensures, (start turn).requires.1.1)
+    let found = c in
+    let turn = found in
+    let a = (start turn.before.before.before).args in
+    let e = pars-taken a.here a.role a.which turn.loop-x.x turn.loop-x-test.true
+    (sym found.has.ensures ∙ c.if-has.true) in
+    omega (arith, turn.loop-x.invariant.1, c.par_line-bytes.ensures, (start turn.before.before.before).requires.1.1)
 
-loop-again : tie.Need-loop-preserved invariant-loop decreases-loop
+loop-again : tie.Need-loop-x-preserved invariant-loop-x decreases-loop-x
 loop-again c =
-    let turn = c.before.before in
-    let a = (start turn).args in
-    let h = turn.before.loop in
-    let l = turn.loop-test.true in
-    let test = sym c.before.has.ensures in
-    let same : c.if1.bytes + pars_from a.here a.role a.which (h.x + 1) ≡
+    let turn = c in
+    let a = (start turn.before.before).args in
+    let h = turn.loop-x in
+    let l = turn.loop-x-test.true in
+    let test = sym c.has.ensures in
+    let same : c.if-has.bytes + pars_from a.here a.role a.which (h.x + 1) ≡
     h.bytes + pars_from a.here a.role a.which h.x = ⊎_elim
-    (λ y. let e = pars-taken a.here a.role a.which h.x l (test ∙ y.0.taken) in
-    omega (arith, y.1.ensures, y.2))
-    (λ y. let e = pars-left a.here a.role a.which h.x l (test ∙ y.0.left) in omega (arith, y.1))
-    c.if1.branch in
+    (λ y. let e = pars-taken a.here a.role a.which h.x l (test ∙ y.if-has.true) in
+    omega (arith, y.par_line-bytes.ensures, y.bytes-is))
+    (λ y. let e = pars-left a.here a.role a.which h.x l (test ∙ y.if-has.false) in omega (arith, y.bytes-is))
+    c.if-has.branch-raw in
     (omega (arith, l), same ∙ h.invariant.1)
 
-returns : tie.Need-returns invariant-loop decreases-loop
+returns : tie.Need-returns invariant-loop-x decreases-loop-x
 returns c =
-    let a = c.before.before.args in
-    let h = c.before.loop in
-    let e = pars-end a.here a.role a.which h.x (omega (arith, h.invariant.0, c.loop-test.false)) in
+    let a = c.args in
+    let h = c.loop-x in
+    let e = pars-end a.here a.role a.which h.x (omega (arith, h.invariant.0, c.loop-x-test.false)) in
     omega (arith, h.invariant.1)
 
-pub par-lines-spec : {M : Type 1} → statement M
-par-lines-spec =
+pub par_lines_spec : {M : Type 1} → statement M
+par_lines_spec =
     tie.close
-    (tie.spec invariant-loop decreases-loop loop-holds (λ c κs. omega arith) (λ c. omega arith) par-line-requires add-bytes
+    (tie.spec invariant-loop-x decreases-loop-x loop-holds (λ c κs. omega arith) (λ c. omega arith) par-line-requires add-bytes
     (λ c. omega arith) (λ c. omega arith) loop-again returns)

@@ -25,40 +25,40 @@ use Rattle.forecast.proofs.PartText.{part-is}
 use Rattle.forecast.proofs.bytes.part_bytes.Statement.{statement}
 
 -- ---- the places, one from the next
-abbrev start : tie.After-tokens-of → tie.Start
+abbrev start : tie.After-tokens_of-tokens → tie.Start
 start c = c.before.before.before
 
-abbrev told : tie.After-number-line-size → tie.After-tokens-of
-told c = c.before.before.before
+abbrev told : tie.After-number_line_size-params → tie.After-tokens_of-tokens
+told c = c.before.before.before.before
 
-abbrev named : tie.After-pair-lines → tie.After-number-line-size
+abbrev named : tie.After-pair_lines-pairs → tie.After-number_line_size-params
 named c = c.before.before.before
 
-abbrev task : tie.After-tokens-of → Task
+abbrev task : tie.After-tokens_of-tokens → Task
 task c = task_of (start c).args.table.now
 
 kept : (s : tie.Start) → SchemaKept s.args.table.now s.args.s s.args.kept.now
 kept s = schema-kept s.requires.0 s.args.s s.requires.1.0
 
-part : (c : tie.After-tokens-of) →
+part : (c : tie.After-tokens_of-tokens) →
     let a = (start c).args in
     PartOf (task c) a.s (orders (task c) a.s) a.j
 part c =
     let s = start c in
-    part_of (task c) (well s.pre.0) (ordered s.pre.0) s.args.s s.args.j s.pre.1.0 s.pre.1.1.0
+    part_of (task c) (well s.requires.0) (ordered s.requires.0) s.args.s s.args.j s.requires.1.0 s.requires.1.1.0
 
 -- ---- the pieces
-abbrev param_bytes : tie.After-tokens-of → ℕ
-param_bytes c = length (line "schema" (digits (length (members c.before.place_of.result.own word_bits))))
+abbrev param_bytes : tie.After-tokens_of-tokens → ℕ
+param_bytes c = length (line "schema" (digits (length (members c.place_of-here.result.own word_bits))))
 
-abbrev pair_bytes : tie.After-tokens-of → ℕ
-pair_bytes c = pairs_bytes c.before.place_of.result.own (schema_at (task c) (start c).args.s).pairs
+abbrev pair_bytes : tie.After-tokens_of-tokens → ℕ
+pair_bytes c = pairs_bytes c.place_of-here.result.own (schema_at (task c) (start c).args.s).pairs
 
-abbrev old_bytes : tie.After-tokens-of → ℕ
-old_bytes c = atoms_bytes (old_here (start c).args.table.now c.before.place_of.result)
+abbrev old_bytes : tie.After-tokens_of-tokens → ℕ
+old_bytes c = atoms_bytes (old_here (start c).args.table.now c.place_of-here.result)
 
-abbrev token_bytes : tie.After-tokens-of → ℕ
-token_bytes c = atoms_bytes (part_tokens c.before.place_of.result c.tokens-of.result)
+abbrev token_bytes : tie.After-tokens_of-tokens → ℕ
+token_bytes c = atoms_bytes (part_tokens c.place_of-here.result c.tokens_of-tokens.result)
 
 abbrev atom_count : tie.Start → ℕ
 atom_count s =
@@ -66,116 +66,116 @@ atom_count s =
     length (split_schema t s.args.s (orders t s.args.s) s.args.j).atoms
 
 -- their sum
-sum_is : (c : tie.After-tokens-of) →
+sum_is : (c : tie.After-tokens_of-tokens) →
     part_bytes (task c) (start c).args.s (start c).args.j ≡
     param_bytes c + pair_bytes c + (old_bytes c + token_bytes c) + part_line_bytes (atom_count (start c))
 sum_is c =
     let a = (start c).args in
-    let here = c.before.place_of in
-    part-is a.table.now a.s a.j here.result here.ensures.0 (part c) c.tokens-of.result
-    c.tokens-of.ensures
+    let here = c.place_of-here in
+    part-is a.table.now a.s a.j here.result here.ensures.0 (part c) c.tokens_of-tokens.result
+    c.tokens_of-tokens.ensures
 
-fits : (c : tie.After-tokens-of) →
+fits : (c : tie.After-tokens_of-tokens) →
     param_bytes c + pair_bytes c + (old_bytes c + token_bytes c) + part_line_bytes (atom_count (start c)) < 2 ^ 64
 fits c = subst (λ (n : ℕ). n < 2 ^ 64) (sum_is c) (start c).requires.1.1.1
 
 -- ---- what is counted of each
-params-counted : (c : tie.After-number-line-size) → c.number-line-size.result ≡ param_bytes (told c)
+params-counted : (c : tie.After-number_line_size-params) → c.number_line_size-params.result ≡ param_bytes (told c)
 unfolding line bytes
 params-counted c =
-    c.number-line-size.ensures ∙ ap (λ (n : ℕ). length (line "schema" (digits n))) c.before.size.ensures.0
+    c.number_line_size-params.ensures ∙ ap (λ (n : ℕ). length (line "schema" (digits n))) c.size.ensures.0
 
-pairs-counted : (c : tie.After-pair-lines) → c.pair-lines.result ≡ pair_bytes (told (named c))
+pairs-counted : (c : tie.After-pair_lines-pairs) → c.pair_lines-pairs.result ≡ pair_bytes (told (named c))
 pairs-counted c =
     let o = told (named c) in
-    let e = kept-pairs (kept (start o)) c.before.before.pair_of.ensures c.before.pair-end-of.ensures in
-    omega (arith, c.pair-lines.ensures, ap (pairs_bytes o.before.place_of.result.own) e)
+    let e = kept-pairs (kept (start o)) c.pair_of.ensures c.pair_end_of.ensures in
+    omega (arith, c.pair_lines-pairs.ensures, ap (pairs_bytes o.before.place_of-here.result.own) e)
 
-parts-counted : (c : tie.After-part-line) →
-    c.part-line.result ≡ part_line_bytes (atom_count (start (told (named c.before.before.before.before))))
-parts-counted c = c.part-line.ensures ∙ ap part_line_bytes c.before.part-size.ensures.0
+parts-counted : (c : tie.After-part_line) →
+    c.part_line.result ≡ part_line_bytes (atom_count (start (told (named c.before.before.before.before))))
+parts-counted c = c.part_line.ensures ∙ ap part_line_bytes c.part_size.ensures.0
 
 -- ---- the needs
-number-line-size-requires : tie.Need-number-line-size-requires
+number-line-size-requires : tie.Need-number_line_size-params-requires
 unfolding line bytes
 number-line-size-requires c κs =
     let e = ap (λ (n : ℕ). length (line "schema" (digits n))) c.size.ensures.0 in
-    omega (arith, fits c.before.before, e)
+    omega (arith, fits c.before.before.before, e)
 
-pair-of-requires : tie.Need-pair-of-requires
+pair-of-requires : tie.Need-pair_of-requires
 pair-of-requires c κs = omega (arith, schema-small (kept (start (told c))))
 
-pair-end-of-requires : tie.Need-pair-end-of-requires
+pair-end-of-requires : tie.Need-pair_end_of-requires
 pair-end-of-requires c κs = schema-small (kept (start (told c.before)))
 
-pair-lines-requires : tie.Need-pair-lines-requires
+pair-lines-requires : tie.Need-pair_lines-pairs-requires
 pair-lines-requires c κs =
     let o = told c.before.before in
-    let begins = c.before.pair_of.ensures in
-    let stops = c.pair-end-of.ensures in
-    let e = ap (pairs_bytes o.before.place_of.result.own) (kept-pairs (kept (start o)) begins stops) in
+    let begins = c.pair_of.ensures in
+    let stops = c.pair_end_of.ensures in
+    let e = ap (pairs_bytes o.place_of-here.result.own) (kept-pairs (kept (start o)) begins stops) in
     (kept-pair-stretch (kept (start o)) begins stops, omega (arith, fits o, e))
 
-old-lines-requires : tie.Need-old-lines-requires
+old-lines-requires : tie.Need-old_lines-requires
 old-lines-requires c κs =
     let o = told (named c) in
-    (o.before.place_of.ensures.0.roles.stretch, omega (arith, fits o))
+    (o.before.place_of-here.ensures.0.roles.stretch, omega (arith, fits o))
 
-token-lines-requires : tie.Need-token-lines-requires
+token-lines-requires : tie.Need-token_lines-requires
 token-lines-requires c κs =
     let o = told (named c.before) in
-    let place = o.before.place_of.ensures.0 in
+    let place = o.before.place_of-here.ensures.0 in
     (place.few, (place.low, omega (arith, fits o)))
 
-add-atoms : tie.Need-overflow-add-atoms
+add-atoms : tie.Need-overflow_add-atoms
 add-atoms c =
-    omega (arith, fits (told (named c.before.before)), c.before.old-lines.ensures, c.token-lines.ensures)
+    omega (arith, fits (told (named c.before.before)), c.old_lines.ensures, c.token_lines.ensures)
 
-add-result : tie.Need-overflow-add-result
+add-result : tie.Need-overflow_add-result
 add-result c =
-    let p = c.before.before in
-    omega (arith, fits (told (named p)), params-counted (named p), pairs-counted p)
+    let p = c in
+    omega (arith, fits (told (named p.before.before)), params-counted (named p.before.before), pairs-counted p.before.before)
 
-add-result-2 : tie.Need-overflow-add-result-2
+add-result-2 : tie.Need-overflow_add-result-2
 add-result-2 c =
-    let p = c.before.before in
+    let p = c in
     omega (
       arith,
-      fits (told (named p)),
-      params-counted (named p),
-      pairs-counted p,
-      c.before.old-lines.ensures,
-      c.token-lines.ensures,
+      fits (told (named p.before.before)),
+      params-counted (named p.before.before),
+      pairs-counted p.before.before,
+      c.old_lines.ensures,
+      c.token_lines.ensures,
     )
 
-part-size-requires : tie.Need-part-size-requires
+part-size-requires : tie.Need-part_size-requires
 part-size-requires c κs =
     let s = start (told (named c.before.before)) in
-    (kept s, omega (arith, counted (kept s), s.pre.1.1.0))
+    (kept s, omega (arith, counted (kept s), s.requires.1.1.0))
 
-part-line-requires : tie.Need-part-line-requires
+part-line-requires : tie.Need-part_line-requires
 part-line-requires c κs =
     let o = told (named c.before.before.before) in
     let some = some-length (requires-token _ _ _ _ (part o)) in
-    (omega (arith, c.part-size.ensures.0, some), c.part-size.ensures.1)
+    (omega (arith, c.part_size.ensures.0, some), c.part_size.ensures.1)
 
 returns : tie.Need-returns
 returns c =
-    let o = c.before.before in
-    let p = o.before.before in
+    let o = c in
+    let p = o in
     ap₂ ◌+◌
-    (ap₂ ◌+◌ (ap₂ ◌+◌ (params-counted (named p)) (pairs-counted p))
-    (ap₂ ◌+◌ o.before.old-lines.ensures o.token-lines.ensures))
+    (ap₂ ◌+◌ (ap₂ ◌+◌ (params-counted (named p.before.before.before.before)) (pairs-counted p.before.before.before.before))
+    (ap₂ ◌+◌ o.old_lines.ensures o.token_lines.ensures))
     (parts-counted c) ∙
-    sym (sum_is (told (named p)))
+    sym (sum_is (told (named p.before.before.before.before)))
 
-add-result-3 : tie.Need-overflow-add-result-3
+add-result-3 : tie.Need-overflow_add-result-3
 add-result-3 c = omega (arith, returns c, (start (told (named c.before.before.before.before))).requires.1.1.1)
 
-pub part-bytes-spec : {M : Type 1} → statement M
-part-bytes-spec =
+pub part_bytes_spec : {M : Type 1} → statement M
+part_bytes_spec =
     tie.close
-    (tie.spec (λ c κs. search rules) (λ c κs. search rules) (λ c. search rules) (λ c κs. search rules)
-    (λ c. search rules) number-line-size-requires pair-of-requires pair-end-of-requires pair-lines-requires
-    old-lines-requires token-lines-requires add-atoms add-result add-result-2 part-size-requires part-line-requires
-    add-result-3 returns)
+    (tie.spec (λ c κs. search rules) (λ c κs. search rules) (λ c κs. search rules) (λ c. search rules)
+    number-line-size-requires pair-of-requires pair-end-of-requires pair-lines-requires old-lines-requires
+    token-lines-requires add-atoms add-result add-result-2 part-size-requires part-line-requires add-result-3
+    returns)

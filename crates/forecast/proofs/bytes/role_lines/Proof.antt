@@ -19,16 +19,16 @@ sum c =
     let a = c.args in
     bytes-more (token a.role a.bare []) (pars_here a.here a.role a.which)
 
-par-lines-requires : tie.Need-par-lines-requires
+par-lines-requires : tie.Need-par_lines-requires
 par-lines-requires c κs =
-    let s = c.before in
-    (s.requires.0, (s.requires.1.0, omega (arith, sum s, s.requires.1.1)))
+    let s = c in
+    (s.requires.0, (s.requires.1.0, omega (arith, sum s.before, s.requires.1.1)))
 
-add-result : tie.Need-overflow-add-result
-add-result c = let s = c.before.before in omega (arith, sum s, s.requires.1.1)
+add-result : tie.Need-overflow_add-result
+add-result c = let s = c in omega (arith, sum s.before.before, s.requires.1.1)
 
 returns : tie.Need-returns
 returns c = omega (arith, sum c.before.before)
 
-pub role-lines-spec : {M : Type 1} → statement M
-role-lines-spec = tie.close (tie.spec (λ c κs. search rules) par-lines-requires add-result returns)
+pub role_lines_spec : {M : Type 1} → statement M
+role_lines_spec = tie.close (tie.spec (λ c κs. search rules) par-lines-requires add-result returns)

@@ -20,65 +20,65 @@ use Rattle.forecast.proofs.instances.instances_after.Statement.{statement}
 abbrev before : Task → ℕ → ℕ
 before t s = instances_of t.objects (concat_map (part_schemas t) (up_to s))
 
-abbrev invariant-loop : tie.invariant-loop
-invariant-loop table kept powers schemas total₀ s₀ total s =
+abbrev invariant-loop-s : tie.invariant-loop-s
+invariant-loop-s table kept powers schemas total₀ s₀ total s =
     (s ≤ schemas) × (total ≡ capped instance_limit (before (task_of table) s))
 
-abbrev decreases-loop : tie.decreases-loop
-decreases-loop table kept powers schemas total₀ s₀ total s = schemas - s
+abbrev decreases-loop-s : tie.decreases-loop-s
+decreases-loop-s table kept powers schemas total₀ s₀ total s = schemas - s
 
 -- the places of a turn, one from the next
-abbrev start : tie.At-loop invariant-loop decreases-loop → tie.Start invariant-loop decreases-loop
+abbrev start : tie.At-loop-s invariant-loop-s decreases-loop-s → tie.Start invariant-loop-s decreases-loop-s
 start l = l.before.before.before
 
-abbrev task : tie.At-loop invariant-loop decreases-loop → Task
+abbrev task : tie.At-loop-s invariant-loop-s decreases-loop-s → Task
 task l = task_of (start l).args.table.now
 
 -- as many schemas as the table says
-schemas-are : (l : tie.At-loop invariant-loop decreases-loop) → l.before.word.result ≡ length (task l).schemas
+schemas-are : (l : tie.At-loop-s invariant-loop-s decreases-loop-s) → l.word-schemas.result ≡ length (task l).schemas
 schemas-are l =
     let w = (start l).args.table.now in
-    l.before.word.ensures.0 ∙ sym (schemas-word w (table-frame w (start l).requires.0.1.table))
+    l.word-schemas.ensures.0 ∙ sym (schemas-word w (table-frame w (start l).requires.0.1.table))
 
 -- the schema of a turn, as it is kept
-kept : (c : tie.In-loop invariant-loop decreases-loop) →
-    SchemaKept (start c.before).args.table.now c.before.loop.s (start c.before).args.kept.now
+kept : (c : tie.In-loop-s invariant-loop-s decreases-loop-s) →
+    SchemaKept (start c.before).args.table.now c.loop-s.s (start c.before).args.kept.now
 kept c =
-    let A = (start c.before).pre.0.1 in
+    let A = (start c.before).requires.0.1 in
     record {
       table = A.table;
-      known = omega (arith, schemas-are c.before, c.loop-test.true);
+      known = omega (arith, schemas-are c.before, c.loop-s-test.true);
       all = A.parts;
     }
 
-word-requires : tie.Need-word-requires invariant-loop decreases-loop
-word-requires c κs = omega (arith, counts-inside c.before.args.table.now c.before.requires.0.1.table)
+word-requires : tie.Need-word-schemas-requires invariant-loop-s decreases-loop-s
+word-requires c κs = omega (arith, counts-inside c.args.table.now c.requires.0.1.table)
 
-loop-holds : tie.Need-loop-init invariant-loop decreases-loop
-loop-holds c = (omega arith, omega (arith, parts_none (task_of c.before.before.args.table.now)))
+loop-holds : tie.Need-loop-s-init invariant-loop-s decreases-loop-s
+loop-holds c = (omega arith, omega (arith, parts_none (task_of c.args.table.now)))
 
-with-parts-requires : tie.Need-with-parts-requires invariant-loop decreases-loop
-with-parts-requires c κs = (kept c, ((start c.before).pre.1, omega (arith, c.before.loop.invariant.1)))
+with-parts-requires : tie.Need-with_parts-total-requires invariant-loop-s decreases-loop-s
+with-parts-requires c κs = (kept c, ((start c.before).requires.1, omega (arith, c.loop-s.invariant.1)))
 
-add-s : tie.Need-overflow-add-s invariant-loop decreases-loop
+add-s : tie.Need-overflow_add-s invariant-loop-s decreases-loop-s
 add-s c =
-    let l = c.before.before in
-    omega (arith, l.before.word.ensures.1, c.before.loop-test.true)
+    let l = c in
+    omega (arith, l.word-schemas.ensures.1, c.loop-s-test.true)
 
-loop-again : tie.Need-loop-preserved invariant-loop decreases-loop
+loop-again : tie.Need-loop-s-preserved invariant-loop-s decreases-loop-s
 loop-again c =
-    let l = c.before.before in
-    let e = parts_next (task l) l.loop.s in
-    (omega (arith, c.before.loop-test.true), omega (arith, l.loop.invariant.1, c.with-parts.ensures, e))
+    let l = c in
+    let e = parts_next (task l.before.before) l.loop-s.s in
+    (omega (arith, c.loop-s-test.true), omega (arith, l.loop-s.invariant.1, c.with_parts-total.ensures, e))
 
-returns : tie.Need-returns invariant-loop decreases-loop
+returns : tie.Need-returns invariant-loop-s decreases-loop-s
 returns c =
-    let l = c.before in
-    l.loop.invariant.1 ∙
-    ap (capped instance_limit) (parts_whole (task l) l.loop.s (omega (arith, schemas-are l, c.loop-test.false)))
+    let l = c in
+    l.loop-s.invariant.1 ∙
+    ap (capped instance_limit) (parts_whole (task l.before) l.loop-s.s (omega (arith, schemas-are l.before, c.loop-s-test.false)))
 
-pub instances-after-spec : {M : Type 1} → statement M
-instances-after-spec =
+pub instances_after_spec : {M : Type 1} → statement M
+instances_after_spec =
     tie.close
-    (tie.spec invariant-loop decreases-loop word-requires loop-holds with-parts-requires add-s
-    (λ c. omega (arith, c.before.loop-test.true)) loop-again returns)
+    (tie.spec invariant-loop-s decreases-loop-s word-requires loop-holds with-parts-requires add-s
+    (λ c. omega (arith, c.loop-s-test.true)) loop-again returns)

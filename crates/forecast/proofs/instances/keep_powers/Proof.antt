@@ -10,46 +10,46 @@ use Rattle.forecast.specs.Capped.{PowersUpTo}
 use Rattle.forecast.proofs.Capped.{limit_is, powers-none, powers-more}
 use Rattle.forecast.proofs.instances.keep_powers.Statement.{statement}
 
-abbrev invariant-loop : tie.invariant-loop
-invariant-loop objects powers₀ most n₀ powers n = (n ≤ most_parameters) × PowersUpTo instance_limit objects n powers
+abbrev invariant-loop-n : tie.invariant-loop-n
+invariant-loop-n objects powers₀ most n₀ powers n = (n ≤ most_parameters) × PowersUpTo instance_limit objects n powers
 
-abbrev decreases-loop : tie.decreases-loop
-decreases-loop objects powers₀ most n₀ powers n = most_parameters - n
+abbrev decreases-loop-n : tie.decreases-loop-n
+decreases-loop-n objects powers₀ most n₀ powers n = most_parameters - n
 
-loop-holds : tie.Need-loop-init invariant-loop decreases-loop
+loop-holds : tie.Need-loop-n-init invariant-loop-n decreases-loop-n
 loop-holds c = (
   omega arith,
   powers-none instance_limit c.args.objects c.args.powers.now (omega (arith, limit_is)) c.requires.1,
 )
 
-times-requires : tie.Need-times-requires invariant-loop decreases-loop
+times-requires : tie.Need-times-requires invariant-loop-n decreases-loop-n
 times-requires c κs =
-    let s = c.before.before.before in
+    let s = c in
     let e : 9223372036854775807 ≡ instance_limit - 1 = omega (arith, limit_is) in
     (s.requires.0, ap (λ (n : ℕ). n / s.args.objects) e)
 
 -- a turn has a factor to come
-more : (c : tie.After-times invariant-loop decreases-loop) → c.before.before.before.loop.n < most_parameters
-more c = c.before.before.loop-test.true
+more : (c : tie.After-times invariant-loop-n decreases-loop-n) → c.loop-n.n < most_parameters
+more c = c.loop-n-test.true
 
-loop-again : tie.Need-loop-preserved invariant-loop decreases-loop
+loop-again : tie.Need-loop-n-preserved invariant-loop-n decreases-loop-n
 loop-again c =
-    let h = c.before.before.before.loop in
-    let s = c.before.before.before.before in (
+    let h = c.loop-n in
+    let s = c in (
       omega (arith, more c),
       powers-more instance_limit s.args.objects h.powers h.n c.times.result s.requires.0 (more c)
           h.invariant.1 c.times.ensures,
     )
 
-returns : tie.Need-returns invariant-loop decreases-loop
+returns : tie.Need-returns invariant-loop-n decreases-loop-n
 returns c =
-    let h = c.before.loop in
-    let e : h.n ≡ most_parameters = omega (arith, c.loop-test.false) in
-    subst (λ (m : ℕ). PowersUpTo instance_limit c.before.before.args.objects m h.powers) e h.invariant.1
+    let h = c.loop-n in
+    let e : h.n ≡ most_parameters = omega (arith, c.loop-n-test.false) in
+    subst (λ (m : ℕ). PowersUpTo instance_limit c.args.objects m h.powers) e h.invariant.1
 
-pub keep-powers-spec : {M : Type 1} → statement M
-keep-powers-spec =
+pub keep_powers_spec : {M : Type 1} → statement M
+keep_powers_spec =
     tie.close
-    (tie.spec invariant-loop decreases-loop (λ c. omega arith) (λ c. c.requires.0) (λ c. omega arith) loop-holds
+    (tie.spec invariant-loop-n decreases-loop-n (λ c. omega arith) (λ c. c.requires.0) (λ c. omega arith) loop-holds
     (λ c. omega arith) (λ c. omega arith) times-requires (λ c. omega arith)
     (λ c. omega arith) (λ c. omega (arith, more c)) (λ c. omega arith) (λ c. omega (arith, more c)) loop-again returns)
