@@ -6,21 +6,21 @@ use Rattle.proposals.specs.Outcome.{propose_answer_told}
 use Rattle.splitter.proofs.Numbers.{no-values}
 use Rattle.splitter.proofs.propose.splitter_propose.Statement.{statement}
 
-returns : tie.Need-returns
+returns : tie.Need-returns-in-Proposed
 unfolding propose_answer_told
 returns c =
-    no-values propose_answer_told c.before.before.before.before.before.before.before.before.propose.ensures
-    c.before.before.enum_told.given.1 c.result.ensures
+    no-values propose_answer_told c.propose.ensures
+    c.in-Proposed.is c.result.ensures
 
-returns-2 : tie.Need-returns-2
+returns-2 : tie.Need-returns-in-Refused
 unfolding propose_answer_told
 returns-2 c =
     no-values propose_answer_told
-    c.before.before.before.before.before.before.before.before.before.propose.ensures
-    c.before.before.before.number.given.1 c.refusal.ensures
+    c.propose.ensures
+    c.in-Refused.is c.refusal.ensures
 
-pub splitter-propose-spec : {M : Type 1} → statement M
-splitter-propose-spec =
+pub splitter_propose_spec : {M : Type 1} → statement M
+splitter_propose_spec =
     tie.close
     (tie.spec (λ c κs. search rules) (λ c. search rules) (λ c κs. search rules) (λ c. search rules)
     (λ c κs. search rules) (λ c. search rules) (λ c. search rules) returns (λ c. search rules) (λ c. search rules)

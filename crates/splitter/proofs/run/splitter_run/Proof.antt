@@ -9,28 +9,28 @@ use Rattle.splitter.proofs.Numbers.{two-values}
 use Rattle.splitter.proofs.run.splitter_run.Statement.{statement}
 
 -- a result, with its goal met or not
-returns : tie.Need-returns
+returns : tie.Need-returns-after-met
 unfolding run_answer_told
 returns c =
-    let arm = c.before.before.if1.branch in
-    two-values run_answer_told c.before.before.before.before.before.before.before.before.run.ensures
-    c.before.before.before.before.kept.given.1 c.result.ensures refl
-    (⊎_elim (λ w. w.1 ∙ ap bit (sym w.0.taken)) (λ w. w.1 ∙ ap bit (sym w.0.left)) arm)
+    let arm = c.if-met.branch-raw in
+    two-values run_answer_told c.run.ensures
+    c.in-Ran.is c.result.ensures refl
+    (⊎_elim (λ w. w.goal-is ∙ ap bit (sym w.if-met.true)) (λ w. w.goal-is ∙ ap bit (sym w.if-met.false)) arm)
 
 -- a refusal before a step ran
-returns-2 : tie.Need-returns-2
+returns-2 : tie.Need-returns-in-Refused
 unfolding run_answer_told
-returns-2 c = two-values run_answer_told c.before.before.before.before.before.before.before.run.ensures
-    c.before.before.before.number.given.1 c.refusal.ensures refl refl
+returns-2 c = two-values run_answer_told c.run.ensures
+    c.in-Refused.is c.refusal.ensures refl refl
 
 -- a refusal at a step
-returns-3 : tie.Need-returns-3
+returns-3 : tie.Need-returns-in-Stopped
 unfolding run_answer_told
-returns-3 c = two-values run_answer_told c.before.before.before.before.before.before.before.run.ensures
-    c.before.before.before.number2.given.1 c.refusal2.ensures refl refl
+returns-3 c = two-values run_answer_told c.run.ensures
+    c.in-Stopped.is c.refusal-in-Stopped.ensures refl refl
 
-pub splitter-run-spec : {M : Type 1} → statement M
-splitter-run-spec =
+pub splitter_run_spec : {M : Type 1} → statement M
+splitter_run_spec =
     tie.close
     (tie.spec (λ c κs. search rules) (λ c. search rules) (λ c κs. search rules) (λ c. search rules)
     (λ c κs. search rules) (λ c. search rules) (λ c κs. search rules) (λ c. search rules) returns (λ c. search rules)

@@ -6,18 +6,18 @@ use Rattle.tokens.specs.Split.{split_answer_told}
 use Rattle.splitter.proofs.Numbers.{no-values}
 use Rattle.splitter.proofs.split.splitter_split.Statement.{statement}
 
-returns : tie.Need-returns
+returns : tie.Need-returns-in-Split
 unfolding split_answer_told
-returns c = no-values split_answer_told c.before.before.before.before.before.before.split.ensures
-    c.before.before.enum_told.given.1 c.result.ensures
+returns c = no-values split_answer_told c.split.ensures
+    c.in-Split.is c.result.ensures
 
-returns-2 : tie.Need-returns-2
+returns-2 : tie.Need-returns-in-Refused
 unfolding split_answer_told
-returns-2 c = no-values split_answer_told c.before.before.before.before.before.before.before.split.ensures
-    c.before.before.before.number.given.1 c.refusal.ensures
+returns-2 c = no-values split_answer_told c.split.ensures
+    c.in-Refused.is c.refusal.ensures
 
-pub splitter-split-spec : {M : Type 1} → statement M
-splitter-split-spec =
+pub splitter_split_spec : {M : Type 1} → statement M
+splitter_split_spec =
     tie.close
     (tie.spec (λ c κs. search rules) (λ c. search rules) (λ c κs. search rules) (λ c. search rules)
     (λ c κs. search rules) (λ c. search rules) returns (λ c. search rules) returns-2)

@@ -7,18 +7,18 @@ use Rattle.blocks.specs.Blocks.{unfold_answer_told}
 use Rattle.splitter.proofs.Numbers.{one_value}
 use Rattle.splitter.proofs.unfold.splitter_unfold.Statement.{statement}
 
-returns : tie.Need-returns
+returns : tie.Need-returns-in-Unfolded
 unfolding unfold_answer_told
-returns c = one_value unfold_answer_told c.before.before.before.before.before.before.before.unfold.ensures
-    c.before.before.before.count.given.1 c.result.ensures refl
+returns c = one_value unfold_answer_told c.unfold.ensures
+    c.in-Unfolded.is c.result.ensures refl
 
-returns-2 : tie.Need-returns-2
+returns-2 : tie.Need-returns-in-Refused
 unfolding unfold_answer_told
-returns-2 c = one_value unfold_answer_told c.before.before.before.before.before.before.before.unfold.ensures
-    c.before.before.before.number.given.1 c.refusal.ensures refl
+returns-2 c = one_value unfold_answer_told c.unfold.ensures
+    c.in-Refused.is c.refusal.ensures refl
 
-pub splitter-unfold-spec : {M : Type 1} → statement M
-splitter-unfold-spec =
+pub splitter_unfold_spec : {M : Type 1} → statement M
+splitter_unfold_spec =
     tie.close
     (tie.spec (λ c κs. search rules) (λ c. search rules) (λ c κs. search rules) (λ c. search rules)
     (λ c κs. search rules) (λ c. search rules) returns (λ c. search rules) returns-2)

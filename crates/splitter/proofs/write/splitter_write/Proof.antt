@@ -7,18 +7,18 @@ use Rattle.text.specs.Outcomes.{write_answer_told}
 use Rattle.splitter.proofs.Numbers.{one_value}
 use Rattle.splitter.proofs.write.splitter_write.Statement.{statement}
 
-returns : tie.Need-returns
+returns : tie.Need-returns-in-Written
 unfolding write_answer_told
-returns c = one_value write_answer_told c.before.before.before.before.before.before.before.write.ensures
-    c.before.before.before.count.given.1 c.result.ensures refl
+returns c = one_value write_answer_told c.write.ensures
+    c.in-Written.is c.result.ensures refl
 
-returns-2 : tie.Need-returns-2
+returns-2 : tie.Need-returns-in-Refused
 unfolding write_answer_told
-returns-2 c = one_value write_answer_told c.before.before.before.before.before.before.before.write.ensures
-    c.before.before.before.number.given.1 c.refusal.ensures refl
+returns-2 c = one_value write_answer_told c.write.ensures
+    c.in-Refused.is c.refusal.ensures refl
 
-pub splitter-write-spec : {M : Type 1} → statement M
-splitter-write-spec =
+pub splitter_write_spec : {M : Type 1} → statement M
+splitter_write_spec =
     tie.close
     (tie.spec (λ c κs. search rules) (λ c. search rules) (λ c κs. search rules) (λ c. search rules)
     (λ c κs. search rules) (λ c. search rules) returns (λ c. search rules) returns-2)
