@@ -30,10 +30,8 @@ fn put_blocks(table: &[u16], kept: &Kept, sizes: Sizes, steps: &[u16], out: &mut
     requires accepted_kept { AcceptedKept table.now sizes kept.now }
     requires plan_steps { PlanSteps table.now steps.now }
     requires longest_plan_in_bounds { longest_plan ≤ length out.old }
-    ensures {
-        let t = task_of table.now in
-        Prints out.old (write_plan (unfold_steps t (steps_in t steps.now))) out.new result
-    }
+    ensures { let t = task_of table.now in
+        Prints out.old (write_plan (unfold_steps t (steps_in t steps.now))) out.new result }
 {
     let mut split_table = [0u16; TABLE_WORDS];
     write_split(table, kept, sizes, &mut split_table);
@@ -48,10 +46,8 @@ fn put_steps(table: &[u16], kept: &Kept, sizes: Sizes, steps: &[u16], out: &mut 
     requires accepted_kept { AcceptedKept table.now sizes kept.now }
     requires plan_choices { PlanChoices table.now steps.now }
     requires longest_plan_in_bounds { longest_plan ≤ length out.old }
-    ensures {
-        let t = task_of table.now in
-        Prints out.old (print_unfolding t (steps_in t steps.now)) out.new result
-    }
+    ensures { let t = task_of table.now in
+        Prints out.old (print_unfolding t (steps_in t steps.now)) out.new result }
 {
     let bad = bad_step(table, steps);
     if let BadStep::At(i) = bad {
@@ -65,12 +61,10 @@ fn put_unfolding(table: &[u16], steps: &[u16], out: &mut [u8]) -> usize
     requires table_value { is_table table.now ≡ true }
     requires plan_choices { PlanChoices table.now steps.now }
     requires longest_plan_in_bounds { longest_plan ≤ length out.old }
-    ensures {
-        let t = task_of table.now in
+    ensures { let t = task_of table.now in
         Prints out.old
-          (print_splitting (λ t'. print_unfolding t (steps_in t steps.now)) (split t))
-          out.new result
-    }
+        (print_splitting (λ t'. print_unfolding t (steps_in t steps.now)) (split t))
+        out.new result }
 {
     let mut kept = [0u16; KEPT_WORDS];
     let accepted = keep_accepted(table, &mut kept);
@@ -84,13 +78,11 @@ fn put_unfolding(table: &[u16], steps: &[u16], out: &mut [u8]) -> usize
 pub fn put_plan(table: &[u16], plan: &[u8], out: &mut [u8]) -> usize
     requires table_value { is_table table.now ≡ true }
     requires longest_plan_in_bounds { longest_plan ≤ length out.old }
-    ensures {
-        let t = task_of table.now in
+    ensures { let t = task_of table.now in
         Prints out.old
-          (print_reading (λ steps. print_splitting (λ t'. print_unfolding t steps) (split t))
-          (read_plan t (taken plan.now)))
-          out.new result
-    }
+        (print_reading (λ steps. print_splitting (λ t'. print_unfolding t steps) (split t))
+        (read_plan t (taken plan.now)))
+        out.new result }
 {
     let n = bytes_taken(plan);
     let mut steps = [0u16; PLAN_WORDS];

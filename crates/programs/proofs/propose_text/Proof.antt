@@ -8,12 +8,12 @@ use Rattle.programs.proofs.Answered.{as-printed, propose-is}
 use Rattle.programs.proofs.propose_text.Statement.{statement}
 use Rattle.programs.proofs.propose_text.Tie as tie
 
-put-made-requires : tie.Need-put-made-requires
+put-made-requires : tie.Need-put_made-requires
 unfolding room_for longest_text
 put-made-requires c κs = omega arith
 
 returns : tie.Need-returns
-returns c = as-printed (propose-is _ _ c.before.before.width_of_lem.ensures) c.put-made.ensures
+returns c = as-printed (propose-is _ _ c.width_of.ensures) c.put_made.ensures
 
-pub propose-text-spec : {M : Type 1} → statement M
-propose-text-spec = tie.close (tie.spec (λ c κs. search rules) put-made-requires returns)
+pub propose_text_spec : {M : Type 1} → statement M
+propose_text_spec = tie.close (tie.spec (λ c κs. search rules) put-made-requires returns)

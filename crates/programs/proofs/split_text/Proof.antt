@@ -6,12 +6,12 @@ use Rattle.programs.proofs.Answered.{as-printed, split-is}
 use Rattle.programs.proofs.split_text.Statement.{statement}
 use Rattle.programs.proofs.split_text.Tie as tie
 
-put-made-requires : tie.Need-put-made-requires
+put-made-requires : tie.Need-put_made-requires
 unfolding room_for longest_text
 put-made-requires c κs = omega arith
 
 returns : tie.Need-returns
-returns c = as-printed (split-is _) c.put-made.ensures
+returns c = as-printed (split-is _) c.put_made.ensures
 
-pub split-text-spec : {M : Type 1} → statement M
-split-text-spec = tie.close (tie.spec put-made-requires returns)
+pub split_text_spec : {M : Type 1} → statement M
+split_text_spec = tie.close (tie.spec put-made-requires returns)

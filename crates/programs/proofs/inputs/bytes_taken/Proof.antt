@@ -4,11 +4,11 @@ use native.Mathlib.Omega.{arith}
 use Rattle.programs.proofs.Printed.{taken-all, taken-most}
 use Rattle.programs.proofs.inputs.bytes_taken.Statement.{statement}
 
-returns : tie.Need-returns
-returns c = (omega arith, taken-all c.before.args.input.now c.if1.true)
+returns : tie.Need-returns-then-input-lt-MOST_BYTES
+returns c = (omega arith, taken-all c.args.input.now c.if-input-lt-MOST_BYTES.true)
 
-returns-2 : tie.Need-returns-2
-returns-2 c = (omega arith, taken-most c.before.args.input.now)
+returns-2 : tie.Need-returns
+returns-2 c = (omega arith, taken-most c.args.input.now)
 
-pub bytes-taken-spec : {M : Type 1} → statement M
-bytes-taken-spec = tie.close (tie.spec returns returns-2)
+pub bytes_taken_spec : {M : Type 1} → statement M
+bytes_taken_spec = tie.close (tie.spec returns returns-2)

@@ -10,21 +10,21 @@ use borrow.Author.Rules.{rules}
 use Rattle.text.specs.Outcomes.{read_outcome}
 use Rattle.programs.proofs.inputs.read_table.Statement.{statement}
 
-slice-aggregate-read : tie.Need-slice-aggregate-read
+slice-aggregate-read : tie.Need-slice_bounds-read-end
 slice-aggregate-read c =
-    let b = c.before.bytes-taken in
-    sym (length-take-le b.result c.before.before.before.before.args.input.now b.ensures.0)
+    let b = c.bytes_taken-n in
+    sym (length-take-le b.result c.args.input.now b.ensures.0)
 
 returns : tie.Need-returns
 returns c =
-    let k = c.before.before in
-    let a = k.before.before.before.before.before.before.args in
-    let taken = k.before.before.before.bytes-taken.ensures.1 in (
+    let k = c in
+    let a = k.args in
+    let taken = k.bytes_taken-n.ensures.1 in (
       k.read.ensures.0 ∙ ap (λ (bs : List ℕ). (read_outcome bs a.table.now).told) taken,
       k.read.ensures.1 ∙ ap (λ (bs : List ℕ). (read_outcome bs a.table.now).buffer) taken,
     )
 
-pub read-table-spec : {M : Type 1} → statement M
-read-table-spec =
+pub read_table_spec : {M : Type 1} → statement M
+read_table_spec =
     tie.close
     (tie.spec (λ c κs. search rules) slice-aggregate-read (λ c κs. search rules) (λ c. search rules) returns)

@@ -5,25 +5,25 @@ use Rattle.programs.proofs.Arguments.{no_number, more-behind, whole-number}
 use Rattle.programs.proofs.inputs.width_of.Statement.{statement}
 use Rattle.programs.proofs.inputs.width_of.Tie as tie
 
-returns : tie.Need-returns
+returns : tie.Need-returns-in_default
 returns c =
-    let k = c.before.before in
-    no_number _ k.before.start.ensures k.number.ensures c.enum_told.given.1
+    let k = c in
+    no_number _ k.start.ensures k.number.ensures c.in_default.is
 
-returns-2 : tie.Need-returns-2
+returns-2 : tie.Need-returns-then-behind-argument
 returns-2 c =
-    let n = c.before.before.before in
-    let k = n.before.before in
-    more-behind _ k.before.start.ensures k.number.ensures n.width.given.1 c.if1.true
+    let n = c in
+    let k = n in
+    more-behind _ k.start.ensures k.number.ensures n.in-Of.is c.if-behind-argument.true
 
-returns-3 : tie.Need-returns-3
+returns-3 : tie.Need-returns
 returns-3 c =
-    let n = c.before.before.before in
-    let k = n.before.before in
-    whole-number _ k.before.start.ensures k.number.ensures n.width.given.1 c.if1.false
+    let n = c in
+    let k = n in
+    whole-number _ k.start.ensures k.number.ensures n.in-Of.is c.if-behind-argument.false
 
-pub width-of-spec : {M : Type 1} → statement M
-width-of-spec =
+pub width_of_spec : {M : Type 1} → statement M
+width_of_spec =
     tie.close
     (tie.spec (λ c. search rules) (λ c κs. search rules) (λ c κs. search rules) (λ c. search rules) (λ c. search rules)
     returns returns-2 (λ c. search rules) returns-3)

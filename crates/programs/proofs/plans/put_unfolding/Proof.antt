@@ -14,7 +14,7 @@ use borrow.Author.Rules.{rules}
 use Rattle.programs.proofs.plans.put_unfolding.Statement.{statement}
 use Rattle.tokens.proofs.SplitOutcome.{told-accepted, told-refused}
 
-abbrev start : tie.After-keep-accepted → tie.Start
+abbrev start : tie.After-keep_accepted-accepted → tie.Start
 start k = k.before.before.before.before.before
 
 -- what is printed where the split is accepted
@@ -23,36 +23,36 @@ prints s t' =
     let t = task_of s.args.table.now in
     print_unfolding t (steps_in t s.args.steps.now)
 
-put-steps-requires : tie.Need-put-steps-requires
+put-steps-requires : tie.Need-put_steps-requires
 put-steps-requires c κs =
-    let d = c.before.before.before in
-    let k = d.before.before in
-    let p = (start k).requires in
-    (told-accepted d.accepted.given.1 k.keep-accepted.ensures, (p.1.0, p.1.1))
+    let d = c in
+    let k = d in
+    let p = (start k.before.before.before).requires in
+    (told-accepted d.in-Accepted.is k.keep_accepted-accepted.ensures, (p.1.0, p.1.1))
 
-put-refusal-requires : tie.Need-put-refusal-requires
-put-refusal-requires c κs = text-room (start c.before.before.before.before).requires.1.1
+put-refusal-requires : tie.Need-put_refusal-requires
+put-refusal-requires c κs = text-room (start c.before.before).requires.1.1
 
-returns : tie.Need-returns
+returns : tie.Need-returns-in-Accepted
 returns c =
-    let d = c.before.before.before.before.before.before in
-    let k = d.before.before in
-    let s = start k in
-    let accepted = told-accepted d.accepted.given.1 k.keep-accepted.ensures in
+    let d = c in
+    let k = d in
+    let s = start k.before.before.before.before.before.before in
+    let accepted = told-accepted d.in-Accepted.is k.keep_accepted-accepted.ensures in
     prints-same (split-printed (prints s) (task_of s.args.table.now) accepted.accepted)
-    c.before.before.put-steps.ensures
+    c.put_steps.ensures
 
-returns-2 : tie.Need-returns-2
+returns-2 : tie.Need-returns-in-Refused
 returns-2 c =
-    let d = c.before.before.before.before.before in
-    let k = d.before.before in
-    let s = start k in
+    let d = c in
+    let k = d in
+    let s = start k.before.before.before.before.before in
     let w = s.args.table.now in
-    let refused = told-refused w k.keep-accepted.new.1.0 d.accepted2.given.1 k.keep-accepted.ensures in
-    prints-same (refused-printed w s.pre.0 refused (prints s)) c.before.before.put-refusal.ensures
+    let refused = told-refused w k.keep_accepted-accepted.new.kept d.in-Refused.is k.keep_accepted-accepted.ensures in
+    prints-same (refused-printed w s.requires.0 refused (prints s)) c.put_refusal.ensures
 
-pub put-unfolding-spec : {M : Type 1} → statement M
-put-unfolding-spec =
+pub put_unfolding_spec : {M : Type 1} → statement M
+put_unfolding_spec =
     tie.close
     (tie.spec (λ c κs. search rules) (λ c. search rules) put-steps-requires (λ c. search rules) put-refusal-requires
     (λ c. search rules) returns (λ c. search rules) returns-2)

@@ -6,13 +6,13 @@ use Rattle.text.specs.Outcomes.{write_answer_told}
 use Rattle.programs.proofs.printing.bytes_written.Statement.{statement}
 use Rattle.programs.proofs.printing.bytes_written.Tie as tie
 
-returns : tie.Need-returns
+returns : tie.Need-returns-in-Written
 unfolding write_answer_told
-returns c = ap (λ a. told_value 0 (write_answer_told a)) (sym c.before.answer.given.1)
+returns c = ap (λ a. told_value 0 (write_answer_told a)) (sym c.in-Written.is)
 
-returns-2 : tie.Need-returns-2
+returns-2 : tie.Need-returns-in-Refused
 unfolding write_answer_told
-returns-2 c = ap (λ a. told_value 0 (write_answer_told a)) (sym c.before.answer2.given.1)
+returns-2 c = ap (λ a. told_value 0 (write_answer_told a)) (sym c.in-Refused.is)
 
-pub bytes-written-spec : {M : Type 1} → statement M
-bytes-written-spec = tie.close (tie.spec (λ c. search rules) (λ c. search rules) returns returns-2)
+pub bytes_written_spec : {M : Type 1} → statement M
+bytes_written_spec = tie.close (tie.spec (λ c. search rules) (λ c. search rules) returns returns-2)

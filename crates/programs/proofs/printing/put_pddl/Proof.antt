@@ -7,11 +7,11 @@ use Rattle.programs.proofs.printing.put_pddl.Tie as tie
 
 returns : tie.Need-returns
 returns c =
-    let start = c.before.before.before.before.before.before.before in
-    written-printed _ _ _ c.before.before.before.write-pddl.ensures
+    let start = c in
+    written-printed _ _ _ c.write_pddl.ensures
     (pddl-whole start.args.table.now start.args.out.now start.requires.0 start.requires.1)
-    c.bytes-written.ensures
+    c.bytes_written.ensures
 
-pub put-pddl-spec : {M : Type 1} → statement M
-put-pddl-spec =
+pub put_pddl_spec : {M : Type 1} → statement M
+put_pddl_spec =
     tie.close (tie.spec (λ c κs. search rules) (λ c κs. search rules) (λ c. search rules) returns)

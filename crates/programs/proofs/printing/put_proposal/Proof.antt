@@ -12,35 +12,35 @@ use Rattle.programs.proofs.printing.put_proposal.Tie as tie
 abbrev start : tie.After-propose → tie.Start
 start c = c.before.before.before.before.before
 
-given : (c : tie.After-enum-told) → let k = c.before.before.before.before in
-    Proposal (start k).args.table.now (start k).args.width k.propose.new.1.1.0
+given : (c : tie.In-Proposed) → let k = c in
+    Proposal (start k.before.before.before).args.table.now (start k.before.before.before).args.width k.propose.new.proposed
 unfolding propose_answer_told
 given c =
-    let k = c.before.before.before.before in
-    proposal-given _ _ _ _ (start k).requires.0 table-zeros scratch-zeros
-    (sym (ap propose_answer_told c.enum_told.given.1) ∙ k.propose.ensures.0) k.propose.ensures.1.0
+    let k = c in
+    proposal-given _ _ _ _ (start k.before.before.before).requires.0 table-zeros scratch-zeros
+    (sym (ap propose_answer_told c.in-Proposed.is) ∙ k.propose.ensures.0) k.propose.ensures.1.0
 
-put-task-requires : tie.Need-put-task-requires
+put-task-requires : tie.Need-put_task-requires
 put-task-requires c κs =
-    let k = c.before.before.before.before.before.before in
-    ((given c.before.before).is-table, (start k).requires.1)
+    let k = c in
+    ((given c.before.before).is-table, (start k.before.before.before.before.before).requires.1)
 
-returns : tie.Need-returns
+returns : tie.Need-returns-in-Proposed
 returns c =
-    let g = c.before.before.before.before.before in
-    prints-same (given g).printed c.before.before.put-task.ensures
+    let g = c in
+    prints-same (given g.before.before.before.before.before).printed c.put_task.ensures
 
-returns-2 : tie.Need-returns-2
+returns-2 : tie.Need-returns-in-Refused
 unfolding propose_answer_told
 returns-2 c =
-    let n = c.before.before.before.before.before in
-    let k = n.before.before.before.before in
-    let told = sym (ap propose_answer_told n.number.given.1) ∙ k.propose.ensures.0 in
-    prints-same (proposal-refused _ _ _ _ (start k).requires.0 table-zeros scratch-zeros told)
-    c.before.before.put-refusal.ensures
+    let n = c in
+    let k = n in
+    let told = sym (ap propose_answer_told n.in-Refused.is) ∙ k.propose.ensures.0 in
+    prints-same (proposal-refused _ _ _ _ (start k.before.before.before.before.before.before.before).requires.0 table-zeros scratch-zeros told)
+    c.put_refusal.ensures
 
-pub put-proposal-spec : {M : Type 1} → statement M
-put-proposal-spec =
+pub put_proposal_spec : {M : Type 1} → statement M
+put_proposal_spec =
     tie.close
     (tie.spec (λ c. search rules) (λ c. search rules) (λ c κs. search rules) (λ c. search rules) (λ c. search rules)
     put-task-requires (λ c. search rules) (λ c κs. search rules) (λ c. search rules) returns (λ c. search rules)

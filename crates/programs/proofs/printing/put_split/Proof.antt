@@ -15,37 +15,37 @@ use Rattle.programs.proofs.printing.put_split.Tie as tie
 abbrev start : tie.After-split → tie.Start
 start c = c.before.before.before.before
 
-given : (c : tie.After-enum-told) → let k = c.before.before.before in
-    AcceptedSplit (start k).args.table.now k.split.new.1.0
+given : (c : tie.In-Split) → let k = c in
+    AcceptedSplit (start k.before.before).args.table.now k.split.new.out
 unfolding split_answer_told
 given c =
-    let k = c.before.before.before in
-    split-given (start k).args.table.now _
-    (sym (ap split_answer_told c.enum_told.given.1) ∙ k.split.ensures.0) k.split.ensures.1
+    let k = c in
+    split-given (start k.before.before).args.table.now _
+    (sym (ap split_answer_told c.in-Split.is) ∙ k.split.ensures.0) k.split.ensures.1
 
-put-task-requires : tie.Need-put-task-requires
+put-task-requires : tie.Need-put_task-requires
 put-task-requires c κs =
-    let k = c.before.before.before.before.before in
-    ((given c.before.before).split-table, (start k).requires.1)
+    let k = c in
+    ((given c.before.before).split-table, (start k.before.before.before.before).requires.1)
 
-returns : tie.Need-returns
+returns : tie.Need-returns-in-Split
 returns c =
-    let g = c.before.before.before.before.before in
-    let k = g.before.before.before in
-    prints-same (split-printed write (task_of (start k).args.table.now) (given g).accepted)
-    c.before.before.put-task.ensures
+    let g = c in
+    let k = g in
+    prints-same (split-printed write (task_of (start k.before.before.before.before.before.before.before).args.table.now) (given g.before.before.before.before.before).accepted)
+    c.put_task.ensures
 
-returns-2 : tie.Need-returns-2
+returns-2 : tie.Need-returns-in-Refused
 unfolding split_answer_told
 returns-2 c =
-    let n = c.before.before.before.before.before in
-    let k = n.before.before.before in
-    let told = sym (ap split_answer_told n.number.given.1) ∙ k.split.ensures.0 in
-    prints-same (split-refused (start k).args.table.now _ (start k).requires.0 table-zeros told write)
-    c.before.before.put-refusal.ensures
+    let n = c in
+    let k = n in
+    let told = sym (ap split_answer_told n.in-Refused.is) ∙ k.split.ensures.0 in
+    prints-same (split-refused (start k.before.before.before.before.before.before).args.table.now _ (start k.before.before.before.before.before.before).requires.0 table-zeros told write)
+    c.put_refusal.ensures
 
-pub put-split-spec : {M : Type 1} → statement M
-put-split-spec =
+pub put_split_spec : {M : Type 1} → statement M
+put_split_spec =
     tie.close
     (tie.spec (λ c. search rules) (λ c κs. search rules) (λ c. search rules) (λ c. search rules) put-task-requires
     (λ c. search rules) (λ c κs. search rules) (λ c. search rules) returns (λ c. search rules) returns-2)
