@@ -1,14 +1,14 @@
-//! Links the archive of the proved code, which `rt staticlib splitter` writes.
+//! Links the archive of the proved code, which `rt lib` writes in `crates/splitter`.
 
 use std::path::Path;
 
 fn main() {
-    let folder = Path::new(env!("CARGO_MANIFEST_DIR")).join("../../target/staticlib");
+    let folder = Path::new(env!("CARGO_MANIFEST_DIR")).join("../../crates/splitter/out");
     let archive = folder.join("libsplitter.a");
     println!("cargo:rerun-if-changed={}", archive.display());
     assert!(
         archive.exists(),
-        "run `rt staticlib splitter` first: no {}",
+        "run `rt lib` in crates/splitter first: no {}",
         archive.display()
     );
     println!("cargo:rustc-link-search=native={}", folder.display());

@@ -8,14 +8,18 @@ use std::path::{Path, PathBuf};
 use std::process::{Command, Output, Stdio};
 use std::sync::atomic::{AtomicUsize, Ordering};
 
-/// A program that `rt check` has linked.
+/// A program that `rt run` has linked in its crate, or `rt ci` in all.
 pub struct Program(PathBuf);
 
 impl Program {
     pub fn named(name: &str) -> Program {
-        let folder = Path::new(env!("CARGO_MANIFEST_DIR")).join("../../target/bin");
-        let path = folder.join(name);
-        assert!(path.exists(), "run `rt check` first: no {}", path.display());
+        let crates = Path::new(env!("CARGO_MANIFEST_DIR")).join("../../crates");
+        let path = crates.join(name).join("out").join(name);
+        assert!(
+            path.exists(),
+            "run `rt run` in crates/{name} first: no {}",
+            path.display()
+        );
         Program(path)
     }
 
