@@ -1,88 +1,87 @@
 """Makes by the repository's own tool, rt, what is not there yet, and tells how far it is.
 
-rt proves a crate behind those that it depends on, as crates.txt lists them. It prints `rt: NAME proved (N s)`, or
-`rt: NAME proved (unchanged ..)` where the crate's file in target/stamp still holds. `rt check` proves the crates of a
-level side by side, and prints when all of the level are done; `rt staticlib` proves one crate after the other, and
-prints no such line for its own.
+In the folder of a crate `rt run` makes its program and runs it, and `rt lib` makes its library; what they make stays in
+the crate's folder out. First they make the libraries below it, each behind those that it depends on, as crates.txt lists
+them, where they are not there or have changed. Of each crate that is proved meanwhile they print a line that begins with
+`crate NAME: `, then one that begins with `logic=`, which says whether it is proved.
 """
 
 import os
 import re
 import subprocess
+import time
 
 from planner import Failure
 
 SHOWN = 2000  # characters of what a failed rt said last
-PROVED = re.compile(r"rt: (\w+) proved \((?:(\d+ s)|unchanged .*)\)$")
+CHECKED = re.compile(r"crate (\w+): ")
+PROVED = "logic=proved "
+
+
+def made_in(root, crate, name):
+    """Where rt leaves what it makes of a crate."""
+    return os.path.join(root, "crates", crate, "out", name)
 
 
 def listed(root):
-    """The crates of a repository, each with those of them that it depends on."""
+    """The crates of a repository, each with those of them that it depends on, in the order listed."""
     crates = {}
     with open(os.path.join(root, "crates.txt"), encoding="utf-8") as lines:
         for line in lines:
             name, colon, needed = line.partition("#")[0].partition(":")
             if colon:
-                crates[name.strip()] = needed.split()
+                crates[name.split()[0]] = needed.split()
     return {name: [crate for crate in needed if crate in crates] for name, needed in crates.items()}
 
 
 class Progress:
-    """The crates that rt still has to prove, up to the one wanted."""
+    """The crates that rt may still have to prove, up to the one wanted."""
 
-    def __init__(self, crates, wanted, proved, together):
-        self.crates, self.together, self.level, self.left = crates, together, {}, set()
+    def __init__(self, crates, wanted, made):
+        self.crates, self.order, self.at = crates, [], None
         self.climb(wanted)
-        self.order = sorted(self.level, key=self.level.get)
-        self.add(name for name in self.order if name == wanted or not proved(name))
+        self.left = [name for name in self.order if name == wanted or not made(name)]
+        self.since = time.monotonic()
 
     def climb(self, name):
-        """A crate's level: above all that it depends on."""
-        if name not in self.level:
-            self.level[name] = 1 + max(map(self.climb, self.crates[name]), default=0)
-        return self.level[name]
-
-    def add(self, names):
-        """These are proved anew, and so are all that depend on them."""
-        self.left.update(names)
-        for name in self.order:
-            if not self.left.isdisjoint(self.crates[name]):
-                self.left.add(name)
+        """A crate, behind all that it depends on."""
+        for needed in self.crates[name]:
+            self.climb(needed)
+        if name not in self.order:
+            self.order.append(name)
 
     def take(self, line):
         """What a line that rt printed says of a crate proved just now."""
-        told = PROVED.match(line)
-        if not told:
+        checked = CHECKED.match(line)
+        if checked:
+            self.at = checked[1]
+        if not line.startswith(PROVED) or self.at not in self.order:
             return None
-        name, took = told.groups()
-        if took and name not in self.left:
-            self.add([name])
-        self.left.discard(name)
-        return f"{name} proved ({took}); {self.rest()}" if took else None
+        name, behind, now = self.at, self.order.index(self.at), time.monotonic()
+        if name not in self.left:
+            # it has changed since it was made, so those behind it may be made anew too
+            self.left = self.order
+        self.left = [each for each in self.left if self.order.index(each) > behind]
+        took, self.since, self.at = now - self.since, now, None
+        return f"{name} proved ({took:.0f} s); {self.rest()}"
 
     def rest(self):
-        """How many are left, and which rt is at."""
-        left = [name for name in self.order if name in self.left]
-        if not left:
-            return "none left"
-        now = [name for name in left if self.level[name] == self.level[left[0]]] if self.together else left[:1]
-        return f"{len(left)} left, now {', '.join(now)}"
+        """How many are left, and which is next."""
+        return f"{len(self.left)} left, now {self.left[0]}" if self.left else "none left"
 
 
-def make(root, path, command, say):
-    """What `rt COMMAND.. CRATE` makes at a path."""
+def make(root, path, command, crate, say):
+    """What `rt COMMAND` makes at a path, in the folder of a crate."""
     if os.path.exists(path):
         return
-    name, wanted = f"rt {' '.join(command)}", command[-1]
-    say(f"making {os.path.relpath(path, root)} ({name}: the first time it proves all code below, which may take half "
-        "an hour)")
-    stamps = os.path.join(root, "target", "stamp")
-    progress = Progress(listed(root), wanted, lambda crate: os.path.exists(os.path.join(stamps, crate)),
-                        together=command[0] == "check")
+    folder = os.path.join(root, "crates", crate)
+    say(f"making {os.path.relpath(path, root)} (rt {command} in crates/{crate}: the first time it proves all code below, "
+        "which may take half an hour)")
+    progress = Progress(listed(root), crate, lambda name: os.path.exists(made_in(root, name, "rlib/stamp")))
     say(f"  crates to prove: {progress.rest()}")
     try:
-        rt = subprocess.Popen(["rt"] + command, cwd=root, stdout=subprocess.PIPE, stderr=subprocess.STDOUT,
-                              encoding="utf-8", errors="replace")
+        rt = subprocess.Popen(["rt", command], cwd=folder, stdin=subprocess.DEVNULL, stdout=subprocess.PIPE,
+                              stderr=subprocess.STDOUT, encoding="utf-8", errors="replace")
     except OSError as error:
         raise Failure(f"rt cannot be run: {error}") from error
     said = ""
@@ -97,6 +96,4 @@ def make(root, path, command, say):
             rt.terminate()
             raise
     if rt.returncode != 0 or not os.path.exists(path):
-        raise Failure(f"{name} made no {path}:\n{said.strip()}")
-    if progress.left:
-        say(f"  {wanted} proved; none left")
+        raise Failure(f"rt {command} in crates/{crate} made no {path}:\n{said.strip()}")
