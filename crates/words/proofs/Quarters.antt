@@ -40,13 +40,13 @@ module _ (w : List ℕ) (from to m : ℕ) {front : Bool} (l : from + m ≤ to) (
       (zeros-append w from m (to - (from + m)) ∙
       ap (λ (b : Bool). b && zeros_at w (from + m) (to - (from + m))) (sym t))
 
-  pub front-fails : front ≡ false → false ≡ zeros_at w from (to - from)
-  front-fails f = sym (split ∙ ap (λ (b : Bool). b && zeros_at w (from + m) (to - (from + m))) f)
+  pub front-fails : not front ≡ true → false ≡ zeros_at w from (to - from)
+  front-fails f = sym (split ∙ ap (λ (b : Bool). b && zeros_at w (from + m) (to - (from + m))) (not-true front f))
 
-  pub rest-tells : {r : Bool} → front ≡ true → r ≡ zeros_at w (from + m) (to - (from + m)) →
+  pub rest-tells : {r : Bool} → not front ≡ false → r ≡ zeros_at w (from + m) (to - (from + m)) →
       r ≡ zeros_at w from (to - from)
   rest-tells f e =
-      e ∙ sym (split ∙ ap (λ (b : Bool). b && zeros_at w (from + m) (to - (from + m))) f)
+      e ∙ sym (split ∙ ap (λ (b : Bool). b && zeros_at w (from + m) (to - (from + m))) (not-false front f))
 
 -- ---- four stretches
 -- the words at place k of the four stretches that begin at a, b, c and d

@@ -6,11 +6,11 @@ use Rattle.words.proofs.runs.many_zeros.Statement.{statement}
 use Rattle.words.proofs.runs.many_zeros.Tie as tie
 
 returns : tie.Need-returns-then-not-quarters_zero
-returns c = front-fails _ _ _ _ (omega arith) c.before.quarters_zero.ensures c.if-not-quarters_zero.true
+returns c = front-fails _ _ _ _ (omega arith) c.before.quarters_zero.ensures c.if-not-quarters_zero.true-raw
 
 returns-2 : tie.Need-returns
 returns-2 c =
-    rest-tells _ _ _ _ (omega arith) c.before.before.quarters_zero.ensures c.before.if-not-quarters_zero.false
+    rest-tells _ _ _ _ (omega arith) c.before.before.quarters_zero.ensures c.before.if-not-quarters_zero.false-raw
     c.zeros.ensures
 
 pub many_zeros_spec : {M : Type 1} → statement M
