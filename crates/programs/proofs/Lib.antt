@@ -6,3 +6,5 @@ pub mod PlanUnfolded
 pub mod Uncut
 pub mod Arguments
 pub mod Proposals
+pub mod TakenRead
+pub mod Runs

@@ -7,7 +7,7 @@ use task::limits::MOST_PARAMETERS;
 use text::ReadAnswer;
 use text::cursor::{Cursor, Number};
 
-const MOST_BYTES: usize = 65536;
+pub const MOST_BYTES: usize = 65536;
 
 // "A program takes the first 65,536 bytes of an input."
 pub fn bytes_taken(input: &[u8]) -> usize

@@ -5,6 +5,7 @@
 mod inputs;
 mod plans;
 mod printing;
+mod reading;
 mod tasks;
 
 ghost use Rattle.std.specs.Prelude.{◌≡◌, length};
@@ -15,6 +16,7 @@ use defines::LONGEST_PDDL;
 use inputs::{read_table, width_of};
 use plans::put_plan;
 use printing::put_refusal;
+pub use reading::read_input;
 use task::limits::TABLE_WORDS;
 use tasks::{Form, put_made};
 use text::plan::LONGEST_PLAN;

@@ -1,0 +1,25 @@
+-- `pddl_text` prints over the front of `out` (`printed-within`, `printed-text`), and what it prints hangs on the bytes
+-- taken alone (`pddl-of-taken`).
+use Rattle.std.proofs.Common.{take, sym, ◌∙◌, ap}
+use Rattle.std.proofs.lemmas.List.{length-take-le}
+use Rattle.programs.specs.Programs.{pddl_program}
+use Rattle.programs.proofs.Printed.{printed-within}
+use Rattle.programs.proofs.Runs.{printed-text, pddl-of-taken, written-of}
+use Rattle.pddl.proofs.run.Goals as goal
+
+pub slice_bounds-out-end : goal.slice_bounds-out-end
+slice_bounds-out-end g c =
+    printed-within _ _ c.pddl_text-printed.ensures.out_after c.pddl_text-printed.ensures.value
+
+pub slice_bounds-write_all-end : goal.slice_bounds-write_all-end
+slice_bounds-write_all-end g c =
+    let p = c.pddl_text-printed in
+    sym (length-take-le p.result p.new.out (printed-within _ _ p.ensures.out_after p.ensures.value))
+
+pub returns : goal.returns
+returns g c =
+    let p = c.pddl_text-printed in
+    written-of pddl_program pddl-of-taken (g.R.Read.remaining c.args.input) _ _ c.write_all.result
+    c.in_ok-text.text.items (take p.result p.new.out) c.in_ok-text.ensures.read
+    (printed-text _ _ p.ensures.out_after p.ensures.value ∙ ap pddl_program c.deref.ensures.value)
+    c.write_all.ensures.bytes
