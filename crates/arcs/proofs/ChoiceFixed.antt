@@ -6,7 +6,7 @@ use mathlib.Core.Path.{◌≡◌, sym, ◌∙◌, subst}
 use mathlib.Core.Bool.{true, false, not}
 use mathlib.Core.List.{List, [], ◌∷◌, ◌++◌}
 use mathlib.Core.Logic.{inl, inr}
-use mathlib.Core.Option.{some}
+use Rattle.std.specs.Prelude.{Some}
 use native.Mathlib.Omega.{arith}
 use lib.ListN.{length, get_or, take}
 use lib.Seq.{ext_get_or, get_or-take, length-take-le}
@@ -77,7 +77,7 @@ chosen-same {pairs} {atoms} {a} {b} {U} {W} {p} ab ba forth back c = record {
     new = new-same atoms a b ab ba
 
 next-chosen : (pairs : List Pair) (atoms : List Atom) (unplaced : List ℕ) (p : ℕ) → Ascend unplaced →
-    next_part pairs atoms unplaced ≡ some p → Chosen pairs atoms (placed_parts atoms unplaced) (λ q. In q unplaced) p
+    next_part pairs atoms unplaced ≡ Some p → Chosen pairs atoms (placed_parts atoms unplaced) (λ q. In q unplaced) p
 next-chosen pairs atoms unplaced p a h = record {
   is-ready = (i, ready-no-arc pairs atoms unplaced p r);
   most = λ q k. (b.none_ahead q (candidate q k)).0;
@@ -144,7 +144,7 @@ taken-chosen {pairs} {atoms} (place-next {p = p} {unplaced = us} {o = o} b k) a 
 -- "The order taken: among unplaced parts that no unplaced part has an arc to, the one with most preconditions", and
 -- "When two ready parts have equally many preconditions, take the one whose preconditions name more parameters not in a
 -- part already placed; only then the lowest number."
-pub choice-fixed : (s : Schema) (o : List ℕ) → order_of s ≡ some o → ChosenThroughout s o
+pub choice-fixed : (s : Schema) (o : List ℕ) → order_of s ≡ Some o → ChosenThroughout s o
 unfolding ChosenThroughout
 choice-fixed s o h i l =
     let n = part_count s.atoms in
@@ -166,7 +166,7 @@ chosen-one {p = p} {q = q} a b =
     omega arith
 
 -- a list of that length with that choice at each place is the order taken
-pub choice-decides : (s : Schema) (o u : List ℕ) → order_of s ≡ some o → length u ≡ length o →
+pub choice-decides : (s : Schema) (o u : List ℕ) → order_of s ≡ Some o → length u ≡ length o →
     ChosenThroughout s u → u ≡ o
 unfolding ChosenThroughout
 choice-decides s o u h e c = ext_get_or 0 u o e (λ i l. same (suc i) i (omega arith) l)

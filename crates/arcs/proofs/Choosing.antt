@@ -5,7 +5,7 @@ use Prim.Native.Nat.{ℕ, suc, ◌-◌, ◌^◌, ◌≤◌, ◌<◌}
 use mathlib.Core.Path.{◌≡◌, refl, sym, ◌∙◌, ap}
 use mathlib.Core.Bool.{Bool, true, false, not, ◌&&◌}
 use mathlib.Core.List.{List, [], ◌∷◌}
-use mathlib.Core.Option.{Option, none, some}
+use Rattle.std.specs.Prelude.{Option, None, Some}
 use native.Mathlib.Omega.{arith}
 use native.Mathlib.Decide.{dec_lt}
 use lib.ListN.{length, get_or}
@@ -149,19 +149,19 @@ module _ (atoms : List Atom) (placed : List ℕ) (q p : ℕ) where
       refl
 
 module _ (atoms : List Atom) (placed : List ℕ) (p : ℕ) {found : Option ℕ} where
-  pub better-first : found ≡ none → some p ≡ better atoms placed p found
+  pub better-first : found ≡ None → Some p ≡ better atoms placed p found
   unfolding better
   better-first e = rw e refl
 
-  pub better-keeps : (q : ℕ) → found ≡ some q → ahead atoms placed q p ≡ true → some q ≡ better atoms placed p found
+  pub better-keeps : (q : ℕ) → found ≡ Some q → ahead atoms placed q p ≡ true → Some q ≡ better atoms placed p found
   unfolding better
   better-keeps q e a = rw (e, a) refl
 
-  pub better-takes : (q : ℕ) → found ≡ some q → ahead atoms placed q p ≡ false → some p ≡ better atoms placed p found
+  pub better-takes : (q : ℕ) → found ≡ Some q → ahead atoms placed q p ≡ false → Some p ≡ better atoms placed p found
   unfolding better
   better-takes q e a = rw (e, a) refl
 
-pub only_below : (n p : ℕ) → p < n → (q : ℕ) → some p ≡ some q → q < n
+pub only_below : (n p : ℕ) → p < n → (q : ℕ) → Some p ≡ Some q → q < n
 only_below n p l q e = let z : p ≡ q = cc in omega arith
 
 -- ---- what is found among the parts from a number on
@@ -183,7 +183,7 @@ module _ (Known : List Pair → List Atom → Type 0) (unplaced n : ℕ) where
   Passes p b = (pairs : List Pair) (atoms : List Atom) → Known pairs atoms →
       member unplaced p && is_ready pairs atoms p ≡ b
 
-  pub found_none : FoundFrom n none
+  pub found_none : FoundFrom n None
   unfolding best
   found_none pairs atoms k =
       sym (ap (best atoms (placed atoms)) (candidates-none unplaced (is_ready pairs atoms) n))

@@ -6,7 +6,7 @@ use mathlib.Core.Path.{◌≡◌, refl, sym, ◌∙◌, ap}
 use mathlib.Core.Bool.{Bool, true, false, not}
 use mathlib.Core.List.{List, [], ◌∷◌}
 use mathlib.Core.Logic.{◌↔◌}
-use mathlib.Core.Option.{Option, none, some}
+use Rattle.std.specs.Prelude.{Option, None, Some}
 use native.Mathlib.Omega.{arith}
 use lib.ListN.{length, get_or}
 use lib.Dec.{eqb}
@@ -57,7 +57,7 @@ module _ (pairs : List Pair) (atoms : List Atom) where
 
   -- where a complying order has all unplaced parts, placing them comes to an end
   never_stuck : (o : List ℕ) → NoneBack o → (n : ℕ) (unplaced : List ℕ) → n ≤ length unplaced → Ascend unplaced →
-      ((q : ℕ) → In q unplaced → In q o) → order_from pairs atoms n unplaced ≡ none → ⊥
+      ((q : ℕ) → In q unplaced → In q o) → order_from pairs atoms n unplaced ≡ None → ⊥
   unfolding order_from place cons_to
   never_stuck o c zero unplaced l a k h = no_none (sym h)
   never_stuck o c (suc n) unplaced l a k h =
@@ -65,31 +65,31 @@ module _ (pairs : List Pair) (atoms : List Atom) where
     where
       Rest : Type 0
       Rest = (us : List ℕ) → n ≤ length us → Ascend us → ((q : ℕ) → In q us → In q o) →
-          order_from pairs atoms n us ≡ none → ⊥
+          order_from pairs atoms n us ≡ None → ⊥
 
       some-unplaced : (us : List ℕ) → suc n ≤ length us → (u : ℕ) × In u us
       some-unplaced [] z = absurd (omega arith)
       some-unplaced (u ∷ us) z = (u, here refl)
 
-      not_stuck : next_part pairs atoms unplaced ≡ none → ⊥
+      not_stuck : next_part pairs atoms unplaced ≡ None → ⊥
       not_stuck e =
           let (u, i) = some-unplaced unplaced l in
           let (p, j, r) = some-ready o c unplaced k u i in
           next-none pairs atoms unplaced e p j r
 
       rest : (p : ℕ) → Rest → (r : Option (List ℕ)) → order_from pairs atoms n (others p unplaced) ≡ r →
-          cons_to p r ≡ none → ⊥
-      rest p ih none e f =
+          cons_to p r ≡ None → ⊥
+      rest p ih None e f =
           ih (others p unplaced) (omega (arith, others-one-less p a)) (ascend-filter (λ q. not (eqb p q)) a)
           (λ q i. k q (others-in p unplaced q i).0) e
-      rest p ih (some r) e f = no_none (sym f)
+      rest p ih (Some r) e f = no_none (sym f)
 
       go : (b : Option ℕ) → next_part pairs atoms unplaced ≡ b →
-          place (λ us. order_from pairs atoms n us) unplaced b ≡ none → Rest → ⊥
-      go none e f ih = not_stuck e
-      go (some p) e f ih = rest p ih (order_from pairs atoms n (others p unplaced)) refl f
+          place (λ us. order_from pairs atoms n us) unplaced b ≡ None → Rest → ⊥
+      go None e f ih = not_stuck e
+      go (Some p) e f ih = rest p ih (order_from pairs atoms n (others p unplaced)) refl f
 
-none-complies : (s : Schema) → order_of s ≡ none → NoOrderComplies s
+none-complies : (s : Schema) → order_of s ≡ None → NoOrderComplies s
 unfolding order_of
 none-complies s h o parts complies =
     never_stuck s.pairs s.atoms o complies (part_count s.atoms) (up_to (part_count s.atoms))
@@ -100,13 +100,13 @@ none-complies s h o parts complies =
         let (p, k, e) = any-in (eqb q) o (parts.placed q (up_to-in (part_count s.atoms) q i)) in
         in-eq (eqb-true q p e) k
 
-none_found : (s : Schema) → NoOrderComplies s → order_of s ≡ none
+none_found : (s : Schema) → NoOrderComplies s → order_of s ≡ None
 none_found s h = go (order_of s) refl
   where
-    go : (r : Option (List ℕ)) → order_of s ≡ r → r ≡ none
-    go none e = refl
-    go (some o) e = let (parts, complies) = order-taken s o e in absurd (h o parts complies)
+    go : (r : Option (List ℕ)) → order_of s ≡ r → r ≡ None
+    go None e = refl
+    go (Some o) e = let (parts, complies) = order-taken s o e in absurd (h o parts complies)
 
 -- "no order complies" (refusal 9)
-pub circular-exactly : (s : Schema) → (order_of s ≡ none) ↔ NoOrderComplies s
+pub circular-exactly : (s : Schema) → (order_of s ≡ None) ↔ NoOrderComplies s
 circular-exactly s = (none-complies s, none_found s)

@@ -6,7 +6,7 @@ use mathlib.Core.Path.{◌≡◌, refl, sym, ap}
 use mathlib.Core.Bool.{true, false, not}
 use mathlib.Core.List.{List, [], ◌∷◌}
 use mathlib.Core.Logic.{inl, inr}
-use mathlib.Core.Option.{Option, none, some}
+use Rattle.std.specs.Prelude.{Option, None, Some}
 use native.Mathlib.Omega.{arith}
 use lib.ListN.{length, get_or}
 use lib.Dec.{eqb}
@@ -39,11 +39,11 @@ no-arc-ready pairs atoms unplaced p h = ap not (false-if (any (λ q. arc pairs a
 -- ---- the order as it is taken: the next part, then an order of the others
 pub data Taken (pairs : List Pair) (atoms : List Atom) : ℕ → List ℕ → List ℕ → Type 0 where
   all-placed : Taken pairs atoms 0 [] []
-  place-next : {n p : ℕ} {unplaced o : List ℕ} → next_part pairs atoms unplaced ≡ some p →
+  place-next : {n p : ℕ} {unplaced o : List ℕ} → next_part pairs atoms unplaced ≡ Some p →
       Taken pairs atoms n (others p unplaced) o → Taken pairs atoms (suc n) unplaced (p ∷ o)
 
 taken-from : (pairs : List Pair) (atoms : List Atom) (n : ℕ) (unplaced o : List ℕ) → length unplaced ≤ n →
-    order_from pairs atoms n unplaced ≡ some o → Taken pairs atoms n unplaced o
+    order_from pairs atoms n unplaced ≡ Some o → Taken pairs atoms n unplaced o
 unfolding order_from place cons_to
 taken-from pairs atoms zero [] o l h = rw (← some_inj h) all-placed
 taken-from pairs atoms zero (u ∷ us) o l h = absurd (omega arith)
@@ -51,21 +51,21 @@ taken-from pairs atoms (suc n) unplaced o l h =
     go (next_part pairs atoms unplaced) refl h (λ us q k. taken-from pairs atoms n us q k)
   where
     Rest : Type 0
-    Rest = (us q : List ℕ) → length us ≤ n → order_from pairs atoms n us ≡ some q → Taken pairs atoms n us q
+    Rest = (us q : List ℕ) → length us ≤ n → order_from pairs atoms n us ≡ Some q → Taken pairs atoms n us q
 
-    rest : (p : ℕ) → next_part pairs atoms unplaced ≡ some p → Rest → (r : Option (List ℕ)) →
-        order_from pairs atoms n (others p unplaced) ≡ r → cons_to p r ≡ some o → Taken pairs atoms (suc n) unplaced o
-    rest p b ih none e h = absurd (no_none h)
-    rest p b ih (some r) e h =
+    rest : (p : ℕ) → next_part pairs atoms unplaced ≡ Some p → Rest → (r : Option (List ℕ)) →
+        order_from pairs atoms n (others p unplaced) ≡ r → cons_to p r ≡ Some o → Taken pairs atoms (suc n) unplaced o
+    rest p b ih None e h = absurd (no_none h)
+    rest p b ih (Some r) e h =
         let fewer = others-fewer (next-ready pairs atoms unplaced p b).0 in
         rw (← some_inj h) (place-next b (ih (others p unplaced) r (omega arith) e))
 
     go : (b : Option ℕ) → next_part pairs atoms unplaced ≡ b →
-        place (λ us. order_from pairs atoms n us) unplaced b ≡ some o → Rest → Taken pairs atoms (suc n) unplaced o
-    go none e h ih = absurd (no_none h)
-    go (some p) e h ih = rest p e ih (order_from pairs atoms n (others p unplaced)) refl h
+        place (λ us. order_from pairs atoms n us) unplaced b ≡ Some o → Rest → Taken pairs atoms (suc n) unplaced o
+    go None e h ih = absurd (no_none h)
+    go (Some p) e h ih = rest p e ih (order_from pairs atoms n (others p unplaced)) refl h
 
-pub order-as-taken : (s : Schema) (o : List ℕ) → order_of s ≡ some o →
+pub order-as-taken : (s : Schema) (o : List ℕ) → order_of s ≡ Some o →
     Taken s.pairs s.atoms (part_count s.atoms) (up_to (part_count s.atoms)) o
 unfolding order_of
 order-as-taken s o h =
@@ -122,7 +122,7 @@ pub record OrderOf (s : Schema) (o : List ℕ) : Type 0 where
   pub from : (p : ℕ) → In p o → In p (up_to (part_count s.atoms))
   pub all-placed : (p : ℕ) → In p (up_to (part_count s.atoms)) → In p o
 
-pub order_of-laws : (s : Schema) (o : List ℕ) → order_of s ≡ some o → OrderOf s o
+pub order_of-laws : (s : Schema) (o : List ℕ) → order_of s ≡ Some o → OrderOf s o
 order_of-laws s o h =
     let k = order-as-taken s o h in
     record {
@@ -134,14 +134,14 @@ order_of-laws s o h =
     }
 
 -- "The order taken" is an order of the parts, and "complies"
-pub order-taken : (s : Schema) (o : List ℕ) → order_of s ≡ some o → OrderOfParts s o × Complies s o
+pub order-taken : (s : Schema) (o : List ℕ) → order_of s ≡ Some o → OrderOfParts s o × Complies s o
 order-taken s o h =
     let k = order_of-laws s o h in
     let placed : (p : ℕ) → p < part_count s.atoms → any (eqb p) o ≡ true = λ p l.
     in-any (eqb p) (k.all-placed p (in-up_to (part_count s.atoms) p l)) (eq-eqb p p refl) in
     (record { size = k.size; placed = placed }, k.complies)
 
-pub order-once : (s : Schema) (o : List ℕ) → order_of s ≡ some o → EachOnce o
+pub order-once : (s : Schema) (o : List ℕ) → order_of s ≡ Some o → EachOnce o
 order-once s o h = (order_of-laws s o h).once
 
 -- ---- what orders tell of atoms

@@ -4,7 +4,7 @@ use Prim.Native.Nat.{ℕ, suc, ◌+◌, ◌-◌, ◌<◌}
 use mathlib.Core.Path.{◌≡◌, refl, sym, ◌∙◌, ap, ap₂, subst}
 use mathlib.Core.Bool.{Bool, true, false, not, ◌&&◌, ◌||◌}
 use mathlib.Core.List.{List, [], ◌∷◌, ◌++◌, map}
-use mathlib.Core.Option.{Option, none, some}
+use Rattle.std.specs.Prelude.{Option, None, Some}
 use native.Mathlib.Omega.{arith}
 use native.Mathlib.Numerals.{add-one}
 use lib.ListN.{length, take, set}
@@ -62,12 +62,12 @@ cons_all : List ℕ → Option (List ℕ) → Option (List ℕ)
 cons_all [] o = o
 cons_all (p ∷ ps) o = cons_to p (cons_all ps o)
 
-cons_all-none : (ps : List ℕ) → cons_all ps none ≡ none
+cons_all-none : (ps : List ℕ) → cons_all ps None ≡ None
 unfolding cons_all cons_to
 cons_all-none [] = refl
 cons_all-none (p ∷ ps) = ap (cons_to p) (cons_all-none ps)
 
-cons_all-nothing : (ps : List ℕ) → cons_all ps (some []) ≡ some ps
+cons_all-nothing : (ps : List ℕ) → cons_all ps (Some []) ≡ Some ps
 unfolding cons_all cons_to
 cons_all-nothing [] = refl
 cons_all-nothing (p ∷ ps) = ap (cons_to p) (cons_all-nothing ps)
@@ -79,12 +79,12 @@ cons_all-last (q ∷ ps) p o = ap (cons_to q) (cons_all-last ps p o)
 
 -- ---- a turn of the definition
 module _ (pairs : List Pair) (atoms : List Atom) (m : ℕ) (us : List ℕ) where
-  order-step : (p : ℕ) → some p ≡ next_part pairs atoms us →
+  order-step : (p : ℕ) → Some p ≡ next_part pairs atoms us →
       order_from pairs atoms (suc m) us ≡ cons_to p (order_from pairs atoms m (filter (λ q. not (eqb p q)) us))
   unfolding order_from place
   order-step p c = ap (place (λ ps. order_from pairs atoms m ps) us) (sym c)
 
-  order-stuck : none ≡ next_part pairs atoms us → order_from pairs atoms (suc m) us ≡ none
+  order-stuck : None ≡ next_part pairs atoms us → order_from pairs atoms (suc m) us ≡ None
   unfolding order_from place
   order-stuck c = ap (place (λ ps. order_from pairs atoms m ps) us) (sym c)
 
@@ -116,7 +116,7 @@ module _ (pairs : List Pair) (atoms : List Atom) (n : ℕ) (parts : List Part) w
       ap₂ (λ (m : ℕ) (us : List ℕ). order_from pairs atoms m us) z (sym (members-all unplaced n h))
 
   pub placed-more : (unplaced less placed : ℕ) (p : Part) → placed < n → placed < length parts →
-      some p.0 ≡ next_part pairs atoms (members unplaced n) →
+      Some p.0 ≡ next_part pairs atoms (members unplaced n) →
       Without unplaced p.0 less →
       Placed pairs atoms n parts unplaced placed → Placed pairs atoms n (set parts placed p) less (placed + 1)
   unfolding Placed
@@ -134,8 +134,8 @@ module _ (pairs : List Pair) (atoms : List Atom) (n : ℕ) (parts : List Part) w
       ∙ (sym (cons_all-last xs p.0 o) ∙ ap (λ (ys : List ℕ). cons_all ys o) (sym (numbers_more placed parts p i))))))
 
   pub placed-stuck : (unplaced placed : ℕ) → placed < n →
-      none ≡ next_part pairs atoms (members unplaced n) →
-      Placed pairs atoms n parts unplaced placed → order_from pairs atoms n (up_to n) ≡ none
+      None ≡ next_part pairs atoms (members unplaced n) →
+      Placed pairs atoms n parts unplaced placed → order_from pairs atoms n (up_to n) ≡ None
   unfolding Placed
   placed-stuck unplaced placed l c h =
       let xs = numbers placed parts in
@@ -146,7 +146,7 @@ module _ (pairs : List Pair) (atoms : List Atom) (n : ℕ) (parts : List Part) w
       ∙ (ap (cons_all xs) (order-stuck pairs atoms (n - (placed + 1)) us c) ∙ cons_all-none xs))
 
   pub placed-all : (unplaced : ℕ) → Placed pairs atoms n parts unplaced n →
-      order_from pairs atoms n (up_to n) ≡ some (numbers n parts)
+      order_from pairs atoms n (up_to n) ≡ Some (numbers n parts)
   unfolding Placed order_from
   placed-all unplaced h =
       let xs = numbers n parts in

@@ -1,7 +1,7 @@
 -- What the contracts of this crate's code speak of: stretches of a table's schema atoms and of its pairs, what is found
 -- of each parameter and each part, and the order that is handed back.
 use Rattle.std.specs.Prelude.{ℕ, ◌-◌, ◌≤◌, ◌<◌, ◌≡◌, Bool, true, false, not, cond, ◌&&◌, ◌||◌, List, [], map, length, get_or, take, eqb}
-use Rattle.std.proofs.Math.Option.{Option, none, some}
+use Rattle.std.specs.Prelude.{Option, None, Some}
 use Rattle.words.specs.Lists.{any, up_from}
 use Rattle.task.specs.Layout.{head_in}
 use Rattle.task.specs.Limits.{most_parts, most_parameters}
@@ -108,14 +108,14 @@ IsBound atoms placed bound = (x : ℕ) → member bound x ≡ any (in_part atoms
 -- ---- the choice
 -- the part that is chosen, if one is ready
 unfoldable pub chosen : Choice → Option ℕ
-chosen (choice.Ready p) = some p.0
-chosen choice.Circular = none
+chosen (choice.Ready p) = Some p.0
+chosen choice.Circular = None
 
 -- a part that is chosen is below n
 abbrev pub ChosenBelow : ℕ → Choice → Type 0
-ChosenBelow n c = (p : ℕ) → chosen c ≡ some p → p < n
+ChosenBelow n c = (p : ℕ) → chosen c ≡ Some p → p < n
 
 -- ---- the order handed back
 -- its part numbers, or none where no order complies
 unfoldable pub order_told : Order → Option (List ℕ)
-order_told o = cond o.found (some (map (λ (p : Part). p.0) (take o.count o.parts))) none
+order_told o = cond o.found (Some (map (λ (p : Part). p.0) (take o.count o.parts))) None

@@ -4,7 +4,7 @@ use Prim.Native.Nat.{ℕ, suc, ◌+◌, ◌<◌}
 use mathlib.Core.Path.{◌≡◌, refl, sym, ◌∙◌, ap}
 use mathlib.Core.Bool.{Bool, false, cond}
 use mathlib.Core.List.{List, [], ◌∷◌, ◌++◌}
-use mathlib.Core.Option.{Option, none, some}
+use Rattle.std.specs.Prelude.{Option, None, Some}
 use native.Mathlib.Omega.{arith}
 use native.Mathlib.Decide.{ℕ_discrete}
 use native.Mathlib.Numerals.{add-one}
@@ -32,9 +32,9 @@ begins-none t k = refl
 beginner-more : (t : Task) (k s : ℕ) (ss : List ℕ) → eqb k (first_of t s) ≡ false →
     beginner t k (ss ++ (s ∷ [])) ≡ beginner t k ss
 unfolding beginner
-beginner-more t k s [] e = ap (λ (c : Bool). cond c (some s) none) e
+beginner-more t k s [] e = ap (λ (c : Bool). cond c (Some s) None) e
 beginner-more t k s (q ∷ ss) e =
-    ap (λ (r : Option ℕ). cond (eqb k (first_of t q)) (some q) r) (beginner-more t k s ss e)
+    ap (λ (r : Option ℕ). cond (eqb k (first_of t q)) (Some q) r) (beginner-more t k s ss e)
 
 module _ {t : Task} {kept : List ℕ} (K : BlocksKept t kept) (s : ℕ)
     (l : s < length t.schemas) where
@@ -68,6 +68,6 @@ module _ {t : Task} {kept : List ℕ} (K : BlocksKept t kept) (s : ℕ)
       first : kept_first kept s ≡ first_of t s
       first = K.first s (omega arith)
 
-      found : beginner t (first_of t s) (up_to (s + 1)) ≡ some s
+      found : beginner t (first_of t s) (up_to (s + 1)) ≡ Some s
       found = beginner-is t K.some-part s l (up_to (s + 1))
           (λ q i. let m = up_to-in (s + 1) q i in omega arith) (in-up_to (s + 1) s (omega arith))

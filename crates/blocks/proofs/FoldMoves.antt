@@ -5,7 +5,7 @@ use Prim.Native.Nat.{ℕ, suc, ◌+◌, ◌<◌}
 use mathlib.Core.Path.{◌≡◌, refl, sym, ◌∙◌, ap}
 use mathlib.Core.Bool.{Bool, true, false, cond}
 use mathlib.Core.List.{List, [], ◌∷◌}
-use mathlib.Core.Option.{Option, none, some}
+use Rattle.std.specs.Prelude.{Option, None, Some}
 use native.Mathlib.Omega.{arith}
 use lib.ListN.{length, replicate}
 use lib.Dec.{eqb}
@@ -38,43 +38,43 @@ after_one n x (folded xs) =
 after_one n x (misfit i) = refl
 
 -- ---- how a list is judged: by its first bad step, or else by what it is taken apart into
-pub judged-bad : (b : Option ℕ) (f : Folding) (i : ℕ) → b ≡ some i → judged.Bad i ≡ judged_of b f
+pub judged-bad : (b : Option ℕ) (f : Folding) (i : ℕ) → b ≡ Some i → judged.Bad i ≡ judged_of b f
 unfolding judged_of
 judged-bad b f i e = sym (ap (λ (c : Option ℕ). judged_of c f) e)
 
-pub judged-whole : (b : Option ℕ) (f : Folding) (n : ℕ) → b ≡ none → taken.Whole n ≡ taken_of f →
+pub judged-whole : (b : Option ℕ) (f : Folding) (n : ℕ) → b ≡ None → taken.Whole n ≡ taken_of f →
     judged.Whole n ≡ judged_of b f
 unfolding judged_of taken_of
-judged-whole (some i) f n e h = absurd (let z : ◌≡◌ {A = ℕ} 0 1 = cc in omega arith)
-judged-whole none (folded xs) n e h = let z : n ≡ length xs = cc in ap (λ (k : ℕ). judged.Whole k) z
-judged-whole none (misfit i) n e h = absurd (let z : ◌≡◌ {A = ℕ} 0 1 = cc in omega arith)
+judged-whole (Some i) f n e h = absurd (let z : ◌≡◌ {A = ℕ} 0 1 = cc in omega arith)
+judged-whole None (folded xs) n e h = let z : n ≡ length xs = cc in ap (λ (k : ℕ). judged.Whole k) z
+judged-whole None (misfit i) n e h = absurd (let z : ◌≡◌ {A = ℕ} 0 1 = cc in omega arith)
 
-pub judged-misfit : (b : Option ℕ) (f : Folding) (i : ℕ) → b ≡ none → taken.Misfit i ≡ taken_of f →
+pub judged-misfit : (b : Option ℕ) (f : Folding) (i : ℕ) → b ≡ None → taken.Misfit i ≡ taken_of f →
     judged.Misfit i ≡ judged_of b f
 unfolding judged_of taken_of
-judged-misfit (some k) f i e h = absurd (let z : ◌≡◌ {A = ℕ} 0 1 = cc in omega arith)
-judged-misfit none (folded xs) i e h = absurd (let z : ◌≡◌ {A = ℕ} 0 1 = cc in omega arith)
-judged-misfit none (misfit k) i e h = let z : i ≡ k = cc in ap (λ (k : ℕ). judged.Misfit k) z
+judged-misfit (Some k) f i e h = absurd (let z : ◌≡◌ {A = ℕ} 0 1 = cc in omega arith)
+judged-misfit None (folded xs) i e h = absurd (let z : ◌≡◌ {A = ℕ} 0 1 = cc in omega arith)
+judged-misfit None (misfit k) i e h = let z : i ≡ k = cc in ap (λ (k : ℕ). judged.Misfit k) z
 
 -- and back: the judgement tells what the list folds to
-pub is-bad : (b : Option ℕ) (f : Folding) (i : ℕ) → judged.Bad i ≡ judged_of b f → b ≡ some i
+pub is-bad : (b : Option ℕ) (f : Folding) (i : ℕ) → judged.Bad i ≡ judged_of b f → b ≡ Some i
 unfolding judged_of
-is-bad (some k) f i e = let z : k ≡ i = cc in ap (λ (n : ℕ). some n) z
-is-bad none (folded xs) i e = absurd (let z : ◌≡◌ {A = ℕ} 0 1 = cc in omega arith)
-is-bad none (misfit k) i e = absurd (let z : ◌≡◌ {A = ℕ} 0 1 = cc in omega arith)
+is-bad (Some k) f i e = let z : k ≡ i = cc in ap (λ (n : ℕ). Some n) z
+is-bad None (folded xs) i e = absurd (let z : ◌≡◌ {A = ℕ} 0 1 = cc in omega arith)
+is-bad None (misfit k) i e = absurd (let z : ◌≡◌ {A = ℕ} 0 1 = cc in omega arith)
 
 pub is_whole : (b : Option ℕ) (f : Folding) (n : ℕ) → judged.Whole n ≡ judged_of b f →
-    (b ≡ none) × ((xs : List Step) × (f ≡ folded xs) × (n ≡ length xs))
+    (b ≡ None) × ((xs : List Step) × (f ≡ folded xs) × (n ≡ length xs))
 unfolding judged_of
-is_whole (some k) f n e = absurd (let z : ◌≡◌ {A = ℕ} 0 1 = cc in omega arith)
-is_whole none (folded xs) n e = (refl, (xs, refl, cc))
-is_whole none (misfit k) n e = absurd (let z : ◌≡◌ {A = ℕ} 0 1 = cc in omega arith)
+is_whole (Some k) f n e = absurd (let z : ◌≡◌ {A = ℕ} 0 1 = cc in omega arith)
+is_whole None (folded xs) n e = (refl, (xs, refl, cc))
+is_whole None (misfit k) n e = absurd (let z : ◌≡◌ {A = ℕ} 0 1 = cc in omega arith)
 
-pub is-misfit : (b : Option ℕ) (f : Folding) (i : ℕ) → judged.Misfit i ≡ judged_of b f → (b ≡ none) × (f ≡ misfit i)
+pub is-misfit : (b : Option ℕ) (f : Folding) (i : ℕ) → judged.Misfit i ≡ judged_of b f → (b ≡ None) × (f ≡ misfit i)
 unfolding judged_of
-is-misfit (some k) f i e = absurd (let z : ◌≡◌ {A = ℕ} 0 1 = cc in omega arith)
-is-misfit none (folded xs) i e = absurd (let z : ◌≡◌ {A = ℕ} 0 1 = cc in omega arith)
-is-misfit none (misfit k) i e = let z : k ≡ i = cc in (refl, ap (λ (n : ℕ). misfit n) z)
+is-misfit (Some k) f i e = absurd (let z : ◌≡◌ {A = ℕ} 0 1 = cc in omega arith)
+is-misfit None (folded xs) i e = absurd (let z : ◌≡◌ {A = ℕ} 0 1 = cc in omega arith)
+is-misfit None (misfit k) i e = let z : k ≡ i = cc in (refl, ap (λ (n : ℕ). misfit n) z)
 
 -- ---- moves of folding
 -- a list that folds behind a step folds to that step and more
@@ -148,11 +148,11 @@ module _ (t : Task) where
 
   -- nothing is found of a block that is begun
   abbrev pub none_bound : ℕ → Bound
-  none_bound s = replicate (schema_at t s).params none
+  none_bound s = replicate (schema_at t s).params None
 
   -- between blocks: the step begins the block of a schema, or none
   pub block-begins : (s i : ℕ) (x : Step) (xs : List Step) →
-      beginner t x.schema (up_to (length t.schemas)) ≡ some s →
+      beginner t x.schema (up_to (length t.schemas)) ≡ Some s →
       fold_from t outside i (x ∷ xs) ≡ fold_from t (inside s 0 (none_bound s)) i (x ∷ xs)
   unfolding stage_for begun
   block-begins s i x xs e = go (fits_at t h x) refl (last_at t h) refl
@@ -170,7 +170,7 @@ module _ (t : Task) where
       go true f true l = fold-finish t outside i x xs h stage f l ∙ sym (fold-finish t h i x xs h refl f l)
 
   pub block_none : (i : ℕ) (x : Step) (xs : List Step) →
-      beginner t x.schema (up_to (length t.schemas)) ≡ none → fold_from t outside i (x ∷ xs) ≡ misfit i
+      beginner t x.schema (up_to (length t.schemas)) ≡ None → fold_from t outside i (x ∷ xs) ≡ misfit i
   unfolding stage_for begun fits_at
   block_none i x xs e = fold-off t outside i x xs outside (ap (begun t) e) refl
 

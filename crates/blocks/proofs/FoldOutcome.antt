@@ -4,7 +4,7 @@ use Prim.Native.Nat.{ℕ}
 use mathlib.Core.Path.{◌≡◌, refl, ◌∙◌, ap}
 use mathlib.Core.Bool.{true, false}
 use mathlib.Core.List.{List, [], ◌∷◌}
-use mathlib.Core.Option.{none, some}
+use Rattle.std.specs.Prelude.{None, Some}
 use Rattle.task.specs.declared.Place.{Place}
 use Rattle.task.specs.Answers.{Outcome, Check, refuse_unless, in_order, refuse_at}
 use Rattle.task.specs.Table.{task_of}
@@ -53,11 +53,11 @@ module _ (w steps out : List ℕ) where
     accepted =
         outcome-is ∙ accepted-passes w K.long K.table K.accepted step_check out (done_by (folding_of w steps))
 
-    pub fold-bad-step : {i : ℕ} → bad_step (split_task (task_of w)) steps ≡ some i →
+    pub fold-bad-step : {i : ℕ} → bad_step (split_task (task_of w)) steps ≡ Some i →
         fold_outcome w steps out ≡ as_found 12 (place.Step i) out
     fold-bad-step e = accepted ∙ place-refuses 12 place.Step block_check out (done_by (folding_of w steps)) e
 
-    module _ (good : bad_step (split_task (task_of w)) steps ≡ none) where
+    module _ (good : bad_step (split_task (task_of w)) steps ≡ None) where
       taken : (f : Folding) → folding_of w steps ≡ f →
           fold_outcome w steps out ≡ in_order (fold_check f ∷ room_check f) out (done_by f)
       taken f e =

@@ -4,7 +4,7 @@ use Prim.Native.Nat.{ℕ, ◌+◌, ◌-◌, ◌*◌, ◌/◌, ◌≤◌, ◌<◌
 use mathlib.Core.Path.{◌≡◌, sym, subst}
 use mathlib.Core.Bool.{true, false}
 use mathlib.Core.List.{List}
-use mathlib.Core.Option.{none}
+use Rattle.std.specs.Prelude.{None}
 use native.Mathlib.Omega.{arith}
 use native.Mathlib.Decide.{dec_lt}
 use lib.ListN.{length, get_or}
@@ -22,7 +22,7 @@ use Rattle.blocks.proofs.FoldTurns.{taken-misfit, taken_more}
 -- n steps are found in the split steps before i
 pub record FoundSo (t : Task) (steps : List ℕ) (n i : ℕ) : Type 0 where
   pub good : GoodBefore t steps i
-  pub right : bad_step (split_task t) steps ≡ none → TakenSo t steps n (left_from t steps i)
+  pub right : bad_step (split_task t) steps ≡ None → TakenSo t steps n (left_from t steps i)
 
 pub found_none : (t : Task) (steps : List ℕ) → FoundSo t steps 0 0
 found_none t steps = record { good = λ k l. absurd (omega arith); right = λ g. taken_start t steps }
@@ -43,7 +43,7 @@ module _ {t : Task} {kept begins params origins places limits pairs : List ℕ}
   word = get_or begins (get_or steps (step_size * i) 0) 0
 
   -- if no step is bad
-  abbrev judged : bad_step (split_task t) steps ≡ none → SplitStepsKept t steps kept begins origins
+  abbrev judged : bad_step (split_task t) steps ≡ None → SplitStepsKept t steps kept begins origins
   judged g = record { blocks = K.blocks; good = g; begun = B; origin = K.origin }
 
   -- the step begins no block
@@ -72,7 +72,7 @@ module _ {t : Task} {kept begins params origins places limits pairs : List ℕ}
             (part-yes K.blocks K.origin steps i s found-known j (omega arith) (fit j (omega arith))).0
       ]
 
-      in_block : (g : bad_step (split_task t) steps ≡ none) → InBlock t steps origins (TakenSo t steps n) i s r
+      in_block : (g : bad_step (split_task t) steps ≡ None) → InBlock t steps origins (TakenSo t steps n) i s r
       in_block g =
           block-passed (judged g) (TakenSo t steps n) i s found-known r few fit
           (block-starts (judged g) (TakenSo t steps n) i l s e (h.right g))

@@ -6,7 +6,7 @@ use mathlib.Core.Path.{◌≡◌, refl, sym, ◌∙◌, ap, ap₂, subst}
 use mathlib.Core.Bool.{Bool, true, false, cond}
 use mathlib.Core.List.{List, [], ◌∷◌}
 use mathlib.Core.Logic.{inl, inr}
-use mathlib.Core.Option.{some}
+use Rattle.std.specs.Prelude.{Some}
 use native.Mathlib.Omega.{arith}
 use native.Mathlib.Decide.{dec_lt}
 use native.Mathlib.Numerals.{add-one}
@@ -41,19 +41,19 @@ left_from t steps i = fold_from t outside i (drop i (steps_in (split_task t) ste
 -- the schema whose block a step begins is one of the task's
 pub begun-known : {t : Task} {begins : List ℕ} → ((s : ℕ) → s < length t.schemas → 0 < length (orders t s)) →
     BeginsKept t begins → (k s : ℕ) → get_or begins k 0 ≡ s + 1 →
-    (beginner t k (up_to (length t.schemas)) ≡ some s) × (s < length t.schemas)
+    (beginner t k (up_to (length t.schemas)) ≡ Some s) × (s < length t.schemas)
 begun-known {t} some-part B k s e =
     let b = begun-some (beginner t k (up_to (length t.schemas))) s (sym (B.word k) ∙ e) in
     (b, up_to-in (length t.schemas) s (beginner-in t some-part k (up_to (length t.schemas)) s b))
 
 -- and the step is its first part
-beginner-first : (t : Task) (k : ℕ) (ss : List ℕ) (s : ℕ) → beginner t k ss ≡ some s → k ≡ first_of t s
+beginner-first : (t : Task) (k : ℕ) (ss : List ℕ) (s : ℕ) → beginner t k ss ≡ Some s → k ≡ first_of t s
 unfolding beginner
 beginner-first t k [] s e = absurd (let z : ◌≡◌ {A = ℕ} 0 1 = cc in omega arith)
 beginner-first t k (q ∷ ss) s e = go (eqb k (first_of t q)) refl e (beginner-first t k ss s)
   where
-    go : (b : Bool) → eqb k (first_of t q) ≡ b → cond b (some q) (beginner t k ss) ≡ some s →
-        (beginner t k ss ≡ some s → k ≡ first_of t s) → k ≡ first_of t s
+    go : (b : Bool) → eqb k (first_of t q) ≡ b → cond b (Some q) (beginner t k ss) ≡ Some s →
+        (beginner t k ss ≡ Some s → k ≡ first_of t s) → k ≡ first_of t s
     go true f e r = eqb-true k (first_of t q) f ∙ ap (first_of t) (let z : q ≡ s = cc in z)
     go false f e r = r e
 

@@ -6,7 +6,7 @@ use mathlib.Core.Path.{◌≡◌, refl, sym, ◌∙◌, ap, ap₂, subst}
 use mathlib.Core.Bool.{Bool, true, false, ◌&&◌}
 use mathlib.Core.List.{List, [], ◌∷◌}
 use mathlib.Core.Logic.{inl, inr}
-use mathlib.Core.Option.{Option, none, some}
+use Rattle.std.specs.Prelude.{Option, None, Some}
 use native.Mathlib.Omega.{arith}
 use lib.ListN.{length, get_or, drop, drop_of_length-le, length-map}
 use lib.Seq.{drop-cons, ext_get_or}
@@ -35,25 +35,25 @@ use Rattle.blocks.proofs.PartObjects.{before_at}
 use Rattle.blocks.proofs.SplitParams.{part-arity, part-params}
 
 -- the word of a schema that begins a block names it
-pub begun-none : (o : Option ℕ) → begun_word o ≡ 0 → o ≡ none
+pub begun-none : (o : Option ℕ) → begun_word o ≡ 0 → o ≡ None
 unfolding begun_word
-begun-none none e = refl
-begun-none (some s) e = absurd (omega arith)
+begun-none None e = refl
+begun-none (Some s) e = absurd (omega arith)
 
-pub begun-some : (o : Option ℕ) (n : ℕ) → begun_word o ≡ n + 1 → o ≡ some n
+pub begun-some : (o : Option ℕ) (n : ℕ) → begun_word o ≡ n + 1 → o ≡ Some n
 unfolding begun_word
-begun-some none n e = absurd (omega arith)
-begun-some (some s) n e = let z : s ≡ n = omega arith in ap (λ (k : ℕ). some k) z
+begun-some None n e = absurd (omega arith)
+begun-some (Some s) n e = let z : s ≡ n = omega arith in ap (λ (k : ℕ). Some k) z
 
 -- objects that fit agree one by one
 fits-at : (b : Bound) (ps os : List ℕ) → fits b ps os ≡ true → (k : ℕ) → k < length ps →
-    agrees (get_or b (get_or ps k 0) none) (get_or os k 0) ≡ true
+    agrees (get_or b (get_or ps k 0) None) (get_or os k 0) ≡ true
 unfolding fits
 fits-at b [] os h k l = absurd (omega arith)
 fits-at b (p ∷ ps) [] h k l = absurd (no_ft h)
-fits-at b (p ∷ ps) (o ∷ os) h zero l = and_left (agrees (get_or b p none) o) _ h
+fits-at b (p ∷ ps) (o ∷ os) h zero l = and_left (agrees (get_or b p None) o) _ h
 fits-at b (p ∷ ps) (o ∷ os) h (suc k) l =
-    fits-at b ps os (and_right (agrees (get_or b p none) o) _ h) k (omega arith)
+    fits-at b ps os (and_right (agrees (get_or b p None) o) _ h) k (omega arith)
 
 -- ---- the step at a place
 module _ (t : Task) (steps : List ℕ) where
@@ -138,11 +138,11 @@ module _ {t : Task} {kept origins : List ℕ} (K : BlocksKept t kept)
       size : length ps ≡ length y.objects
       size = fits-length b ps y.objects fits-objects
 
-      not-before : (p : ℕ) → get_or b p none ≡ none → NoneBefore kept s p 0 j
+      not-before : (p : ℕ) → get_or b p None ≡ None → NoneBefore kept s p 0 j
       not-before p e k _ n = false-if (member (kept_own kept s k) p) (λ q.
           no-some (sym e ∙ h.known p k n (stands k p (omega arith) q)))
         where
-          no-some : {o : ℕ} → none ≡ some o → ⊥
+          no-some : {o : ℕ} → None ≡ Some o → ⊥
           no-some q = let z : ◌≡◌ {A = ℕ} 0 1 = cc in omega arith
 
       same-at : (k : ℕ) → k < length ps → get_or y.objects k 0 ≡ from (get_or ps k 0)
@@ -152,7 +152,7 @@ module _ {t : Task} {kept origins : List ℕ} (K : BlocksKept t kept)
           p : ℕ
           p = get_or ps k 0
 
-          a : agrees (get_or b p none) (get_or y.objects k 0) ≡ true
+          a : agrees (get_or b p None) (get_or y.objects k 0) ≡ true
           a = fits-at b ps y.objects fits-objects k n
 
           go : Right (λ q. get_or x.objects q 0) b p → get_or y.objects k 0 ≡ from p

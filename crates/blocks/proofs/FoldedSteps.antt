@@ -4,7 +4,7 @@ use Prim.Native.Nat.{ℕ, suc, ◌/◌, ◌≤◌}
 use mathlib.Core.Path.{◌≡◌, refl, sym, ◌∙◌, ap, subst}
 use mathlib.Core.Bool.{Bool, true, false}
 use mathlib.Core.List.{List, [], ◌∷◌}
-use mathlib.Core.Option.{Option, none, some}
+use Rattle.std.specs.Prelude.{Option, None, Some}
 use native.Mathlib.Omega.{arith}
 use lib.ListN.{length, replicate, length-map, length-replicate}
 use lib.Dec.{leb}
@@ -30,10 +30,10 @@ Small (inside s j b) = length b ≤ 12
 module _ (t : Task) (few : (s : ℕ) → param_count t s ≤ 12) where
   begun-few : (o : Option ℕ) → Small (begun t o)
   unfolding begun param_count
-  begun-few none = refl
-  begun-few (some s) =
-      let n : length (replicate {A = Option ℕ} (schema_at t s).params none) ≡ (schema_at t s).params =
-      length-replicate (schema_at t s).params none in
+  begun-few None = refl
+  begun-few (Some s) =
+      let n : length (replicate {A = Option ℕ} (schema_at t s).params None) ≡ (schema_at t s).params =
+      length-replicate (schema_at t s).params None in
       let m : (schema_at t s).params ≤ 12 = few s in
       omega arith
 

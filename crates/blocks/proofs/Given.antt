@@ -6,7 +6,7 @@ use mathlib.Core.Path.{◌≡◌, refl, sym, subst}
 use mathlib.Core.Bool.{true}
 use mathlib.Core.List.{List, [], ◌∷◌, ◌++◌}
 use mathlib.Core.Logic.{inl, inr}
-use mathlib.Core.Option.{some}
+use Rattle.std.specs.Prelude.{Some}
 use native.Mathlib.Omega.{arith}
 use lib.ListN.{length, get_or}
 use lib.Dec.{eqb}
@@ -27,7 +27,7 @@ use Rattle.blocks.proofs.FoldBlock.{Covered}
 pub record Given (t t' : Task) : Type 0 where
   pub well : WellFormed t
   pub is : t' ≡ split_task t
-  pub order : (s : ℕ) → s < length t.schemas → order_of (schema_at t s) ≡ some (orders t s)
+  pub order : (s : ℕ) → s < length t.schemas → order_of (schema_at t s) ≡ Some (orders t s)
   pub kept : PairsKept t
 
 pub given : (t t' : Task) → well_formed t ≡ true → split t ≡ split_as t' → Given t t'

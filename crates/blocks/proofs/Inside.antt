@@ -6,7 +6,7 @@ use mathlib.Core.Path.{◌≡◌, refl, sym, ◌∙◌, ap, ap₂, subst}
 use mathlib.Core.Bool.{Bool, true, false, cond}
 use mathlib.Core.List.{List, [], ◌∷◌, ◌++◌, map}
 use mathlib.Core.Logic.{inl, inr}
-use mathlib.Core.Option.{Option, none, some}
+use Rattle.std.specs.Prelude.{Option, None, Some}
 use native.Mathlib.Omega.{arith}
 use native.Mathlib.Decide.{dec_lt}
 use lib.ListN.{length, get_or, length-map, length-replicate}
@@ -33,13 +33,13 @@ module _ (t : Task) where
     pub known : s < length t.schemas
     pub open_at : j < length (orders t s)
     pub size : length b ≡ (schema_at t s).params
-    pub small : (p o : ℕ) → get_or b p none ≡ some o → o < t.objects
-    pub found : (p i : ℕ) → i < j → In p (params_at t s i) → (o : ℕ) × (get_or b p none ≡ some o)
+    pub small : (p o : ℕ) → get_or b p None ≡ Some o → o < t.objects
+    pub found : (p i : ℕ) → i < j → In p (params_at t s i) → (o : ℕ) × (get_or b p None ≡ Some o)
     pub so_far : pre ≡ map (part_step t (completed (inside s j b))) (up_to j)
 
   -- the choice made of what is bound
   pub completed-choice : (s j : ℕ) (b : Bound) → 0 < t.objects → s < length t.schemas →
-      length b ≡ (schema_at t s).params → ((p o : ℕ) → get_or b p none ≡ some o → o < t.objects) →
+      length b ≡ (schema_at t s).params → ((p o : ℕ) → get_or b p None ≡ Some o → o < t.objects) →
       IsChoice t (completed (inside s j b))
   unfolding completed or_zero
   completed-choice s j b some-object known size small = record {
@@ -47,13 +47,13 @@ module _ (t : Task) where
     count = length-map b or_zero ∙ size;
     small = λ o i.
         let (c, k, e) = map-in or_zero b o i in
-        let (p, l, d) = get_or-in none k in
+        let (p, l, d) = get_or-in None k in
         subst (λ o. o < t.objects) (sym e) (object c p d);
   }
     where
-      object : (c : Option ℕ) (p : ℕ) → get_or b p none ≡ c → or_zero c < t.objects
-      object none p d = some-object
-      object (some o) p d = small p o d
+      object : (c : Option ℕ) (p : ℕ) → get_or b p None ≡ c → or_zero c < t.objects
+      object None p d = some-object
+      object (Some o) p d = small p o d
 
 -- ---- a step that fits
 -- what is bound once y is found at position j
@@ -101,22 +101,22 @@ module _ {t : Task} {s j : ℕ} {b : Bound} {pre : List Step} (h : Inside t s j 
   ps-small : (q : ℕ) → In q ps → q < length b
   ps-small q i = rw h.size (param-small t s j q i)
 
-  after-new : (p : ℕ) → In p ps → get_or after p none ≡ some (given-by p)
-  after-new p i = ap (λ z. get_or z p none) after_is ∙ bind-new given-by b ps p ps-small i
+  after-new : (p : ℕ) → In p ps → get_or after p None ≡ Some (given-by p)
+  after-new p i = ap (λ z. get_or z p None) after_is ∙ bind-new given-by b ps p ps-small i
 
-  after-other : (p : ℕ) → (In p ps → ⊥) → get_or after p none ≡ get_or b p none
-  after-other p n = ap (λ z. get_or z p none) after_is ∙ bind-other given-by b ps p n
+  after-other : (p : ℕ) → (In p ps → ⊥) → get_or after p None ≡ get_or b p None
+  after-other p n = ap (λ z. get_or z p None) after_is ∙ bind-other given-by b ps p n
 
   after-size : length after ≡ length b
   after-size = bind-size b ps y.objects
 
-  after-old : (p o : ℕ) → get_or b p none ≡ some o → get_or after p none ≡ some o
+  after-old : (p o : ℕ) → get_or b p None ≡ Some o → get_or after p None ≡ Some o
   unfolding agrees
   after-old p o e = elim (in-or-not p ps) [
     | inl i ↦
         let a = fits-agrees given-by b ps (ap (fits b ps) (sym objects-are) ∙ fits-objects) p i in
         let q = eqb-true o (given-by p) (sym (ap (λ z. agrees z (given-by p)) e) ∙ a) in
-        after-new p i ∙ ap {B = Option ℕ} (λ z. some z) (sym q)
+        after-new p i ∙ ap {B = Option ℕ} (λ z. Some z) (sym q)
     | inr n ↦ after-other p n ∙ e
   ]
 
@@ -130,8 +130,8 @@ module _ {t : Task} {s j : ℕ} {b : Bound} {pre : List Step} (h : Inside t s j 
       same = map_same (λ p. get_or (map or_zero b) p 0) (λ p. get_or (map or_zero after) p 0) (params_at t s i) (λ p m.
           let (o, e) = h.found p i l m in
           let q : p < length b = rw h.size (param-small t s i p m) in
-          get_or-map or_zero b p none 0 q ∙ ap or_zero (e ∙ sym (after-old p o e)) ∙
-          sym (get_or-map or_zero after p none 0 (rw after-size q)))
+          get_or-map or_zero b p None 0 q ∙ ap or_zero (e ∙ sym (after-old p o e)) ∙
+          sym (get_or-map or_zero after p None 0 (rw after-size q)))
 
   part-here : y ≡ part_step t (candidate t s j b y) j
   unfolding part_step completed or_zero
@@ -139,7 +139,7 @@ module _ {t : Task} {s j : ℕ} {b : Bound} {pre : List Step} (h : Inside t s j 
     where
       same : y.objects ≡ map (λ p. get_or (map or_zero after) p 0) ps
       same = objects-are ∙ map_same given-by (λ p. get_or (map or_zero after) p 0) ps (λ p m.
-          sym (get_or-map or_zero after p none 0 (rw after-size (ps-small p m)) ∙ ap or_zero (after-new p m)))
+          sym (get_or-map or_zero after p None 0 (rw after-size (ps-small p m)) ∙ ap or_zero (after-new p m)))
 
   -- the steps so far and y are the first parts of the candidate's block
   pub parts-so-far : pre ++ (y ∷ []) ≡ map (part_step t (candidate t s j b y)) (up_to (suc j))
@@ -157,7 +157,7 @@ module _ {t : Task} {s j : ℕ} {b : Bound} {pre : List Step} (h : Inside t s j 
         let n = fits-length b ps y.objects fits-objects in
         objects (given-by p) (in-get_or y.objects (index_of p ps) 0 (omega (arith, index-small i)))
 
-    after_small : (p o : ℕ) → get_or after p none ≡ some o → o < t.objects
+    after_small : (p o : ℕ) → get_or after p None ≡ Some o → o < t.objects
     after_small p o e = elim (in-or-not p ps) [
       | inl i ↦
           let z : given-by p ≡ o = same (sym (after-new p i) ∙ e) in
@@ -165,7 +165,7 @@ module _ {t : Task} {s j : ℕ} {b : Bound} {pre : List Step} (h : Inside t s j 
       | inr n ↦ h.small p o (sym (after-other p n) ∙ e)
     ]
       where
-        same : {a c : ℕ} → some a ≡ some c → a ≡ c
+        same : {a c : ℕ} → Some a ≡ Some c → a ≡ c
         same q = cc
 
     pub candidate-choice : 0 < t.objects → IsChoice t (candidate t s j b y)
@@ -194,33 +194,33 @@ module _ (t : Task) where
   Reached (inside s j b) pre = Inside t s j b pre
 
   module _ (filled : (s : ℕ) → s < length t.schemas → 0 < length (orders t s)) where
-    pub beginner-in : (k : ℕ) (ss : List ℕ) (s : ℕ) → beginner t k ss ≡ some s → In s ss
+    pub beginner-in : (k : ℕ) (ss : List ℕ) (s : ℕ) → beginner t k ss ≡ Some s → In s ss
     unfolding beginner
     beginner-in k [] s e = absurd (let z : ◌≡◌ {A = ℕ} 0 1 = cc in omega arith)
     beginner-in k (q ∷ ss) s e = go (eqb k (first_of t q)) (beginner-in k ss s) e
       where
-        same : {a c : ℕ} → some a ≡ some c → a ≡ c
+        same : {a c : ℕ} → Some a ≡ Some c → a ≡ c
         same z = cc
 
-        go : (b : Bool) → (beginner t k ss ≡ some s → In s ss) →
-            cond b (some q) (beginner t k ss) ≡ some s → In s (q ∷ ss)
+        go : (b : Bool) → (beginner t k ss ≡ Some s → In s ss) →
+            cond b (Some q) (beginner t k ss) ≡ Some s → In s (q ∷ ss)
         go true rest e = here (sym (same e))
         go false rest e = there (rest e)
 
-    begun-reached : (o : Option ℕ) → ((s : ℕ) → o ≡ some s → s < length t.schemas) → (pre : List Step) → pre ≡ [] →
+    begun-reached : (o : Option ℕ) → ((s : ℕ) → o ≡ Some s → s < length t.schemas) → (pre : List Step) → pre ≡ [] →
         Reached (begun t o) pre
     unfolding begun up_to
-    begun-reached none known pre e = e
-    begun-reached (some s) known pre e = record {
+    begun-reached None known pre e = e
+    begun-reached (Some s) known pre e = record {
       known = known s refl;
       open_at = filled s (known s refl);
-      size = length-replicate (schema_at t s).params none;
+      size = length-replicate (schema_at t s).params None;
       small = λ p o q. absurd (no-some (sym (nothing_bound (schema_at t s).params p) ∙ q));
       found = λ p i l m. absurd (omega arith);
       so_far = e;
     }
       where
-        no-some : {o : ℕ} → none ≡ some o → ⊥
+        no-some : {o : ℕ} → None ≡ Some o → ⊥
         no-some q = let z : ◌≡◌ {A = ℕ} 0 1 = cc in omega arith
 
     pub stage-reached : (g : Stage) (y : Step) (pre : List Step) → Reached g pre → Reached (stage_for t g y) pre

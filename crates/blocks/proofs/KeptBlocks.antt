@@ -4,7 +4,7 @@ use Prim.Native.Nat.{ℕ, ◌+◌, ◌-◌, ◌*◌, ◌/◌, ◌≤◌, ◌<◌
 use mathlib.Core.Path.{◌≡◌, refl, sym, ◌∙◌, ap, ap₂}
 use mathlib.Core.Bool.{Bool, true, false}
 use mathlib.Core.List.{List, [], ◌∷◌, ◌++◌, map, append-nil}
-use mathlib.Core.Option.{none}
+use Rattle.std.specs.Prelude.{None}
 use native.Mathlib.Omega.{arith}
 use lib.ListN.{length, get_or}
 use lib.Dec.{eqb, leb}
@@ -68,7 +68,7 @@ members-are set m n p l h =
 
 -- ---- a step read
 -- its schema is known
-pub schema-known : (t : Task) (steps : List ℕ) → bad_step t steps ≡ none → (i : ℕ) → i < length steps / step_size →
+pub schema-known : (t : Task) (steps : List ℕ) → bad_step t steps ≡ None → (i : ℕ) → i < length steps / step_size →
     (step_size * i + step_size ≤ length steps) × (get_or steps (step_size * i) 0 < length t.schemas)
 unfolding step_at step_in
 schema-known t steps good i l =

@@ -6,7 +6,7 @@ use Prim.Native.Nat.{ℕ, ◌+◌, ◌*◌, ◌≤◌, ◌<◌}
 use mathlib.Core.Path.{◌≡◌, refl, sym, ◌∙◌, ap, ap₂, subst}
 use mathlib.Core.Bool.{Bool, true, false, ◌&&◌, and-true}
 use mathlib.Core.List.{List, [], ◌∷◌}
-use mathlib.Core.Option.{none}
+use Rattle.std.specs.Prelude.{None}
 use native.Mathlib.Omega.{arith}
 use lib.ListN.{length, get_or, set, take}
 use borrow.Author.Tests.{leb-true}
@@ -164,7 +164,7 @@ module _ {t : Task} {params limits pairs : List ℕ} (S : StepsKnown t params li
       ap (λ (m : ℕ). all (apart_at pairs 1 steps at n) (up_to m)) (sym pair-count ∙ zero)
 
   -- a list without a bad step
-  pub good-apart : (steps : List ℕ) → bad_step (split_task t) steps ≡ none → KeepApart t steps
+  pub good-apart : (steps : List ℕ) → bad_step (split_task t) steps ≡ None → KeepApart t steps
   good-apart steps h i w k =
       let n = get_or steps (step_size * i) 0 in
       let few = param_count (split_task t) n in

@@ -4,7 +4,7 @@ use Prim.Native.Nat.{ℕ}
 use mathlib.Core.Path.{◌≡◌, refl, ◌∙◌}
 use mathlib.Core.Bool.{true, false}
 use mathlib.Core.List.{List, [], ◌∷◌}
-use mathlib.Core.Option.{none, some}
+use Rattle.std.specs.Prelude.{None, Some}
 use Rattle.task.specs.declared.Place.{Place}
 use Rattle.task.specs.Answers.{Outcome, Check, refuse_unless, in_order, refuse_at}
 use Rattle.task.specs.Table.{task_of}
@@ -38,11 +38,11 @@ module _ (w steps out : List ℕ) where
     accepted : unfold_outcome w steps out ≡ in_order step_check out done
     accepted = outcome-is ∙ accepted-passes w K.long K.table K.accepted step_check out done
 
-    pub unfold-bad-step : {i : ℕ} → bad_step (task_of w) steps ≡ some i →
+    pub unfold-bad-step : {i : ℕ} → bad_step (task_of w) steps ≡ Some i →
         unfold_outcome w steps out ≡ as_found 12 (place.Step i) out
     unfold-bad-step e = accepted ∙ place-refuses 12 place.Step room_check out done e
 
-    module _ (good : bad_step (task_of w) steps ≡ none) where
+    module _ (good : bad_step (task_of w) steps ≡ None) where
       pub unfold-no-room : fits_in (list_words (unfolding_of w steps)) out ≡ false →
           unfold_outcome w steps out ≡ as_found 13 place.Nowhere out
       unfold-no-room e =

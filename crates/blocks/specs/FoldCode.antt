@@ -4,7 +4,7 @@ use Rattle.blocks.specs.declared.folding.Taken.TheVariants as taken
 use Rattle.blocks.specs.declared.folding.Judged.TheVariants as judged
 use Rattle.task.specs.declared.BadStep.TheVariants as bad
 use Rattle.std.specs.Prelude.{ℕ, ◌+◌, ◌*◌, ◌/◌, ◌≤◌, ◌<◌, ◌≡◌, Bool, true, false, ◌&&◌, List, ◌∷◌, map, length, get_or, eqb}
-use Rattle.std.proofs.Math.Option.{Option, none, some}
+use Rattle.std.specs.Prelude.{Option, None, Some}
 use Rattle.words.specs.Lists.{all, up_to, eq_list}
 use Rattle.words.specs.Sets.{member, members}
 use Rattle.words.specs.Words.{words_at}
@@ -24,8 +24,8 @@ use Rattle.blocks.specs.Unfolding.{BlocksKept}
 -- ---- which block a split step begins
 -- as a word: the schema's number and one, 0 for none
 unfoldable pub begun_word : Option ℕ → ℕ
-begun_word none = 0
-begun_word (some s) = s + 1
+begun_word None = 0
+begun_word (Some s) = s + 1
 
 -- for each number, one of a schema of the split or not
 pub record BeginsKept (t : Task) (begins : List ℕ) : Type 0 where
@@ -157,7 +157,7 @@ GoodBefore t steps i = (k : ℕ) → k < i → is_step_at (split_task t) steps k
 -- a list of split steps, judged by 12 against the split, with what is known of its blocks
 pub record SplitStepsKept (t : Task) (steps kept begins origins : List ℕ) : Type 0 where
   pub blocks : BlocksKept t kept
-  pub good : bad_step (split_task t) steps ≡ none
+  pub good : bad_step (split_task t) steps ≡ None
   pub begun : BeginsKept t begins
   pub origin : OriginsKept kept (length t.schemas) origins
 
@@ -170,7 +170,7 @@ KeepApart t steps = (i : ℕ) → step_size * i + step_size ≤ length steps →
 
 -- a first look at the pairs alone: the first bad step, where some has equal objects
 unfoldable pub EqualTold : Task → List ℕ → BadStep → Type 0
-EqualTold t steps (bad.At i) = bad_step (split_task t) steps ≡ some i
+EqualTold t steps (bad.At i) = bad_step (split_task t) steps ≡ Some i
 EqualTold t steps bad.Nowhere = KeepApart t steps
 
 -- ---- what a list is taken apart into: so many steps, or a misfit
@@ -186,10 +186,10 @@ reached_by count (taken.Misfit i) = i
 -- the steps up to there are the split's, and if all are, the answer is right
 pub record TakenTold (t : Task) (steps : List ℕ) (r : Taken) : Type 0 where
   pub good : GoodBefore t steps (reached_by (length steps / step_size) r)
-  pub right : bad_step (split_task t) steps ≡ none → r ≡ taken_of (fold_steps t (steps_in (split_task t) steps))
+  pub right : bad_step (split_task t) steps ≡ None → r ≡ taken_of (fold_steps t (steps_in (split_task t) steps))
 
 -- ---- the judgement of a list: 12 before 14
 unfoldable pub judged_of : Option ℕ → Folding → Judged
-judged_of (some i) f = judged.Bad i
-judged_of none (folded xs) = judged.Whole (length xs)
-judged_of none (misfit i) = judged.Misfit i
+judged_of (Some i) f = judged.Bad i
+judged_of None (folded xs) = judged.Whole (length xs)
+judged_of None (misfit i) = judged.Misfit i

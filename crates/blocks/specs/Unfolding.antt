@@ -1,7 +1,7 @@
 -- What the code of this crate has of a task's parts, kept in one array, and what its inner functions promise, by the
 -- words they read. No promise of an entry point cites these.
 use Rattle.std.specs.Prelude.{ℕ, ◌+◌, ◌*◌, ◌≤◌, ◌<◌, ◌≡◌, true, List, map, length, get_or, eqb}
-use Rattle.std.proofs.Math.Option.{none}
+use Rattle.std.specs.Prelude.{None}
 use Rattle.words.specs.Lists.{any, concat_map, sum, up_to}
 use Rattle.task.specs.Limits.{most_parameters, most_parts, most_schemas, step_size}
 use Rattle.task.specs.Task.{Task}
@@ -37,7 +37,7 @@ pub record TableKept (w kept : List ℕ) : Type 0 where
 -- steps of a task whose parts are kept
 pub record StepsKept (t : Task) (steps kept : List ℕ) : Type 0 where
   pub blocks : BlocksKept t kept
-  pub good : bad_step t steps ≡ none
+  pub good : bad_step t steps ≡ None
 
 -- of the step whose words begin at a place: it is whole, and its schema's numbers are within the limits
 pub record StepKept (steps kept : List ℕ) (at : ℕ) : Type 0 where

@@ -5,7 +5,7 @@ use Prim.Native.Nat.{ℕ, ◌*◌, ◌≤◌}
 use mathlib.Core.Path.{◌≡◌, refl, sym, ◌∙◌, ap}
 use mathlib.Core.Bool.{Bool, true, false, ◌||◌}
 use mathlib.Core.List.{List}
-use mathlib.Core.Option.{Option, none, some}
+use Rattle.std.specs.Prelude.{Option, None, Some}
 use native.Mathlib.Omega.{arith}
 use lib.ListN.{length}
 use lib.Dec.{eqb}
@@ -101,9 +101,9 @@ module _ (table steps state : List ℕ) (k : ℕ) (long : long_enough table ≡ 
       go : (is : Bool) → is_table table ≡ is → (bad : Option ℕ) → bad_step u steps ≡ bad →
           (fine : Bool) → is_state u state k ≡ fine → LengthsAside (run_outcome table steps state k)
       go false e bad b fine d = aside 2 (ap number (run-no-table table steps state k long e)) refl
-      go true e (some i) b fine d = aside 12 (ap number (run-bad-step table steps state k long e b)) refl
-      go true e none b false d = aside 15 (ap number (run-no-state table steps state k long e b d)) refl
-      go true e none b true d = ended e d (run-done table steps state k long e b d) ran_within refl
+      go true e (Some i) b fine d = aside 12 (ap number (run-bad-step table steps state k long e b)) refl
+      go true e None b false d = aside 15 (ap number (run-no-state table steps state k long e b d)) refl
+      go true e None b true d = ended e d (run-done table steps state k long e b d) ran_within refl
 
 -- ---- all of them
 pub lengths-met : LengthsAlwaysMet

@@ -2,7 +2,7 @@
 use Rattle.task.specs.declared.Place.TheVariants as place
 use Rattle.std.specs.Prelude.{ℕ, List, [], ◌∷◌}
 use Prim.Native.String.{String, ◌++◌}
-use Rattle.std.proofs.Math.Option.{some}
+use Rattle.std.specs.Prelude.{Some}
 use Rattle.task.specs.Answers.{refused, Outcome}
 use Rattle.blocks.specs.Blocks.{unfold_outcome, fold_outcome}
 use Rattle.text.specs.Lines.{bytes}
@@ -53,9 +53,9 @@ swap_examples =
     -- each part tests what the other adds
     (split (swap "" by_pier) is tells (refused 9 (place.Schema 0) [])) ∷
     -- "Two atoms give no arc if at some argument position they hold a declared pair"
-    (order_taken (swap apart by_pier) is order (some (0 ∷ 1 ∷ []))) ∷
+    (order_taken (swap apart by_pier) is order (Some (0 ∷ 1 ∷ []))) ∷
     (printed (swap apart by_pier) is prints (bytes split_of_swap)) ∷
-    (order_taken (swap apart link_last) is order (some (0 ∷ 1 ∷ 2 ∷ []))) ∷
+    (order_taken (swap apart link_last) is order (Some (0 ∷ 1 ∷ 2 ∷ []))) ∷
     -- "20 after 9, .. when no part has both parameters of a pair"
     (split (unlinked "") is tells (refused 9 (place.Schema 0) [])) ∷
     (split (unlinked apart) is tells (refused 20 (place.Schema 0) [])) ∷

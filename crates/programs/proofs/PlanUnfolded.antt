@@ -5,7 +5,7 @@ use Prim.Native.Nat.{ℕ, ◌*◌, ◌≤◌}
 use mathlib.Core.Path.{◌≡◌, refl, sym, ◌∙◌, ap}
 use mathlib.Core.Bool.{true}
 use mathlib.Core.List.{List, [], ◌∷◌}
-use mathlib.Core.Option.{Option, none, some}
+use Rattle.std.specs.Prelude.{Option, None, Some}
 use native.Mathlib.Omega.{arith}
 use lib.ListN.{length, take, length-take}
 use borrow.Author.Tests.{le-leb}
@@ -101,18 +101,18 @@ module _ (table steps : List ℕ) (p : PlanChoices table steps) where
       (ap (bad_step (task_of table)) p.are ∙ e))
 
   -- a step that is none of the task is refused with its number
-  pub bad-printed : {i : ℕ} → bad_step (task_of table) steps ≡ some i →
+  pub bad-printed : {i : ℕ} → bad_step (task_of table) steps ≡ Some i →
       refusal 12 i ≡ print_unfolding (task_of table) (steps_in (task_of table) steps)
   unfolding print_unless_bad
   bad-printed e = judged e
 
   -- where each is one, they are unfolded
-  pub good-printed : bad_step (task_of table) steps ≡ none →
+  pub good-printed : bad_step (task_of table) steps ≡ None →
       write_plan (unfolding_of table steps) ≡ print_unfolding (task_of table) (steps_in (task_of table) steps)
   unfolding print_unless_bad
   good-printed e = judged e
 
-  pub good-plan : bad_step (task_of table) steps ≡ none → PlanSteps table steps
+  pub good-plan : bad_step (task_of table) steps ≡ None → PlanSteps table steps
   good-plan e = record { good = e; few = p.few }
 
 -- ---- blocks
@@ -127,7 +127,7 @@ refused-printed table is-table h prints =
 
 -- the words of the blocks are those of steps of the split, whose plan fits the bytes lent
 pub record BlocksWritten (table words steps after : List ℕ) (end : ℕ) : Type 0 where
-  pub good : bad_step (task_of words) (take end after) ≡ none
+  pub good : bad_step (task_of words) (take end after) ≡ None
   pub are : steps_in (task_of words) (take end after) ≡ unfolding_of table steps
   pub fits : length (write_plan (steps_in (task_of words) (take end after))) ≤ longest_plan
   pub inside : end ≤ length after

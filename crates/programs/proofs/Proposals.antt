@@ -5,7 +5,7 @@ use Prim.Native.Nat.{ℕ, ◌≤◌}
 use mathlib.Core.Path.{◌≡◌, refl, sym, ◌∙◌, ap, ap₂, subst}
 use mathlib.Core.Bool.{Bool, true, false, cond, ◌&&◌}
 use mathlib.Core.List.{List, []}
-use mathlib.Core.Option.{Option, none, some}
+use Rattle.std.specs.Prelude.{Option, None, Some}
 use native.Mathlib.Omega.{arith}
 use lib.ListN.{length, replicate}
 use lib.Dec.{leb}
@@ -74,12 +74,12 @@ module _ (table : List ℕ) (width : ℕ) (out scratch : List ℕ) (is-table : i
           let number : k ≡ 22 = cc in
           let nowhere : at ≡ place.Nowhere = cc in
           ap₂ refusal number (ap place_number nowhere)
-      go true e (some s) f =
+      go true e (Some s) f =
           let told = h ∙ told-by (settles e ∙ settled-many t lent f) in
           let number : k ≡ 23 = cc in
           let schema : at ≡ place.Schema s = cc in
           ap₂ refusal number (ap place_number schema)
-      go true e none f =
+      go true e None f =
           let told = h ∙ told-by (settles e ∙ settled-done t lent f) in
           absurd (let z : ◌≡◌ {A = ℕ} 0 1 = cc in omega arith)
 
@@ -99,7 +99,7 @@ module _ (table : List ℕ) (width : ℕ) (out scratch : List ℕ) (is-table : i
       text false e many f =
           let told = h ∙ told-by (propose-unfit table width out scratch long is-table (narrow false e)) in
           absurd (let z : ◌≡◌ {A = ℕ} 0 1 = cc in omega arith)
-      text true e (some s) f =
+      text true e (Some s) f =
           let told = h ∙ told-by (settles e ∙ settled-many t lent f) in
           absurd (let z : ◌≡◌ {A = ℕ} 0 1 = cc in omega arith)
-      text true e none f = refl
+      text true e None f = refl

@@ -1,6 +1,6 @@
 -- What is read of an input whose bytes are known.
 use Rattle.std.proofs.Common.{ℕ, ◌≡◌, List, [], ◌++◌, take, IfSome, Option, Some, None, refl, ◌∙◌, ap, subst, arith}
-use Rattle.std.specs.Option.{option_map}
+use Rattle.std.specs.Prelude.{option_map}
 use Rattle.std.proofs.lemmas.List.{take-take}
 use Rattle.programs.specs.Programs.{most_bytes, taken}
 

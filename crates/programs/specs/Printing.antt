@@ -1,7 +1,7 @@
 -- What is printed, as the contracts of this crate's inner functions name it.
 use Rattle.programs.specs.declared.tasks.Form.TheVariants as form
 use Rattle.std.specs.Prelude.{ℕ, ◌≤◌, ◌≡◌, List, length}
-use Rattle.std.proofs.Math.Option.{none}
+use Rattle.std.specs.Prelude.{None}
 use Rattle.words.specs.Lists.{over}
 use Rattle.task.specs.Task.{Task}
 use Rattle.task.specs.Table.{task_of}
@@ -28,7 +28,7 @@ pub record PlanChoices (table steps : List ℕ) : Type 0 where
 
 -- the words of so many steps of a table's task
 pub record PlanSteps (table steps : List ℕ) : Type 0 where
-  pub good : bad_step (task_of table) steps ≡ none
+  pub good : bad_step (task_of table) steps ≡ None
   pub few : length steps ≤ plan_words
 
 -- what a program makes of the task that it read, and bytes enough for that

@@ -1,6 +1,6 @@
 -- 'Text form', the two programs as functions of their input bytes; and the programs of document 02's notes 1 and 5.
 use Rattle.std.specs.Prelude.{ℕ, suc, cond, List, [], ◌∷◌, take, leb}
-use Rattle.std.proofs.Math.Option.{Option, none, some}
+use Rattle.std.specs.Prelude.{Option, None, Some}
 use Rattle.task.specs.Task.{Task}
 use Rattle.task.specs.Run.{Step, bad_step}
 use Rattle.tokens.specs.Split.{Splitting, circular, parted, too_large, split_as, split}
@@ -37,8 +37,8 @@ print_splitting prints (split_as t) = prints t
 -- "A step with equal objects there isn't a step of the task (12)": the first such step is refused with its number
 unfoldable pub print_unless_bad : Option ℕ → List ℕ → List ℕ
 unfolding refusal
-print_unless_bad (some i) text = refusal 12 i
-print_unless_bad none text = text
+print_unless_bad (Some i) text = refusal 12 i
+print_unless_bad None text = text
 
 unfoldable pub print_unfolding : Task → List Step → List ℕ
 unfolding print_unless_bad bad_step list_words write_plan unfold_steps
@@ -80,8 +80,8 @@ only_number n (b ∷ bs) = suc most_width
 
 unfoldable pub width_said : Option (Taken ℕ) → ℕ
 unfolding only_number
-width_said none = suc most_width
-width_said (some l) = only_number l.value l.rest
+width_said None = suc most_width
+width_said (Some l) = only_number l.value l.rest
 
 unfoldable pub width_in : List ℕ → ℕ
 unfolding width_said number
@@ -90,8 +90,8 @@ width_in argument = width_said (number argument)
 -- "23 when a schema ends with more than 16 parts, with the first such schema"; else the task proposed is printed
 unfoldable pub print_settled : Option ℕ → Task → List ℕ
 unfolding refusal write
-print_settled (some s) t = refusal 23 s
-print_settled none t = write t
+print_settled (Some s) t = refusal 23 s
+print_settled None t = write t
 
 -- "22 .. for a width above 12"
 unfoldable pub print_proposal : ℕ → Task → List ℕ

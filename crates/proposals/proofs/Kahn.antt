@@ -6,7 +6,7 @@ use mathlib.Core.Path.{◌≡◌, refl, ap}
 use mathlib.Core.Bool.{Bool, true, false, not}
 use mathlib.Core.List.{List, [], ◌∷◌}
 use mathlib.Core.Logic.{◌↔◌}
-use mathlib.Core.Option.{Option, none, some}
+use Rattle.std.specs.Prelude.{Option, None, Some}
 use native.Mathlib.Omega.{arith}
 use lib.ListN.{length}
 use lib.Dec.{eqb}
@@ -95,8 +95,8 @@ placed-lowest arcs (suc n) us l h = go (next_free arcs us) refl h (λ vs m e. pl
 
     go : (c : Option ℕ) → next_free arcs us ≡ c → place_one (λ ps. all_placed arcs n ps) us c ≡ true → Rest →
         Placeable arcs us
-    go none e k rest = absurd (no_ft k)
-    go (some p) e k rest =
+    go None e k rest = absurd (no_ft k)
+    go (Some p) e k rest =
         let (i, f) = first_found (free arcs us) us p e in
         let fewer = others-fewer i in
         place-next i f (rest (others p us) (omega arith) k)
@@ -115,10 +115,10 @@ lowest-placed arcs (suc n) us l a h = go (next_free arcs us) refl (λ vs m b k. 
     Rest = (vs : List ℕ) → n ≤ length vs → Ascend vs → Placeable arcs vs → all_placed arcs n vs ≡ true
 
     go : (c : Option ℕ) → next_free arcs us ≡ c → Rest → place_one (λ ps. all_placed arcs n ps) us c ≡ true
-    go none e rest =
+    go None e rest =
         let (u, i) = one_left us (omega arith) in
         absurd (none_free h u i (λ p j. false-if (free arcs us p) (λ f. first-none (free arcs us) e j f)))
-    go (some p) e rest =
+    go (Some p) e rest =
         let (i, f) = first_found (free arcs us) us p e in
         rest (others p us) (omega (arith, others-one-less p a)) (ascend-filter (λ q. not (eqb p q)) a)
         ((any-choice arcs us p i f).0 h)

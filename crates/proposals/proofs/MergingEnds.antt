@@ -6,7 +6,7 @@ use mathlib.Core.Path.{◌≡◌, refl, sym, ◌∙◌, ap, subst}
 use mathlib.Core.Bool.{Bool, true, false, ◌&&◌}
 use mathlib.Core.List.{List, [], ◌∷◌}
 use mathlib.Core.Logic.{◌⊎◌, inl, inr}
-use mathlib.Core.Option.{Option, none, some}
+use Rattle.std.specs.Prelude.{Option, None, Some}
 use native.Mathlib.Omega.{arith}
 use lib.ListN.{length, get_or}
 use lib.Dec.{eqb, leb}
@@ -101,14 +101,14 @@ module _ (width : ℕ) (s : Schema) where
     pub count : ℕ
     pub no_more : count ≤ n
     pub stands : Standing width s count ps
-    pub none_left : first_pair width s ps ≡ none
+    pub none_left : first_pair width s ps ≡ None
 
   pub merging-ends : (k n : ℕ) (ps : List ℕ) → n ≤ k → Standing width s n ps → Ended n (merge_from width s k ps)
   unfolding merge_from merge_first
   merging-ends zero n ps l h =
       record { count = n; no_more = omega arith; stands = h; none_left = none-there }
     where
-      none-there : first_pair width s ps ≡ none
+      none-there : first_pair width s ps ≡ None
       none-there = first-pair-none width s n ps h.gap-free (λ a b x y. absurd (omega arith))
   merging-ends (suc k) n ps l h =
       go (first_pair width s ps) refl (λ m qs i st. merging-ends k m qs i st)
@@ -118,8 +118,8 @@ module _ (width : ℕ) (s : Schema) where
 
       go : (r : Option PartPair) → first_pair width s ps ≡ r → Rest →
           Ended n (merge_first (λ qs. merge_from width s k qs) ps r)
-      go none e rest = record { count = n; no_more = omega arith; stands = h; none_left = e }
-      go (some c) e rest =
+      go None e rest = record { count = n; no_more = omega arith; stands = h; none_left = e }
+      go (Some c) e rest =
           let (x, y, t) = found-pair width s n ps h.gap-free c e in
           let z : n ≡ suc (n - 1) = omega arith in
           let d = rest (n - 1) (merged c.lower c.higher ps) (omega arith)
@@ -132,7 +132,7 @@ module _ (width : ℕ) (s : Schema) where
           }
 
   -- "each pair left is too wide together or would make a circle"
-  pub pair_left : (n : ℕ) (ps : List ℕ) → GapFree n ps → first_pair width s ps ≡ none → (a b : ℕ) → a < b → b < n →
+  pub pair_left : (n : ℕ) (ps : List ℕ) → GapFree n ps → first_pair width s ps ≡ None → (a b : ℕ) → a < b → b < n →
       (width < together (with_parts s ps) a b) ⊎ NoOrderComplies (with_parts s (merged a b ps))
   unfolding first_pair mergeable
   pair_left n ps g h a b l m =

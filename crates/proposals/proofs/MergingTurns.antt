@@ -3,7 +3,7 @@
 use Prim.Native.Nat.{ℕ, suc, ◌+◌, ◌-◌, ◌≤◌, ◌<◌}
 use mathlib.Core.Path.{◌≡◌, refl, sym, ◌∙◌, ap, subst}
 use mathlib.Core.List.{List}
-use mathlib.Core.Option.{none, some}
+use Rattle.std.specs.Prelude.{None, Some}
 use native.Mathlib.Omega.{arith}
 use lib.ListN.{length}
 use Rattle.words.specs.Lists.{put}
@@ -44,7 +44,7 @@ merging-first width from k lent scratch s known play = record {
 module _ {width from k : ℕ} {lent scratch₀ : List ℕ} {n : ℕ} {parts scratch : List ℕ}
     (h : MergingAny width from k lent scratch₀ n parts scratch) where
   pub merging-turn : (a b : ℕ) → a < b → b < n → from + k ≤ length parts →
-      ((s : Schema) (ps : List ℕ) → Named s → InPlay s n ps scratch → some (pair a b) ≡ first_pair width s ps) →
+      ((s : Schema) (ps : List ℕ) → Named s → InPlay s n ps scratch → Some (pair a b) ≡ first_pair width s ps) →
       n ≤ most_atoms → {parts' between after : List ℕ} → parts' ≡ renumbered_all a b from k parts →
       MergesParameters a b n scratch between → MergesArcs a b n between after →
       MergingAny width from k lent scratch₀ (n - 1) parts' after
@@ -80,7 +80,7 @@ module _ {width from k : ℕ} {lent scratch₀ : List ℕ} {n : ℕ} {parts scra
           ∙ put-again lent from ps (merged a b ps) (length-words_at parts from k ∙ sym long))
 
   pub merging-end :
-      ((s : Schema) (ps : List ℕ) → Named s → InPlay s n ps scratch → none ≡ first_pair width s ps) →
+      ((s : Schema) (ps : List ℕ) → Named s → InPlay s n ps scratch → None ≡ first_pair width s ps) →
       (s : Schema) → Named s → InPlay s k (words_at lent from k) scratch₀ →
       (parts ≡ put lent from (merge_from width s k (words_at lent from k))) ×
       (n ≡ count_of (merge_from width s k (words_at lent from k)))

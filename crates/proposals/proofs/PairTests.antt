@@ -5,7 +5,7 @@ use mathlib.Core.Path.{◌≡◌, refl, sym, ◌∙◌, ap}
 use mathlib.Core.Bool.{Bool, true, false, ◌&&◌, ◌||◌}
 use mathlib.Core.List.{List}
 use mathlib.Core.Logic.{◌⊎◌, inl, inr}
-use mathlib.Core.Option.{Option, none, some}
+use Rattle.std.specs.Prelude.{Option, None, Some}
 use native.Mathlib.Decide.{ℕ_discrete}
 use native.Mathlib.Omega.{arith}
 use lib.Bits.{bit_or}
@@ -193,7 +193,7 @@ module _ (width n : ℕ) (scratch : List ℕ) where
     pub searching-found : {b : ℕ} → a < b → b < n →
         Tells (λ s ps. ((c : ℕ) → member less c ≡ true → c < b → mergeable width s ps (pair a c) ≡ false) ×
         (b < n → mergeable width s ps (pair a b) ≡ true)) →
-        Tells (λ s ps. some (pair a b) ≡ first_pair width s ps)
+        Tells (λ s ps. Some (pair a b) ≡ first_pair width s ps)
     searching-found {b} k m tried s ps known play =
         sym (first-pair-is width s n ps (in-play-gap-free play) a b k m ((tried s ps known play).1 m) earlier)
       where
@@ -205,7 +205,7 @@ module _ (width n : ℕ) (scratch : List ℕ) where
 
   -- none is left
   pub searching-ends : {narrow rest : ℕ} → Searching narrow rest → rest ≡ 0 →
-      Tells (λ s ps. none ≡ first_pair width s ps)
+      Tells (λ s ps. None ≡ first_pair width s ps)
   searching-ends h z s ps known play =
       sym (first-pair-none width s n ps (in-play-gap-free play) (λ a b l m.
       h.none s ps known play a b l m (ap (λ (x : ℕ). member x a) z ∙ member-zero a)))
@@ -213,10 +213,10 @@ module _ (width n : ℕ) (scratch : List ℕ) where
 -- ---- the pair that is found
 -- its parts, of which no pair that isn't there has any
 abbrev ends : Option PartPair → ℕ × ℕ
-ends none = (0, 0)
-ends (some c) = (c.lower, c.higher)
+ends None = (0, 0)
+ends (Some c) = (c.lower, c.higher)
 
-pub found_below : {a b n : ℕ} → a < b → b < n → (c d : ℕ) → pair_found (found.Pair a b) ≡ some (pair c d) →
+pub found_below : {a b n : ℕ} → a < b → b < n → (c d : ℕ) → pair_found (found.Pair a b) ≡ Some (pair c d) →
     (c < d) × (d < n)
 unfolding pair_found
 found_below l m c d e =
@@ -224,6 +224,6 @@ found_below l m c d e =
     let y = ap (λ o. (ends o).1) e in
     (omega arith, omega arith)
 
-pub nowhere-none : (c d : ℕ) → pair_found found.Nowhere ≡ some (pair c d) → ⊥
+pub nowhere-none : (c d : ℕ) → pair_found found.Nowhere ≡ Some (pair c d) → ⊥
 unfolding pair_found
 nowhere-none c d e = let z : ◌≡◌ {A = ℕ} 0 1 = cc in omega arith

@@ -5,7 +5,7 @@ use mathlib.Core.Path.{◌≡◌, refl, sym, ◌∙◌, ap, subst}
 use mathlib.Core.Bool.{Bool, true, false}
 use mathlib.Core.List.{List, [], ◌∷◌, ◌++◌, map}
 use mathlib.Core.Logic.{◌⊎◌, inl, inr}
-use mathlib.Core.Option.{some}
+use Rattle.std.specs.Prelude.{Some}
 use native.Mathlib.Omega.{arith}
 use native.Mathlib.Decide.{dec_lt}
 use Rattle.words.specs.Lists.{head, filter, keep_if, first, concat_map, up_from, up_to}
@@ -40,7 +40,7 @@ data Skipped {A : Type 0} (test : A → Bool) (x : A) : List A → Type 0 where
   past : {y : A} {xs : List A} → test y ≡ false → Skipped test x xs → Skipped test x (y ∷ xs)
 
 module _ {A : Type 0} (test : A → Bool) (x : A) where
-  skipped-first : {xs : List A} → test x ≡ true → Skipped test x xs → first test xs ≡ some x
+  skipped-first : {xs : List A} → test x ≡ true → Skipped test x xs → first test xs ≡ Some x
   unfolding first head filter keep_if
   skipped-first h at = rw h refl
   skipped-first h (past e k) = rw e (skipped-first h k)
@@ -79,7 +79,7 @@ module _ (test : PartPair → Bool) (n a b : ℕ) (l : a < b) (m : b < n)
   unfolding concat_map up_from pairs_with
   rows from zero u e = absurd (omega arith)
   rows from (suc k) u e = elim (dec_lt from a) [
-    | yes h ↦ skipped-all test (pair a b) (pairs_with n from) rest (none h) (rows (suc from) k h (omega arith))
+    | yes h ↦ skipped-all test (pair a b) (pairs_with n from) rest (None h) (rows (suc from) k h (omega arith))
     | no h ↦
         let z : a ≡ from = omega arith in
         skipped-on test (pair a b) rest
@@ -89,12 +89,12 @@ module _ (test : PartPair → Bool) (n a b : ℕ) (l : a < b) (m : b < n)
       rest : List PartPair
       rest = concat_map (pairs_with n) (up_from (suc from) k)
 
-      none : from < a → (c : PartPair) → In c (pairs_with n from) → test c ≡ false
-      none h c i =
+      None : from < a → (c : PartPair) → In c (pairs_with n from) → test c ≡ false
+      None h c i =
           let (d, j, f) = map-in (pair from) (up_from (suc from) (n - suc from)) c i in
           let (x, y) = up_from-in (suc from) (n - suc from) d j in
           ap test f ∙ before from d (omega arith) (omega arith) (inl h)
 
-  pub first-of-pairs : test (pair a b) ≡ true → first test (part_pairs n) ≡ some (pair a b)
+  pub first-of-pairs : test (pair a b) ≡ true → first test (part_pairs n) ≡ Some (pair a b)
   unfolding part_pairs up_to
   first-of-pairs h = skipped-first test (pair a b) h (rows 0 n (omega arith) (omega arith))

@@ -6,7 +6,7 @@ use Prim.Native.Nat.{ℕ, ◌≤◌, ◌<◌}
 use mathlib.Core.Path.{◌≡◌, sym, ◌∙◌, ap}
 use mathlib.Core.Bool.{Bool, true, false, ◌&&◌}
 use mathlib.Core.List.{List, [], ◌∷◌}
-use mathlib.Core.Option.{Option, none, some}
+use Rattle.std.specs.Prelude.{Option, None, Some}
 use mathlib.Core.Logic.{◌⊎◌, inl, inr, ⊎_elim}
 use lib.ListN.{length}
 use lib.Dec.{leb}
@@ -28,7 +28,7 @@ use Rattle.proposals.specs.Scratch.{many_told}
 -- ---- what is settled once the parts are found
 module _ (t : Task) (lent : Lent) where
   -- "23 when a schema ends with more than 16 parts, with the first such schema"
-  pub settled-many : {k : ℕ} → too_many t ≡ some k →
+  pub settled-many : {k : ℕ} → too_many t ≡ Some k →
       settled (too_many t) t lent ≡ record {
         told = refused 23 (place.Schema k) [];
         buffer = record { proposed = lent.proposed; scratch = cleared lent.scratch };
@@ -37,7 +37,7 @@ module _ (t : Task) (lent : Lent) where
   settled-many e = ap (λ (o : Option ℕ). settled o t lent) e
 
   -- "write its table with fresh parts to a second one"
-  pub settled-done : too_many t ≡ none →
+  pub settled-done : too_many t ≡ None →
       settled (too_many t) t lent ≡ record {
         told = result [];
         buffer = record { proposed = over (words_of t) lent.proposed; scratch = cleared lent.scratch };

@@ -4,7 +4,7 @@ use mathlib.Core.Path.{◌≡◌, refl}
 use mathlib.Core.Bool.{true}
 use mathlib.Core.List.{List}
 use mathlib.Core.Logic.{◌⊎◌}
-use mathlib.Core.Option.{none}
+use Rattle.std.specs.Prelude.{None}
 use native.Mathlib.Omega.{arith}
 use lib.ListN.{length, get_or}
 use Rattle.task.specs.Task.{Schema, part_count, no_gap}
@@ -35,7 +35,7 @@ pub record Proposed (width : ℕ) (s : Schema) (ps : List ℕ) : Type 0 where
   -- "The result is accepted by the order rule"
   pub accepted : Accepted (with_parts s ps)
   -- "While some pair of parts can be merged": none can
-  pub ended : first_pair width s ps ≡ none
+  pub ended : first_pair width s ps ≡ None
   -- "and each pair left is too wide together or would make a circle"
   pub left : (a b : ℕ) → a < b → b < count_of ps →
       (width < together (with_parts s ps) a b) ⊎ NoOrderComplies (with_parts s (merged a b ps))

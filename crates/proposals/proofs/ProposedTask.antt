@@ -5,7 +5,7 @@ use mathlib.Core.Path.{◌≡◌, refl, sym, ◌∙◌, ap, ap₂, subst}
 use mathlib.Core.Bool.{Bool, true, false}
 use mathlib.Core.List.{List, [], ◌∷◌, map}
 use mathlib.Core.Logic.{◌↔◌}
-use mathlib.Core.Option.{none, some}
+use Rattle.std.specs.Prelude.{None, Some}
 use native.Mathlib.Omega.{arith}
 use lib.ListN.{length, length-map}
 use lib.Dec.{ltb, leb}
@@ -103,11 +103,11 @@ module _ (width : ℕ) (t : Task) where
   parts_at : (k : ℕ) → k < length t.schemas → part_count (schema_at t' k).atoms ≡ parts_of k
   parts_at k l = ap (λ (s : Schema). part_count s.atoms) (proposed_at k l)
 
-  pub too-many-exactly : (k : ℕ) → (too_many (proposed_task width t) ≡ some k) ↔ TooMany k
+  pub too-many-exactly : (k : ℕ) → (too_many (proposed_task width t) ≡ Some k) ↔ TooMany k
   unfolding too_many up_to
   too-many-exactly k = (forth, back)
     where
-      forth : first many (up_to (length t'.schemas)) ≡ some k → TooMany k
+      forth : first many (up_to (length t'.schemas)) ≡ Some k → TooMany k
       forth h =
           let f = first-is many 0 (length t'.schemas) k h in
           let e = proposed-length in
@@ -121,7 +121,7 @@ module _ (width : ℕ) (t : Task) where
                 omega (arith, parts_at q (omega arith));
           }
 
-      back : TooMany k → first many (up_to (length t'.schemas)) ≡ some k
+      back : TooMany k → first many (up_to (length t'.schemas)) ≡ Some k
       back c =
           let e = proposed-length in
           let l = c.known in
@@ -136,7 +136,7 @@ module _ (width : ℕ) (t : Task) where
           })
 
   -- ---- well formed
-  few-parts : too_many t' ≡ none → (k : ℕ) → k < length t.schemas → parts_of k ≤ most_parts
+  few-parts : too_many t' ≡ None → (k : ℕ) → k < length t.schemas → parts_of k ≤ most_parts
   unfolding too_many
   few-parts h k l =
       let e = proposed-length in
@@ -151,7 +151,7 @@ module _ (width : ℕ) (t : Task) where
       parted-fits t.arities s (proposed_parts width s) h
       (le-leb (part_count (with_parts s (proposed_parts width s)).atoms) most_parts l) (proposed width s).filled
 
-  all_fit : well_formed t ≡ true → too_many t' ≡ none → (s' : Schema) → In s' (map (proposed_schema width) t.schemas) →
+  all_fit : well_formed t ≡ true → too_many t' ≡ None → (s' : Schema) → In s' (map (proposed_schema width) t.schemas) →
       schema_fits t.arities s' ≡ true
   unfolding schema_at
   all_fit h few s' i =
@@ -160,7 +160,7 @@ module _ (width : ℕ) (t : Task) where
       ap (schema_fits t.arities) e ∙ fits-again s (all_in (schema_fits t.arities) (task-tests t h).fit j)
       (subst (λ (s : Schema). part_count (proposed_schema width s).atoms ≤ most_parts) f (few-parts few k l))
 
-  pub proposed-well-formed : well_formed t ≡ true → too_many (proposed_task width t) ≡ none →
+  pub proposed-well-formed : well_formed t ≡ true → too_many (proposed_task width t) ≡ None →
       well_formed (proposed_task width t) ≡ true
   unfolding proposed_task
   proposed-well-formed h few =

@@ -4,7 +4,7 @@ use Prim.Native.Nat.{ℕ, suc, ◌+◌, ◌-◌, ◌≤◌, ◌<◌}
 use mathlib.Core.Path.{◌≡◌, refl, sym, ◌∙◌, ap, subst₂}
 use mathlib.Core.Bool.{true}
 use mathlib.Core.List.{List}
-use mathlib.Core.Option.{Option, none, some}
+use Rattle.std.specs.Prelude.{Option, None, Some}
 use native.Mathlib.Omega.{arith}
 use lib.ListN.{length}
 use borrow.Author.Count.{below_more}
@@ -122,19 +122,19 @@ module _ (width : ℕ) (t : Task) where
 
   module _ (s : ℕ) (few : FewParts s) where
     pub many-here : s < length t.schemas → most_parts < count_of (proposed_parts width (schema_at t s)) →
-        too_many (proposed_task width t) ≡ some s
+        too_many (proposed_task width t) ≡ Some s
     many-here l m = (too-many-exactly width t s).1 (record {
       known = l;
       many = omega (arith, counted s);
       before = λ r k. omega (arith, counted r, few r k);
     })
 
-    pub many-nowhere : s ≡ length t.schemas → too_many (proposed_task width t) ≡ none
+    pub many-nowhere : s ≡ length t.schemas → too_many (proposed_task width t) ≡ None
     many-nowhere e = go (too_many (proposed_task width t)) refl
       where
-        go : (o : Option ℕ) → too_many (proposed_task width t) ≡ o → o ≡ none
-        go none f = refl
-        go (some r) f =
+        go : (o : Option ℕ) → too_many (proposed_task width t) ≡ o → o ≡ None
+        go None f = refl
+        go (Some r) f =
             let c = (too-many-exactly width t r).0 f in
             absurd (omega (arith, c.many, counted r, few r (let l = c.known in omega arith)))
 

@@ -6,7 +6,7 @@ use mathlib.Core.Path.{◌≡◌, refl, sym, ◌∙◌, ap}
 use mathlib.Core.Bool.{Bool, true, false, not}
 use mathlib.Core.List.{List, [], ◌∷◌}
 use mathlib.Core.Logic.{◌↔◌}
-use mathlib.Core.Option.{Option, none, some}
+use Rattle.std.specs.Prelude.{Option, None, Some}
 use native.Mathlib.Omega.{arith}
 use lib.ListN.{length, get_or}
 use lib.Dec.{eqb}
@@ -90,7 +90,7 @@ placed-order {arcs} (place-next {p = p} {us = us} i f k) a =
 -- "accepted by the order rule": the order that is taken, which complies
 pub record Accepted (s : Schema) : Type 0 where
   pub order : List ℕ
-  pub taken : order_of s ≡ some order
+  pub taken : order_of s ≡ Some order
   pub parts : OrderOfParts s order
   pub complies : Complies s order
 
@@ -99,8 +99,8 @@ unfolding some_order is_some
 some-order s h = go (order_of s) refl h
   where
     go : (r : Option (List ℕ)) → order_of s ≡ r → is_some r ≡ true → Accepted s
-    go none e k = absurd (no_ft k)
-    go (some o) e k =
+    go None e k = absurd (no_ft k)
+    go (Some o) e k =
         let (parts, complies) = order-taken s o e in
         record { order = o; taken = e; parts = parts; complies = complies }
 
@@ -133,8 +133,8 @@ module _ (s : Schema) where
   )
     where
       back : (r : Option (List ℕ)) → order_of s ≡ r → Placeable (arcs_of s) all → is_some r ≡ true
-      back none e h = absurd (placeable-complies h ((circular-exactly s).0 e))
-      back (some o) e h = refl
+      back None e h = absurd (placeable-complies h ((circular-exactly s).0 e))
+      back (Some o) e h = refl
 
   -- "would make a circle"
   pub no-order-exactly : (some_order s ≡ false) ↔ NoOrderComplies s
@@ -142,11 +142,11 @@ module _ (s : Schema) where
   no-order-exactly =
       (λ h. (circular-exactly s).0 (forth (order_of s) h), λ h. back ((circular-exactly s).1 h))
     where
-      forth : (r : Option (List ℕ)) → is_some r ≡ false → r ≡ none
-      forth none h = refl
-      forth (some o) h = absurd (no_tf h)
+      forth : (r : Option (List ℕ)) → is_some r ≡ false → r ≡ None
+      forth None h = refl
+      forth (Some o) h = absurd (no_tf h)
 
-      back : order_of s ≡ none → is_some (order_of s) ≡ false
+      back : order_of s ≡ None → is_some (order_of s) ≡ false
       back e = rw e refl
 
   -- whether some order complies, by lowest free parts, from arcs that are those of the schema

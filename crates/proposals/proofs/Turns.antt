@@ -5,7 +5,7 @@ use Prim.Native.Nat.{ℕ, zero, suc, ◌<◌}
 use mathlib.Core.Path.{◌≡◌, refl, ◌∙◌, ap}
 use mathlib.Core.Bool.{true, false}
 use mathlib.Core.List.{List}
-use mathlib.Core.Option.{Option, none, some}
+use Rattle.std.specs.Prelude.{Option, None, Some}
 use native.Mathlib.Omega.{arith}
 use lib.ListN.{length}
 use Rattle.words.specs.Lists.{first}
@@ -22,19 +22,19 @@ module _ (width : ℕ) (s : Schema) where
   unfolding proposed_parts
   merging-begins = refl
 
-  pub merging-goes-on : (n : ℕ) (ps : List ℕ) (c : PartPair) → first_pair width s ps ≡ some c →
+  pub merging-goes-on : (n : ℕ) (ps : List ℕ) (c : PartPair) → first_pair width s ps ≡ Some c →
       merge_from width s (suc n) ps ≡ merge_from width s n (merged c.lower c.higher ps)
   unfolding merge_from merge_first
   merging-goes-on n ps c e = ap (merge_first (λ qs. merge_from width s n qs) ps) e
 
-  pub merging-stops : (n : ℕ) (ps : List ℕ) → first_pair width s ps ≡ none → merge_from width s n ps ≡ ps
+  pub merging-stops : (n : ℕ) (ps : List ℕ) → first_pair width s ps ≡ None → merge_from width s n ps ≡ ps
   unfolding merge_from merge_first
   merging-stops zero ps e = refl
   merging-stops (suc n) ps e = ap (merge_first (λ qs. merge_from width s n qs) ps) e
 
   -- ---- the first pair
   module _ (n : ℕ) (ps : List ℕ) (g : GapFree n ps) where
-    pub found-pair : (c : PartPair) → first_pair width s ps ≡ some c →
+    pub found-pair : (c : PartPair) → first_pair width s ps ≡ Some c →
         (c.lower < c.higher) × (c.higher < n) × (mergeable width s ps c ≡ true)
     unfolding first_pair
     found-pair c e =
@@ -45,7 +45,7 @@ module _ (width : ℕ) (s : Schema) where
     -- a pair that can be merged where none before it can is the first
     pub first-pair-is : (a b : ℕ) → a < b → b < n → mergeable width s ps (pair a b) ≡ true →
         ((c d : ℕ) → c < d → d < n → Before c d a b → mergeable width s ps (pair c d) ≡ false) →
-        first_pair width s ps ≡ some (pair a b)
+        first_pair width s ps ≡ Some (pair a b)
     unfolding first_pair
     first-pair-is a b l m h before =
         ap (λ (k : ℕ). first (mergeable width s ps) (part_pairs k)) (gap-free-count n ps g)
@@ -53,9 +53,9 @@ module _ (width : ℕ) (s : Schema) where
 
     -- and where none can there is none
     pub first-pair-none : ((a b : ℕ) → a < b → b < n → mergeable width s ps (pair a b) ≡ false) →
-        first_pair width s ps ≡ none
+        first_pair width s ps ≡ None
     first-pair-none h = go (first_pair width s ps) refl
       where
-        go : (r : Option PartPair) → first_pair width s ps ≡ r → r ≡ none
-        go none e = refl
-        go (some c) e = let (l, m, t) = found-pair c e in absurd (both-ft t (h c.lower c.higher l m))
+        go : (r : Option PartPair) → first_pair width s ps ≡ r → r ≡ None
+        go None e = refl
+        go (Some c) e = let (l, m, t) = found-pair c e in absurd (both-ft t (h c.lower c.higher l m))

@@ -4,7 +4,7 @@ use Prim.Native.Nat.{ℕ}
 use mathlib.Core.Path.{◌≡◌, refl, sym, ◌∙◌, ap, subst}
 use mathlib.Core.Bool.{Bool, true, false, ◌&&◌}
 use mathlib.Core.List.{List, [], ◌∷◌}
-use mathlib.Core.Option.{Option, none, some}
+use Rattle.std.specs.Prelude.{Option, None, Some}
 use native.Mathlib.Omega.{arith}
 use lib.ListN.{length}
 use lib.Dec.{leb}
@@ -27,7 +27,7 @@ use Rattle.proposals.proofs.ProposeOutcome.{propose-settles, settled-done}
 -- ---- the task that is written
 -- words that begin with a well-formed task's are its table
 proposal-table : (width : ℕ) (table proposed : List ℕ) → is_table table ≡ true →
-    too_many (proposed_task width (task_of table)) ≡ none →
+    too_many (proposed_task width (task_of table)) ≡ None →
     let t = proposed_task width (task_of table) in
     (is_table (over (words_of t) proposed) ≡ true) × (task_of (over (words_of t) proposed) ≡ t)
 proposal-table width table proposed is few =
@@ -81,7 +81,7 @@ module _ (width : ℕ) (table proposed scratch : List ℕ) where
     long : long_enough table && long_enough proposed ≡ true
     is : is_table table ≡ true
     fit : fits ≡ true
-    few : too_many t ≡ none
+    few : too_many t ≡ None
 
   result-passed : (propose_outcome table width proposed scratch).told ≡ result [] → Passed
   unfolding propose_outcome in_order settled
@@ -93,9 +93,9 @@ module _ (width : ℕ) (table proposed scratch : List ℕ) where
       let (c, k) = check-passed fits 22 [] lent done [] j in
       record { long = a; is = b; fit = c; few = none-many (too_many t) k }
     where
-      none-many : (o : Option ℕ) → (settled o t lent).told ≡ result [] → o ≡ none
-      none-many none k = refl
-      none-many (some s) k = absurd (let z : told_number (settled (some s) t lent).told ≡ 0 = ap told_number k in
+      none-many : (o : Option ℕ) → (settled o t lent).told ≡ result [] → o ≡ None
+      none-many None k = refl
+      none-many (Some s) k = absurd (let z : told_number (settled (Some s) t lent).told ≡ 0 = ap told_number k in
           omega arith)
 
   pub propose-writes : (propose_outcome table width proposed scratch).told ≡ result [] →

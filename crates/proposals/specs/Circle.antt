@@ -1,7 +1,7 @@
 -- Whether parts stand in a circle: placed one after another, each with no arc from an unplaced one, all must be placed.
 -- Arcs are a test of two parts, so that it doesn't matter how they are kept; and what becomes of them in a merge.
 use Rattle.std.specs.Prelude.{ℕ, zero, suc, Bool, true, false, cond, not, ◌&&◌, List, [], ◌∷◌, length, eqb, ltb}
-use Rattle.std.proofs.Math.Option.{Option, none, some}
+use Rattle.std.specs.Prelude.{Option, None, Some}
 use Rattle.words.specs.Lists.{any, filter, first, up_to}
 use Rattle.task.specs.Task.{Schema}
 use Rattle.arcs.specs.Order.{arc}
@@ -27,8 +27,8 @@ next_free arcs unplaced = first (free arcs unplaced) unplaced
 -- the part placed is unplaced no more; where none is free, not all can be placed
 unfoldable pub place_one : (List ℕ → Bool) → List ℕ → Option ℕ → Bool
 unfolding filter
-place_one rest unplaced none = false
-place_one rest unplaced (some p) = rest (filter (λ q. not (eqb p q)) unplaced)
+place_one rest unplaced None = false
+place_one rest unplaced (Some p) = rest (filter (λ q. not (eqb p q)) unplaced)
 
 -- whether n unplaced parts can be placed one after another, each free when its turn comes
 unfoldable pub all_placed : Arcs → ℕ → List ℕ → Bool

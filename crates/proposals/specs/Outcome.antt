@@ -2,7 +2,7 @@
 use Rattle.task.specs.declared.Place.TheVariants as place
 use Rattle.proposals.specs.declared.ProposeAnswer.TheVariants as answer
 use Rattle.std.specs.Prelude.{ℕ, ◌&&◌, List, [], ◌∷◌, length, replicate, leb}
-use Rattle.std.proofs.Math.Option.{Option, none, some}
+use Rattle.std.specs.Prelude.{Option, None, Some}
 use Rattle.proposals.specs.declared.ProposeAnswer.{ProposeAnswer}
 use Rattle.words.specs.Lists.{over}
 use Rattle.task.specs.Limits.{most_parameters}
@@ -32,11 +32,11 @@ cleared scratch = over (replicate scratch_words 0) scratch
 -- "23 when a schema ends with more than 16 parts, with the first such schema"; else the table of the task proposed
 unfoldable pub settled : Option ℕ → Task → Lent → Outcome Lent
 unfolding over words_of cleared
-settled (some s) t lent = record {
+settled (Some s) t lent = record {
   told = refused 23 (place.Schema s) [];
   buffer = record { proposed = lent.proposed; scratch = cleared lent.scratch };
 }
-settled none t lent = record {
+settled None t lent = record {
   told = result [];
   buffer = record { proposed = over (words_of t) lent.proposed; scratch = cleared lent.scratch };
 }

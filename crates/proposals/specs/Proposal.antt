@@ -1,7 +1,7 @@
 -- Document 02's note 5, 'Propose a partition': a partition of a schema as the part numbers of its atoms, the merging of
 -- parts, and the partition that is proposed.
 use Rattle.std.specs.Prelude.{ℕ, zero, suc, ◌-◌, max, Bool, true, false, cond, ◌&&◌, ◌||◌, List, [], ◌∷◌, map, length, eqb, ltb, leb}
-use Rattle.std.proofs.Math.Option.{Option, none, some}
+use Rattle.std.specs.Prelude.{Option, None, Some}
 use Rattle.words.specs.Lists.{filter, first, concat_map, up_from, up_to}
 use Rattle.task.specs.Limits.{most_parts}
 use Rattle.task.specs.Task.{Atom, Schema, Task, part_count}
@@ -55,8 +55,8 @@ unfolding filter up_to in_part
 together s a b = length (filter (λ x. in_part s.atoms x a || in_part s.atoms x b) (up_to s.params))
 
 unfoldable pub is_some : Option (List ℕ) → Bool
-is_some none = false
-is_some (some x) = true
+is_some None = false
+is_some (Some x) = true
 
 -- "some order .. complies"
 unfoldable pub some_order : Schema → Bool
@@ -88,8 +88,8 @@ first_pair width s ps = first (mergeable width s ps) (part_pairs (count_of ps))
 -- "merge the first such pair", and go on
 unfoldable pub merge_first : (List ℕ → List ℕ) → List ℕ → Option PartPair → List ℕ
 unfolding merged
-merge_first rest ps none = ps
-merge_first rest ps (some c) = rest (merged c.lower c.higher ps)
+merge_first rest ps None = ps
+merge_first rest ps (Some c) = rest (merged c.lower c.higher ps)
 
 -- "While some pair of parts can be merged": n merges at the most
 unfoldable pub merge_from : ℕ → Schema → ℕ → List ℕ → List ℕ

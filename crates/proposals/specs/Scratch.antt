@@ -2,7 +2,7 @@
 -- parameters of each are kept; two parts that stand as one in the test for a circle; and what is known of the parts at
 -- each turn of the merging.
 use Rattle.std.specs.Prelude.{ℕ, ◌+◌, ◌-◌, ◌≤◌, ◌<◌, ◌≡◌, Bool, true, false, cond, not, ◌&&◌, ◌||◌, List, length, get_or, eqb, ltb}
-use Rattle.std.proofs.Math.Option.{Option, none, some}
+use Rattle.std.specs.Prelude.{Option, None, Some}
 use Rattle.words.specs.Lists.{all, any, up_to}
 use Rattle.words.specs.Words.{words_at}
 use Rattle.words.specs.Sets.{member, set_bits}
@@ -99,8 +99,8 @@ pub record InPlay (s : Schema) (n : ℕ) (ps scratch : List ℕ) : Type 0 where
 
 -- the pair that is found, if there is one
 unfoldable pub pair_found : Found → Option PartPair
-pair_found (found.Pair a b) = some (record { lower = a; higher = b })
-pair_found found.Nowhere = none
+pair_found (found.Pair a b) = Some (record { lower = a; higher = b })
+pair_found found.Nowhere = None
 
 -- ---- all schemas
 -- the words for the atoms of the first k schemas are the parts proposed for them
@@ -110,5 +110,5 @@ HaveParts width t k parts = (s : ℕ) → s < k →
 
 -- the first schema that ends with too many parts, if there is one
 unfoldable pub many_told : TooMany → Option ℕ
-many_told (many.At s) = some s
-many_told many.Nowhere = none
+many_told (many.At s) = Some s
+many_told many.Nowhere = None

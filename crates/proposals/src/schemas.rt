@@ -1,6 +1,6 @@
 // The parts proposed for each schema, before anything is written.
 ghost use Rattle.std.specs.Prelude.{◌-◌, ◌≤◌, ◌≡◌, true, length};
-ghost use Rattle.std.proofs.Math.Option.{none};
+ghost use Rattle.std.specs.Prelude.{None};
 ghost use Rattle.words.specs.Lists.{put};
 ghost use Rattle.task.specs.Limits.{most_atoms, most_schema_atoms};
 ghost use Rattle.task.specs.Task.{Schema};
@@ -53,7 +53,7 @@ pub fn all_parts(table: &[u16], width: usize, parts: &mut Parts, scratch: &mut [
     requires scratch_words_in_bounds { scratch_words ≤ length scratch.old }
     ensures keeps_behind { KeepsBehind scratch.old scratch.new }
     ensures result_value { many_told result ≡ too_many (proposed_task width (task_of table.now)) }
-    ensures have_parts { many_told result ≡ none →
+    ensures have_parts { many_told result ≡ None →
         HaveParts width (task_of table.now) (length (task_of table.now).schemas)
         parts.new }
 {

@@ -1,6 +1,6 @@
 // The search for "the first such pair by lower and then higher part number".
 ghost use Rattle.std.specs.Prelude.{ℕ, ◌≤◌, ◌<◌, ◌≡◌, true, false, ◌&&◌, List, length, leb, ltb};
-ghost use Rattle.std.proofs.Math.Option.{some};
+ghost use Rattle.std.specs.Prelude.{Some};
 ghost use Rattle.words.specs.Sets.{SetBelow, member, members, word_bits};
 ghost use Rattle.task.specs.Limits.{most_atoms};
 ghost use Rattle.task.specs.Task.{Schema};
@@ -78,7 +78,7 @@ fn first_with(scratch: &[u64], n: usize, width: usize, a: usize, others: u64) ->
 pub fn first_pair(scratch: &[u64], n: usize, width: usize) -> Found
     requires scratch_words_in_bounds { scratch_words ≤ length scratch.now }
     requires n_le_most_atoms { n ≤ most_atoms }
-    ensures by_index { (a b : ℕ) → pair_found result ≡ some (record { lower = a; higher = b }) → (a < b) × (b < n) }
+    ensures by_index { (a b : ℕ) → pair_found result ≡ Some (record { lower = a; higher = b }) → (a < b) × (b < n) }
     ensures result_value { (s : Schema) (ps : List ℕ) → Named s → InPlay s n ps scratch.now →
         pair_found result ≡ first_pair width s ps }
 {

@@ -5,7 +5,7 @@ use Prim.Native.Nat.{ℕ}
 use mathlib.Core.Path.{◌≡◌, refl, ap, sym, ◌∙◌}
 use mathlib.Core.Bool.{Bool, true, false}
 use mathlib.Core.List.{List, [], ◌∷◌}
-use mathlib.Core.Option.{Option, none, some}
+use Rattle.std.specs.Prelude.{Option, None, Some}
 use native.Mathlib.Omega.{arith}
 use Rattle.task.specs.declared.Place.{Place}
 use Rattle.task.specs.Answers.{result, refused, Outcome, Check, passes, refuses, refuse_unless, in_order, refuse_at}
@@ -74,12 +74,12 @@ module _ {Buffers : Type 0} where
 
   -- the first bad place, of any kind
   pub place-passes : {o : Option ℕ} (n : ℕ) (kind : ℕ → Place) (more : List Check) (found : Buffers)
-      (done : Outcome Buffers) → o ≡ none → in_order (refuse_at n kind o ∷ more) found done ≡ in_order more found done
+      (done : Outcome Buffers) → o ≡ None → in_order (refuse_at n kind o ∷ more) found done ≡ in_order more found done
   unfolding in_order refuse_at
   place-passes n kind more found done h = ap (λ (o : Option ℕ). in_order (refuse_at n kind o ∷ more) found done) h
 
   pub place-refuses : {o : Option ℕ} (n : ℕ) (kind : ℕ → Place) (more : List Check) (found : Buffers)
-      (done : Outcome Buffers) {i : ℕ} → o ≡ some i →
+      (done : Outcome Buffers) {i : ℕ} → o ≡ Some i →
       in_order (refuse_at n kind o ∷ more) found done ≡ as_found n (kind i) found
   unfolding in_order refuse_at
   place-refuses n kind more found done h = ap (λ (o : Option ℕ). in_order (refuse_at n kind o ∷ more) found done) h

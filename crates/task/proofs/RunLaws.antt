@@ -3,7 +3,7 @@
 use Prim.Native.Nat.{ℕ, suc, ◌+◌, ◌-◌, ◌*◌, ◌/◌, ◌≤◌, ◌<◌}
 use mathlib.Core.Path.{◌≡◌, refl, sym, ◌∙◌, ap, ap₂, subst}
 use mathlib.Core.Bool.{Bool, true, false, not}
-use mathlib.Core.Option.{none}
+use Rattle.std.specs.Prelude.{None}
 use mathlib.Core.List.{List, [], ◌∷◌, map}
 use native.Mathlib.Omega.{arith}
 use native.Mathlib.Numerals.{add-one}
@@ -40,7 +40,7 @@ use Rattle.task.proofs.StepSpans.{schema-known}
 use Rattle.task.proofs.StartLaws.{schemas-few}
 
 -- ---- checked steps
-pub good-step : (t : Task) (steps : List ℕ) → bad_step t steps ≡ none → (i : ℕ) → i < length steps / step_size →
+pub good-step : (t : Task) (steps : List ℕ) → bad_step t steps ≡ None → (i : ℕ) → i < length steps / step_size →
     is_step_at t steps i ≡ true
 unfolding bad_step
 good-step t steps h i l = go (is_step_at t steps i) refl

@@ -5,7 +5,7 @@ use Prim.Native.Nat.{ℕ}
 use mathlib.Core.Path.{◌≡◌, refl, ◌∙◌}
 use mathlib.Core.Bool.{true, false}
 use mathlib.Core.List.{List, [], ◌∷◌}
-use mathlib.Core.Option.{none, some}
+use Rattle.std.specs.Prelude.{None, Some}
 use lib.ListN.{length}
 use Rattle.task.specs.Answers.{Check, Outcome, refuse_unless, in_order, refuse_at}
 use Rattle.task.specs.Task.{Task}
@@ -47,19 +47,19 @@ module _ (w steps state : List ℕ) (n : ℕ) where
   table : long_enough w ≡ true → is_table w ≡ true → run_outcome w steps state n ≡ in_order step_check state done
   table h k = long h ∙ check-passes 2 step_check state done k
 
-  pub run-bad-step : long_enough w ≡ true → is_table w ≡ true → {i : ℕ} → bad_step t steps ≡ some i →
+  pub run-bad-step : long_enough w ≡ true → is_table w ≡ true → {i : ℕ} → bad_step t steps ≡ Some i →
       run_outcome w steps state n ≡ as_found 12 (place.Step i) state
   run-bad-step h k b = table h k ∙ place-refuses 12 place.Step state_check state done b
 
-  good : long_enough w ≡ true → is_table w ≡ true → bad_step t steps ≡ none →
+  good : long_enough w ≡ true → is_table w ≡ true → bad_step t steps ≡ None →
       run_outcome w steps state n ≡ in_order state_check state done
   good h k b = table h k ∙ place-passes 12 place.Step state_check state done b
 
-  pub run-no-state : long_enough w ≡ true → is_table w ≡ true → bad_step t steps ≡ none → is_state t state n ≡ false →
+  pub run-no-state : long_enough w ≡ true → is_table w ≡ true → bad_step t steps ≡ None → is_state t state n ≡ false →
       run_outcome w steps state n ≡ as_found 15 place.Nowhere state
   run-no-state h k b s = good h k b ∙ check-refuses 15 [] state done s
 
-  pub run-done : long_enough w ≡ true → is_table w ≡ true → bad_step t steps ≡ none → is_state t state n ≡ true →
+  pub run-done : long_enough w ≡ true → is_table w ≡ true → bad_step t steps ≡ None → is_state t state n ≡ true →
       run_outcome w steps state n ≡ done
   unfolding in_order
   run-done h k b s = good h k b ∙ check-passes 15 [] state done s

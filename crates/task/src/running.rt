@@ -1,6 +1,6 @@
 // Running a step list over a state in lent words.
 ghost use Rattle.std.specs.Prelude.{◌≡◌, true, suc, ◌+◌, ◌*◌, ◌≤◌, ◌<◌, length, get_or, take};
-ghost use Rattle.std.proofs.Math.Option.{none};
+ghost use Rattle.std.specs.Prelude.{None};
 ghost use Rattle.words.specs.Lists.{padded};
 ghost use Rattle.task.specs.Layout.{head_in};
 ghost use Rattle.task.specs.Table.{task_of, is_table};
@@ -143,7 +143,7 @@ fn goal_met(table: &[u16], state: &[u16], n: usize) -> bool
 fn run_list(table: &[u16], starts: &[u16], steps: &[u16], state: &mut [u16], n: usize) -> Ended
     requires table_value { is_table table.now ≡ true }
     requires starts_len { (length starts.now ≡ most_schemas + 1) × Starts (task_of table.now) starts.now }
-    requires steps_value { bad_step (task_of table.now) steps.now ≡ none }
+    requires steps_value { bad_step (task_of table.now) steps.now ≡ None }
     requires n_value { is_state (task_of table.now) state.old n ≡ true }
     ensures result_after { is_state (task_of table.now) state.new (records_left result) ≡ true }
     ensures n_value_2 { run_within (room_in state.old) (task_of table.now)
@@ -201,7 +201,7 @@ fn stopped(state: &mut [u16], number: u32, i: usize, left: usize) -> RunAnswer
 // Runs a checked step list over a checked state in place, and puts zeros behind the records left.
 pub(crate) fn run_steps(table: &[u16], steps: &[u16], state: &mut [u16], records: u64) -> RunAnswer
     requires table_value { is_table table.now ≡ true }
-    requires steps_value { bad_step (task_of table.now) steps.now ≡ none }
+    requires steps_value { bad_step (task_of table.now) steps.now ≡ None }
     requires records_value { is_state (task_of table.now) state.old records ≡ true }
     ensures result_value { run_answer_told result ≡ (run_done (task_of table.now) (length state.old)
         (run_within (room_in state.old) (task_of table.now)

@@ -5,7 +5,7 @@ use Prim.Native.String.{String}
 use mathlib.Core.Path.{◌≡◌, refl, sym, ◌∙◌, ap, subst}
 use mathlib.Core.Bool.{true}
 use mathlib.Core.List.{List, ◌∷◌, ◌++◌}
-use mathlib.Core.Option.{Option, some}
+use Rattle.std.specs.Prelude.{Option, Some}
 use Rattle.words.proofs.Lists.{In}
 use Rattle.text.specs.Lines.{newline, digits, Entry, entry_bytes, line, Taken, Reader, taken, is_digit, number}
 use Rattle.text.specs.Lines.{entry, ended, read_line}
@@ -37,7 +37,7 @@ module _ {K L : Type 0} (body_of : L → List ℕ) (Says : K → L → Type 0) (
   }
 
   pub number-line : (make : ℕ → L) → ((n : ℕ) → n < 100000 → Says k (make n)) → ((n : ℕ) → digits n ≡ body_of (make n)) →
-      ended make (number bs) ≡ some m → BodyRead body_of Says k bs m
+      ended make (number bs) ≡ Some m → BodyRead body_of Says k bs m
   number-line make says same h =
       let e = ended-read make (number bs) m h in
       let a = e.body.value in
@@ -45,7 +45,7 @@ module _ {K L : Type 0} (body_of : L → List ℕ) (Says : K → L → Type 0) (
       line_made make e (says a n.small) (n.whole ∙ ap (λ (x : List ℕ). x ++ e.body.rest) (same a))
 
   pub entry-line : (make : Entry → L) → ((x : Entry) → SmallEntry x → Says k (make x)) →
-      ((x : Entry) → entry_bytes x ≡ body_of (make x)) → ended make (entry bs) ≡ some m → BodyRead body_of Says k bs m
+      ((x : Entry) → entry_bytes x ≡ body_of (make x)) → ended make (entry bs) ≡ Some m → BodyRead body_of Says k bs m
   entry-line make says same h =
       let e = ended-read make (entry bs) m h in
       let a = e.body.value in
@@ -64,7 +64,7 @@ pub record Bodies {K L : Type 0} (name : K → String) (body : K → Reader L)
   pub some_byte : (l : L) → (k : K) × (text l ≡ line (name k) (body_of l))
   pub line-is : (k : K) (l : L) → Says k l → text l ≡ line (name k) (body_of l)
   pub written : (k : K) (l : L) → Says k l → (r : List ℕ) → body k (body_of l ++ (newline ∷ r)) ≡ taken l r
-  pub was_read : (k : K) (bs : List ℕ) (m : Taken L) → body k bs ≡ some m → BodyRead body_of Says k bs m
+  pub was_read : (k : K) (bs : List ℕ) (m : Taken L) → body k bs ≡ Some m → BodyRead body_of Says k bs m
 
 module _ {K L D : Type 0} {name : K → String} {body : K → Reader L}
     {body_of : L → List ℕ} {text : L → List ℕ} {Says : K → L → Type 0} (b : Bodies name body body_of text Says)

@@ -4,7 +4,7 @@ use Prim.Native.Nat.{ℕ, zero, suc, ◌+◌, ◌-◌, ◌*◌, ◌≤◌, ◌<�
 use mathlib.Core.Path.{◌≡◌, refl, sym, ◌∙◌, ap}
 use mathlib.Core.Bool.{Bool, true, false, not, ◌&&◌}
 use mathlib.Core.List.{List, [], ◌∷◌, ◌++◌, append_assoc, append-nil}
-use mathlib.Core.Option.{none}
+use Rattle.std.specs.Prelude.{None}
 use native.Mathlib.Omega.{arith}
 use lib.ListN.{length, drop, length-append}
 use lib.Dec.{leb}
@@ -100,13 +100,13 @@ module _ {text : List ℕ} {start behind : Cursor} {value digits : ℕ} (s : SoF
   front : leading_digits (rest text behind) ≡ [] → leading_digits (rest text start) ≡ s.read
   front h = s.split ∙ (ap (λ (xs : List ℕ). s.read ++ xs) h ∙ append-nil s.read)
 
-  no-form : (ds : List ℕ) → leading_digits (rest text start) ≡ ds → in_form ds ≡ false → number (rest text start) ≡ none
+  no-form : (ds : List ℕ) → leading_digits (rest text start) ≡ ds → in_form ds ≡ false → number (rest text start) ≡ None
   unfolding taken_if
   no-form ds e f =
       number-here text start.at ds e ∙
       ap (λ (b : Bool). taken_if b (value_from 0 ds) (drop (start.at + length ds) text)) f
 
-  pub none_read : leading_digits (rest text behind) ≡ [] → digits ≡ 0 → number (rest text start) ≡ none
+  pub none_read : leading_digits (rest text behind) ≡ [] → digits ≡ 0 → number (rest text start) ≡ None
   unfolding in_form
   none_read h z =
       no-form s.read (front h)
@@ -119,7 +119,7 @@ module _ {text : List ℕ} {start behind : Cursor} {value digits : ℕ} (s : SoF
       let c = s.count in
       let m = s.most in
       let f = s.far in
-      let some : 1 ≤ digits = positive digits z in
+      let Some : 1 ≤ digits = positive digits z in
       let formed : in_form s.read ≡ true =
       and_both _ _ (le-leb 1 (length s.read) (omega arith))
       (and_both _ _ (le-leb (length s.read) 5 (omega arith)) s.lead) in
@@ -130,7 +130,7 @@ module _ {text : List ℕ} {start behind : Cursor} {value digits : ℕ} (s : SoF
             (ap (λ (b : Bool). taken_if b (value_from 0 s.read) (drop (start.at + length s.read) text)) formed ∙
             rw (e, w) refl);
         small = sofar-small s;
-        moved = record { on = omega arith; inside = s.inside some; line = s.line };
+        moved = record { on = omega arith; inside = s.inside Some; line = s.line };
       }
     where
       positive : (n : ℕ) → (n ≡ 0 → ⊥) → 1 ≤ n
@@ -138,7 +138,7 @@ module _ {text : List ℕ} {start behind : Cursor} {value digits : ℕ} (s : SoF
       positive (suc n) z = omega arith
 
   -- a sixth digit
-  pub too_long : {d : ℕ} {next : Cursor} → digits ≡ 5 → DigitHere text behind d next → number (rest text start) ≡ none
+  pub too_long : {d : ℕ} {next : Cursor} → digits ≡ 5 → DigitHere text behind d next → number (rest text start) ≡ None
   unfolding in_form
   too_long {d} {next} z h =
       let more = leading_digits (rest text next) in
@@ -151,7 +151,7 @@ module _ {text : List ℕ} {start behind : Cursor} {value digits : ℕ} (s : SoF
 
   -- a digit behind a leading 0
   pub leading-zero : {d : ℕ} {next : Cursor} → digits ≡ 1 → value ≡ 0 → DigitHere text behind d next →
-      number (rest text start) ≡ none
+      number (rest text start) ≡ None
   unfolding in_form no_leading_zero value_from
   leading-zero {d} {next} z v h =
       let more = leading_digits (rest text next) in

@@ -5,7 +5,7 @@ use Prim.Native.Nat.{ℕ, suc, ◌+◌, ◌-◌, ◌*◌, ◌/◌, ◌%◌, ◌�
 use mathlib.Core.Path.{◌≡◌, refl, sym, ◌∙◌, ap, ap₂}
 use mathlib.Core.Bool.{Bool, true, false, not, ◌&&◌}
 use mathlib.Core.List.{List, [], ◌∷◌, ◌++◌, append_assoc, append-nil}
-use mathlib.Core.Option.{some}
+use Rattle.std.specs.Prelude.{Some}
 use native.Mathlib.Omega.{arith}
 use native.Mathlib.Decide.{dec_lt}
 use lib.ListN.{length, get_or, drop, length-append, get_or-append}
@@ -226,14 +226,14 @@ pub record NumberRead (bs : List ℕ) (r : Taken ℕ) : Type 0 where
   pub whole : bs ≡ digits r.value ++ r.rest
   pub small : r.value < 100000
 
-pub number_read : (bs : List ℕ) (r : Taken ℕ) → number bs ≡ some r → NumberRead bs r
+pub number_read : (bs : List ℕ) (r : Taken ℕ) → number bs ≡ Some r → NumberRead bs r
 unfolding taken_if
 number_read bs r h = go c (in_form c.front) refl (rw (c.whole, number_is c.are c.stops) at h)
   where
     c : Split bs
     c = split-digits bs
 
-    go : (c : Split bs) (b : Bool) → in_form c.front ≡ b → taken_if b (value_from 0 c.front) c.back ≡ some r →
+    go : (c : Split bs) (b : Bool) → in_form c.front ≡ b → taken_if b (value_from 0 c.front) c.back ≡ Some r →
         NumberRead bs r
     go c false e h = absurd (no_none h)
     go c true e h =

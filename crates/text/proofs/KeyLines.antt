@@ -7,7 +7,7 @@ use Prim.Native.String.{String}
 use mathlib.Core.Path.{◌≡◌, refl, sym, ◌∙◌, ap, subst}
 use mathlib.Core.Bool.{Bool, true, false, not}
 use mathlib.Core.List.{List, [], ◌∷◌}
-use mathlib.Core.Option.{Option, none, some}
+use Rattle.std.specs.Prelude.{Option, None, Some}
 use mathlib.Core.Logic.{◌⊎◌, inl, inr, ⊎_elim}
 use native.Mathlib.Omega.{arith}
 use lib.ListN.{get_or, length-append}
@@ -30,7 +30,7 @@ use Rattle.text.proofs.KeyedLines.{clash, after-clash, keyed, apart}
 -- ---- readers of several keys
 module _ {K L : Type 0} (name : K → String) (body : K → Reader L) (bs : List ℕ) where
   -- where none of the keys stands there is no line
-  pub no_line : (ks : List K) → ((k : K) → In k ks → after (keyed (name k)) bs ≡ none) → read_line name body ks bs ≡ none
+  pub no_line : (ks : List K) → ((k : K) → In k ks → after (keyed (name k)) bs ≡ None) → read_line name body ks bs ≡ None
   unfolding read_line read_key
   no_line [] h = refl
   no_line (k ∷ ks) h =
@@ -38,17 +38,17 @@ module _ {K L : Type 0} (name : K → String) (body : K → Reader L) (bs : List
       no_line ks (λ j i. h j (there i))
 
   -- where one key stands, and none of the others, the line is its body
-  module _ (k : K) (rest : List ℕ) (e : after (keyed (name k)) bs ≡ some rest) where
+  module _ (k : K) (rest : List ℕ) (e : after (keyed (name k)) bs ≡ Some rest) where
     abbrev Others : List K → Type 0
-    Others ks = (j : K) → In j ks → (j ≡ k) ⊎ (after (keyed (name j)) bs ≡ none)
+    Others ks = (j : K) → In j ks → (j ≡ k) ⊎ (after (keyed (name j)) bs ≡ None)
 
-    no_body : body k rest ≡ none → (ks : List K) → Others ks → read_line name body ks bs ≡ none
+    no_body : body k rest ≡ None → (ks : List K) → Others ks → read_line name body ks bs ≡ None
     unfolding read_line read_key
     no_body b [] h = refl
     no_body b (j ∷ ks) h =
-        let later : read_line name body ks bs ≡ none = no_body b ks (λ i l. h i (there l)) in
+        let later : read_line name body ks bs ≡ None = no_body b ks (λ i l. h i (there l)) in
         ⊎_elim
-        (λ q. subst (λ (i : K). or_else (read_key (name i) (body i) bs) (read_line name body ks bs) ≡ none) (sym q)
+        (λ q. subst (λ (i : K). or_else (read_key (name i) (body i) bs) (read_line name body ks bs) ≡ None) (sym q)
         (ap (λ (o : Option (List ℕ)). or_else (and_then o (body k)) (read_line name body ks bs)) e ∙
         (ap (λ (o : Option (Taken L)). or_else o (read_line name body ks bs)) b ∙ later)))
         (λ n. ap (λ (o : Option (List ℕ)). or_else (and_then o (body j)) (read_line name body ks bs)) n ∙ later)
@@ -60,8 +60,8 @@ module _ {K L : Type 0} (name : K → String) (body : K → Reader L) (bs : List
         ap (λ (o : Option (List ℕ)). or_else (and_then o (body k)) (read_line name body ks bs)) e ∙ go (body k rest) refl
       where
         go : (o : Option (Taken L)) → body k rest ≡ o → or_else o (read_line name body ks bs) ≡ o
-        go none b = no_body b ks h
-        go (some m) b = refl
+        go None b = no_body b ks h
+        go (Some m) b = refl
 
     pub one_line : {ks : List K} → In k ks → Others ks → read_line name body ks bs ≡ body k rest
     unfolding read_line read_key
@@ -150,8 +150,8 @@ unfolding apart key_name
 keys-apart = refl
 
 -- where one key stands no other does
-other_keys : (bs : List ℕ) (k : Key) (rest : List ℕ) → after (key_bytes k) bs ≡ some rest → (j : Key) →
-    (j ≡ k) ⊎ (after (key_bytes j) bs ≡ none)
+other_keys : (bs : List ℕ) (k : Key) (rest : List ℕ) → after (key_bytes k) bs ≡ Some rest → (j : Key) →
+    (j ≡ k) ⊎ (after (key_bytes j) bs ≡ None)
 other_keys bs k rest h j =
     ⊎_elim inl
     (λ c. inr (ap (after (key_bytes j)) (after_read (key_bytes k) bs rest h) ∙
@@ -200,16 +200,16 @@ allows-no-key p k h i =
 
 -- ---- the line that comes next
 module _ (d : Draft) (bs : List ℕ) where
-  pub next-missing : ((k : Key) → after (key_bytes k) bs ≡ none) → next_line d bs ≡ none
+  pub next-missing : ((k : Key) → after (key_bytes k) bs ≡ None) → next_line d bs ≡ None
   unfolding next_line
   next-missing h = no_line key_name read_body bs (keys_at d.phase) (λ k i. h k)
 
-  module _ (k : Key) (rest : List ℕ) (e : after (key_bytes k) bs ≡ some rest) where
+  module _ (k : Key) (rest : List ℕ) (e : after (key_bytes k) bs ≡ Some rest) where
     pub next-allowed : may_stand (phase_number d.phase) (key_number k) ≡ true → next_line d bs ≡ read_body k rest
     unfolding next_line
     next-allowed h = one_line key_name read_body bs k rest e (allows-key d.phase k h) (λ j i. other_keys bs k rest e j)
 
-    pub next-refused : may_stand (phase_number d.phase) (key_number k) ≡ false → next_line d bs ≡ none
+    pub next-refused : may_stand (phase_number d.phase) (key_number k) ≡ false → next_line d bs ≡ None
     unfolding next_line
     next-refused h = no_line key_name read_body bs (keys_at d.phase) (λ j i.
         ⊎_elim (λ q. absurd (allows-no-key d.phase k h (subst (λ (x : Key). In x (keys_at d.phase)) q i))) (λ n. n)
@@ -231,20 +231,20 @@ key-found {text} {c} k told word =
     }
 
 pub record NoLaterKey (bs : List ℕ) : Type 0 where
-  pub no-differ : after (key_bytes differ) bs ≡ none
-  pub no-pre : after (key_bytes pre) bs ≡ none
-  pub no_add : after (key_bytes add) bs ≡ none
-  pub no-del : after (key_bytes del) bs ≡ none
-  pub no_part : after (key_bytes part) bs ≡ none
-  pub no-schema : after (key_bytes schema) bs ≡ none
-  pub no-init : after (key_bytes init) bs ≡ none
-  pub no-goal : after (key_bytes goal) bs ≡ none
+  pub no-differ : after (key_bytes differ) bs ≡ None
+  pub no-pre : after (key_bytes pre) bs ≡ None
+  pub no_add : after (key_bytes add) bs ≡ None
+  pub no-del : after (key_bytes del) bs ≡ None
+  pub no_part : after (key_bytes part) bs ≡ None
+  pub no-schema : after (key_bytes schema) bs ≡ None
+  pub no-init : after (key_bytes init) bs ≡ None
+  pub no-goal : after (key_bytes goal) bs ≡ None
 
 pub once-key : (text : List ℕ) (c : Cursor) (r : Keyed) → OnceKeyAt text c r → NoLaterKey (rest text c) → KeyAt text c r
 once-key text c (variant.Of n body) h l = h
 once-key text c variant.Missing h l = no_key
   where
-    no_key : (k : Key) → after (key_bytes k) (rest text c) ≡ none
+    no_key : (k : Key) → after (key_bytes k) (rest text c) ≡ None
     no_key task = h.no-task
     no_key objects = h.no-objects
     no_key arity = h.no-arity

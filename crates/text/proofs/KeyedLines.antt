@@ -5,7 +5,7 @@ use Prim.Native.String.{String}
 use mathlib.Core.Path.{◌≡◌, refl, ◌∙◌, ap, subst}
 use mathlib.Core.Bool.{Bool, true, false, ◌&&◌}
 use mathlib.Core.List.{List, [], ◌∷◌, ◌++◌, append_assoc}
-use mathlib.Core.Option.{Option, none, some}
+use Rattle.std.specs.Prelude.{Option, None, Some}
 use native.Mathlib.Omega.{arith}
 use lib.ListN.{length, length-append}
 use lib.Dec.{eqb}
@@ -24,11 +24,11 @@ module _ {A L : Type 0} (says : A → L) where
 
   pub record Ended (o : Option (Taken A)) (m : Taken L) : Type 0 where
     pub body : Taken A
-    pub took : o ≡ some body
+    pub took : o ≡ Some body
     pub said : says body.value ≡ m.value
     pub rest : body.rest ≡ newline ∷ m.rest
 
-  pub ended-read : (o : Option (Taken A)) (m : Taken L) → ended says o ≡ some m → Ended o m
+  pub ended-read : (o : Option (Taken A)) (m : Taken L) → ended says o ≡ Some m → Ended o m
   unfolding ended
   ended-read o m h =
       let b = both-took o _ m h in
@@ -64,15 +64,15 @@ clash [] ys = false
 clash (x ∷ xs) [] = false
 clash (x ∷ xs) (y ∷ ys) = elim (eqb x y) [ true ↦ clash xs ys | false ↦ true ]
 
-pub after-clash : (xs ys rest : List ℕ) → clash xs ys ≡ true → after xs (ys ++ rest) ≡ none
+pub after-clash : (xs ys rest : List ℕ) → clash xs ys ≡ true → after xs (ys ++ rest) ≡ None
 unfolding clash after
 after-clash [] ys rest h = absurd (no_ft h)
 after-clash (x ∷ xs) [] rest h = absurd (no_ft h)
 after-clash (x ∷ xs) (y ∷ ys) rest h = go (eqb x y) (after-clash xs ys rest) h
   where
-    go : (b : Bool) → (clash xs ys ≡ true → after xs (ys ++ rest) ≡ none) →
+    go : (b : Bool) → (clash xs ys ≡ true → after xs (ys ++ rest) ≡ None) →
         elim b [ true ↦ clash xs ys | false ↦ true ] ≡ true →
-        ◌≡◌ {A = Option (List ℕ)} (elim b [ true ↦ after xs (ys ++ rest) | false ↦ none ]) none
+        ◌≡◌ {A = Option (List ℕ)} (elim b [ true ↦ after xs (ys ++ rest) | false ↦ None ]) None
     go true i h = i h
     go false i h = refl
 
@@ -85,13 +85,13 @@ module _ {K : Type 0} (name : K → String) where
 
   module _ {L : Type 0} (body : K → Reader L) where
     pub read_line-written : {k : K} {ks : List K} → In k ks → apart ks ≡ true → (rest : List ℕ) (m : Taken L) →
-        body k rest ≡ some m → read_line name body ks (keyed (name k) ++ rest) ≡ some m
+        body k rest ≡ Some m → read_line name body ks (keyed (name k) ++ rest) ≡ Some m
     unfolding read_line read_key apart
     read_line-written {k = k} (here {y = j} {ys = ks} e) h rest m b =
-        let took : read_key (name k) (body k) (keyed (name k) ++ rest) ≡ some m =
+        let took : read_key (name k) (body k) (keyed (name k) ++ rest) ≡ Some m =
         ap (λ (o : Option (List ℕ)). and_then o (body k)) (after-written (keyed (name k)) rest) ∙ b in
-        let here-too : read_key (name j) (body j) (keyed (name k) ++ rest) ≡ some m =
-        subst (λ (i : K). read_key (name i) (body i) (keyed (name k) ++ rest) ≡ some m) e took in
+        let here-too : read_key (name j) (body j) (keyed (name k) ++ rest) ≡ Some m =
+        subst (λ (i : K). read_key (name i) (body i) (keyed (name k) ++ rest) ≡ Some m) e took in
         ap (λ (o : Option (Taken L)). or_else o (read_line name body ks (keyed (name k) ++ rest))) here-too
     read_line-written {k = k} (there {y = j} {ys = ks} i) h rest m b =
         let tests = all (λ i. clash (keyed (name j)) (keyed (name i))) ks in
@@ -106,14 +106,14 @@ module _ {K : Type 0} (name : K → String) where
       pub listed : In key ks
       pub rest : List ℕ
       pub whole : bs ≡ keyed (name key) ++ rest
-      pub body-took : body key rest ≡ some m
+      pub body-took : body key rest ≡ Some m
 
-    pub read_line-read : (ks : List K) (bs : List ℕ) (m : Taken L) → read_line name body ks bs ≡ some m → KeyRead ks bs m
+    pub read_line-read : (ks : List K) (bs : List ℕ) (m : Taken L) → read_line name body ks bs ≡ Some m → KeyRead ks bs m
     unfolding read_line read_key
     read_line-read [] bs m h = absurd (no_none h)
     read_line-read (k ∷ ks) bs m h = go (read_key (name k) (body k) bs) refl (read_line-read ks bs m) h
       where
-        taken-by : read_key (name k) (body k) bs ≡ some m → KeyRead (k ∷ ks) bs m
+        taken-by : read_key (name k) (body k) bs ≡ Some m → KeyRead (k ∷ ks) bs m
         taken-by e =
             let b = both-took (after (keyed (name k)) bs) (body k) m e in
             record {
@@ -125,9 +125,9 @@ module _ {K : Type 0} (name : K → String) where
             }
 
         go : (o : Option (Taken L)) → read_key (name k) (body k) bs ≡ o →
-            (read_line name body ks bs ≡ some m → KeyRead ks bs m) →
-            or_else o (read_line name body ks bs) ≡ some m → KeyRead (k ∷ ks) bs m
-        go none e i h =
+            (read_line name body ks bs ≡ Some m → KeyRead ks bs m) →
+            or_else o (read_line name body ks bs) ≡ Some m → KeyRead (k ∷ ks) bs m
+        go None e i h =
             let r = i h in
             record {
               key = r.key;
@@ -136,4 +136,4 @@ module _ {K : Type 0} (name : K → String) where
               whole = r.whole;
               body-took = r.body-took;
             }
-        go (some n) e i h = taken-by (e ∙ h)
+        go (Some n) e i h = taken-by (e ∙ h)

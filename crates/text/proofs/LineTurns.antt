@@ -5,7 +5,7 @@ use Prim.Native.Nat.{ℕ, suc}
 use mathlib.Core.Path.{◌≡◌, refl, ◌∙◌, ap, sym, subst}
 use mathlib.Core.Bool.{Bool, false}
 use mathlib.Core.List.{List, [], ◌∷◌}
-use mathlib.Core.Option.{Option, none, some}
+use Rattle.std.specs.Prelude.{Option, None, Some}
 use native.Mathlib.Omega.{arith}
 use Rattle.task.specs.Task.{Task}
 use Rattle.text.specs.Lines.{newline, Taken, taken, and_then, after, ended, Entry, entry}
@@ -27,15 +27,15 @@ module _ {A L : Type 0} (says : A → L) (o : Option (Taken A)) where
     where
       behind : (a : Taken A) (r : Option (List ℕ)) → and_then r (λ rest. taken (says a.value) rest) ≡
           and_then (and_then r (λ rest. taken a.value rest)) (λ b. taken (says b.value) b.rest)
-      behind a none = refl
-      behind a (some r) = refl
+      behind a None = refl
+      behind a (Some r) = refl
 
       go : (o : Option (Taken A)) → ended says o ≡ and_then (whole o) (λ a. taken (says a.value) a.rest)
-      go none = refl
-      go (some a) = behind a (after (newline ∷ []) a.rest)
+      go None = refl
+      go (Some a) = behind a (after (newline ∷ []) a.rest)
 
   module _ {D R : Type 0} (takes : L → Turn D R) where
-    pub no-turn : whole o ≡ none → (n : ℕ) (next : D → List ℕ → Reading R) →
+    pub no-turn : whole o ≡ None → (n : ℕ) (next : D → List ℕ → Reading R) →
         line_at n takes (ended says o) next ≡ refused_at 3 n
     unfolding and_then line_at
     no-turn h n next =
@@ -62,7 +62,7 @@ module _ {A L : Type 0} (says : A → L) (o : Option (Taken A)) where
       turn-ends r e = turn_is ∙ ap (λ (t : Turn D R). turn_at n t left next) e
 
 -- what is no body, or another one, is not this one; what is the same is
-pub none-taken : {A : Type 0} {o : Option (Taken A)} {a : A} → o ≡ none → (left : List ℕ) → o ≡ taken a left → ⊥
+pub none-taken : {A : Type 0} {o : Option (Taken A)} {a : A} → o ≡ None → (left : List ℕ) → o ≡ taken a left → ⊥
 none-taken e left h = let z : ◌≡◌ {A = ℕ} 0 1 = cc in omega arith
 
 pub other-taken : {A : Type 0} {o : Option (Taken A)} {a b : A} {rest : List ℕ} → o ≡ taken b rest → (b ≡ a → ⊥) →
@@ -70,8 +70,8 @@ pub other-taken : {A : Type 0} {o : Option (Taken A)} {a b : A} {rest : List ℕ
 other-taken {A} {b = b} e other left h = other (ap value (sym e ∙ h))
   where
     value : Option (Taken A) → A
-    value none = b
-    value (some x) = x.value
+    value None = b
+    value (Some x) = x.value
 
 pub same_taken : {A : Type 0} {o : Option (Taken A)} {a b : A} {left : List ℕ} → o ≡ taken b left → b ≡ a →
     o ≡ taken a left
@@ -84,14 +84,14 @@ pub not-one : {L D R : Type 0} (says : ℕ → L) (o : Option (Taken ℕ)) (take
 not-one says o takes h refuses n next = go (whole o) refl
   where
     go : (w : Option (Taken ℕ)) → whole o ≡ w → line_at n takes (ended says o) next ≡ refused_at 3 n
-    go none e = no-turn says o takes e n next
-    go (some a) e =
+    go None e = no-turn says o takes e n next
+    go (Some a) e =
         turn-refused says o takes a.value a.rest e n next 3
         (refuses a.value (λ q. h a.rest (e ∙ ap (λ (v : ℕ). taken v a.rest) q)))
 
 -- ---- lines of a task
 module _ {A : Type 0} (says : A → Line) (d : Draft) (o : Option (Taken A)) where
-  pub no_line : whole o ≡ none → Refuses d (ended says o) 3
+  pub no_line : whole o ≡ None → Refuses d (ended says o) 3
   no_line h = no-turn says o (take_line d) h
 
   module _ (a : A) (left : List ℕ) (h : whole o ≡ taken a left) where
@@ -152,10 +152,10 @@ unfolding need
 need-fails {D} {R} k t h = ap (λ (x : Bool). need {D = D} {R = R} x k t) h
 
 -- where there is no line the turn is refused
-pub no-line-refused : {L D R : Type 0} (takes : L → Turn D R) (l : Option (Taken L)) → l ≡ none → (n : ℕ)
+pub no-line-refused : {L D R : Type 0} (takes : L → Turn D R) (l : Option (Taken L)) → l ≡ None → (n : ℕ)
     (next : D → List ℕ → Reading R) → line_at n takes l next ≡ refused_at 3 n
 unfolding line_at
 no-line-refused {L} takes l h n next = ap (λ (x : Option (Taken L)). line_at n takes x next) h
 
-pub none-refused : (d : Draft) (l : Option (Taken Line)) → l ≡ none → Refuses d l 3
+pub none-refused : (d : Draft) (l : Option (Taken Line)) → l ≡ None → Refuses d l 3
 none-refused d l h = no-line-refused (take_line d) l h

@@ -4,7 +4,7 @@ use Prim.Native.Nat.{ℕ, ◌+◌, ◌≤◌, ◌<◌}
 use mathlib.Core.Path.{◌≡◌, refl, sym, ◌∙◌, ap}
 use mathlib.Core.Bool.{Bool, true, false}
 use mathlib.Core.List.{List, [], ◌∷◌, ◌++◌, append_assoc}
-use mathlib.Core.Option.{Option, none, some}
+use Rattle.std.specs.Prelude.{Option, None, Some}
 use native.Mathlib.Omega.{arith}
 use lib.ListN.{length, get_or, set, length-append, length-set, get_or-append}
 use lib.Seq.{get_or-set_same, get_or-set_other, get_or-append_seam}
@@ -17,17 +17,17 @@ use Rattle.text.proofs.Taken.{no_none, after_read}
 use Rattle.text.proofs.NumberLists.{goes_on, numbers-step}
 
 -- ---- a list goes on behind a comma, and ends where none stands
-pub goes-on : (n : ℕ) (bs more : List ℕ) → after (comma ∷ []) bs ≡ some more →
+pub goes-on : (n : ℕ) (bs more : List ℕ) → after (comma ∷ []) bs ≡ Some more →
     goes_on numbers n bs ≡ and_then (numbers more) (λ ns. taken (n ∷ ns.value) ns.rest)
 unfolding goes_on
 goes-on n bs more h = ap (goes_on numbers n) (after_read (comma ∷ []) bs more h)
 
-pub stops : (n : ℕ) (bs : List ℕ) → after (comma ∷ []) bs ≡ none → goes_on numbers n bs ≡ taken (n ∷ []) bs
+pub stops : (n : ℕ) (bs : List ℕ) → after (comma ∷ []) bs ≡ None → goes_on numbers n bs ≡ taken (n ∷ []) bs
 unfolding goes_on after
 stops n [] h = refl
 stops n (b ∷ bs) h = go (eqb comma b) refl h
   where
-    go : (c : Bool) → eqb comma b ≡ c → ◌≡◌ {A = Option (List ℕ)} (elim c [ true ↦ some bs | false ↦ none ]) none →
+    go : (c : Bool) → eqb comma b ≡ c → ◌≡◌ {A = Option (List ℕ)} (elim c [ true ↦ Some bs | false ↦ None ]) None →
         goes_on numbers n (b ∷ bs) ≡ taken (n ∷ []) (b ∷ bs)
     go true e h = absurd (no_none (sym h))
     go false e h = ap (λ (c : Bool). ◌of_test c) (ne_eqb b 44 (λ q. eqb-false 44 b e (sym q)))
@@ -98,12 +98,12 @@ list-begins text c kept p = record {
 }
   where
     same : (o : Option (Taken (List ℕ))) → o ≡ behind_these [] o
-    same none = refl
-    same (some m) = refl
+    same None = refl
+    same (Some m) = refl
 
 module _ {text : List ℕ} {start here : Cursor} {count : ℕ} {kept : List ℕ}
     (s : ListSoFar text start here count kept) where
-  pub no_number : number (rest text here) ≡ none → numbers (rest text start) ≡ none
+  pub no_number : number (rest text here) ≡ None → numbers (rest text start) ≡ None
   unfolding and_then
   no_number h =
       s.split ∙ ap (behind_these s.read)
@@ -117,7 +117,7 @@ module _ {text : List ℕ} {start here : Cursor} {count : ℕ} {kept : List ℕ}
         numbers-step (rest text here) ∙
         ap (λ (o : Option (Taken ℕ)). and_then o (λ n. goes_on numbers n.value n.rest)) h.is
 
-    pub list-ends : after (comma ∷ []) (rest text behind) ≡ none →
+    pub list-ends : after (comma ∷ []) (rest text behind) ≡ None →
         ListHere text start (numbers (rest text start)) (count + 1) (set kept count n) behind
     unfolding and_then
     list-ends e = record {
@@ -155,5 +155,5 @@ module _ {text : List ℕ} {start here : Cursor} {count : ℕ} {kept : List ℕ}
         regroup : (o : Option (Taken (List ℕ))) →
             behind_these s.read (and_then o (λ ns. taken (n ∷ ns.value) ns.rest)) ≡
             behind_these (s.read ++ (n ∷ [])) o
-        regroup none = refl
-        regroup (some m) = ap (λ (xs : List ℕ). taken xs m.rest) (sym (append_assoc s.read (n ∷ []) m.value))
+        regroup None = refl
+        regroup (Some m) = ap (λ (xs : List ℕ). taken xs m.rest) (sym (append_assoc s.read (n ∷ []) m.value))

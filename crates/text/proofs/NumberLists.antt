@@ -4,7 +4,7 @@ use Prim.Native.Nat.{ℕ, zero, suc, ◌≤◌, ◌<◌}
 use mathlib.Core.Path.{◌≡◌, refl, sym, ◌∙◌, ap, ap₂}
 use mathlib.Core.Bool.{Bool, true, false}
 use mathlib.Core.List.{List, [], ◌∷◌, ◌++◌, append_assoc}
-use mathlib.Core.Option.{Option, none, some}
+use Rattle.std.specs.Prelude.{Option, None, Some}
 use native.Mathlib.Omega.{arith}
 use lib.ListN.{length, length-append}
 use lib.Dec.{eqb}
@@ -49,8 +49,8 @@ numbers_within-suc f bs = go (number bs)
         | false ↦ taken (n.value ∷ []) (c ∷ cs)
       ]
     ]) ≡ and_then o (λ n. goes_on (numbers_within f) n.value n.rest)
-    go none = refl
-    go (some n) = rests n.value n.rest
+    go None = refl
+    go (Some n) = rests n.value n.rest
 
 -- ---- what is written is read
 -- numbers of 5 digits at most
@@ -150,8 +150,8 @@ pub small-none : Small []
 small-none x i = absurd (in-empty i)
 
 -- the list of one number, and the list of a number and more
-module _ (bs : List ℕ) (r : Taken (List ℕ)) (n : Taken ℕ) (e : number bs ≡ some n) where
-  pub one-read : taken (n.value ∷ []) n.rest ≡ some r → NumbersRead bs r
+module _ (bs : List ℕ) (r : Taken (List ℕ)) (n : Taken ℕ) (e : number bs ≡ Some n) where
+  pub one-read : taken (n.value ∷ []) n.rest ≡ Some r → NumbersRead bs r
   unfolding commaed
   one-read h =
       let c = number_read bs n e in
@@ -164,7 +164,7 @@ module _ (bs : List ℕ) (r : Taken (List ℕ)) (n : Taken ℕ) (e : number bs �
       )
 
   pub more-read : (cs : List ℕ) → n.rest ≡ comma ∷ cs → (ns : Taken (List ℕ)) → NumbersRead cs ns →
-      taken (n.value ∷ ns.value) ns.rest ≡ some r → NumbersRead bs r
+      taken (n.value ∷ ns.value) ns.rest ≡ Some r → NumbersRead bs r
   more-read cs q ns (more, k) h =
       let c = number_read bs n e in
       let a = taken-value h in
@@ -178,7 +178,7 @@ module _ (bs : List ℕ) (r : Taken (List ℕ)) (n : Taken ℕ) (e : number bs �
         rw (← a) (omega arith),
       )
 
-pub numbers_within-read : (f : ℕ) (bs : List ℕ) (r : Taken (List ℕ)) → numbers_within f bs ≡ some r → NumbersRead bs r
+pub numbers_within-read : (f : ℕ) (bs : List ℕ) (r : Taken (List ℕ)) → numbers_within f bs ≡ Some r → NumbersRead bs r
 unfolding goes_on numbers_within
 numbers_within-read zero bs r h = absurd (no_none h)
 numbers_within-read (suc f) bs r h =
@@ -186,35 +186,35 @@ numbers_within-read (suc f) bs r h =
     let b = both-took (number bs) on r (sym (numbers_within-suc f bs) ∙ h) in
     rests b.first b.took b.first.rest refl (numbers_within-read f) b.then
   where
-    comma-next : (n : Taken ℕ) → number bs ≡ some n → (c : ℕ) (cs : List ℕ) → n.rest ≡ c ∷ cs →
-        ((cs : List ℕ) (r : Taken (List ℕ)) → numbers_within f cs ≡ some r → NumbersRead cs r) → (b : Bool) →
+    comma-next : (n : Taken ℕ) → number bs ≡ Some n → (c : ℕ) (cs : List ℕ) → n.rest ≡ c ∷ cs →
+        ((cs : List ℕ) (r : Taken (List ℕ)) → numbers_within f cs ≡ Some r → NumbersRead cs r) → (b : Bool) →
         eqb c comma ≡ b → ◌≡◌ {A = Option (Taken (List ℕ))} (elim b [
           | true ↦ and_then (numbers_within f cs) (λ ns. taken (n.value ∷ ns.value) ns.rest)
           | false ↦ taken (n.value ∷ []) (c ∷ cs)
-        ]) (some r) → NumbersRead bs r
+        ]) (Some r) → NumbersRead bs r
     comma-next n e c cs q i true k h =
         let b = both-took (numbers_within f cs) (λ ns. taken (n.value ∷ ns.value) ns.rest) r h in
         let q' : n.rest ≡ comma ∷ cs = q ∙ ap {B = List ℕ} (λ (x : ℕ). x ∷ cs) (eqb-true c 44 k) in
         more-read bs r n e cs q' b.first (i cs b.first b.took) b.then
     comma-next n e c cs q i false k h = one-read bs r n e (rw q h)
 
-    rests : (n : Taken ℕ) → number bs ≡ some n → (rest : List ℕ) → n.rest ≡ rest →
-        ((cs : List ℕ) (r : Taken (List ℕ)) → numbers_within f cs ≡ some r → NumbersRead cs r) →
-        goes_on (numbers_within f) n.value rest ≡ some r → NumbersRead bs r
+    rests : (n : Taken ℕ) → number bs ≡ Some n → (rest : List ℕ) → n.rest ≡ rest →
+        ((cs : List ℕ) (r : Taken (List ℕ)) → numbers_within f cs ≡ Some r → NumbersRead cs r) →
+        goes_on (numbers_within f) n.value rest ≡ Some r → NumbersRead bs r
     rests n e [] q i h = one-read bs r n e (rw q h)
     rests n e (c ∷ cs) q i h = comma-next n e c cs q i (eqb c comma) refl h
 
-pub numbers-read : (bs : List ℕ) (r : Taken (List ℕ)) → numbers bs ≡ some r → NumbersRead bs r
+pub numbers-read : (bs : List ℕ) (r : Taken (List ℕ)) → numbers bs ≡ Some r → NumbersRead bs r
 unfolding numbers
 numbers-read bs r h = numbers_within-read (length bs) bs r h
 
-pub listing-read : (bs : List ℕ) (r : Taken (List ℕ)) → listing bs ≡ some r → ListRead bs r
+pub listing-read : (bs : List ℕ) (r : Taken (List ℕ)) → listing bs ≡ Some r → ListRead bs r
 unfolding listing commaed
 listing-read [] r h = absurd (no_none h)
 listing-read (b ∷ bs) r h = go (eqb b newline) h
   where
     go : (c : Bool) →
-        ◌≡◌ {A = Option (Taken (List ℕ))} (elim c [ true ↦ taken [] (b ∷ bs) | false ↦ numbers (b ∷ bs) ]) (some r) →
+        ◌≡◌ {A = Option (Taken (List ℕ))} (elim c [ true ↦ taken [] (b ∷ bs) | false ↦ numbers (b ∷ bs) ]) (Some r) →
         ListRead (b ∷ bs) r
     go true h = record {
       whole = ap₂ (λ (x y : List ℕ). commaed x ++ y) (taken-value h) (taken-rest h);
@@ -226,7 +226,7 @@ pub record EntryRead (bs : List ℕ) (r : Taken Entry) : Type 0 where
   pub whole : bs ≡ entry_bytes r.value ++ r.rest
   pub small : SmallEntry r.value
 
-pub entry_read : (bs : List ℕ) (r : Taken Entry) → entry bs ≡ some r → EntryRead bs r
+pub entry_read : (bs : List ℕ) (r : Taken Entry) → entry bs ≡ Some r → EntryRead bs r
 unfolding entry entry_bytes
 entry_read bs r h =
     let b₁ = both-took (number bs) _ r h in
@@ -249,7 +249,7 @@ entry_read bs r h =
     }
 
 -- ---- without counting turns
-pub number-shorter : (bs : List ℕ) (n : Taken ℕ) → number bs ≡ some n → length n.rest < length bs
+pub number-shorter : (bs : List ℕ) (n : Taken ℕ) → number bs ≡ Some n → length n.rest < length bs
 number-shorter bs n h =
     let c = number_read bs n h in
     let e = ap length c.whole in
@@ -273,7 +273,7 @@ list_same f g bs h =
     let l = ap length q in
     h cs (omega arith)))
 
-pub numbers_within-none : (f : ℕ) → numbers_within f [] ≡ none
+pub numbers_within-none : (f : ℕ) → numbers_within f [] ≡ None
 unfolding numbers_within
 numbers_within-none zero = refl
 numbers_within-none (suc f) = refl

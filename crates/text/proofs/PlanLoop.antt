@@ -5,7 +5,7 @@ use Prim.Native.Nat.{ℕ, suc, ◌+◌, ◌*◌, ◌≤◌, ◌<◌}
 use mathlib.Core.Path.{◌≡◌, refl, sym, ◌∙◌, ap, subst}
 use mathlib.Core.Bool.{true, false}
 use mathlib.Core.List.{List, [], ◌∷◌, ◌++◌}
-use mathlib.Core.Option.{Option, none, some}
+use Rattle.std.specs.Prelude.{Option, None, Some}
 use mathlib.Core.Logic.{◌⊎◌, inl, inr}
 use native.Mathlib.Omega.{arith}
 use lib.ListN.{length, get_or, replicate, length-append, drop_of_length-le}
@@ -41,10 +41,10 @@ use Rattle.text.proofs.KeyedLines.{keyed, clash, after-clash}
 -- ---- the line at a cursor
 module _ (xs : List Step) (bs : List ℕ) where
   abbrev Keyed : PlanKey → List ℕ → Type 0
-  Keyed k rest = after (keyed (plan_key_name k)) bs ≡ some rest
+  Keyed k rest = after (keyed (plan_key_name k)) bs ≡ Some rest
 
   abbrev Unkeyed : PlanKey → Type 0
-  Unkeyed k = after (keyed (plan_key_name k)) bs ≡ none
+  Unkeyed k = after (keyed (plan_key_name k)) bs ≡ None
 
   pub next-step : (rest : List ℕ) → Keyed step rest → next_plan_line xs bs ≡ ended step_line (entry rest)
   unfolding next_plan_line read_plan_body plan_key_name clash
@@ -64,7 +64,7 @@ module _ (xs : List Step) (bs : List ℕ) where
       others step = inr n
       others end = inl refl
 
-  pub next-none : Unkeyed step → Unkeyed end → next_plan_line xs bs ≡ none
+  pub next-none : Unkeyed step → Unkeyed end → next_plan_line xs bs ≡ None
   unfolding next_plan_line
   next-none n e = no_line plan_key_name read_plan_body bs (plan_keys xs) (λ j i. neither j)
     where

@@ -4,7 +4,7 @@ use Prim.Native.Nat.{ℕ, ◌≤◌, ◌<◌}
 use mathlib.Core.Path.{◌≡◌, refl, sym, ◌∙◌, ap, subst}
 use mathlib.Core.Bool.{true}
 use mathlib.Core.List.{List, [], ◌∷◌, ◌++◌, map, append_assoc, append-nil}
-use mathlib.Core.Option.{some}
+use Rattle.std.specs.Prelude.{Some}
 use native.Mathlib.Omega.{arith}
 use lib.ListN.{length, length-append}
 use lib.Dec.{eqb, ltb}
@@ -43,7 +43,7 @@ unfolding read_plan_body plan_body_of
 plan-body-written k l (says-step {x = x} h) r = ended-written step_line (entry-written x h r)
 plan-body-written k l (says-end {n = n} h) r = ended-written end_line (number-ends n h r)
 
-pub plan-body-read : (k : PlanKey) (bs : List ℕ) (m : Taken PlanLine) → read_plan_body k bs ≡ some m →
+pub plan-body-read : (k : PlanKey) (bs : List ℕ) (m : Taken PlanLine) → read_plan_body k bs ≡ Some m →
     BodyRead plan_body_of PlanSays k bs m
 unfolding read_plan_body plan_body_of
 plan-body-read step bs m h = entry-line plan_body_of PlanSays step bs m step_line (λ x h. says-step h) (λ x. refl) h

@@ -4,7 +4,7 @@ use Prim.Native.Nat.{ℕ, ◌+◌, ◌*◌, ◌/◌, ◌≤◌, ◌<◌}
 use mathlib.Core.Path.{◌≡◌, refl, sym, ◌∙◌, ap}
 use mathlib.Core.Bool.{true}
 use mathlib.Core.List.{List, [], ◌∷◌, ◌++◌, map}
-use mathlib.Core.Option.{none}
+use Rattle.std.specs.Prelude.{None}
 use native.Mathlib.Omega.{arith}
 use lib.ListN.{length, get_or, length-append}
 use borrow.Author.Tests.{leb-true}
@@ -72,7 +72,7 @@ module _ (t : Task) (w : List ℕ) where
     pub known : get_or w (step_size * i) 0 < length t.schemas
     pub few : param_count t (get_or w (step_size * i) 0) ≤ most_parameters
 
-  pub step-there : well_formed t ≡ true → bad_step t w ≡ none → (i : ℕ) → i < length w / step_size → StepThere i
+  pub step-there : well_formed t ≡ true → bad_step t w ≡ None → (i : ℕ) → i < length w / step_size → StepThere i
   unfolding step_at step_in
   step-there well good i l =
       let here = step-here t w i (good-steps t w good i (omega arith)) in
@@ -103,7 +103,7 @@ step-most t well x h =
     omega (arith, length-append ds (colon ∷ cs))
 
 -- of good steps of a task, no more than a plan unfolds to
-pub plan-fits : (t : Task) → well_formed t ≡ true → (w : List ℕ) → bad_step t w ≡ none →
+pub plan-fits : (t : Task) → well_formed t ≡ true → (w : List ℕ) → bad_step t w ≡ None →
     length w ≤ step_size * most_split_steps → length (write_plan (steps_in t w)) ≤ longest_plan
 unfolding longest_plan
 plan-fits t well w good l =

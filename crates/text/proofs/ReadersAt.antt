@@ -4,7 +4,7 @@ use Prim.Native.Nat.{ℕ, suc, ◌+◌, ◌≤◌, ◌<◌}
 use mathlib.Core.Path.{◌≡◌, refl, sym, ◌∙◌, ap}
 use mathlib.Core.Bool.{true, false}
 use mathlib.Core.List.{List, [], ◌∷◌, ◌++◌}
-use mathlib.Core.Option.{none}
+use Rattle.std.specs.Prelude.{None}
 use lib.ListN.{length, get_or, drop, drop_of_length-le}
 use lib.Seq.{drop-cons, drop-drop, drop-append_seam}
 use borrow.Author.Tests.{eq-eqb, ne_eqb}
@@ -55,16 +55,16 @@ module _ (text : List ℕ) (at : ℕ) where
       after (k ∷ ks) (drop at text) ≡ after ks (drop (suc at) text)
   unfolding after
   after-here k ks l e =
-      ap (after (k ∷ ks)) (drop-cons text at 0 l) ∙ if-true none (eq-eqb k (get_or text at 0) (sym e))
+      ap (after (k ∷ ks)) (drop-cons text at 0 l) ∙ if-true None (eq-eqb k (get_or text at 0) (sym e))
 
   pub not-after-here : (k : ℕ) (ks : List ℕ) → at < length text → (get_or text at 0 ≡ k → ⊥) →
-      after (k ∷ ks) (drop at text) ≡ none
+      after (k ∷ ks) (drop at text) ≡ None
   unfolding after
   not-after-here k ks l e =
       ap (after (k ∷ ks)) (drop-cons text at 0 l) ∙
       if-false (after ks (drop (suc at) text)) (ne_eqb k (get_or text at 0) (λ q. e (sym q)))
 
-  pub none-after-left : (k : ℕ) (ks : List ℕ) → length text ≤ at → after (k ∷ ks) (drop at text) ≡ none
+  pub none-after-left : (k : ℕ) (ks : List ℕ) → length text ≤ at → after (k ∷ ks) (drop at text) ≡ None
   unfolding after
   none-after-left k ks l = ap (after (k ∷ ks)) (drop_of_length-le text l)
 
@@ -105,7 +105,7 @@ module _ (text : List ℕ) (at : ℕ) where
       (if-false (taken [] (get_or text at 0 ∷ drop (suc at) text)) (ne_eqb (get_or text at 0) 10 e) ∙
       ap numbers (sym (drop-cons text at 0 l)))
 
-  pub no-list-left : length text ≤ at → listing (drop at text) ≡ none
+  pub no-list-left : length text ≤ at → listing (drop at text) ≡ None
   unfolding listing
   no-list-left l = ap listing (drop_of_length-le text l)
 

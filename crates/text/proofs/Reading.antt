@@ -4,7 +4,7 @@ use Prim.Native.Nat.{ℕ, zero, suc, ◌≤◌, ◌<◌}
 use mathlib.Core.Path.{◌≡◌, refl, ◌∙◌, ap}
 use mathlib.Core.Bool.{Bool, true, false}
 use mathlib.Core.List.{List, [], ◌∷◌, ◌++◌}
-use mathlib.Core.Option.{Option, none, some}
+use Rattle.std.specs.Prelude.{Option, None, Some}
 use native.Mathlib.Omega.{arith}
 use lib.ListN.{length, length-append}
 use Rattle.words.specs.Lists.{concat_map}
@@ -43,8 +43,8 @@ pub data Leads {L D R : Type 0} (takes : D → L → Turn D R) (May : D → L �
 pub record Exact {L D : Type 0} (line : D → Reader L) (May : D → L → Type 0) (text : L → List ℕ) : Type 0 where
   pub some_byte : (l : L) → 1 ≤ length (text l)
   pub written : (d : D) (l : L) → May d l → (rest : List ℕ) → line d (text l ++ rest) ≡ taken l rest
-  pub may : (d : D) (bs : List ℕ) (m : Taken L) → line d bs ≡ some m → May d m.value
-  pub whole : (d : D) (bs : List ℕ) (m : Taken L) → line d bs ≡ some m → bs ≡ text m.value ++ m.rest
+  pub may : (d : D) (bs : List ℕ) (m : Taken L) → line d bs ≡ Some m → May d m.value
+  pub whole : (d : D) (bs : List ℕ) (m : Taken L) → line d bs ≡ Some m → bs ≡ text m.value ++ m.rest
 
 pub record Read {L D R : Type 0} (takes : D → L → Turn D R) (May : D → L → Type 0) (text : L → List ℕ)
     (d : D) (bs : List ℕ) (r : R) : Type 0 where
@@ -54,7 +54,7 @@ pub record Read {L D R : Type 0} (takes : D → L → Turn D R) (May : D → L �
 
 module _ {L D R : Type 0} (line : D → Reader L) (takes : D → L → Turn D R) (May : D → L → Type 0)
     (text : L → List ℕ) (x : Exact line May text) where
-  pub line-shorter : (d : D) (bs : List ℕ) (m : Taken L) → line d bs ≡ some m → length m.rest < length bs
+  pub line-shorter : (d : D) (bs : List ℕ) (m : Taken L) → line d bs ≡ Some m → length m.rest < length bs
   line-shorter d bs m h =
       let e = ap length (x.whole d bs m h) in
       let s = x.some_byte m.value in
@@ -90,7 +90,7 @@ module _ {L D R : Type 0} (line : D → Reader L) (takes : D → L → Turn D R)
       Later : Type 0
       Later = (e : D) (cs : List ℕ) (s : R) → read_within line takes f (suc n) e cs ≡ read s → Read takes May text e cs s
 
-      ended : (m : Taken L) → line d bs ≡ some m → (s : R) → takes d m.value ≡ finish s → (rest : List ℕ) →
+      ended : (m : Taken L) → line d bs ≡ Some m → (s : R) → takes d m.value ≡ finish s → (rest : List ℕ) →
           m.rest ≡ rest → at_end s (suc n) rest ≡ read r → Read takes May text d bs r
       ended m k s e [] q h = record {
         lines = m.value ∷ [];
@@ -99,7 +99,7 @@ module _ {L D R : Type 0} (line : D → Reader L) (takes : D → L → Turn D R)
       }
       ended m k s e (b ∷ rest) q h = absurd (refused-read h)
 
-      turned : (m : Taken L) → line d bs ≡ some m → (t : Turn D R) → takes d m.value ≡ t → Later →
+      turned : (m : Taken L) → line d bs ≡ Some m → (t : Turn D R) → takes d m.value ≡ t → Later →
           turn_at n t m.rest (read_within line takes f (suc n)) ≡ read r → Read takes May text d bs r
       turned m k (refuse j) e i h = absurd (refused-read h)
       turned m k (finish s) e i h = ended m k s e m.rest refl h
@@ -113,8 +113,8 @@ module _ {L D R : Type 0} (line : D → Reader L) (takes : D → L → Turn D R)
 
       found : (o : Option (Taken L)) → line d bs ≡ o → Later →
           line_at n (takes d) o (read_within line takes f (suc n)) ≡ read r → Read takes May text d bs r
-      found none k i h = absurd (refused-read h)
-      found (some m) k i h = turned m k (takes d m.value) refl i h
+      found None k i h = absurd (refused-read h)
+      found (Some m) k i h = turned m k (takes d m.value) refl i h
 
   pub read-lines : (n : ℕ) (d : D) (bs : List ℕ) (r : R) → read_lines line takes n d bs ≡ read r →
       Read takes May text d bs r
@@ -123,10 +123,10 @@ module _ {L D R : Type 0} (line : D → Reader L) (takes : D → L → Turn D R)
 
   -- ---- without counting turns
   pub line_at-same : (n : ℕ) (t : L → Turn D R) (o : Option (Taken L)) (f g : D → List ℕ → Reading R) →
-      ((m : Taken L) → o ≡ some m → (e : D) → f e m.rest ≡ g e m.rest) → line_at n t o f ≡ line_at n t o g
+      ((m : Taken L) → o ≡ Some m → (e : D) → f e m.rest ≡ g e m.rest) → line_at n t o f ≡ line_at n t o g
   unfolding line_at turn_at
-  line_at-same n t none f g h = refl
-  line_at-same n t (some m) f g h = go (t m.value)
+  line_at-same n t None f g h = refl
+  line_at-same n t (Some m) f g h = go (t m.value)
     where
       go : (u : Turn D R) → turn_at n u m.rest f ≡ turn_at n u m.rest g
       go (refuse k) = refl

@@ -4,7 +4,7 @@ use Prim.Native.Nat.{ℕ, ◌≤◌, ◌<◌}
 use mathlib.Core.Path.{◌≡◌, refl, ap}
 use mathlib.Core.Bool.{true}
 use mathlib.Core.List.{List, [], ◌∷◌, ◌++◌}
-use mathlib.Core.Option.{some}
+use Rattle.std.specs.Prelude.{Some}
 use native.Mathlib.Omega.{arith}
 use lib.ListN.{length}
 use Rattle.task.specs.Task.{precondition, addition, deletion}
@@ -68,7 +68,7 @@ body-written (says-init {e = e} h) r = ended-written init_line (entry-written e 
 body-written (says-goal {e = e} h) r = ended-written goal_line (entry-written e h r)
 body-written (says-end {n = n} h) r = ended-written end_line (number-ends n h r)
 
-pub body-read : (k : Key) (bs : List ℕ) (m : Taken Line) → read_body k bs ≡ some m → BodyRead body_of Says k bs m
+pub body-read : (k : Key) (bs : List ℕ) (m : Taken Line) → read_body k bs ≡ Some m → BodyRead body_of Says k bs m
 unfolding read_body body_of
 body-read task bs m h = number-line body_of Says task bs m task_line (λ n h. says-task h) (λ n. refl) h
 body-read objects bs m h = number-line body_of Says objects bs m objects_line (λ n h. says-objects h) (λ n. refl) h

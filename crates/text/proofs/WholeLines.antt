@@ -4,7 +4,7 @@ use Prim.Native.Nat.{ℕ, ◌≤◌}
 use mathlib.Core.Path.{◌≡◌, refl, sym, ◌∙◌, ap, subst}
 use mathlib.Core.Bool.{Bool, true, false}
 use mathlib.Core.List.{List, [], ◌∷◌}
-use mathlib.Core.Option.{Option, none, some}
+use Rattle.std.specs.Prelude.{Option, None, Some}
 use native.Mathlib.Omega.{arith}
 use lib.Dec.{eqb}
 use borrow.Author.Tests.{ne_eqb, eqb-false}
@@ -15,25 +15,25 @@ use Rattle.text.specs.ReadCode.{whole, Placed, Moved, Onward, NextLine, WordHere
 use Rattle.text.proofs.Taken.{no_none, after_read, if-false}
 
 -- ---- a list that may be empty
-pub listing-ends : (bs more : List ℕ) → after (newline ∷ []) bs ≡ some more → listing bs ≡ taken [] bs
+pub listing-ends : (bs more : List ℕ) → after (newline ∷ []) bs ≡ Some more → listing bs ≡ taken [] bs
 unfolding listing
 listing-ends bs more h =
     let e = after_read (newline ∷ []) bs more h in
     ap listing e ∙ ap (taken []) (sym e)
 
-pub listing_begins : (bs : List ℕ) → after (newline ∷ []) bs ≡ none → listing bs ≡ numbers bs
+pub listing_begins : (bs : List ℕ) → after (newline ∷ []) bs ≡ None → listing bs ≡ numbers bs
 unfolding listing after numbers
 listing_begins [] h = refl
 listing_begins (b ∷ bs) h = go (eqb newline b) refl h
   where
-    go : (c : Bool) → eqb newline b ≡ c → ◌≡◌ {A = Option (List ℕ)} (elim c [ true ↦ some bs | false ↦ none ]) none →
+    go : (c : Bool) → eqb newline b ≡ c → ◌≡◌ {A = Option (List ℕ)} (elim c [ true ↦ Some bs | false ↦ None ]) None →
         listing (b ∷ bs) ≡ numbers (b ∷ bs)
     go true e h = absurd (no_none (sym h))
     go false e h = if-false (taken [] (b ∷ bs)) (ne_eqb b 10 (λ q. eqb-false 10 b e (sym q)))
 
 -- ---- an atom
 module _ (bs : List ℕ) where
-  pub no-head : number bs ≡ none → entry bs ≡ none
+  pub no-head : number bs ≡ None → entry bs ≡ None
   unfolding entry
   no-head h = ap (λ (o : Option (Taken ℕ)). and_then o behind) h
     where
@@ -53,16 +53,16 @@ module _ (bs : List ℕ) where
         behind p = and_then (after (colon ∷ []) p.rest) (λ rest. and_then (listing rest) (λ xs.
             taken (record { head = p.value; list = xs.value }) xs.rest))
 
-    pub no-colon : after (colon ∷ []) more ≡ none → entry bs ≡ none
+    pub no-colon : after (colon ∷ []) more ≡ None → entry bs ≡ None
     unfolding and_then
     no-colon e = behind-head ∙ ap (λ (o : Option (List ℕ)). and_then o (λ rest. and_then (listing rest) made)) e
 
-    module _ (args : List ℕ) (e : after (colon ∷ []) more ≡ some args) where
+    module _ (args : List ℕ) (e : after (colon ∷ []) more ≡ Some args) where
       behind-colon : entry bs ≡ and_then (listing args) made
       unfolding and_then
       behind-colon = behind-head ∙ ap (λ (o : Option (List ℕ)). and_then o (λ rest. and_then (listing rest) made)) e
 
-      pub no-list : listing args ≡ none → entry bs ≡ none
+      pub no-list : listing args ≡ None → entry bs ≡ None
       unfolding and_then
       no-list k = behind-colon ∙ ap (λ (o : Option (Taken (List ℕ))). and_then o made) k
 
@@ -73,7 +73,7 @@ module _ (bs : List ℕ) where
 
 -- ---- a body and its line's end
 module _ {A : Type 0} (o : Option (Taken A)) where
-  pub no_body : o ≡ none → whole o ≡ none
+  pub no_body : o ≡ None → whole o ≡ None
   unfolding ended
   no_body h = ap whole h
 
@@ -82,11 +82,11 @@ module _ {A : Type 0} (o : Option (Taken A)) where
     unfolding ended
     behind-body = ap whole h
 
-    pub no_end : after (newline ∷ []) more ≡ none → whole o ≡ none
+    pub no_end : after (newline ∷ []) more ≡ None → whole o ≡ None
     unfolding and_then
     no_end e = behind-body ∙ ap (λ (x : Option (List ℕ)). and_then x (λ left. taken a left)) e
 
-    pub line-whole : (left : List ℕ) → after (newline ∷ []) more ≡ some left → whole o ≡ taken a left
+    pub line-whole : (left : List ℕ) → after (newline ∷ []) more ≡ Some left → whole o ≡ taken a left
     unfolding and_then
     line-whole left e = behind-body ∙ ap (λ (x : Option (List ℕ)). and_then x (λ left. taken a left)) e
 

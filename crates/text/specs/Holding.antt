@@ -4,7 +4,7 @@ use Rattle.text.specs.declared.draft.Kind.TheVariants as kind
 use Rattle.text.specs.declared.draft.Turn.TheVariants as turn
 use Rattle.text.specs.declared.draft.Check.TheVariants as check
 use Rattle.std.specs.Prelude.{ℕ, suc, ◌+◌, ◌-◌, ◌*◌, ◌≤◌, ◌<◌, ◌≡◌, true, List, [], ◌∷◌, ◌++◌, map, length, get_or, ltb, leb}
-use Rattle.std.proofs.Math.Option.{Option}
+use Rattle.std.specs.Prelude.{Option}
 use Rattle.task.specs.Limits.{table_words, most_initial, most_goal, most_objects, most_predicates, most_schemas}
 use Rattle.task.specs.Limits.{most_schema_atoms, most_arity, most_parameters, most_atoms, most_parts, most_pairs, head_words}
 use Rattle.task.specs.Limits.{pair_size, atom_size}

@@ -3,7 +3,7 @@
 use Rattle.std.specs.Prelude.{ℕ, zero, suc, ◌+◌, ◌-◌, ◌*◌, ◌/◌, ◌%◌, Bool, true, false, not, ◌&&◌, List, [], ◌∷◌, ◌++◌, length, drop, eqb, ltb, leb}
 use Prim.Native.Char.{code}
 use Prim.Native.String.{String, [] as noText, ◌∷◌ as ◌then◌}
-use Rattle.std.proofs.Math.Option.{Option, none, some}
+use Rattle.std.specs.Prelude.{Option, None, Some}
 
 -- ---- bytes
 -- the bytes of a quoted text
@@ -77,25 +77,25 @@ abbrev pub Reader : Type 0 → Type 0
 Reader A = List ℕ → Option (Taken A)
 
 abbrev pub taken : {A : Type 0} → A → List ℕ → Option (Taken A)
-taken a bs = some (record { value = a; rest = bs })
+taken a bs = Some (record { value = a; rest = bs })
 
 unfoldable pub taken_if : {A : Type 0} → Bool → A → List ℕ → Option (Taken A)
 taken_if true a bs = taken a bs
-taken_if false a bs = none
+taken_if false a bs = None
 
 unfoldable pub and_then : {A B : Type 0} → Option A → (A → Option B) → Option B
-and_then none f = none
-and_then (some a) f = f a
+and_then None f = None
+and_then (Some a) f = f a
 
 unfoldable pub or_else : {A : Type 0} → Option A → Option A → Option A
-or_else none b = b
-or_else (some a) b = some a
+or_else None b = b
+or_else (Some a) b = Some a
 
 -- what follows some bytes at the front
 unfoldable pub after : List ℕ → List ℕ → Option (List ℕ)
-after [] bs = some bs
-after (k ∷ ks) [] = none
-after (k ∷ ks) (b ∷ bs) = elim (eqb k b) [ true ↦ after ks bs | false ↦ none ]
+after [] bs = Some bs
+after (k ∷ ks) [] = None
+after (k ∷ ks) (b ∷ bs) = elim (eqb k b) [ true ↦ after ks bs | false ↦ None ]
 
 unfoldable pub is_digit : ℕ → Bool
 is_digit b = leb digit_zero b && leb b digit_nine
@@ -129,7 +129,7 @@ number bs = let ds = leading_digits bs in taken_if (in_form ds) (value_from 0 ds
 -- one number or more, "commas between"; each takes a byte at least, so one turn for each byte is enough
 unfoldable pub numbers_within : ℕ → Reader (List ℕ)
 unfolding number and_then
-numbers_within zero bs = none
+numbers_within zero bs = None
 numbers_within (suc turns) bs =
     and_then (number bs) (λ n.
     elim n.rest [
@@ -147,7 +147,7 @@ numbers bs = numbers_within (length bs) bs
 -- "Argument and part lists may be empty in form": then the line ends where the list would begin
 unfoldable pub listing : Reader (List ℕ)
 unfolding numbers
-listing [] = none
+listing [] = None
 listing (b ∷ bs) = elim (eqb b newline) [ true ↦ taken [] (b ∷ bs) | false ↦ numbers (b ∷ bs) ]
 
 -- predicate or schema, colon, arguments or objects
@@ -175,5 +175,5 @@ read_key key body bs = and_then (after (bytes key ++ (equals ∷ [])) bs) body
 -- a whole line of one of these keys
 unfoldable pub read_line : {K L : Type 0} → (K → String) → (K → Reader L) → List K → Reader L
 unfolding read_key or_else
-read_line name body [] bs = none
+read_line name body [] bs = None
 read_line name body (k ∷ ks) bs = or_else (read_key (name k) (body k) bs) (read_line name body ks bs)

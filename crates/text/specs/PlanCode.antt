@@ -2,7 +2,7 @@
 -- before it and after it, and a step's line by its words.
 use Rattle.text.specs.declared.plan.PlanTurn.TheVariants as turn
 use Rattle.std.specs.Prelude.{ℕ, suc, ◌+◌, ◌*◌, ◌<◌, ◌≡◌, true, List, [], ◌∷◌, ◌++◌, length, get_or}
-use Rattle.std.proofs.Math.Option.{Option}
+use Rattle.std.specs.Prelude.{Option}
 use Rattle.words.specs.Words.{words_at}
 use Rattle.task.specs.Task.{Task}
 use Rattle.task.specs.Run.{Step, is_choice, step_words}

@@ -9,7 +9,7 @@ use Rattle.text.specs.declared.lists.List.TheVariants as list
 use Rattle.text.specs.declared.lists.Atom.TheVariants as atom_read
 use Rattle.text.specs.declared.keys.Keyed.TheVariants as keyed
 use Rattle.std.specs.Prelude.{ℕ, suc, ◌+◌, ◌*◌, ◌≤◌, ◌<◌, max, ◌≡◌, Bool, true, cond, ◌&&◌, List, [], ◌∷◌, ◌++◌, length, get_or, drop, eqb, ltb, leb}
-use Rattle.std.proofs.Math.Option.{Option, none, some}
+use Rattle.std.specs.Prelude.{Option, None, Some}
 use Rattle.words.specs.Lists.{all, any, up_to, eq_list}
 use Rattle.task.specs.Task.{Atom, args_fit}
 use Rattle.words.specs.Words.{words_at, word_bound}
@@ -64,29 +64,29 @@ pub record NumberHere (text : List ℕ) (c : Cursor) (n : ℕ) (next : Cursor) :
 
 abbrev pub NumberAt : List ℕ → Cursor → Number → Type 0
 NumberAt text c (found.Of n next) = NumberHere text c n next
-NumberAt text c found.Missing = number (rest text c) ≡ none
+NumberAt text c found.Missing = number (rest text c) ≡ None
 
 -- some bytes at a cursor, and the cursor behind them
 pub record WordHere (text : List ℕ) (c : Cursor) (word : List ℕ) (next : Cursor) : Type 0 where
-  pub is : after word (rest text c) ≡ some (rest text next)
+  pub is : after word (rest text c) ≡ Some (rest text next)
   pub far : next.at ≡ c.at + length word
   pub inside : next.at ≤ length text
   pub line : next.line ≡ c.line
 
 abbrev pub WordAt : List ℕ → Cursor → List ℕ → Behind → Type 0
 WordAt text c word (behind.At next) = WordHere text c word next
-WordAt text c word behind.Missing = after word (rest text c) ≡ none
+WordAt text c word behind.Missing = after word (rest text c) ≡ None
 
 -- byte 10 at a cursor, and the cursor at the next line
 pub record EndHere (text : List ℕ) (c next : Cursor) : Type 0 where
-  pub is : after (newline ∷ []) (rest text c) ≡ some (rest text next)
+  pub is : after (newline ∷ []) (rest text c) ≡ Some (rest text next)
   pub on : c.at < next.at
   pub inside : next.at ≤ length text
   pub line : next.line ≡ c.line + 1
 
 abbrev pub EndAt : List ℕ → Cursor → Behind → Type 0
 EndAt text c (behind.At next) = EndHere text c next
-EndAt text c behind.Missing = after (newline ∷ []) (rest text c) ≡ none
+EndAt text c behind.Missing = after (newline ∷ []) (rest text c) ≡ None
 
 -- ---- bodies
 -- a cursor at the same place or further on in its line
@@ -116,7 +116,7 @@ pub record ListHere (text : List ℕ) (c : Cursor) (found : Option (Taken (List 
 
 abbrev pub ListAt : List ℕ → Cursor → Option (Taken (List ℕ)) → List ℕ → Listing → Type 0
 ListAt text c found kept (list.Of count next) = ListHere text c found count kept next
-ListAt text c found kept list.Missing = found ≡ none
+ListAt text c found kept list.Missing = found ≡ None
 
 -- the cursor behind a list lies in the text
 abbrev pub ListPlaced : List ℕ → Listing → Type 0
@@ -130,7 +130,7 @@ pub record EntryHere (text : List ℕ) (c : Cursor) (head count : ℕ) (kept : L
 
 abbrev pub EntryAt : List ℕ → Cursor → List ℕ → AtomRead → Type 0
 EntryAt text c kept (atom_read.Of head count next) = EntryHere text c head count kept next
-EntryAt text c kept atom_read.Missing = entry (rest text c) ≡ none
+EntryAt text c kept atom_read.Missing = entry (rest text c) ≡ None
 
 -- ---- a body and its line's end
 abbrev pub whole : {A : Type 0} → Option (Taken A) → Option (Taken A)
@@ -143,7 +143,7 @@ pub record NumberLine (text : List ℕ) (c : Cursor) (n : ℕ) (next : Cursor) :
 
 abbrev pub NumberLineAt : List ℕ → Cursor → Number → Type 0
 NumberLineAt text c (found.Of n next) = NumberLine text c n next
-NumberLineAt text c found.Missing = whole (number (rest text c)) ≡ none
+NumberLineAt text c found.Missing = whole (number (rest text c)) ≡ None
 
 -- a body that must be 1, and is: otherwise nothing stands behind it
 pub record OneLine (text : List ℕ) (c next : Cursor) : Type 0 where
@@ -163,7 +163,7 @@ pub record ListLine (text : List ℕ) (c : Cursor) (found : Option (Taken (List 
 
 abbrev pub ListLineAt : List ℕ → Cursor → Option (Taken (List ℕ)) → List ℕ → Listing → Type 0
 ListLineAt text c found kept (list.Of count next) = ListLine text c found count kept next
-ListLineAt text c found kept list.Missing = whole found ≡ none
+ListLineAt text c found kept list.Missing = whole found ≡ None
 
 pub record EntryLine (text : List ℕ) (c : Cursor) (head count : ℕ) (kept : List ℕ) (next : Cursor) : Type 0 where
   pub ns : List ℕ
@@ -173,7 +173,7 @@ pub record EntryLine (text : List ℕ) (c : Cursor) (head count : ℕ) (kept : L
 
 abbrev pub EntryLineAt : List ℕ → Cursor → List ℕ → AtomRead → Type 0
 EntryLineAt text c kept (atom_read.Of head count next) = EntryLine text c head count kept next
-EntryLineAt text c kept atom_read.Missing = whole (entry (rest text c)) ≡ none
+EntryLineAt text c kept atom_read.Missing = whole (entry (rest text c)) ≡ None
 
 -- ---- keys
 -- "Each line is a key, =": the bytes that a line begins with
@@ -221,19 +221,19 @@ may_stand phase key = leb phase key && leb key (last_key phase)
 pub record KeyHere (text : List ℕ) (c : Cursor) (number : ℕ) (body : Cursor) : Type 0 where
   pub key : Key
   pub numbered : key_number key ≡ number
-  pub is : after (key_bytes key) (rest text c) ≡ some (rest text body)
+  pub is : after (key_bytes key) (rest text c) ≡ Some (rest text body)
   pub moved : Moved text c body
 
 abbrev pub KeyAt : List ℕ → Cursor → Keyed → Type 0
 KeyAt text c (keyed.Of number body) = KeyHere text c number body
-KeyAt text c keyed.Missing = (k : Key) → after (key_bytes k) (rest text c) ≡ none
+KeyAt text c keyed.Missing = (k : Key) → after (key_bytes k) (rest text c) ≡ None
 
 -- the same, of the keys of lines that stand once
 pub record NoOnceKey (bs : List ℕ) : Type 0 where
-  pub no-task : after (key_bytes task) bs ≡ none
-  pub no-objects : after (key_bytes objects) bs ≡ none
-  pub no-arity : after (key_bytes arity) bs ≡ none
-  pub no_end : after (key_bytes end) bs ≡ none
+  pub no-task : after (key_bytes task) bs ≡ None
+  pub no-objects : after (key_bytes objects) bs ≡ None
+  pub no-arity : after (key_bytes arity) bs ≡ None
+  pub no_end : after (key_bytes end) bs ≡ None
 
 abbrev pub OnceKeyAt : List ℕ → Cursor → Keyed → Type 0
 OnceKeyAt text c (keyed.Of number body) = KeyHere text c number body

@@ -1,7 +1,7 @@
 -- A text read line after line: reading goes on, comes to its end, or is refused at a line.
 use Prim.Native.Nat.{ℕ, zero, suc}
 use Rattle.std.specs.Prelude.{Bool, true, false, List, [], ◌∷◌, length}
-use Rattle.std.proofs.Math.Option.{Option, none, some}
+use Rattle.std.specs.Prelude.{Option, None, Some}
 use Rattle.text.specs.Lines.{Taken, Reader}
 
 -- what a line does to the draft D of a result R: reading goes on, has come to its end, or is refused with a number
@@ -35,8 +35,8 @@ turn_at n (go_on d) rest next = next d rest
 -- refusal 3: "not a line the fixed order allows here; text missing (at the line lacking)"
 unfoldable pub line_at : {L D R : Type 0} → ℕ → (L → Turn D R) → Option (Taken L) → (D → List ℕ → Reading R) → Reading R
 unfolding turn_at
-line_at n takes none next = refused_at 3 n
-line_at n takes (some l) next = turn_at n (takes l.value) l.rest next
+line_at n takes None next = refused_at 3 n
+line_at n takes (Some l) next = turn_at n (takes l.value) l.rest next
 
 -- "The reader moves through the file by a cursor of byte offset and line": what remains behind the offset, and line n.
 -- `line` reads the line that comes next, and `takes` says what it does to the draft; a line has a byte at least, so

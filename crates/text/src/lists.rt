@@ -4,7 +4,7 @@ ghost use Rattle.std.specs.Prelude.{List as Many, ◌≡◌, set, ℕ};
 ghost use Rattle.text.specs.Lines.{numbers as number_list, listing as any_list, Taken};
 ghost use Rattle.text.specs.ReadCode.{rest, Placed, ListAt, ListLineAt, EntryAt, EntryLineAt, NumberLineAt};
 ghost use Rattle.text.specs.ReadCode.{ListPlaced, OneLineAt};
-ghost use Rattle.std.proofs.Math.Option.{Option};
+ghost use Rattle.std.specs.Prelude.{Option};
 
 use crate::cursor::{Behind, Cursor, Number};
 

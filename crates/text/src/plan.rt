@@ -1,7 +1,7 @@
 // The text of a plan: "at most 100 `step=` lines, schema, colon, objects; then `end=1`". Read into 13-word steps of a
 // task, or refused at a line; and written from them.
 ghost use Rattle.std.specs.Prelude.{◌≡◌, true, List, ℕ, ◌+◌, ◌*◌, ◌^◌, ◌≤◌, ◌<◌, length, get_or, take};
-ghost use Rattle.std.proofs.Math.Option.{none};
+ghost use Rattle.std.specs.Prelude.{None};
 ghost use Rattle.words.specs.Lists.{over};
 ghost use Rattle.task.specs.Task.{Task};
 ghost use Rattle.task.specs.Table.{task_of, is_table};
@@ -188,7 +188,7 @@ fn write_step(text: &mut [u8], at: usize, words: &[u16], base: usize, params: us
 // Writes the plan whose steps are these words, steps of a table's task, and gives the number of bytes.
 pub fn write_plan(table: &[u16], words: &[u16], text: &mut [u8]) -> usize
     requires table_value { is_table table.now ≡ true }
-    requires words_value { bad_step (task_of table.now) words.now ≡ none }
+    requires words_value { bad_step (task_of table.now) words.now ≡ None }
     requires words_in_bounds { length (write_plan (steps_in (task_of table.now) words.now)) ≤ length text.old }
     ensures size { result ≡ length (write_plan (steps_in (task_of table.now) words.now)) }
     ensures bytes { text.new ≡

@@ -25,7 +25,7 @@ use Rattle.tokens.specs.Split.{parts, orders}
 use Rattle.arcs.proofs.AtomWords.{schema-fits}
 use Rattle.arcs.proofs.SchemaEnds.{schema-known}
 use Rattle.tokens.proofs.KeptSchemas.{schemas-few, order-few}
-use mathlib.Core.Option.{some}
+use Rattle.std.specs.Prelude.{Some}
 use Rattle.task.specs.Limits.{most_schemas, most_parts, most_atoms, most_parameters}
 use Rattle.task.specs.Turns.{first_atom, first_pair}
 use Rattle.arcs.specs.Order.{order_of}
@@ -45,7 +45,7 @@ module _ {w : List ℕ} {s : ℕ} {kept : List ℕ} (K : SchemaKept w s kept) wh
   ends : kept_end kept s ≡ first_atom t (suc s)
   ends = let k = K.known in K.all.start (s + 1) (omega arith) ∙ ap (first_atom t) (add-one s)
 
-  pub taken : order_of (schema_at t s) ≡ some (orders t s)
+  pub taken : order_of (schema_at t s) ≡ Some (orders t s)
   taken = K.all.taken s K.known
 
   pub counted : kept_count kept s ≡ length (orders t s)

@@ -5,7 +5,7 @@ use Prim.Native.Nat.{ℕ, suc, ◌+◌, ◌-◌, ◌*◌, ◌≤◌, ◌<◌}
 use mathlib.Core.Path.{◌≡◌, sym, ◌∙◌, ap, subst}
 use mathlib.Core.Bool.{Bool, true, false, cond}
 use mathlib.Core.List.{List, [], ◌∷◌, map}
-use mathlib.Core.Option.{none, some}
+use Rattle.std.specs.Prelude.{None, Some}
 use native.Mathlib.Omega.{arith}
 use native.Mathlib.Decide.{dec_lt}
 use native.Mathlib.Numerals.{add-one}
@@ -73,13 +73,13 @@ found_part f j l k =
     part-is f.parts j (omega arith)
 
 module _ (t : Task) (s : ℕ) (f : Order) (told : order_told f ≡ order_of (schema_at t s)) where
-  pub told_none : f.found ≡ false → order_of (schema_at t s) ≡ none
+  pub told_none : f.found ≡ false → order_of (schema_at t s) ≡ None
   unfolding order_told
-  told_none e = sym told ∙ ap (λ (b : Bool). cond b (some (parts_found f)) none) e
+  told_none e = sym told ∙ ap (λ (b : Bool). cond b (Some (parts_found f)) None) e
 
-  told-some : f.found ≡ true → order_of (schema_at t s) ≡ some (parts_found f)
+  told-some : f.found ≡ true → order_of (schema_at t s) ≡ Some (parts_found f)
   unfolding order_told
-  told-some e = sym told ∙ ap (λ (b : Bool). cond b (some (parts_found f)) none) e
+  told-some e = sym told ∙ ap (λ (b : Bool). cond b (Some (parts_found f)) None) e
 
   told-order : f.found ≡ true → orders t s ≡ parts_found f
   unfolding orders order_at or_empty
@@ -104,8 +104,8 @@ module _ (t : Task) (s : ℕ) (f : Order) (told : order_told f ≡ order_of (sch
   first_more e l first h =
       omega (arith, told-count e l, before-step t s, ap (first_of t) (add-one s))
 
-  told-taken : f.found ≡ true → order_of (schema_at t s) ≡ some (orders t s)
-  told-taken e = told-some e ∙ ap some (sym (told-order e))
+  told-taken : f.found ≡ true → order_of (schema_at t s) ≡ Some (orders t s)
+  told-taken e = told-some e ∙ ap Some (sym (told-order e))
 
 -- ---- a table's schemas
 module _ (w : List ℕ) (h : is_table w ≡ true) where
@@ -132,7 +132,7 @@ module _ (w : List ℕ) (h : is_table w ≡ true) where
       (schema-tests t.arities (schema_at t s) (schema-fits w h s l)).parts
 
   pub order-few : (s : ℕ) → s < length (task_of w).schemas →
-      order_of (schema_at (task_of w) s) ≡ some (orders (task_of w) s) →
+      order_of (schema_at (task_of w) s) ≡ Some (orders (task_of w) s) →
       length (orders (task_of w) s) ≤ most_parts
   order-few s l e =
       let b = parts-few s l in
@@ -154,7 +154,7 @@ module _ (w : List ℕ) (h : is_table w ≡ true) where
 
   -- so the places of its parts end before the atoms of a later schema begin
   pub parts-end : (r s : ℕ) → r < s → s ≤ length (task_of w).schemas →
-      order_of (schema_at (task_of w) r) ≡ some (orders (task_of w) r) →
+      order_of (schema_at (task_of w) r) ≡ Some (orders (task_of w) r) →
       first_atom (task_of w) r + length (orders (task_of w) r) ≤ first_atom (task_of w) s
   parts-end r s a b e =
       let t = task_of w in
@@ -348,7 +348,7 @@ module _ (w : List ℕ) (h : is_table w ≡ true) where
       start = starts_more;
       first = firsts_more;
       pair = pairs-more;
-      taken = up-to (λ r. order_of (schema_at t r) ≡ some (orders t r)) old.taken (told-taken t s f told found);
+      taken = up-to (λ r. order_of (schema_at t r) ≡ Some (orders t r)) old.taken (told-taken t s f told found);
       count = counts-more;
       part = λ r j k. orders-more r k j;
       params = λ r j x k. owns-more r k j x;
@@ -356,27 +356,27 @@ module _ (w : List ℕ) (h : is_table w ≡ true) where
 
 -- ---- the lowest schema that a test takes, as a loop finds it
 module _ (test : ℕ → Bool) (s n : ℕ) (before : (r : ℕ) → r < s → test r ≡ false) where
-  pub lowest-here : s < n → test s ≡ true → first test (up_to n) ≡ some s
+  pub lowest-here : s < n → test s ≡ true → first test (up_to n) ≡ Some s
   unfolding up_to
   lowest-here l e =
       is-first test 0 n s
       (record { from = omega arith; below = omega arith; passes = e; lowest = λ r a b. before r b })
 
-  pub lowest-nowhere : s ≡ n → first test (up_to n) ≡ none
+  pub lowest-nowhere : s ≡ n → first test (up_to n) ≡ None
   unfolding first head
   lowest-nowhere e =
       ap head (filter_none test (up_to n) (λ r i. before r (let l = up_to-in n r i in omega arith)))
 
 -- the circular one
-module _ (t : Task) (s : ℕ) (kept : (r : ℕ) → r < s → order_of (schema_at t r) ≡ some (orders t r)) where
+module _ (t : Task) (s : ℕ) (kept : (r : ℕ) → r < s → order_of (schema_at t r) ≡ Some (orders t r)) where
   ordered-before : (r : ℕ) → r < s → is_none (order_at t r) ≡ false
   unfolding is_none order_at
   ordered-before r l = ap is_none (kept r l)
 
-  pub circular-here : s < length t.schemas → order_of (schema_at t s) ≡ none → circular_at t ≡ some s
+  pub circular-here : s < length t.schemas → order_of (schema_at t s) ≡ None → circular_at t ≡ Some s
   unfolding is_none order_at
   circular-here l e =
       lowest-here (λ r. is_none (order_at t r)) s (length t.schemas) ordered-before l (ap is_none e)
 
-  pub circular-nowhere : s ≡ length t.schemas → circular_at t ≡ none
+  pub circular-nowhere : s ≡ length t.schemas → circular_at t ≡ None
   circular-nowhere = lowest-nowhere (λ r. is_none (order_at t r)) s (length t.schemas) ordered-before

@@ -5,7 +5,7 @@ use Prim.Native.Nat.{ℕ, ◌<◌}
 use mathlib.Core.Path.{◌≡◌, refl}
 use mathlib.Core.List.{List}
 use mathlib.Core.Logic.{◌↔◌}
-use mathlib.Core.Option.{Option, none, some}
+use Rattle.std.specs.Prelude.{Option, None, Some}
 use lib.ListN.{length}
 use Rattle.task.specs.Task.{Task}
 use Rattle.task.specs.Run.{schema_at}
@@ -23,13 +23,13 @@ pub record LowestCircular (t : Task) (s : ℕ) : Type 0 where
 
 -- where an order complies, one is taken
 order-is-taken : (t : Task) (q : ℕ) (o : List ℕ) → OrderOfParts (schema_at t q) o → Complies (schema_at t q) o →
-    order_of (schema_at t q) ≡ some (orders t q)
+    order_of (schema_at t q) ≡ Some (orders t q)
 unfolding orders or_empty order_at
 order-is-taken t q o parts complies = go (order_of (schema_at t q)) refl
   where
-    go : (r : Option (List ℕ)) → order_of (schema_at t q) ≡ r → r ≡ some (or_empty r)
-    go none e = absurd ((circular-exactly (schema_at t q)).0 e o parts complies)
-    go (some u) e = refl
+    go : (r : Option (List ℕ)) → order_of (schema_at t q) ≡ r → r ≡ Some (or_empty r)
+    go None e = absurd ((circular-exactly (schema_at t q)).0 e o parts complies)
+    go (Some u) e = refl
 
 pub nine-exactly : (t : Task) (s : ℕ) → (split t ≡ circular s) ↔ LowestCircular t s
 nine-exactly t s = (forth, back)

@@ -5,7 +5,7 @@ use Prim.Native.Nat.{ℕ, zero, suc, ◌+◌, ◌≤◌, ◌<◌}
 use mathlib.Core.Path.{◌≡◌, refl, sym, ◌∙◌, ap}
 use mathlib.Core.Bool.{Bool, true, false, cond, not}
 use mathlib.Core.List.{List}
-use mathlib.Core.Option.{Option, none, some}
+use Rattle.std.specs.Prelude.{Option, None, Some}
 use native.Mathlib.Omega.{arith}
 use native.Mathlib.Decide.{dec_lt}
 use lib.ListN.{length}
@@ -29,7 +29,7 @@ module _ (test : ℕ → Bool) where
     pub passes : test x ≡ true
     pub lowest : (i : ℕ) → s ≤ i → i < x → test i ≡ false
 
-  pub is-first : (s n x : ℕ) → FirstOf s n x → first test (up_from s n) ≡ some x
+  pub is-first : (s n x : ℕ) → FirstOf s n x → first test (up_from s n) ≡ Some x
   unfolding first head filter keep_if up_from
   is-first s zero x f = absurd (omega arith)
   is-first s (suc n) x f = elim (dec_lt s x) [
@@ -39,10 +39,10 @@ module _ (test : ℕ → Bool) where
       passes = f.passes;
       lowest = λ i h. f.lowest i (omega arith);
     }))
-    | no l ↦ let e : s ≡ x = omega arith in rw (ap test e ∙ f.passes) (ap some e)
+    | no l ↦ let e : s ≡ x = omega arith in rw (ap test e ∙ f.passes) (ap Some e)
   ]
 
-  pub first-is : (s n x : ℕ) → first test (up_from s n) ≡ some x → FirstOf s n x
+  pub first-is : (s n x : ℕ) → first test (up_from s n) ≡ Some x → FirstOf s n x
   unfolding first head filter keep_if up_from
   first-is s zero x h = absurd (no_none h)
   first-is s (suc n) x h = go (test s) refl (first-is (suc s) n x) h
@@ -53,8 +53,8 @@ module _ (test : ℕ → Bool) where
         | no l ↦ let d : i ≡ s = omega arith in ap test d ∙ e
       ]
 
-      go : (b : Bool) → test s ≡ b → (first test (up_from (suc s) n) ≡ some x → FirstOf (suc s) n x) →
-          head (keep_if b s (filter test (up_from (suc s) n))) ≡ some x → FirstOf s (suc n) x
+      go : (b : Bool) → test s ≡ b → (first test (up_from (suc s) n) ≡ Some x → FirstOf (suc s) n x) →
+          head (keep_if b s (filter test (up_from (suc s) n))) ≡ Some x → FirstOf s (suc n) x
       go true e ih k =
           let d = some_inj k in
           record {
@@ -71,25 +71,25 @@ module _ (test : ℕ → Bool) where
 -- "no order complies; lowest such schema"
 pub record Circular (t : Task) (s : ℕ) : Type 0 where
   pub known : s < length t.schemas
-  pub no-order : order_of (schema_at t s) ≡ none
-  pub before : (q : ℕ) → q < s → order_of (schema_at t q) ≡ some (orders t q)
+  pub no-order : order_of (schema_at t s) ≡ None
+  pub before : (q : ℕ) → q < s → order_of (schema_at t q) ≡ Some (orders t q)
 
 -- whether a schema has an order, as the test tells it
-none-order : (t : Task) (s : ℕ) → is_none (order_at t s) ≡ true → order_of (schema_at t s) ≡ none
+none-order : (t : Task) (s : ℕ) → is_none (order_at t s) ≡ true → order_of (schema_at t s) ≡ None
 unfolding is_none order_at
 none-order t s h = go (order_of (schema_at t s)) h
   where
-    go : (b : Option (List ℕ)) → is_none b ≡ true → b ≡ none
-    go none e = refl
-    go (some o) e = absurd (no_ft e)
+    go : (b : Option (List ℕ)) → is_none b ≡ true → b ≡ None
+    go None e = refl
+    go (Some o) e = absurd (no_ft e)
 
-some-order : (t : Task) (s : ℕ) → is_none (order_at t s) ≡ false → order_of (schema_at t s) ≡ some (orders t s)
+some-order : (t : Task) (s : ℕ) → is_none (order_at t s) ≡ false → order_of (schema_at t s) ≡ Some (orders t s)
 unfolding is_none order_at orders or_empty
 some-order t s h = go (order_of (schema_at t s)) h
   where
-    go : (b : Option (List ℕ)) → is_none b ≡ false → b ≡ some (or_empty b)
-    go none e = absurd (no_tf e)
-    go (some o) e = refl
+    go : (b : Option (List ℕ)) → is_none b ≡ false → b ≡ Some (or_empty b)
+    go None e = absurd (no_tf e)
+    go (Some o) e = refl
 
 abbrev no_order : Task → ℕ → Bool
 no_order t s = is_none (order_at t s)
@@ -115,20 +115,20 @@ split-circular t s h = go (circular_at t) refl h
       before = λ q l. some-order t q (f.lowest q (omega arith) l);
     }
 
-    judged : (p : Option ℕ) (b : Bool) → within_limits (split_task t) ≡ b → settle none p (split_task t) ≡ circular s → ⊥
-    judged (some q) b w e = let z : ◌≡◌ {A = ℕ} 0 1 = cc in omega arith
-    judged none true w e =
+    judged : (p : Option ℕ) (b : Bool) → within_limits (split_task t) ≡ b → settle None p (split_task t) ≡ circular s → ⊥
+    judged (Some q) b w e = let z : ◌≡◌ {A = ℕ} 0 1 = cc in omega arith
+    judged None true w e =
         let k : split_as (split_task t) ≡ circular s = sym (ap (λ b. cond b (split_as (split_task t)) too_large) w) ∙ e in
         let z : ◌≡◌ {A = ℕ} 0 1 = cc in omega arith
-    judged none false w e =
+    judged None false w e =
         let k : too_large ≡ circular s = sym (ap (λ b. cond b (split_as (split_task t)) too_large) w) ∙ e in
         let z : ◌≡◌ {A = ℕ} 0 1 = cc in omega arith
 
     go : (l : Option ℕ) → circular_at t ≡ l → settle l (parted_at t) (split_task t) ≡ circular s → Circular t s
-    go none e k = absurd (judged (parted_at t) (within_limits (split_task t)) refl k)
-    go (some q) e k =
+    go None e k = absurd (judged (parted_at t) (within_limits (split_task t)) refl k)
+    go (Some q) e k =
         let d : q ≡ s = cc in
-        at (first-is (no_order t) 0 (length t.schemas) s (e ∙ ap {B = Option ℕ} some d))
+        at (first-is (no_order t) 0 (length t.schemas) s (e ∙ ap {B = Option ℕ} Some d))
 
 -- ---- refusal 20
 -- "20 after 9, with the lowest such schema, when no part has both parameters of a pair"
@@ -145,7 +145,7 @@ pub parted-split : (t : Task) (s : ℕ) → Parted t s → split t ≡ parted s
 unfolding settle up_to
 parted-split t s c =
     ordered-settle t c.ordered ∙
-    ap (λ p. settle none p (split_task t)) (is-first (unkept t) 0 (length t.schemas) s (record {
+    ap (λ p. settle None p (split_task t)) (is-first (unkept t) 0 (length t.schemas) s (record {
       from = omega arith;
       below = omega (arith, c.known);
       passes = ap not c.no_part;
@@ -176,11 +176,11 @@ split-parted t s h = go (circular_at t) (parted_at t) refl refl h
     judged false e = let z : ◌≡◌ {A = ℕ} 0 1 = cc in omega arith
 
     go : (l p : Option ℕ) → circular_at t ≡ l → parted_at t ≡ p → settle l p (split_task t) ≡ parted s → Parted t s
-    go (some q) p e f k = absurd (let z : ◌≡◌ {A = ℕ} 0 1 = cc in omega arith)
-    go none none e f k = absurd (judged (within_limits (split_task t)) k)
-    go none (some q) e f k =
+    go (Some q) p e f k = absurd (let z : ◌≡◌ {A = ℕ} 0 1 = cc in omega arith)
+    go None None e f k = absurd (judged (within_limits (split_task t)) k)
+    go None (Some q) e f k =
         let d : q ≡ s = cc in
-        at (none-circular t e) (first-is (unkept t) 0 (length t.schemas) s (f ∙ ap {B = Option ℕ} some d))
+        at (none-circular t e) (first-is (unkept t) 0 (length t.schemas) s (f ∙ ap {B = Option ℕ} Some d))
 
 -- ---- refusal 10
 -- every schema has an order, every pair a part that has both its parameters, and the split passes a limit
@@ -203,10 +203,10 @@ split-large t h = go (circular_at t) (parted_at t) refl refl h
     judged false e k = e
 
     go : (l p : Option ℕ) → circular_at t ≡ l → parted_at t ≡ p → settle l p (split_task t) ≡ too_large → TooLarge t
-    go none none e f k = record {
+    go None None e f k = record {
       ordered = none-circular t e;
       kept = none-parted t f;
       beyond = judged (within_limits (split_task t)) refl k;
     }
-    go none (some q) e f k = absurd (let z : ◌≡◌ {A = ℕ} 0 1 = cc in omega arith)
-    go (some q) p e f k = absurd (let z : ◌≡◌ {A = ℕ} 0 1 = cc in omega arith)
+    go None (Some q) e f k = absurd (let z : ◌≡◌ {A = ℕ} 0 1 = cc in omega arith)
+    go (Some q) p e f k = absurd (let z : ◌≡◌ {A = ℕ} 0 1 = cc in omega arith)

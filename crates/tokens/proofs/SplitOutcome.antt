@@ -6,7 +6,7 @@ use Prim.Native.Nat.{ℕ}
 use mathlib.Core.Path.{◌≡◌, refl, ◌∙◌, ap, ap₂, subst}
 use mathlib.Core.Bool.{Bool, true, false, cond, ◌&&◌}
 use mathlib.Core.List.{List, [], ◌∷◌}
-use mathlib.Core.Option.{Option, none, some}
+use Rattle.std.specs.Prelude.{Option, None, Some}
 use Rattle.task.specs.declared.Place.{Place}
 use Rattle.words.specs.Lists.{over}
 use Rattle.task.specs.Answers.{result, Check, Outcome, refuse_unless, in_order, first_refusal}
@@ -22,23 +22,23 @@ use Rattle.task.proofs.Answers.{as_found, check-refuses, first_passes, first-ref
 
 -- ---- what splitting gives, by what is found of the orders, the pairs and the sizes
 module _ (t : Task) where
-  pub found-circular : {s : ℕ} → circular_at t ≡ some s → split t ≡ circular s
+  pub found-circular : {s : ℕ} → circular_at t ≡ Some s → split t ≡ circular s
   unfolding split settle
   found-circular e = ap (λ (o : Option ℕ). settle o (parted_at t) (split_task t)) e
 
-  pub found-parted : {s : ℕ} → circular_at t ≡ none → parted_at t ≡ some s → split t ≡ parted s
+  pub found-parted : {s : ℕ} → circular_at t ≡ None → parted_at t ≡ Some s → split t ≡ parted s
   unfolding split settle
   found-parted e f = ap₂ (λ (o p : Option ℕ). settle o p (split_task t)) e f
 
-  settled : circular_at t ≡ none → parted_at t ≡ none →
+  settled : circular_at t ≡ None → parted_at t ≡ None →
       split t ≡ cond (within_limits (split_task t)) (split_as (split_task t)) too_large
   unfolding split settle
   settled e f = ap₂ (λ (o p : Option ℕ). settle o p (split_task t)) e f
 
-  pub found-large : circular_at t ≡ none → parted_at t ≡ none → within_limits (split_task t) ≡ false → split t ≡ too_large
+  pub found-large : circular_at t ≡ None → parted_at t ≡ None → within_limits (split_task t) ≡ false → split t ≡ too_large
   found-large e f h = settled e f ∙ ap (λ (b : Bool). cond b (split_as (split_task t)) too_large) h
 
-  pub found-split : circular_at t ≡ none → parted_at t ≡ none → within_limits (split_task t) ≡ true →
+  pub found-split : circular_at t ≡ None → parted_at t ≡ None → within_limits (split_task t) ≡ true →
       split t ≡ split_as (split_task t)
   found-split e f h = settled e f ∙ ap (λ (b : Bool). cond b (split_as (split_task t)) too_large) h
 

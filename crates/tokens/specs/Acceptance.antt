@@ -4,7 +4,7 @@ use Rattle.tokens.specs.declared.parts.Circular.TheVariants as circle
 use Rattle.tokens.specs.declared.pairs.Parted.TheVariants as parting
 use Rattle.tokens.specs.declared.acceptance.Acceptance.TheVariants as acceptance
 use Rattle.std.specs.Prelude.{ℕ, ◌+◌, ◌*◌, ◌≤◌, ◌<◌, ◌≡◌, Bool, true, ◌&&◌, List, [], ◌∷◌, map, length, get_or, take, leb}
-use Rattle.std.proofs.Math.Option.{Option, none, some}
+use Rattle.std.specs.Prelude.{Option, None, Some}
 use Rattle.words.specs.Lists.{all, every, concat_map, up_to}
 use Rattle.task.specs.Layout.{head_in}
 use Rattle.task.specs.Limits.{most_predicates, most_schemas, most_schema_atoms, most_atoms, most_initial, most_goal, most_parts}
@@ -121,14 +121,14 @@ pub record SizesTold (t : Task) (r : Sizes) : Type 0 where
 -- ---- circular parts
 -- the schema for whose parts no order complies, if any
 unfoldable pub circular_told : Circular → Option ℕ
-circular_told (circle.At s) = some s
-circular_told circle.Nowhere = none
+circular_told (circle.At s) = Some s
+circular_told circle.Nowhere = None
 
 -- ---- parted pairs
 -- the schema with a pair that no part has both parameters of, if any
 unfoldable pub parted_told : Parted → Option ℕ
-parted_told (parting.At s) = some s
-parted_told parting.Nowhere = none
+parted_told (parting.At s) = Some s
+parted_told parting.Nowhere = None
 
 -- ---- acceptance
 -- the checks of a table that splitting, unfolding and folding make first, and those behind them

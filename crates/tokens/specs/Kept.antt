@@ -2,7 +2,7 @@
 -- atoms and pairs end; behind the rows the parts, and behind these their parameters. No promise of an entry point cites
 -- these.
 use Rattle.std.specs.Prelude.{ℕ, ◌+◌, ◌*◌, ◌≤◌, ◌<◌, ◌≡◌, true, cond, List, length, get_or, set, ltb}
-use Rattle.std.proofs.Math.Option.{some}
+use Rattle.std.specs.Prelude.{Some}
 use Rattle.task.specs.Limits.{most_schemas, most_schema_atoms}
 use Rattle.task.specs.Task.{Task}
 use Rattle.task.specs.Run.{schema_at}
@@ -99,7 +99,7 @@ pub record PartsKept (t : Task) (n : ℕ) (kept : List ℕ) : Type 0 where
   pub start : (s : ℕ) → s ≤ n → kept_start kept s ≡ first_atom t s
   pub first : (s : ℕ) → s ≤ n → kept_first kept s ≡ first_of t s
   pub pair : (s : ℕ) → s ≤ n → kept_pair kept s ≡ first_pair t s
-  pub taken : (s : ℕ) → s < n → order_of (schema_at t s) ≡ some (orders t s)
+  pub taken : (s : ℕ) → s < n → order_of (schema_at t s) ≡ Some (orders t s)
   pub count : (s : ℕ) → s < n → kept_count kept s ≡ length (orders t s)
   pub part : (s j : ℕ) → s < n → j < length (orders t s) → kept_part kept s j ≡ get_or (orders t s) j 0
   pub params : (s j x : ℕ) → s < n → j < length (orders t s) →

@@ -1,7 +1,7 @@
 // The parts of each schema: where its atoms and its pairs begin, the order taken of its parts, and the parameters of
 // each part.
 ghost use Rattle.std.specs.Prelude.{ℕ, ◌+◌, ◌≤◌, ◌<◌, ◌≡◌, true, length};
-ghost use Rattle.std.proofs.Math.Option.{none};
+ghost use Rattle.std.specs.Prelude.{None};
 ghost use Rattle.words.specs.Lists.{first, up_to};
 ghost use Rattle.task.specs.Table.{task_of, is_table};
 ghost use Rattle.tokens.specs.Split.{is_none, order_at};
@@ -49,7 +49,7 @@ pub fn keep_parts(table: &[u16], kept: &mut Kept) -> Circular
     ensures result_value { circular_told result ≡
         first (λ s. is_none (order_at (task_of table.now) s))
         (up_to (length (task_of table.now).schemas)) }
-    ensures parts_kept { circular_told result ≡ none →
+    ensures parts_kept { circular_told result ≡ None →
         PartsKept (task_of table.now) (length (task_of table.now).schemas) kept.new }
 {
     let schemas = word(table, SCHEMAS);

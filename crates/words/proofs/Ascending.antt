@@ -4,7 +4,7 @@ use Prim.Native.Nat.{ℕ, zero, suc, ◌≤◌, ◌<◌}
 use mathlib.Core.Path.{◌≡◌, refl, sym, ap, subst}
 use mathlib.Core.Bool.{Bool, true, false, not}
 use mathlib.Core.List.{List, [], ◌∷◌}
-use mathlib.Core.Option.{Option, none, some}
+use Rattle.std.specs.Prelude.{Option, None, Some}
 use native.Mathlib.Omega.{arith}
 use lib.ListN.{length}
 use lib.Dec.{eqb}
@@ -13,15 +13,15 @@ use Rattle.words.specs.Lists.{filter, keep_if, up_to, up_from}
 use Rattle.words.proofs.Lists.{both-ft, In, here, there, in-empty, in-filter, filter-in, up_from-in}
 
 -- ---- results that may be missing
-pub some_inj : {A : Type 0} {x y : A} → some x ≡ some y → x ≡ y
+pub some_inj : {A : Type 0} {x y : A} → Some x ≡ Some y → x ≡ y
 some_inj e = cc
 
-pub no_none : {A : Type 0} {x : A} → none ≡ some x → ⊥
+pub no_none : {A : Type 0} {x : A} → None ≡ Some x → ⊥
 no_none {A} {x} e = subst code (sym e) tt
   where
     code : Option A → Type 0
-    code none = ⊥
-    code (some y) = Unit {0}
+    code None = ⊥
+    code (Some y) = Unit {0}
 
 -- ---- unplaced parts, which ascend
 pub data Ascend : List ℕ → Type 0 where

@@ -4,7 +4,7 @@ use mathlib.Core.Path.{◌≡◌, refl, sym, ◌∙◌, ap, ap₂, subst}
 use mathlib.Core.Bool.{Bool, true, false, ◌&&◌, ◌||◌}
 use mathlib.Core.List.{List, [], ◌∷◌, ◌++◌, map, append_assoc}
 use mathlib.Core.Logic.{◌⊎◌, inl, inr}
-use mathlib.Core.Option.{none, some}
+use Rattle.std.specs.Prelude.{None, Some}
 use native.Mathlib.Omega.{arith}
 use native.Mathlib.Decide.{dec_le, dec_lt}
 use lib.ListN.{length, get_or, length-append, take, replicate, length-replicate}
@@ -154,20 +154,20 @@ module _ {A : Type 0} where
       go false e r k = let (i, f) = r x k in (there i, f)
 
   -- where none is found, no element passes the test
-  pub first-none : (p : A → Bool) {xs : List A} → first p xs ≡ none → {x : A} → In x xs → p x ≡ true → ⊥
+  pub first-none : (p : A → Bool) {xs : List A} → first p xs ≡ None → {x : A} → In x xs → p x ≡ true → ⊥
   unfolding first head
   first-none p {xs} h i e = go (filter p xs) h (in-filter p i e)
     where
-      go : {x : A} (ys : List A) → head ys ≡ none → In x ys → ⊥
+      go : {x : A} (ys : List A) → head ys ≡ None → In x ys → ⊥
       go [] k j = in-empty j
       go (y ∷ ys) k j = let z : ◌≡◌ {A = ℕ} 0 1 = cc in omega arith
 
   -- the one that is found is an element that passes it
-  pub first_found : (p : A → Bool) (xs : List A) (x : A) → first p xs ≡ some x → In x xs × (p x ≡ true)
+  pub first_found : (p : A → Bool) (xs : List A) (x : A) → first p xs ≡ Some x → In x xs × (p x ≡ true)
   unfolding first head
   first_found p xs x h = go (filter p xs) refl h
     where
-      go : (ys : List A) → filter p xs ≡ ys → head ys ≡ some x → In x xs × (p x ≡ true)
+      go : (ys : List A) → filter p xs ≡ ys → head ys ≡ Some x → In x xs × (p x ≡ true)
       go [] e k = let z : ◌≡◌ {A = ℕ} 0 1 = cc in absurd (omega arith)
       go (y ∷ ys) e k = let f : x ≡ y = cc in filter-in p xs x (rw e (here f))
 

@@ -1,6 +1,6 @@
 -- Lists and tests that the definitions share.
 use Rattle.std.specs.Prelude.{ℕ, zero, suc, ◌+◌, ◌-◌, Bool, true, false, cond, ◌&&◌, ◌||◌, List, [], ◌∷◌, ◌++◌, length, drop, replicate, eqb, ltb}
-use Rattle.std.proofs.Math.Option.{Option, none, some}
+use Rattle.std.specs.Prelude.{Option, None, Some}
 use Rattle.std.proofs.lemmas.List.Edits.{sets}
 
 -- s, s + 1, .., s + n - 1
@@ -36,8 +36,8 @@ filter p [] = []
 filter p (x ∷ xs) = keep_if (p x) x (filter p xs)
 
 unfoldable pub head : {A : Type 0} → List A → Option A
-head [] = none
-head (x ∷ xs) = some x
+head [] = None
+head (x ∷ xs) = Some x
 
 -- the first element that a test takes
 unfoldable pub first : {A : Type 0} → (A → Bool) → List A → Option A

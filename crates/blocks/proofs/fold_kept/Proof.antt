@@ -6,7 +6,7 @@ use Prim.Native.Nat.{ℕ, ◌/◌, ◌≤◌, ◌<◌}
 use mathlib.Core.Path.{◌≡◌, sym, ◌∙◌, ap₂, subst}
 use mathlib.Core.Bool.{true}
 use mathlib.Core.List.{List, [], ◌∷◌}
-use mathlib.Core.Option.{none}
+use Rattle.std.specs.Prelude.{None}
 use native.Mathlib.Omega.{arith}
 use lib.ListN.{length}
 use borrow.Author.Rules.{rules}
@@ -67,7 +67,7 @@ abbrev from : tie.After-judge-judged → tie.Start
 from j = start (looked j)
 
 -- no step of it is bad
-list-kept : (j : tie.After-judge-judged) → bad_step (split_task (task (from j))) (steps (from j)) ≡ none →
+list-kept : (j : tie.After-judge-judged) → bad_step (split_task (task (from j))) (steps (from j)) ≡ None →
     SplitStepsKept (task (from j)) (steps (from j)) (from j).args.kept.now (looked j).begins_of-begins.result
     (looked j).origins_of-origins.result
 list-kept j good = record {
@@ -85,7 +85,7 @@ abbrev count : tie.In-Whole → ℕ
 count w = w.in-Whole.found
 
 found : (w : tie.In-Whole) → let s = from (judge w) in
-    (bad_step (split_task (task s)) (steps s) ≡ none) ×
+    (bad_step (split_task (task s)) (steps s) ≡ None) ×
     ((xs : List Step) × (folding_of (words s) (steps s) ≡ folded xs) × (count w ≡ length xs))
 found w =
     let s = from (judge w) in

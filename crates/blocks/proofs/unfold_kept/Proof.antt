@@ -5,7 +5,7 @@ use Prim.Native.Nat.{ℕ, ◌/◌, ◌≤◌}
 use mathlib.Core.Path.{◌≡◌, sym, ◌∙◌, ap}
 use mathlib.Core.Bool.{true}
 use mathlib.Core.List.{List, [], ◌∷◌}
-use mathlib.Core.Option.{none}
+use Rattle.std.specs.Prelude.{None}
 use native.Mathlib.Omega.{arith}
 use lib.ListN.{length}
 use borrow.Author.Rules.{rules}
@@ -36,7 +36,7 @@ lent s = s.args.out.now
 abbrev start : tie.In_default → tie.Start
 start g = g.before.before.before.before.before
 
-good : (g : tie.In_default) → bad_step (task_of (words (start g))) (steps (start g)) ≡ none
+good : (g : tie.In_default) → bad_step (task_of (words (start g))) (steps (start g)) ≡ None
 unfolding bad_step_found
 good g = sym g.bad_step-bad.ensures ∙ ap bad_step_found g.in_default.is
 

@@ -3,7 +3,7 @@
 use Rattle.task.proofs.run.Tie as tie
 use mathlib.Core.Path.{◌≡◌, sym, ◌∙◌, ap}
 use mathlib.Core.Bool.{true}
-use mathlib.Core.Option.{none}
+use Rattle.std.specs.Prelude.{None}
 use borrow.Author.Rules.{rules}
 use borrow.Author.Tests.{not-true, not-false}
 use Rattle.task.specs.Table.{task_of, long_enough, is_table}
@@ -25,7 +25,7 @@ table c = sym c.is_table.ensures ∙ c.if-not-is_table.false
 
 good : (c : tie.In_default) →
     bad_step (task_of (start c.before).args.table.now) (start c.before).args.steps.now ≡
-    none
+    None
 unfolding bad_step_found
 good c = sym c.bad_step-bad.ensures ∙ ap bad_step_found c.in_default.is
 

@@ -6,7 +6,7 @@ use Prim.Native.Nat.{ℕ}
 use mathlib.Core.Path.{◌≡◌, sym, ◌∙◌, ap, subst}
 use mathlib.Core.Bool.{true}
 use mathlib.Core.List.{List}
-use mathlib.Core.Option.{none}
+use Rattle.std.specs.Prelude.{None}
 use lib.ListN.{length}
 use borrow.Author.Rules.{rules}
 use Rattle.task.specs.Task.{Task, well_formed}
@@ -123,7 +123,7 @@ abbrev folding : tie.Start → Folding
 folding s = fold_steps (task s) (steps_in (split_task (task s)) (words s))
 
 none-bad : (g : tie.In_default-bad) → let s = from g.before in
-    bad_step (split_task (task s)) (words s) ≡ none
+    bad_step (split_task (task s)) (words s) ≡ None
 unfolding bad_step_found
 none-bad g = sym (found g.before) ∙ ap bad_step_found g.in_default-bad.is
 

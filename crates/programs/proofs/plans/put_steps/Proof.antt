@@ -2,7 +2,7 @@
 -- and where each is one the blocks are printed.
 use Rattle.programs.proofs.plans.put_steps.Tie as tie
 use mathlib.Core.Path.{◌≡◌, sym, ◌∙◌, ap}
-use mathlib.Core.Option.{none}
+use Rattle.std.specs.Prelude.{None}
 use Rattle.task.specs.Table.{task_of}
 use Rattle.task.specs.Run.{bad_step, bad_step_found}
 use Rattle.programs.proofs.Printed.{prints-same}
@@ -14,7 +14,7 @@ use Rattle.programs.proofs.plans.put_steps.Statement.{statement}
 abbrev start : tie.In_default → tie.Start
 start g = g.before.before.before.before.before
 
-good : (g : tie.In_default) → bad_step (task_of (start g).args.table.now) (start g).args.steps.now ≡ none
+good : (g : tie.In_default) → bad_step (task_of (start g).args.table.now) (start g).args.steps.now ≡ None
 unfolding bad_step_found
 good g = sym g.bad_step-bad.ensures ∙ ap bad_step_found g.in_default.is
 

@@ -4,7 +4,7 @@
 use borrow.Author.Rules.{rules}
 use Prim.Native.Nat.{ℕ, ◌-◌, ◌≤◌, ◌<◌}
 use mathlib.Core.Path.{◌≡◌, sym, ◌∙◌, ap}
-use mathlib.Core.Option.{some}
+use Rattle.std.specs.Prelude.{Some}
 use native.Mathlib.Omega.{arith}
 use lib.ListN.{length}
 use Rattle.task.specs.Limits.{most_atoms, most_schema_atoms}
@@ -71,7 +71,7 @@ lower c = c.in-Pair.a
 abbrev higher : At-pair → ℕ
 higher c = c.in-Pair.b
 
-is-pair : (c : At-pair) → pair_found c.first_pair.result ≡ some (pair (lower c) (higher c))
+is-pair : (c : At-pair) → pair_found c.first_pair.result ≡ Some (pair (lower c) (higher c))
 unfolding pair_found
 is-pair c = ap pair_found c.in-Pair.is
 

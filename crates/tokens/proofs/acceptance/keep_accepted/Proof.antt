@@ -6,7 +6,7 @@ use Prim.Native.Nat.{ℕ}
 use mathlib.Core.Path.{◌≡◌, sym, ◌∙◌, ap}
 use mathlib.Core.Bool.{true}
 use mathlib.Core.List.{List}
-use mathlib.Core.Option.{none}
+use Rattle.std.specs.Prelude.{None}
 use lib.ListN.{length}
 use borrow.Author.Rules.{rules}
 use borrow.Author.Tests.{not-true, not-false}
@@ -46,7 +46,7 @@ keeper d = d.before
 abbrev task : tie.In_default → Task
 task d = task_of (words (keeper d))
 
-none-circular : (d : tie.In_default) → circular_at (task d) ≡ none
+none-circular : (d : tie.In_default) → circular_at (task d) ≡ None
 unfolding circular_told
 none-circular d = sym (keeper d).keep_parts-circular.ensures.0 ∙ ap circular_told d.in_default.is
 
@@ -61,7 +61,7 @@ asker p = p.before
 abbrev settled : tie.After-first_parted-parted → tie.In_default
 settled f = f.before
 
-none-parted : (p : tie.In_default-parted) → parted_at (task (settled (asker p))) ≡ none
+none-parted : (p : tie.In_default-parted) → parted_at (task (settled (asker p))) ≡ None
 unfolding parted_told
 none-parted p = sym (asker p).first_parted-parted.ensures ∙ ap parted_told p.in_default-parted.is
 
