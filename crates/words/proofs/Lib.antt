@@ -12,5 +12,6 @@ pub mod SetMembers
 pub mod LowestMembers
 pub mod SetLoops
 pub mod Loops
+pub mod Chains
 pub mod Quarters
 pub mod Comparing

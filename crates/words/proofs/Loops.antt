@@ -3,13 +3,12 @@
 -- index that doesn't decide (`-more`), and says what is answered where one does (`-fails`, `-found`), and at the end
 -- (`-ends`). In a function's proof `search all-ends` and the like find the invariant and what was tested.
 use Prim.Native.Nat.{ℕ, zero, suc, ◌+◌, ◌-◌, ◌≤◌, ◌<◌}
-use mathlib.Core.Path.{◌≡◌, refl, sym, ◌∙◌, ap, subst}
+use mathlib.Core.Path.{◌≡◌, refl, sym, ◌∙◌, ap}
 use mathlib.Core.Bool.{Bool, true, false, not, ◌&&◌, ◌||◌}
 use mathlib.Core.List.{List, ◌∷◌, map}
-use native.Mathlib.Decide.{dec_le}
 use native.Mathlib.Omega.{arith}
 use native.Mathlib.Numerals.{add-one}
-use lib.ListN.{length, get_or, take}
+use lib.ListN.{length, get_or}
 use lib.Dec.{eqb}
 use borrow.Author.Count.{below_more}
 use borrow.Author.Tests.{not-true, not-false}
@@ -18,7 +17,6 @@ use Rattle.words.specs.Words.{words_at}
 use Rattle.words.specs.Sets.{member}
 use Rattle.words.proofs.Lists.{false-if, both-ft, any-in, up_from-in, tabulate}
 use Rattle.words.proofs.Ranges.{range-step, range-done, all_map, any-map, any-joins, any-joined}
-use Rattle.words.proofs.Words.{words_at-take}
 use Rattle.words.proofs.BitSets.{member-zero}
 use Rattle.words.proofs.Sums.{eqb-turn}
 
@@ -85,14 +83,6 @@ pub run_more : (P : ℕ → Type 0) {from i : ℕ} → ((k : ℕ) → from ≤ k
     (k : ℕ) → from ≤ k → k < i + 1 → P k
 run_more P {from} {i} h here k a l =
     below_more (λ j. from ≤ j → P j) i (λ j m b. h j b m) (λ _. here) k l a
-
--- the same, downwards
-pub run-before : (P : ℕ → Type 0) {i to : ℕ} → ((k : ℕ) → i ≤ k → k < to → P k) → P (i - 1) →
-    (k : ℕ) → i - 1 ≤ k → k < to → P k
-run-before P {i} h here k a l = elim (dec_le i k) [
-  | yes b ↦ h k b l
-  | no b ↦ let e : i - 1 ≡ k = omega arith in subst P e here
-]
 
 -- ---- a set that grows by what each index brings
 pub record SetLeft (p : ℕ → ℕ → Bool) (e : ℕ) (whole : ℕ → Bool) (set i : ℕ) : Type 0 where
@@ -198,33 +188,6 @@ module _ (p : ℕ → Bool) (w : List ℕ) (i n : ℕ) where
         (all_map p (λ k. get_or w k 0) (map (λ k. i + k) (up_from 0 (n - 0))) ∙
         all_map (λ k. p (get_or w k 0)) (λ k. i + k) (up_from 0 (n - 0)));
   }
-
-  pub any-words : AnyLeft (λ k. p (get_or w (i + k) 0)) n (any p (words_at w i n)) 0
-  any-words = record {
-    left = ap (any p) (words-moved w i n) ∙
-        (any-map p (λ k. get_or w k 0) (map (λ k. i + k) (up_from 0 (n - 0))) ∙
-        any-map (λ k. p (get_or w k 0)) (λ k. i + k) (up_from 0 (n - 0)));
-  }
-
--- the first numbers of a list
-module _ (p : ℕ → Bool) (xs : List ℕ) (n : ℕ) (l : n ≤ length xs) where
-  pub all_first : AllLeft (λ k. p (get_or xs k 0)) n (all p (take n xs)) 0
-  unfolding words_at
-  all_first =
-      let z : n ≡ n - 0 = omega arith in
-      record {
-        left = ap (all p) (sym (words_at-take xs n l)) ∙
-            (all_map p (λ k. get_or xs k 0) (up_from 0 n) ∙ ap (λ (m : ℕ). all (λ k. p (get_or xs k 0)) (up_from 0 m)) z);
-      }
-
-  pub any-first : AnyLeft (λ k. p (get_or xs k 0)) n (any p (take n xs)) 0
-  unfolding words_at
-  any-first =
-      let z : n ≡ n - 0 = omega arith in
-      record {
-        left = ap (any p) (sym (words_at-take xs n l)) ∙
-            (any-map p (λ k. get_or xs k 0) (up_from 0 n) ∙ ap (λ (m : ℕ). any (λ k. p (get_or xs k 0)) (up_from 0 m)) z);
-      }
 
 -- a test that is given by what it says at each index
 module _ (left p : ℕ → Bool) (e : ℕ) (step : (k : ℕ) → k < e → left k ≡ p k && left (k + 1))

@@ -2,16 +2,20 @@
 -- to one `put`; and what is put at the front of a buffer lies over it. `Going` says of a buffer that is being written
 -- what is still to come, that what was put before it and what is to come make the whole, and that the whole has room.
 use Prim.Native.Nat.{ℕ, suc, ◌+◌, ◌≤◌, ◌<◌}
-use mathlib.Core.Path.{◌≡◌, ◌∙◌, ap, refl, sym, subst}
+use mathlib.Core.Path.{◌≡◌, ◌∙◌, ap, ap₂, refl, sym, subst}
 use mathlib.Core.List.{List, [], ◌∷◌, ◌++◌, map, append_assoc, append-nil}
 use native.Mathlib.Omega.{arith}
-use lib.ListN.{length, take, drop, set, get_or, replicate, replicate-append-replicate, length-append}
-use lib.Seq.{take_at, sets-eq, length-sets, set_comm}
+use lib.ListN.{length, take, drop, set, get_or, replicate, length-append}
+use lib.ListN.{length-drop, length-replicate}
+use borrow.Rule.Slice.PartMut.{put_mid}
+use lib.Seq.{drop-drop, length-take-le, take_at, sets-eq, length-sets, set_comm}
 use Rattle.words.specs.Lists.{over, put, up_from}
 use native.Mathlib.Numerals.{add-one}
 use Rattle.words.specs.Words.{words_at}
 use Rattle.words.proofs.Lists.{map-append, up_from-last}
 use Rattle.words.specs.Putting.{Puts}
+use Rattle.words.proofs.Words.{length-words_at}
+use Rattle.words.proofs.Chains.{slice_words}
 
 pub length-put : (w : List ℕ) (at : ℕ) (xs : List ℕ) → length (put w at xs) ≡ length w
 length-put w at xs = length-sets w at xs
@@ -56,6 +60,29 @@ puts-is {w} {at} p e f ys g = record {
   place = f ∙ (p.place ∙ ap (λ (l : List ℕ). at + length l) (sym g));
 }
 
+-- a stretch of the buffer written at once, by `copy_from_slice` or `fill`
+pub puts_mid : (w : List ℕ) (at n m : ℕ) {xs ys : List ℕ} → at + n ≤ length w → m ≡ n → length xs ≡ n → ys ≡ xs →
+    Puts w at xs (put_mid at m w ys) (at + n)
+puts_mid w at n m {xs} {ys} l e f g = record {
+  words =
+      ap₂ (λ (vs us : List ℕ). take at w ++ (vs ++ us)) g
+      (drop-drop m at w ∙ ap (λ (k : ℕ). drop k w) {x = at + m} {y = at + length xs} (omega arith)) ∙
+      (sym (append_assoc (take at w) xs (drop (at + length xs) w)) ∙ sym (sets-eq xs w at (omega arith)));
+  place = ap (λ (k : ℕ). at + k) (sym f);
+}
+
+pub puts_copied : (w t : List ℕ) (at from n m k : ℕ) {ys : List ℕ} → at + n ≤ length w → from + n ≤ length t → m ≡ n →
+    k ≡ n → ys ≡ take k (drop from t) → Puts w at (words_at t from n) (put_mid at m w ys) (at + n)
+puts_copied w t at from n m k l o e f g =
+    puts_mid w at n m l e (length-words_at t from n) (g ∙ slice_words t from n k o f)
+
+pub puts_filled : (w : List ℕ) (at n m x : ℕ) {ys : List ℕ} → at + n ≤ length w → m ≡ n →
+    ys ≡ replicate (length (take m (drop at w))) x → Puts w at (replicate n x) (put_mid at m w ys) (at + n)
+puts_filled w at n m x l e g =
+    let d = length-drop at w in
+    let t = length-take-le m (drop at w) (omega arith) in
+    puts_mid w at n m l e (length-replicate n x) (g ∙ ap (λ (k : ℕ). replicate k x) (t ∙ e))
+
 -- what is put behind a run makes it longer
 pub puts_then : {w : List ℕ} {at : ℕ} {xs : List ℕ} {w₁ : List ℕ} {next : ℕ} {ys : List ℕ} {w₂ : List ℕ} {end : ℕ} →
     Puts w at xs w₁ next → Puts w₁ next ys w₂ end → (zs : List ℕ) → zs ≡ xs ++ ys → Puts w at zs w₂ end
@@ -79,24 +106,12 @@ pub puts-length : {w : List ℕ} {at : ℕ} {xs : List ℕ} {w₁ : List ℕ} {n
     length w₁ ≡ length w
 puts-length {w} {at} {xs} a = ap length a.words ∙ length-put w at xs
 
--- four stores
-pub puts-four : (w : List ℕ) (at a b c d : ℕ) →
-    Puts w at (a ∷ b ∷ c ∷ d ∷ []) (set (set (set (set w at a) (at + 1) b) (at + 2) c) (at + 3) d) (at + 4)
-puts-four w at a b c d =
-    let e₁ : at + 1 ≡ suc at = omega arith in
-    let e₂ : at + 2 ≡ suc (suc at) = omega arith in
-    let e₃ : at + 3 ≡ suc (suc (suc at)) = omega arith in
-    record { words = λ i. set (set (set (set w at a) (e₁ i) b) (e₂ i) c) (e₃ i) d; place = refl }
-
 -- ---- runs one word longer
 pub words_more : (w : List ℕ) (i k : ℕ) → words_at w i (k + 1) ≡ words_at w i k ++ (get_or w (i + k) 0 ∷ [])
 unfolding words_at
 words_more w i k =
     ap (λ (n : ℕ). map (λ k. get_or w k 0) (up_from i n)) (add-one k) ∙
     (ap (map (λ k. get_or w k 0)) (up_from-last i k) ∙ map-append (λ k. get_or w k 0) (up_from i k) ((i + k) ∷ []))
-
-pub same_more : (k x : ℕ) → replicate (k + 1) x ≡ replicate k x ++ (x ∷ [])
-same_more k x = sym (replicate-append-replicate k 1 x)
 
 pub puts-append : {w v u : List ℕ} {at next end : ℕ} {xs ys : List ℕ} →
     Puts w at xs v next → Puts v next ys u end → Puts w at (xs ++ ys) u end
@@ -166,7 +181,3 @@ module _ {w whole v : List ℕ} {at next : ℕ} where
   -- one byte more
   pub byte-room : (x : ℕ) (zs : List ℕ) → Going w at whole (x ∷ zs) v next → next < length v
   byte-room x zs g = let r = going-room (x ∷ []) zs g in omega arith
-
-  pub going-byte : {x : ℕ} {zs : List ℕ} (end : ℕ) → end ≡ next + 1 →
-      Going w at whole (x ∷ zs) v next → Going w at whole zs (set v next x) end
-  going-byte {x} end e g = going_on {ys = x ∷ []} g (record { words = refl; place = e })

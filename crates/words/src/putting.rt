@@ -4,19 +4,13 @@ ghost use Rattle.std.specs.Prelude.{◌+◌, ◌≤◌, [], ◌∷◌, length, r
 ghost use Rattle.words.specs.Words.{words_at};
 ghost use Rattle.words.specs.Putting.{Puts};
 
-use crate::runs::word_at;
-
 // `count` words of a table, from a place on.
 pub fn copy(table: &[u16], from: usize, count: usize, out: &mut [u16], at: usize) -> usize
     requires count_in_bounds { from + count ≤ length table.now }
     requires count_in_bounds_2 { at + count ≤ length out.old }
     ensures { Puts out.old at (words_at table.now from count) out.new result }
 {
-    let mut k = 0;
-    while k < count {
-        out[at + k] = word_at(table, from + k);
-        k += 1;
-    }
+    out[at..at + count].copy_from_slice(&table[from..from + count]);
     at + count
 }
 
@@ -25,11 +19,7 @@ pub fn fill(out: &mut [u16], at: usize, count: usize, word: u16) -> usize
     requires { at + count ≤ length out.old }
     ensures { Puts out.old at (replicate count word) out.new result }
 {
-    let mut k = 0;
-    while k < count {
-        out[at + k] = word;
-        k += 1;
-    }
+    out[at..at + count].fill(word);
     at + count
 }
 
@@ -38,9 +28,6 @@ pub fn four(out: &mut [u16], at: usize, a: u16, b: u16, c: u16, d: u16) -> usize
     requires { at + 4 ≤ length out.old }
     ensures { Puts out.old at (a ∷ b ∷ c ∷ d ∷ []) out.new result }
 {
-    out[at] = a;
-    out[at + 1] = b;
-    out[at + 2] = c;
-    out[at + 3] = d;
+    out[at..at + 4].copy_from_slice(&[a, b, c, d]);
     at + 4
 }

@@ -7,7 +7,7 @@ ghost use Rattle.words.specs.Words.{word_bound, words_at, zeros_at};
 pub fn wide(word: u16) -> usize
     ensures { result ≡ word }
 {
-    word as usize
+    usize::from(word)
 }
 
 // The word at an index.
@@ -24,7 +24,7 @@ pub fn word(table: &[u16], i: usize) -> usize
     ensures value { result ≡ get_or table.now i 0 }
     ensures upper_bound { result < word_bound }
 {
-    table[i] as usize
+    usize::from(table[i])
 }
 
 // Whether the words from an index to another are all 0. All are joined before one is tested, so that the machine can
@@ -34,10 +34,8 @@ pub fn zeros(table: &[u16], from: usize, to: usize) -> bool
     ensures { result ≡ zeros_at table.now from (to - from) }
 {
     let mut joined = 0;
-    let mut i = from;
-    while i < to {
+    for i in from..to {
         joined |= table[i];
-        i += 1;
     }
     joined == 0
 }
@@ -52,11 +50,9 @@ fn quarters_zero(table: &[u16], from: usize, quarter: usize) -> bool
     let third = second + quarter;
     let fourth = third + quarter;
     let mut joined = 0;
-    let mut k = 0;
-    while k < quarter {
+    for k in 0..quarter {
         let front = word_at(table, from + k) | word_at(table, second + k);
         joined |= front | word_at(table, third + k) | word_at(table, fourth + k);
-        k += 1;
     }
     joined == 0
 }
@@ -78,14 +74,7 @@ pub fn all_below(table: &[u16], from: usize, to: usize, bound: usize) -> bool
     requires { to ≤ length table.now }
     ensures { result ≡ all (λ a. ltb a bound) (words_at table.now from (to - from)) }
 {
-    let mut i = from;
-    while i < to {
-        if bound <= word(table, i) {
-            return false;
-        }
-        i += 1;
-    }
-    true
+    (from..to).all(|i| word(table, i) < bound)
 }
 
 // Whether n words at one place equal those at another.
@@ -94,14 +83,7 @@ pub fn same_words(table: &[u16], left: usize, right: usize, n: usize) -> bool
     requires n_in_bounds_2 { right + n ≤ length table.now }
     ensures { result ≡ eq_list (words_at table.now left n) (words_at table.now right n) }
 {
-    let mut k = 0;
-    while k < n {
-        if word(table, left + k) != word(table, right + k) {
-            return false;
-        }
-        k += 1;
-    }
-    true
+    table[left..left + n] == table[right..right + n]
 }
 
 // Whether n words at one place come before those at another, word by word.
@@ -110,16 +92,7 @@ pub fn less_words(table: &[u16], left: usize, right: usize, n: usize) -> bool
     requires n_in_bounds_2 { right + n ≤ length table.now }
     ensures { result ≡ less_list (words_at table.now left n) (words_at table.now right n) }
 {
-    let mut k = 0;
-    while k < n {
-        let x = word(table, left + k);
-        let y = word(table, right + k);
-        if x != y {
-            return x < y;
-        }
-        k += 1;
-    }
-    false
+    table[left..left + n] < table[right..right + n]
 }
 
 // Whether a word stands among n words.
@@ -127,10 +100,5 @@ pub fn has_word(table: &[u16], at: usize, n: usize, word: u16) -> bool
     requires { at + n ≤ length table.now }
     ensures { result ≡ any (λ y. eqb word y) (words_at table.now at n) }
 {
-    for k in 0..n {
-        if word == table[at + k] {
-            return true;
-        }
-    }
-    false
+    table[at..at + n].contains(&word)
 }

@@ -90,7 +90,7 @@ pub fn meet(a: u64, b: u64) -> bool
 pub fn held(word: u16) -> u64
     ensures { result ≡ word }
 {
-    word as u64
+    u64::from(word)
 }
 
 // The numbers in either set.
@@ -135,12 +135,10 @@ pub fn bound(set: u64) -> usize
     ensures upper_bound { result ≤ word_bits }
 {
     let mut most = 0;
-    let mut k = 0;
-    while k < WORD_BITS {
+    for k in 0..WORD_BITS {
         if has(set, k) {
             most = k + 1;
         }
-        k += 1;
     }
     most
 }
@@ -158,14 +156,7 @@ pub fn has_all(mask: u64, n: usize) -> bool
     requires { n ≤ 64 }
     ensures { result ≡ all (member mask) (up_to n) }
 {
-    let mut x = 0;
-    while x < n {
-        if !has(mask, x) {
-            return false;
-        }
-        x += 1;
-    }
-    true
+    (0..n).all(|x| has(mask, x))
 }
 
 // A set with the words from an index to another in it too.
@@ -176,10 +167,8 @@ pub fn joined_words(table: &[u16], mask: u64, from: usize, to: usize) -> u64
         member result x ≡ member mask x || any (λ y. eqb x y) (words_at table.now from (to - from)) }
 {
     let mut set = mask;
-    let mut i = from;
-    while i < to {
+    for i in from..to {
         set = with(set, word(table, i));
-        i += 1;
     }
     set
 }
