@@ -1,6 +1,6 @@
 -- What the tests of one atom, and of two, say of their words: the equations that the code of each test shows.
 use Prim.Native.Nat.{ℕ, ◌+◌, ◌-◌, ◌≤◌, ◌<◌}
-use mathlib.Core.Path.{◌≡◌, refl, sym, ◌∙◌, ap, ap₂}
+use mathlib.Core.Path.{◌≡◌, sym, ◌∙◌, ap, ap₂}
 use mathlib.Core.Bool.{Bool, true, false, ◌&&◌, ◌||◌}
 use mathlib.Core.List.{List}
 use native.Mathlib.Omega.{arith}
@@ -10,10 +10,10 @@ use borrow.Author.Tests.{ltb-true, eqb-true, lt-ltb, le-ltb, eq-eqb, ne_eqb}
 use Rattle.words.specs.Lists.{all, up_from, eq_list, less_list}
 use Rattle.task.specs.Limits.{head_words}
 use Rattle.task.specs.Layout.{head_in, arity_in, atom_base}
-use Rattle.task.specs.Task.{args_fit, same_atom, fact_less, ascending}
+use Rattle.task.specs.Task.{args_fit, same_atom, fact_less}
 use Rattle.words.specs.Words.{words_at, zeros_at}
 use Rattle.task.specs.Table.{atom_in, schema_number_in, fact_in, arities_in}
-use Rattle.task.specs.WordTests.{unused_zero, arg_words_fit, fact_words_fit, facts_words_fit, facts_in}
+use Rattle.task.specs.WordTests.{unused_zero, arg_words_fit, fact_words_fit}
 use Rattle.words.proofs.Lists.{and_left, and_right, false-if}
 use Rattle.words.proofs.Ranges.{or-false, all_map, all_from}
 use Rattle.words.proofs.Words.{length-words_at, at-words_at}
@@ -118,35 +118,7 @@ module _ (w : List ℕ) (r i : ℕ) where
   abbrev parted : Bool
   parted = eqb (atom_in w i).part 0
 
-  pub fact-number : (schema_number_in w i ≡ 0 → ⊥) → false ≡ fact_words_fit w r i
-  unfolding fact_words_fit
-  fact-number bad = sym (false-if (fact_words_fit w r i) (λ h. bad (eqb-true _ _ (and_left numbered _ h))))
-
-  pub fact-role : ((atom_in w i).role ≡ r → ⊥) → false ≡ fact_words_fit w r i
-  unfolding fact_words_fit
-  fact-role bad =
-      sym (false-if (fact_words_fit w r i) (λ h. bad (eqb-true _ _ (and_left roled _ (and_right numbered _ h)))))
-
-  pub fact-part : ((atom_in w i).part ≡ 0 → ⊥) → false ≡ fact_words_fit w r i
-  unfolding fact_words_fit
-  fact-part bad =
-      sym (false-if (fact_words_fit w r i)
-      (λ h. bad (eqb-true _ _ (and_left parted _ (and_right roled _ (and_right numbered _ h))))))
-
-  pub fact-args : schema_number_in w i ≡ 0 → (atom_in w i).role ≡ r → (atom_in w i).part ≡ 0 →
-      arg_words_fit w (head_in w).objects i ≡ fact_words_fit w r i
-  unfolding fact_words_fit
-  fact-args n m p =
-      let fit = arg_words_fit w (head_in w).objects i in
-      sym (ap₂ (λ (x y : Bool). x && (y && (parted && fit))) (eq-eqb _ _ n) (eq-eqb _ _ m) ∙
-      ap (λ (x : Bool). x && fit) (eq-eqb _ _ p))
-
   pub fact-known : fact_words_fit w r i ≡ true → (atom_in w i).pred < (head_in w).predicates
   unfolding fact_words_fit
   fact-known h =
       args-fit-known w (head_in w).objects i (and_right parted _ (and_right roled _ (and_right numbered _ h)))
-
-pub facts-words : (w : List ℕ) (r i n : ℕ) → facts_words_fit w r i n ≡ all (fact_words_fit w r) (up_from i n) &&
-    ascending (facts_in w i n)
-unfolding facts_words_fit
-facts-words w r i n = refl

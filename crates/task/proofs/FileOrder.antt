@@ -4,14 +4,15 @@ use mathlib.Core.Path.{◌≡◌, sym, ◌∙◌, ap, subst}
 use mathlib.Core.Bool.{Bool, true, false, ◌&&◌}
 use mathlib.Core.List.{List}
 use native.Mathlib.Omega.{arith}
-use native.Mathlib.Nat.{mul-suc, mul-le-mul_left}
-use lib.ListN.{length, get_or}
+use lib.ListN.{get_or}
 use lib.Dec.{ltb, leb}
 use borrow.Author.Tests.{ltb-true, leb-true, lt-ltb, le-ltb, le-leb, lt-leb}
 use Rattle.task.specs.Layout.{pairs_base, rows_base, pair_base, atom_base}
 use Rattle.task.specs.Limits.{pair_size, atom_size}
 use Rattle.task.specs.Table.{pair_number_in, schema_number_in}
-use Rattle.task.specs.WordTests.{in_file_order}
+use Rattle.std.specs.Prelude.{Option, None, Some}
+use Rattle.std.specs.Option.{MatchOption, unwrap_or}
+use Rattle.task.specs.WordTests.{in_file_order, RunOf}
 use Rattle.words.proofs.Lists.{and_left, and_right, and_both, both-ft, false-if}
 use Rattle.words.proofs.Ranges.{all-below, below_all}
 
@@ -89,10 +90,12 @@ number-next number i before e =
     let z : i ≡ i + 1 - 1 = omega arith in
     ap (λ (n : ℕ). leb n (number (i + 1))) (e ∙ ap number z)
 
--- the first word of row i lies in words that hold n rows from a base on
-pub row_inside : (w : List ℕ) (base size i n : ℕ) → (1 ≤ size) × (base + size * n ≤ length w) → i < n →
-    base + size * i < length w
-row_inside w base size i n (some, fits) l =
-    let a : size * suc i ≤ size * n = mul-le-mul_left size l in
-    let b = mul-suc size i in
-    omega arith
+-- the rows of a schema end before the first that names another, or with all rows
+pub run-found : (number : ℕ → ℕ) (n s start : ℕ) (r : Option ℕ) → start ≤ n →
+    MatchOption r ((k : ℕ) → start ≤ k → k < n → number k ≡ s)
+    (λ i. (start ≤ i) × (i < n) × (number i ≡ s → ⊥) × ((k : ℕ) → start ≤ k → k < i → number k ≡ s)) →
+    RunOf number n s start (unwrap_or r n)
+run-found number n s start None l h =
+    record { from = l; to = omega arith; inside = h; beyond = λ m. absurd (omega arith) }
+run-found number n s start (Some i) l (a, b, other, h) =
+    record { from = a; to = omega arith; inside = h; beyond = λ m. other }

@@ -1,81 +1,15 @@
--- Words that move by a row of five, are written or cleared, one store a turn: what holds between turns, and after one.
--- A store at i changes the word at i alone, so each fact about another word stays.
-use Prim.Native.Nat.{ℕ, ◌+◌, ◌-◌, ◌/◌, ◌%◌, ◌≤◌, ◌<◌}
-use mathlib.Core.Path.{◌≡◌, refl, sym, ◌∙◌, ap, subst}
-use mathlib.Core.List.{List, ◌++◌}
+-- Words that are written one after another, or cleared. A store at i changes the word at i alone, so each fact about
+-- another word stays.
+use Prim.Native.Nat.{ℕ, ◌+◌, ◌-◌, ◌/◌, ◌%◌, ◌≤◌}
+use mathlib.Core.Path.{◌≡◌, ◌∙◌, ap}
+use mathlib.Core.List.{List, ◌++◌, append-nil}
 use native.Mathlib.Omega.{arith}
-use native.Mathlib.Decide.{dec_lt}
-use lib.ListN.{
-  length,
-  get_or,
-  set,
-  take,
-  replicate,
-  length-set,
-  length-append,
-  length-replicate,
-  get_or-replicate,
-  get_or-append,
-}
-use lib.Seq.{get_or-set_same, get_or-set_other, get_or-take, length-take-le, get_or-append-add, ext_get_or}
+use lib.ListN.{length, get_or, set, take, drop, replicate, length-set, length-drop}
+use lib.Seq.{get_or-set_same, get_or-set_other, length-take-le}
+use borrow.Rule.Slice.PartMut.{put_mid, mid_of}
+use Rattle.std.proofs.lemmas.List.{drop_all}
 use Rattle.words.specs.Lists.{padded}
 use Rattle.task.specs.Records.{Written}
-
--- words a to i - 1 have come down
-pub record Down (w : List ℕ) (a i : ℕ) (out : List ℕ) : Type 0 where
-  pub size : length out ≡ length w
-  pub before : (j : ℕ) → j < a → get_or out j 0 ≡ get_or w j 0
-  pub moved : (j : ℕ) → a ≤ j → j < i → get_or out j 0 ≡ get_or w (j + 5) 0
-  pub behind : (j : ℕ) → i ≤ j → get_or out j 0 ≡ get_or w j 0
-
-pub down-none : (w : List ℕ) (a : ℕ) → Down w a a w
-down-none w a = record {
-  size = refl;
-  before = λ j l. refl;
-  moved = λ j l m. absurd (omega arith);
-  behind = λ j l. refl;
-}
-
-pub down-more : (w : List ℕ) (a i : ℕ) (out : List ℕ) → a ≤ i → i < length w → Down w a i out →
-    Down w a (i + 1) (set out i (get_or out (i + 5) 0))
-down-more w a i out l n d = record {
-  size = length-set out i (get_or out (i + 5) 0) ∙ d.size;
-  before = λ j m. get_or-set_other out i j _ 0 (λ e. omega arith) ∙ d.before j m;
-  moved = λ j m k. elim (dec_lt j i) [
-    | yes x ↦ get_or-set_other out i j _ 0 (λ e. omega arith) ∙ d.moved j m x
-    | no x ↦
-        let e : i ≡ j = omega arith in
-        subst (λ (k : ℕ). get_or (set out i (get_or out (i + 5) 0)) k 0 ≡ get_or w (k + 5) 0) e
-        (get_or-set_same out i (get_or out (i + 5) 0) 0 (let z = d.size in omega arith) ∙ d.behind (i + 5) (omega arith))
-  ];
-  behind = λ j m. get_or-set_other out i j _ 0 (λ e. omega arith) ∙ d.behind j (omega arith);
-}
-
--- words i to b - 1 have gone up
-pub record Up (w : List ℕ) (i b : ℕ) (out : List ℕ) : Type 0 where
-  pub size : length out ≡ length w
-  pub below : (j : ℕ) → j < i + 5 → get_or out j 0 ≡ get_or w j 0
-  pub moved : (j : ℕ) → i ≤ j → j < b → get_or out (j + 5) 0 ≡ get_or w j 0
-  pub behind : (j : ℕ) → b + 5 ≤ j → get_or out j 0 ≡ get_or w j 0
-
-pub up_none : (w : List ℕ) (b : ℕ) → Up w b b w
-up_none w b = record { size = refl; below = λ j l. refl; moved = λ j l m. absurd (omega arith); behind = λ j l. refl }
-
--- with i for the turn's own index, one less than before it
-pub up_more : (w : List ℕ) (i h b : ℕ) (out : List ℕ) → h ≡ i + 1 → i < b → i + 5 < length w → Up w h b out →
-    Up w i b (set out (i + 5) (get_or out i 0))
-up_more w i h b out e v n u = record {
-  size = length-set out (i + 5) (get_or out i 0) ∙ u.size;
-  below = λ j m. get_or-set_other out (i + 5) j _ 0 (λ e. omega arith) ∙ u.below j (omega arith);
-  moved = λ j m k. elim (dec_lt i j) [
-    | yes x ↦ get_or-set_other out (i + 5) (j + 5) _ 0 (λ e. omega arith) ∙ u.moved j (omega arith) k
-    | no x ↦
-        let q : i ≡ j = omega arith in
-        subst (λ (k : ℕ). get_or (set out (i + 5) (get_or out i 0)) (k + 5) 0 ≡ get_or w k 0) q
-        (get_or-set_same out (i + 5) (get_or out i 0) 0 (let z = u.size in omega arith) ∙ u.below i (omega arith))
-  ];
-  behind = λ j m. get_or-set_other out (i + 5) j _ 0 (λ e. omega arith) ∙ u.behind j m;
-}
 
 -- ---- five words written one after another
 pub written : (w : List ℕ) (a number : ℕ) → a + 5 ≤ length w →
@@ -121,43 +55,12 @@ written w a number l =
     }
 
 -- ---- zeros to the end
--- words from a to i - 1 are 0, those before a stay
-pub record Cleared (w : List ℕ) (a i : ℕ) (out : List ℕ) : Type 0 where
-  pub size : length out ≡ length w
-  pub before : (j : ℕ) → j < a → get_or out j 0 ≡ get_or w j 0
-  pub zeros : (j : ℕ) → a ≤ j → j < i → get_or out j 0 ≡ 0
-
-pub clear_none : (w : List ℕ) (a : ℕ) → Cleared w a a w
-clear_none w a = record { size = refl; before = λ j l. refl; zeros = λ j l m. absurd (omega arith) }
-
-pub clear-more : (w : List ℕ) (a i : ℕ) (out : List ℕ) → a ≤ i → i < length w → Cleared w a i out →
-    Cleared w a (i + 1) (set out i 0)
-clear-more w a i out l n c = record {
-  size = length-set out i 0 ∙ c.size;
-  before = λ j m. get_or-set_other out i j 0 0 (λ e. omega arith) ∙ c.before j m;
-  zeros = λ j m k. elim (dec_lt j i) [
-    | yes x ↦ get_or-set_other out i j 0 0 (λ e. omega arith) ∙ c.zeros j m x
-    | no x ↦
-        let e : i ≡ j = omega arith in
-        subst (λ (k : ℕ). get_or (set out i 0) k 0 ≡ 0) e (get_or-set_same out i 0 0 (let z = c.size in omega arith))
-  ];
-}
-
-pub cleared-padded : (w : List ℕ) (a i : ℕ) (out : List ℕ) → a ≤ length w → length w ≤ i → Cleared w a i out →
-    out ≡ padded (length w) (take a w)
+pub filled-padded : (w ys : List ℕ) (a : ℕ) → a ≤ length w → ys ≡ replicate (length (mid_of a (length w - a) w)) 0 →
+    put_mid a (length w - a) w ys ≡ padded (length w) (take a w)
 unfolding padded
-cleared-padded w a i out l m c =
-    let t : length (take a w) ≡ a = length-take-le a w l in
-    let zs : List ℕ = replicate (length w - length (take a w)) 0 in
-    let n = length-replicate {A = ℕ} (length w - length (take a w)) 0 in
-    let p = length-append (take a w) zs in
-    let z = c.size in
-    ext_get_or 0 out (take a w ++ zs) (omega arith) (λ j k. elim (dec_lt j a) [
-      | yes x ↦ c.before j x ∙ (sym (get_or-take a w j 0 x) ∙ sym (get_or-append (take a w) zs 0 j (omega arith)))
-      | no x ↦
-          let q : length (take a w) + (j - a) ≡ j = omega arith in
-          c.zeros j (omega arith) (omega arith) ∙
-          sym (ap (λ (y : ℕ). get_or (take a w ++ zs) y 0) (sym q) ∙
-          (get_or-append-add (take a w) zs (j - a) 0 ∙
-          get_or-replicate (length w - length (take a w)) (j - a) 0 0 (omega arith)))
-    ])
+filled-padded w ys a l e =
+    let n = length-drop a w in
+    let m : length (mid_of a (length w - a) w) ≡ length w - length (take a w) =
+    omega (arith, length-take-le (length w - a) (drop a w) (omega arith), length-take-le a w l) in
+    ap (λ (zs : List ℕ). take a w ++ (ys ++ zs)) (drop_all (length w - a) (drop a w) (omega arith)) ∙
+    ap (λ (zs : List ℕ). take a w ++ zs) (append-nil ys ∙ (e ∙ ap (λ (k : ℕ). replicate k 0) m))

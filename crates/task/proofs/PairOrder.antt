@@ -3,16 +3,19 @@
 -- of each test of pairs shows.
 use Prim.Native.Nat.{ℕ, ◌+◌, ◌-◌, ◌≤◌, ◌<◌}
 use mathlib.Core.Path.{◌≡◌, refl, sym, ◌∙◌, ap, ap₂, subst}
-use mathlib.Core.Bool.{Bool, true, false, ◌&&◌, ◌||◌}
+use mathlib.Core.Bool.{Bool, true, false, cond, ◌&&◌, ◌||◌}
 use mathlib.Core.List.{List, [], ◌∷◌, map}
 use mathlib.Core.Logic.{◌⊎◌, inl, inr}
 use native.Mathlib.Omega.{arith}
 use lib.Dec.{eqb, ltb}
 use borrow.Author.Tests.{ltb-true, eqb-true, lt-ltb, le-ltb, eq-eqb, ne_eqb}
-use Rattle.words.specs.Lists.{all, filter, keep_if}
+use Rattle.std.specs.Prelude.{Some}
+use Rattle.std.proofs.Common.{Less, Equal, Greater}
+use Rattle.std.specs.Ordering.{is_some_and, is_lt, partial_ordering_then, partial_lt, nat_cmp}
+use Rattle.words.specs.Lists.{filter, keep_if}
 use Rattle.task.specs.Task.{Pair, pair_fits, pair_less, pairs_ascend}
 use Rattle.task.specs.Table.{pair_in}
-use Rattle.task.specs.WordTests.{pairs_in, pairs_fit}
+use Rattle.task.specs.WordTests.{pairs_in}
 use Rattle.words.proofs.Lists.{and_left, and_right, and_both, or_cases, or_left, or_right, In, here, there}
 use Rattle.words.proofs.Lists.{in-empty, filter-in, map-in}
 use Rattle.words.proofs.Ranges.{or-false}
@@ -124,12 +127,25 @@ module _ (q r : Pair) where
   less-higher e =
       sym (ap₂ (λ (x y : Bool). x || (y && less_higher)) (le-ltb q.lower r.lower (omega arith)) (eq-eqb _ _ e))
 
-pub pairs-fit : (params : ℕ) (qs : List Pair) → pairs_fit params qs ≡ all (pair_fits params) qs && pairs_ascend qs
-unfolding pairs_fit
-pairs-fit params qs = refl
+-- the order of tuples
+tuple-less : (a e b f : Bool) →
+    is_some_and is_lt (partial_ordering_then (Some (cond a Less (cond e Equal Greater)))
+    (Some (cond b Less (cond f Equal Greater)))) ≡ a || (e && b)
+tuple-less true e b f = refl
+tuple-less false true true f = refl
+tuple-less false true false true = refl
+tuple-less false true false false = refl
+tuple-less false false b f = refl
 
--- "strictly ascending" is a test of each pair beside the next
-pub pairs_start : (w : List ℕ) (first e : ℕ) → AllLeft (λ k. pair_less (pair_in w k) (pair_in w (k + 1))) (e - 1)
-    (pairs_ascend (pairs_in w first (e - first))) first
+pub pair-tuples : (q r : Pair) →
+    partial_lt {X = ℕ × ℕ} (λ x y. partial_ordering_then (Some (nat_cmp x.0 y.0)) (Some (nat_cmp x.1 y.1)))
+    (q.lower, q.higher) (r.lower, r.higher) ≡ pair_less q r
+unfolding pair_less
+pair-tuples q r =
+    tuple-less (ltb q.lower r.lower) (eqb q.lower r.lower) (ltb q.higher r.higher) (eqb q.higher r.higher)
+
+-- "strictly ascending" is a test of each pair beside the one before
+pub pairs_start : (w : List ℕ) (first e : ℕ) → AllLeft (λ k. pair_less (pair_in w (k - 1)) (pair_in w k)) e
+    (pairs_ascend (pairs_in w first (e - first))) (first + 1)
 unfolding pairs_ascend
 pairs_start w first e = neighbours-start pair_less pairs_ascend refl (λ q. refl) (λ q r qs. refl) (pair_in w) first e

@@ -29,11 +29,6 @@ module _ (w : List ℕ) (e : ℕ) where
   abbrev pub SeenFrom : ℕ → List ℕ → Type 0
   SeenFrom i seen = (j : ℕ) → i ≤ j → j < e → member (get_or seen (atom_in w j).role 0) (bit_in j) ≡ true
 
-  pub seen-behind : (i r : ℕ) (seen : List ℕ) → 0 < i → SeenFrom i seen → r ≡ (atom_in w (i - 1)).role →
-      HoldsBehind w (i - 1) e (get_or seen r 0)
-  seen-behind i r seen k h q j l m s =
-      ap (λ (n : ℕ). member (get_or seen n 0) (bit_in j)) (q ∙ s) ∙ h j (omega arith) m
-
   pub unseen : (i behind : ℕ) → HoldsBehind w i e behind → member behind (bit_in i) ≡ false →
       false ≡ stands_again w i e
   unfolding stands_again

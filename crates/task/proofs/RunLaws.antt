@@ -3,15 +3,15 @@
 use Prim.Native.Nat.{ℕ, suc, ◌+◌, ◌-◌, ◌*◌, ◌/◌, ◌≤◌, ◌<◌}
 use mathlib.Core.Path.{◌≡◌, refl, sym, ◌∙◌, ap, ap₂, subst}
 use mathlib.Core.Bool.{Bool, true, false, not}
-use Rattle.std.specs.Prelude.{None}
+use Rattle.std.specs.Prelude.{None, Ok, Err}
+use mathlib.Core.Logic.{inl, inr}
 use mathlib.Core.List.{List, [], ◌∷◌, map}
 use native.Mathlib.Omega.{arith}
 use native.Mathlib.Numerals.{add-one}
 use lib.ListN.{length, get_or}
 use lib.Dec.{leb}
 use Rattle.task.specs.Limits.{step_size}
-use Rattle.task.specs.declared.running.Turn.{Turn}
-use Rattle.task.specs.declared.running.Turn.TheVariants as turned
+use Rattle.task.specs.declared.refusals.Reason.{Reason}
 use Rattle.words.specs.Lists.{up_to, up_from}
 use Rattle.task.specs.Task.{Fact, Task}
 use Rattle.task.specs.Table.{task_of, is_table}
@@ -33,7 +33,7 @@ use Rattle.task.specs.Run.{
   run_fitting,
   run_within,
 }
-use Rattle.task.specs.Turns.{first_atom, Starts, Turned}
+use Rattle.task.specs.Turns.{first_atom, Starts, Turned, StoppedBy}
 use Rattle.words.proofs.Lists.{in-up_to, first-none}
 use Rattle.task.proofs.TablesByIndex.{table-frame, schemas-word}
 use Rattle.task.proofs.StepSpans.{schema-known}
@@ -130,48 +130,46 @@ module _ {t : Task} {steps found : List ℕ} {n count : ℕ} {state : List ℕ} 
   fits-found : {b : Bool} → leb (length (next t s x)) (room_in state) ≡ b → leb (length (next t s x)) (room_in found) ≡ b
   fits-found e = ap (leb (length (next t s x))) (sym (room-same state found c.size)) ∙ e
 
-  pub run-turn : (m : ℕ) (out : List ℕ) {r : Turn} → i < count → length out ≡ length state →
-      Turned t x state left r out → r ≡ turned.Ran m →
+  pub run-turn : (m : ℕ) (out : List ℕ) → i < count → length out ≡ length state → Turned t x state left (Ok m) out →
       RunSo t steps found n count out m (i + 1)
   unfolding Turned turn
-  run-turn m out l z h' e = let h : Turned t x state left (turned.Ran m) out =
-      subst (λ (r : Turn). Turned t x state left r out) e h' in record {
-        size = z ∙ c.size;
-        state_is = h.2.state;
-        same =
-            ap₂ (λ (j : ℕ) (y : List Fact). run_fitting t (fits_in (room_in found)) j (rest t steps (i + 1) count) y)
-            (add-one i) h.2.facts ∙
-            sym (more l ∙ ap₂ (λ (p q : Bool). turn p q i s
-            (run_fitting t (fits_in (room_in found)) (suc i) (rest t steps (i + 1) count) (next t s x)))
-            h.0 (fits-found h.1));
-      }
+  run-turn m out l z h = record {
+    size = z ∙ c.size;
+    state_is = h.2.state;
+    same =
+        ap₂ (λ (j : ℕ) (y : List Fact). run_fitting t (fits_in (room_in found)) j (rest t steps (i + 1) count) y)
+        (add-one i) h.2.facts ∙
+        sym (more l ∙ ap₂ (λ (p q : Bool). turn p q i s
+        (run_fitting t (fits_in (room_in found)) (suc i) (rest t steps (i + 1) count) (next t s x)))
+        h.0 (fits-found h.1));
+  }
 
-  pub run-missing : (out : List ℕ) {r : Turn} → i < count → Turned t x state left r out → r ≡ turned.Missing →
-      (is_state t out left ≡ true) × (run_within (room_in found) t (steps_in t steps) (state_in t found n) ≡ stopped i
-      (state_in t out left))
+  -- a step that doesn't run leaves the state, and stops the list by its reason
+  pub run-stops : (out : List ℕ) (r : Reason) → i < count → Turned t x state left (Err r) out →
+      (is_state t out left ≡ true) ×
+      StoppedBy r i (state_in t out left) (run_within (room_in found) t (steps_in t steps) (state_in t found n))
   unfolding Turned turn
-  run-missing out l h' e = let h : Turned t x state left turned.Missing out =
-      subst (λ (r : Turn). Turned t x state left r out) e h' in (
-        subst (λ (y : List ℕ). is_state t y left ≡ true) (sym h.1) c.state_is,
-        more l ∙
-            (ap (λ (p : Bool). turn p (leb (length (next t s x)) (room_in found)) i s
-            (run_fitting t (fits_in (room_in found)) (suc i) (rest t steps (i + 1) count) (next t s x))) h.0 ∙
-            ap (λ (y : List ℕ). stopped i (state_in t y left)) (sym h.1)),
-      )
-
-  pub run-outgrown : (out : List ℕ) {r : Turn} → i < count → Turned t x state left r out → r ≡ turned.Outgrown →
-      (is_state t out left ≡ true) × (run_within (room_in found) t (steps_in t steps) (state_in t found n) ≡ outgrown i
-      (state_in t out left))
-  unfolding Turned turn
-  run-outgrown out l h' e = let h : Turned t x state left turned.Outgrown out =
-      subst (λ (r : Turn). Turned t x state left r out) e h' in (
-        subst (λ (y : List ℕ). is_state t y left ≡ true) (sym h.2) c.state_is,
-        more l ∙
-            (ap₂ (λ (p q : Bool). turn p q i s
-            (run_fitting t (fits_in (room_in found)) (suc i) (rest t steps (i + 1) count) (next t s x)))
-            h.0 (fits-found h.1) ∙
-            ap (λ (y : List ℕ). outgrown i (state_in t y left)) (sym h.2)),
-      )
+  run-stops out r l (inl (e, h), q) = (
+    subst (λ (y : List ℕ). is_state t y left ≡ true) (sym q) c.state_is,
+    inl (
+      e,
+      more l ∙
+          (ap (λ (p : Bool). turn p (leb (length (next t s x)) (room_in found)) i s
+          (run_fitting t (fits_in (room_in found)) (suc i) (rest t steps (i + 1) count) (next t s x))) h ∙
+          ap (λ (y : List ℕ). stopped i (state_in t y left)) (sym q)),
+    ),
+  )
+  run-stops out r l (inr (e, h, k), q) = (
+    subst (λ (y : List ℕ). is_state t y left ≡ true) (sym q) c.state_is,
+    inr (
+      e,
+      more l ∙
+          (ap₂ (λ (p q : Bool). turn p q i s
+          (run_fitting t (fits_in (room_in found)) (suc i) (rest t steps (i + 1) count) (next t s x)))
+          h (fits-found k) ∙
+          ap (λ (y : List ℕ). outgrown i (state_in t y left)) (sym q)),
+    ),
+  )
 
   pub run-ended : count ≤ i → run_within (room_in found) t (steps_in t steps) (state_in t found n) ≡ ran s
   unfolding run_fitting

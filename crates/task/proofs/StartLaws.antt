@@ -4,6 +4,8 @@ use Prim.Native.Nat.{ℕ, zero, suc, ◌+◌, ◌≤◌, ◌<◌}
 use mathlib.Core.Path.{◌≡◌, sym, ◌∙◌, ap, subst}
 use mathlib.Core.Bool.{true}
 use mathlib.Core.List.{List}
+use Rattle.std.specs.Prelude.{Option, None, Some}
+use Rattle.std.specs.Option.{MatchOption, unwrap_or}
 use native.Mathlib.Omega.{arith}
 use native.Mathlib.Decide.{dec_lt}
 use lib.ListN.{length, get_or, set, length-set}
@@ -17,7 +19,6 @@ use Rattle.task.specs.Table.{atom_in, schema_number_in, task_of, is_table}
 use Rattle.task.specs.Run.{schema_at}
 use Rattle.task.specs.Turns.{Starts, RoleEnds}
 use Rattle.words.proofs.Lists.{all_in, in-get_or, sum-take-rises}
-use Rattle.words.proofs.Loops.{run_more}
 use Rattle.task.proofs.Tests.{schema-tests, task-tests}
 use Rattle.task.proofs.AtomsStand.{counts}
 use Rattle.task.proofs.Tables.{start_of, of-table}
@@ -55,6 +56,9 @@ module _ (w : List ℕ) (h : is_table w ≡ true) where
       let n = schemas-word w (table-frame w h) in
       let l = leb-true (length t.schemas) 200 (task-tests t (of-table w h).0).schemas in
       omega arith
+
+  pub schema-low : (k : ℕ) → k < (head_in w).schema_atoms → schema_number_in w k < most_schemas
+  schema-low k l = let a = (atom-lies w (table-frame w h) k l).known in let f = schemas-few in omega arith
 
   pub starts_none : (starts : List ℕ) → length starts ≡ most_schemas + 1 → get_or starts 0 0 ≡ 0 → StartsSo w 0 starts
   starts_none starts z e = record {
@@ -117,22 +121,12 @@ module _ (w : List ℕ) (h : is_table w ≡ true) where
       c.ends s (omega arith) (omega arith)
 
 -- ---- roles
-pub record RoleSo (w : List ℕ) (a b role k : ℕ) : Type 0 where
-  pub from : a ≤ k
-  pub within : k ≤ b
-  pub has : (j : ℕ) → a ≤ j → j < k → (atom_in w j).role ≡ role
-
-pub role_start : (w : List ℕ) (a b role : ℕ) → a ≤ b → RoleSo w a b role a
-role_start w a b role l = record { from = omega arith; within = l; has = λ j x y. absurd (omega arith) }
-
-pub role-turn : {w : List ℕ} {a b role k : ℕ} → RoleSo w a b role k → k < b → (atom_in w k).role ≡ role →
-    RoleSo w a b role (k + 1)
-role-turn {w} {role = role} {k = k} c l e = record {
-  from = let z = c.from in omega arith;
-  within = omega arith;
-  has = run_more (λ j. (atom_in w j).role ≡ role) c.has e;
-}
-
-pub role-ends : {w : List ℕ} {a b role k : ℕ} → RoleSo w a b role k → (k < b → (atom_in w k).role ≡ role → ⊥) →
-    RoleEnds w a b role k
-role-ends c s = record { from = c.from; within = c.within; has = c.has; stops = s }
+-- the first atom with another role, or the end
+pub role-found : (w : List ℕ) (a b role : ℕ) (r : Option ℕ) → a ≤ b →
+    MatchOption r ((k : ℕ) → a ≤ k → k < b → (atom_in w k).role ≡ role)
+    (λ i. (a ≤ i) × (i < b) × ((atom_in w i).role ≡ role → ⊥) ×
+    ((k : ℕ) → a ≤ k → k < i → (atom_in w k).role ≡ role)) → RoleEnds w a b role (unwrap_or r b)
+role-found w a b role None l h =
+    record { from = l; within = omega arith; has = h; stops = λ x e. absurd (omega arith) }
+role-found w a b role (Some i) l h =
+    record { from = h.0; within = let m = h.1 in omega arith; has = h.3; stops = λ x e. h.2 e }

@@ -7,7 +7,7 @@ use mathlib.Core.List.{List, [], ◌∷◌, map}
 use native.Mathlib.Omega.{arith}
 use lib.ListN.{length, get_or}
 use lib.Dec.{eqb}
-use borrow.Author.Tests.{eq-eqb, ne_eqb}
+use borrow.Author.Tests.{eq-eqb}
 use Rattle.words.specs.Lists.{all, filter, keep_if, sum, up_to}
 use Rattle.words.specs.Words.{words_at}
 use Rattle.task.specs.Layout.{head_in, pairs_base, pair_base}
@@ -96,18 +96,6 @@ module _ (rows : List ℕ) (base : ℕ) (ss : List Schema) (stand : At rows base
       let a = f.ascends in
       let b = f.known in
       (omega arith, omega arith)
-
--- row i, by whether it is one of the schema's
-module _ (rows : List ℕ) (base : ℕ) (steps : List ℕ) (at s i : ℕ) where
-  pub other_row : (row_schema rows base i ≡ s → ⊥) → apart_at rows base steps at s i ≡ true
-  other_row n =
-      ap (λ (b : Bool). not b || words_differ steps at (row_pair rows base i))
-      (ne_eqb s (row_schema rows base i) (λ e. n (sym e)))
-
-  pub own_row : row_schema rows base i ≡ s → apart_at rows base steps at s i ≡ words_differ steps at (row_pair rows base i)
-  own_row e =
-      ap (λ (b : Bool). not b || words_differ steps at (row_pair rows base i))
-      (eq-eqb s (row_schema rows base i) (sym e))
 
 -- ---- the pairs of a table
 module _ (w : List ℕ) (h : is_table w ≡ true) where

@@ -30,6 +30,12 @@ pub record Parted (w steps : List ℕ) (i start end add del : ℕ) : Type 0 wher
   pub adds : RoleEnds w start end 0 add
   pub deletes : RoleEnds w add end 1 del
 
+pub parting : {w steps : List ℕ} {i start end add del : ℕ} → is_table w ≡ true →
+    is_step_at (task_of w) steps i ≡ true → start ≡ first_atom (task_of w) (get_or steps (step_size * i) 0) →
+    end ≡ first_atom (task_of w) (suc (get_or steps (step_size * i) 0)) → RoleEnds w start end 0 add →
+    RoleEnds w add end 1 del → Parted w steps i start end add del
+parting h st s e a d = record { tabled = h; stepped = st; starts = s; ends = e; adds = a; deletes = d }
+
 -- the same, counted from its first atom
 abbrev pub parts : ℕ → ℕ → ℕ → ℕ → Spans
 parts start add del end = record { adds = add - start; deletes = del - start; end = end - start }

@@ -1,10 +1,9 @@
 -- What one step and a whole list do to a state in lent words, as the inner functions of running speak of them.
 -- No promise of an entry point cites these.
-use Rattle.std.specs.Prelude.{ℕ, ◌≤◌, ◌<◌, ◌≡◌, true, false, List, map, length, get_or, take, leb}
-use Rattle.task.specs.declared.running.Turn.{Turn}
-use Rattle.task.specs.declared.running.Turn.TheVariants as turned
-use Rattle.task.specs.declared.running.Ended.{Ended}
-use Rattle.task.specs.declared.running.Ended.TheVariants as ended
+use Rattle.task.specs.declared.refusals.Reason.TheVariants as reason
+use Rattle.std.specs.Prelude.{ℕ, ◌≤◌, ◌<◌, ◌≡◌, true, false, List, map, length, get_or, take, leb, ◌⊎◌, Result, Ok, Err}
+use Rattle.task.specs.declared.refusals.Reason.{Reason}
+use Rattle.task.specs.declared.running.Stop.{Stop}
 use Rattle.words.specs.Lists.{sum}
 use Rattle.task.specs.Task.{Schema, Task, Fact}
 use Rattle.task.specs.Table.{atom_in}
@@ -31,22 +30,25 @@ pub record RoleEnds (table : List ℕ) (a b role r : ℕ) : Type 0 where
   pub stops : r < b → (atom_in table r).role ≡ role → ⊥
 
 -- a step ran and left so many records; or a precondition is missing; or the next state is outgrown
-unfoldable pub Turned : Task → Step → List ℕ → ℕ → Turn → List ℕ → Type 0
-Turned t x found n (turned.Ran left) out =
+unfoldable pub Turned : Task → Step → List ℕ → ℕ → Result ℕ Reason → List ℕ → Type 0
+Turned t x found n (Ok left) out =
     (applies t (state_in t found n) x ≡ true) × (leb (length (next t (state_in t found n) x)) (room_in found) ≡ true) ×
     Keeps t out left (next t (state_in t found n) x)
-Turned t x found n turned.Missing out = (applies t (state_in t found n) x ≡ false) × (out ≡ found)
-Turned t x found n turned.Outgrown out =
-    (applies t (state_in t found n) x ≡ true) × (leb (length (next t (state_in t found n) x)) (room_in found) ≡ false) ×
-    (out ≡ found)
+Turned t x found n (Err r) out =
+    (((r ≡ reason.MissingPrecondition) × (applies t (state_in t found n) x ≡ false)) ⊎
+    ((r ≡ reason.StateTooLarge) × (applies t (state_in t found n) x ≡ true) ×
+    (leb (length (next t (state_in t found n) x)) (room_in found) ≡ false))) × (out ≡ found)
+
+-- a list stopped at a step by a missing precondition, or by a next state that is outgrown
+abbrev pub StoppedBy : Reason → ℕ → List Fact → Running → Type 0
+StoppedBy r i s run =
+    ((r ≡ reason.MissingPrecondition) × (run ≡ stopped i s)) ⊎ ((r ≡ reason.StateTooLarge) × (run ≡ outgrown i s))
 
 -- how a list ended, with the state that it left
-unfoldable pub ended_as : Ended → List Fact → Running
-ended_as (ended.Ran left) s = ran s
-ended_as (ended.Missing i left) s = stopped i s
-ended_as (ended.Outgrown i left) s = outgrown i s
+unfoldable pub EndedAs : Result ℕ Stop → List Fact → Running → Type 0
+EndedAs (Ok left) s run = run ≡ ran s
+EndedAs (Err stop) s run = StoppedBy stop.reason stop.step s run
 
-unfoldable pub records_left : Ended → ℕ
-records_left (ended.Ran left) = left
-records_left (ended.Missing i left) = left
-records_left (ended.Outgrown i left) = left
+unfoldable pub records_left : Result ℕ Stop → ℕ
+records_left (Ok left) = left
+records_left (Err stop) = stop.left

@@ -29,14 +29,9 @@ pub struct New {
 fn row_seen(numbers: &Numbers, rows: &Rows, count: usize, number: u64) -> usize
     requires { count ≤ most_atoms }
 {
-    let mut k = 0;
-    while k < count {
-        if numbers[k] == number {
-            return rows[k];
-        }
-        k += 1;
-    }
-    0
+    (0..count)
+        .find(|k| numbers[*k] == number)
+        .map_or(0, |k| rows[k])
 }
 
 // The first add from `from` on that does not hold, or the end of the adds.
@@ -46,16 +41,17 @@ fn first_new(numbers: &Numbers, spans: Spans, from: usize, state: &[u16], n: usi
     ensures { (t : Task) (g : ℕ → Fact) → UnderWay t g spans numbers.now state.now n →
         FirstNew t g numbers.now from spans.deletes state.now n result }
 {
-    let mut k = from;
-    while k < spans.deletes {
+    for k in from..spans.deletes {
         let number = numbers[k];
         let row = find(state, n, number);
         if !is_row(state, n, row, number) {
             return New { atom: k, row };
         }
-        k += 1;
     }
-    New { atom: k, row: 0 }
+    New {
+        atom: spans.deletes,
+        row: 0,
+    }
 }
 
 // Takes the delete `k` out of the state, unless it is not there or an add that is there already, and puts the next
@@ -117,15 +113,12 @@ pub(crate) fn exchange(
     ensures { (t : Task) (g : ℕ → Fact) → UnderWay t g spans numbers.now state.old n →
         Keeps t state.new result (exchanged t g spans state.old n) }
 {
-    let end = spans.end;
     let mut left = n;
     let mut next = spans.adds;
-    let mut k = spans.deletes;
-    while k < end {
+    for k in spans.deletes..spans.end {
         let e = exchange_one(numbers, rows, spans, k, next, state, left);
         left = e.left;
         next = e.next;
-        k += 1;
     }
     insert_rest(numbers, spans, next, state, left)
 }

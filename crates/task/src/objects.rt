@@ -19,13 +19,9 @@ pub fn are_objects(words: &[u16], from: usize, n: usize, objects: u16) -> bool
     requires { from + n ≤ length words.now }
     ensures { result ≡ all (λ o. ltb o objects) (words_at words.now from n) }
 {
-    for k in 0..n {
-        let object = Object(words[from + k]);
-        if !object.is_below(objects) {
-            return false;
-        }
-    }
-    true
+    words[from..from + n]
+        .iter()
+        .all(|o| Object(*o).is_below(objects))
 }
 
 // Whether the n words from `from` on are each 0. They are few, so that the first that is not ends the test.
@@ -33,10 +29,5 @@ pub fn are_zero(words: &[u16], from: usize, n: usize) -> bool
     requires { from + n ≤ length words.now }
     ensures { result ≡ all (λ a. eqb a 0) (words_at words.now from n) }
 {
-    for k in 0..n {
-        if words[from + k] != 0 {
-            return false;
-        }
-    }
-    true
+    words[from..from + n].iter().all(|word| *word == 0)
 }

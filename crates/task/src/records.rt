@@ -23,33 +23,27 @@ ghost use Rattle.task.specs.Records.{
 
 use crate::limits::RECORD_SIZE;
 
-// A word of lent words as a wider number.
-pub(crate) fn word(w: &[u16], at: usize) -> u64
-    requires { at < length w.now }
-    ensures { (result ≡ get_or w.now at 0) × (result < word_bound) }
-{
-    w[at] as u64
-}
-
 // A predicate and four arguments as one number.
-pub(crate) fn number_of(p: u64, a: u64, b: u64, c: u64, d: u64) -> u64
-    requires { (p < word_bound) × (a < word_bound) × (b < word_bound) × (c < word_bound) × (d < word_bound) }
+#[tactic(auto, unfolding(crate::specs::Records::in_base))]
+pub(crate) fn number_of(p: u16, a: u16, b: u16, c: u16, d: u16) -> u64
     ensures { result ≡ in_base p (a ∷ b ∷ c ∷ d ∷ []) }
 {
-    (((p * 1024 + a) * 1024 + b) * 1024 + c) * 1024 + d
+    (((u64::from(p) * 1024 + u64::from(a)) * 1024 + u64::from(b)) * 1024 + u64::from(c)) * 1024
+        + u64::from(d)
 }
 
 // The number of the row that begins at word `at`.
+#[tactic(auto, unfolding(crate::specs::Records::number_at))]
 fn number_at(state: &[u16], at: usize) -> u64
     requires { at + record_size ≤ length state.now }
     ensures { result ≡ number_at state.now at }
 {
     number_of(
-        word(state, at),
-        word(state, at + 1),
-        word(state, at + 2),
-        word(state, at + 3),
-        word(state, at + 4),
+        state[at],
+        state[at + 1],
+        state[at + 2],
+        state[at + 3],
+        state[at + 4],
     )
 }
 
@@ -77,23 +71,15 @@ fn move_down(state: &mut [u16], from: usize, to: usize)
     requires { (from ≤ to) × (to + record_size ≤ length state.old) }
     ensures { MovedDown state.old from to state.new }
 {
-    let mut i = from;
-    while i < to {
-        state[i] = state[i + RECORD_SIZE];
-        i += 1;
-    }
+    state.copy_within(from + RECORD_SIZE..to + RECORD_SIZE, from);
 }
 
-// Moves the words from `from` to `to` up by a row, the last first.
+// Moves the words from `from` to `to` up by a row.
 fn move_up(state: &mut [u16], from: usize, to: usize)
     requires { (from ≤ to) × (to + record_size ≤ length state.old) }
     ensures { MovedUp state.old from to state.new }
 {
-    let mut i = to;
-    while from < i {
-        i -= 1;
-        state[i + RECORD_SIZE] = state[i];
-    }
+    state.copy_within(from..to, from + RECORD_SIZE);
 }
 
 // Writes the five digits of a number from word `at` on.
@@ -113,11 +99,7 @@ pub(crate) fn clear_from(state: &mut [u16], from: usize)
     requires { from ≤ length state.old }
     ensures { state.new ≡ padded (length state.old) (take from state.old) }
 {
-    let mut i = from;
-    while i < state.len() {
-        state[i] = 0;
-        i += 1;
-    }
+    state[from..].fill(0);
 }
 
 // Whether row k is one of n rows and has this number.

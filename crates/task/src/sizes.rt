@@ -16,11 +16,7 @@ fn holds_now(numbers: &Numbers, spans: Spans, state: &[u16], n: usize, number: u
         AllHold t g 0 spans.adds state.now n →
         (f : Fact) → Known t state.now n f number → result ≡ holds (state_in t state.now n) f }
 {
-    if absent(numbers, 0, spans.adds, number) {
-        held(state, n, number)
-    } else {
-        true
-    }
+    !absent(numbers, 0, spans.adds, number) || held(state, n, number)
 }
 
 // Whether the atom with this number still holds when the deletes before `k` have gone out, where the preconditions hold
@@ -33,11 +29,7 @@ fn goes(numbers: &Numbers, spans: Spans, k: usize, state: &[u16], n: usize, numb
         (f : Fact) → Known t state.now n f number →
         result ≡ holds (remove_all (span g spans.deletes k) (state_in t state.now n)) f }
 {
-    if absent(numbers, spans.deletes, k, number) {
-        holds_now(numbers, spans, state, n, number)
-    } else {
-        false
-    }
+    absent(numbers, spans.deletes, k, number) && holds_now(numbers, spans, state, n, number)
 }
 
 // How many records are left when the deletes have gone out, where the preconditions hold before.
@@ -48,14 +40,11 @@ fn size_without(numbers: &Numbers, spans: Spans, state: &[u16], n: usize) -> usi
         AllHold t g 0 spans.adds state.now n →
         result ≡ length (without t g spans state.now n) }
 {
-    let end = spans.end;
     let mut size = n;
-    let mut k = spans.deletes;
-    while k < end {
+    for k in spans.deletes..spans.end {
         if goes(numbers, spans, k, state, n, numbers[k]) {
             size -= 1;
         }
-        k += 1;
     }
     size
 }
@@ -67,11 +56,7 @@ fn stays(numbers: &Numbers, spans: Spans, state: &[u16], n: usize, number: u64) 
         (f : Fact) → Known t state.now n f number →
         result ≡ holds (without t g spans state.now n) f }
 {
-    if held(state, n, number) {
-        absent(numbers, spans.deletes, spans.end, number)
-    } else {
-        false
-    }
+    held(state, n, number) && absent(numbers, spans.deletes, spans.end, number)
 }
 
 // Whether the atom with this number is new when the deletes have gone out and the adds before `k` have come in.
@@ -82,11 +67,7 @@ fn comes(numbers: &Numbers, spans: Spans, k: usize, state: &[u16], n: usize, num
         (f : Fact) → Known t state.now n f number →
         result ≡ not (holds (insert_all (span g spans.adds k) (without t g spans state.now n)) f) }
 {
-    if absent(numbers, spans.adds, k, number) {
-        !stays(numbers, spans, state, n, number)
-    } else {
-        false
-    }
+    absent(numbers, spans.adds, k, number) && !stays(numbers, spans, state, n, number)
 }
 
 // How many records there are when the deletes have gone out, which leaves `size`, and the adds have come in.
@@ -97,14 +78,11 @@ fn size_with(numbers: &Numbers, spans: Spans, state: &[u16], n: usize, size: usi
         size ≡ length (without t g spans state.now n) →
         result ≡ length (exchanged t g spans state.now n) }
 {
-    let to = spans.deletes;
     let mut total = size;
-    let mut k = spans.adds;
-    while k < to {
+    for k in spans.adds..spans.deletes {
         if comes(numbers, spans, k, state, n, numbers[k]) {
             total += 1;
         }
-        k += 1;
     }
     total
 }

@@ -12,9 +12,9 @@ ghost use Rattle.words.specs.Words.{word_bound, words_at};
 ghost use Rattle.task.specs.Spans.{ground_at, ground_from, span, argument_in, AtomOf, SpanOf, NumbersOf, UnderWay};
 
 use crate::Parameter;
-use crate::layout::{arity_of, row_of};
-use crate::limits::{ARGUMENTS, MOST_ATOMS, PREDICATE, STEP_SIZE};
-use crate::records::{find, is_row, number_of, put_in, word};
+use crate::layout::{arity_of, predicate_at, row_of};
+use crate::limits::{ARGUMENTS, MOST_ATOMS, STEP_SIZE};
+use crate::records::{find, is_row, number_of, put_in};
 use crate::steps::object_of;
 
 // The numbers of a step's ground atoms, in the table's order.
@@ -33,13 +33,13 @@ pub struct Spans {
 }
 
 // The argument at a word of the table with its object, or 0 where the predicate has no such argument.
-fn argument(table: &[u16], at: usize, used: bool, steps: &[u16], i: usize) -> u64
+fn argument(table: &[u16], at: usize, used: bool, steps: &[u16], i: usize) -> u16
     requires at_in_bounds { at < length table.now }
     requires at_in_bounds_2 { used ≡ true → step_size * i + 1 + get_or table.now at 0 < length steps.now }
-    ensures { (result ≡ argument_in used steps.now i (get_or table.now at 0)) × (result < word_bound) }
+    ensures { result ≡ argument_in used steps.now i (get_or table.now at 0) }
 {
     if used {
-        object_of(steps, STEP_SIZE * i, Parameter(table[at])).0 as u64
+        object_of(steps, STEP_SIZE * i, Parameter(table[at])).0
     } else {
         0
     }
@@ -51,8 +51,8 @@ pub(crate) fn ground(table: &[u16], k: usize, steps: &[u16], i: usize) -> u64
     ensures { result ≡ record_number (ground_at table.now steps.now i k) }
 {
     let at = row_of(table, k);
-    let p = word(table, at + PREDICATE);
-    let arity = arity_of(table, p as usize);
+    let p = predicate_at(table, at);
+    let arity = arity_of(table, usize::from(p));
     let from = at + ARGUMENTS;
     let a = argument(table, from, 0 < arity, steps, i);
     let b = argument(table, from + 1, 1 < arity, steps, i);
@@ -70,11 +70,11 @@ pub(crate) fn fact_number(table: &[u16], k: usize) -> u64
     let at = row_of(table, k);
     let from = at + ARGUMENTS;
     number_of(
-        word(table, at + PREDICATE),
-        word(table, from),
-        word(table, from + 1),
-        word(table, from + 2),
-        word(table, from + 3),
+        predicate_at(table, at),
+        table[from],
+        table[from + 1],
+        table[from + 2],
+        table[from + 3],
     )
 }
 
@@ -93,10 +93,8 @@ pub(crate) fn ground_all(
         NumbersOf (ground_from table.now steps.now i start) (end - start)
         numbers.new }
 {
-    let mut k = start;
-    while k < end {
+    for k in start..end {
         numbers[k - start] = ground(table, k, steps, i);
-        k += 1;
     }
 }
 
@@ -105,14 +103,7 @@ pub(crate) fn absent(numbers: &Numbers, from: usize, to: usize, number: u64) -> 
     requires { to ≤ most_atoms }
     ensures { result ≡ all (λ a. not (eqb a number)) (words_at numbers.now from (to - from)) }
 {
-    let mut k = from;
-    while k < to {
-        if numbers[k] == number {
-            return false;
-        }
-        k += 1;
-    }
-    true
+    (from..to).all(|k| numbers[k] != number)
 }
 
 // Whether all preconditions hold; where they do, `rows` has the row of each.
@@ -127,15 +118,13 @@ pub(crate) fn all_hold(
     ensures { (t : Task) (g : ℕ → Fact) → UnderWay t g spans numbers.now state.now n →
         result ≡ all (holds (state_in t state.now n)) (span g 0 spans.adds) }
 {
-    let mut k = 0;
-    while k < spans.adds {
+    for k in 0..spans.adds {
         let number = numbers[k];
         let row = find(state, n, number);
         if !is_row(state, n, row, number) {
             return false;
         }
         rows[k] = row;
-        k += 1;
     }
     true
 }
@@ -156,10 +145,8 @@ pub(crate) fn insert_rest(
         (insert_all (span g from spans.deletes) (state_in t state.old n)) }
 {
     let mut left = n;
-    let mut k = from;
-    while k < spans.deletes {
+    for k in from..spans.deletes {
         left = put_in(state, left, numbers[k]);
-        k += 1;
     }
     left
 }

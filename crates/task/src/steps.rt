@@ -2,15 +2,16 @@
 ghost use Rattle.std.specs.Prelude.{◌≡◌, true, ◌&&◌, ℕ, ◌*◌, ◌/◌, ◌≤◌, ◌+◌, ◌-◌, ◌<◌, length, get_or, eqb};
 ghost use Rattle.words.specs.Lists.{all, up_from, up_to};
 ghost use Rattle.task.specs.Limits.{most_parameters, step_size, pair_size};
+ghost use Rattle.task.specs.Layout.{head_in, pairs_base};
 ghost use Rattle.task.specs.Table.{task_of, is_table};
-ghost use Rattle.task.specs.Run.{is_step_at, bad_step, bad_step_found};
+ghost use Rattle.task.specs.Run.{is_step_at, bad_step};
 ghost use Rattle.task.specs.StepTests.{limits_for, is_within, objects_then_zeros, words_differ, apart_at, PairsFew};
 ghost use Rattle.task.specs.StepTests.{rows_apart};
-ghost use Rattle.task.specs.Choices.{ChoiceTold, choices_end};
+ghost use Rattle.task.specs.Choices.{ChoiceTold, EqualTold};
 
 use crate::layout::{object_count, pairs_base, param_count, schema_count};
 use crate::limits::{HIGHER, LOWER, MOST_PARAMETERS, PAIR_SIZE, PAIRS, STEP_SIZE};
-use crate::{BadStep, Object, Parameter};
+use crate::{Object, Parameter};
 use words::putting::fill;
 use words::runs::{wide, word};
 
@@ -54,12 +55,10 @@ fn beyond(steps: &[u16], at: usize, params: usize, limits: &Limits, first: usize
         (up_from first (end - first)) }
 {
     let mut found: u16 = 0;
-    let mut k = first;
-    while k < end {
+    for k in first..end {
         if limits[MOST_PARAMETERS - params + k] <= steps[at + 1 + k] {
             found = 1;
         }
-        k += 1;
     }
     found
 }
@@ -107,17 +106,10 @@ pub fn keep_apart(
     requires step_size_in_bounds { at + step_size ≤ length steps.now }
     ensures { result ≡ all (apart_at rows.now base steps.now (at + 1) schema) (up_to count) }
 {
-    let mut i = 0;
-    while i < count {
+    (0..count).all(|i| {
         let row = base + PAIR_SIZE * i;
-        if word(rows, row) == schema {
-            if !differ_at(rows, row, steps, at) {
-                return false;
-            }
-        }
-        i += 1;
-    }
-    true
+        word(rows, row) != schema || differ_at(rows, row, steps, at)
+    })
 }
 
 // Whether the list's words have at index i a whole step of the task, but for its pairs: a known schema, so many
@@ -150,34 +142,43 @@ fn begun_steps(steps: &[u16]) -> usize
 
 // The first step that is none of this task, or incomplete, whatever its pairs. No pair is asked for from step to step:
 // even whether there is one took a quarter of the time.
-fn bad_choice(table: &[u16], steps: &[u16], begun: usize) -> BadStep
+fn bad_choice(table: &[u16], steps: &[u16], begun: usize) -> Option<usize>
     requires table_value { is_table table.now ≡ true }
     requires begun_value { begun ≡ (length steps.now + 12) / step_size }
     ensures { ChoiceTold table.now steps.now begun result }
 {
     let limits = limits_of(object_count(table));
-    for i in 0..begun {
-        if !is_choice(table, steps, i, &limits) {
-            return BadStep::At(i as u64);
-        }
-    }
-    BadStep::Nowhere
+    (0..begun).find(|i| !is_choice(table, steps, *i, &limits))
 }
 
-// Where the steps before it end, of so many begun.
-fn choices_end(choice: BadStep, begun: usize) -> usize
-    ensures { result ≡ choices_end begun choice }
+// Whether step i, a whole one, has different objects at each pair of its schema: of so many pairs of the table, which
+// begin at `base`.
+fn is_apart(table: &[u16], base: usize, pairs: usize, steps: &[u16], i: usize) -> bool
+    requires table_value { is_table table.now ≡ true }
+    requires base_value { base ≡ pairs_base table.now }
+    requires pairs_value { pairs ≡ (head_in table.now).pairs }
+    requires whole { step_size * i + step_size ≤ length steps.now }
+    ensures { result ≡ rows_apart table.now steps.now i }
 {
-    match choice {
-        BadStep::At(i) => i as usize,
-        BadStep::Nowhere => begun,
-    }
+    let at = STEP_SIZE * i;
+    keep_apart(table, base, pairs, steps, at, schema_at(steps, at))
+}
+
+// Of the steps before `end`, each whole, the first with equal objects at a pair of its schema, of so many of the table.
+fn first_equal(table: &[u16], steps: &[u16], end: usize, pairs: usize) -> Option<usize>
+    requires table_value { is_table table.now ≡ true }
+    requires pairs_value { pairs ≡ (head_in table.now).pairs }
+    requires whole { (k : ℕ) → k < end → step_size * k + step_size ≤ length steps.now }
+    ensures { EqualTold table.now steps.now end result }
+{
+    let base = pairs_base(table);
+    (0..end).find(|i| !is_apart(table, base, pairs, steps, *i))
 }
 
 // The first step that is none of this task, or incomplete.
-pub fn bad_step(table: &[u16], steps: &[u16]) -> BadStep
+fn first_bad(table: &[u16], steps: &[u16]) -> Option<usize>
     requires { is_table table.now ≡ true }
-    ensures { bad_step_found result ≡ bad_step (task_of table.now) steps.now }
+    ensures { result ≡ bad_step (task_of table.now) steps.now }
 {
     let begun = begun_steps(steps);
     let choice = bad_choice(table, steps, begun);
@@ -185,13 +186,13 @@ pub fn bad_step(table: &[u16], steps: &[u16]) -> BadStep
     if pairs == 0 {
         return choice;
     }
-    let end = choices_end(choice, begun);
-    let base = pairs_base(table);
-    for i in 0..end {
-        let at = STEP_SIZE * i;
-        if !keep_apart(table, base, pairs, steps, at, schema_at(steps, at)) {
-            return BadStep::At(i as u64);
-        }
-    }
-    choice
+    first_equal(table, steps, choice.unwrap_or(begun), pairs).or(choice)
+}
+
+// The same, as an answer tells it.
+pub fn bad_step(table: &[u16], steps: &[u16]) -> Option<u64>
+    requires { is_table table.now ≡ true }
+    ensures { result ≡ bad_step (task_of table.now) steps.now }
+{
+    first_bad(table, steps).map(|i| i as u64)
 }

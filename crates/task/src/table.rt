@@ -53,14 +53,7 @@ fn arities_fit(table: &[u16]) -> bool
     ensures { result ≡ arities_fit table.now }
 {
     let predicates = word(table, limits::PREDICATES);
-    let mut p = 0;
-    while p < predicates {
-        if limits::MOST_ARITY < arity_of(table, p) {
-            return false;
-        }
-        p += 1;
-    }
-    true
+    (0..predicates).all(|p| arity_of(table, p) <= limits::MOST_ARITY)
 }
 
 // Whether the rows of one kind, `count` rows of `size` words from `base` on, name schemas, the rows of each behind
@@ -73,17 +66,12 @@ fn numbers_fit(table: &[u16], base: usize, size: usize, count: usize) -> bool
 {
     let schemas = word(table, limits::SCHEMAS);
     let mut before = 0;
-    let mut i = 0;
-    while i < count {
+    for i in 0..count {
         let number = word(table, base + size * i);
-        if number < before {
-            return false;
-        }
-        if schemas <= number {
+        if number < before || schemas <= number {
             return false;
         }
         before = number;
-        i += 1;
     }
     true
 }

@@ -21,10 +21,7 @@ pub(crate) fn atom_fits(table: &[u16], i: usize, bound: usize) -> bool
     }
     let from = arguments(table, i);
     let to = from + arity(table, p);
-    if !all_below(table, from, to, bound) {
-        return false;
-    }
-    zeros(table, to, from + limits::MOST_ARITY)
+    all_below(table, from, to, bound) && zeros(table, to, from + limits::MOST_ARITY)
 }
 
 // Whether two atoms of one role have one predicate and the same arguments; the first's predicate is known.

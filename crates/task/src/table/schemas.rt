@@ -28,14 +28,8 @@ fn roles_ascend(table: &[u16], first: usize, end: usize) -> bool
     requires first_lt_end { (first < end) × (end ≤ atom_total table.now) }
     ensures { result ≡ roles_ascend (atoms_in table.now first (end - first)) }
 {
-    let mut i = first;
-    while i + 1 < end {
-        if role(table, i + 1) < role(table, i) {
-            return false;
-        }
-        i += 1;
-    }
-    role(table, i) <= limits::DELETION as usize
+    (first + 1..end).all(|i| role(table, i - 1) <= role(table, i))
+        && role(table, end - 1) <= usize::from(limits::DELETION)
 }
 
 // Whether each atom from one index to another has a known predicate, arguments below a bound, and unused words 0.
@@ -44,14 +38,7 @@ fn atoms_fit(table: &[u16], bound: usize, first: usize, end: usize) -> bool
     requires end_bound { end ≤ atom_total table.now }
     ensures { result ≡ all (arg_words_fit table.now bound) (up_from first (end - first)) }
 {
-    let mut i = first;
-    while i < end {
-        if !atom_fits(table, i, bound) {
-            return false;
-        }
-        i += 1;
-    }
-    true
+    (first..end).all(|i| atom_fits(table, i, bound))
 }
 
 // Whether atom i stands again among the atoms behind it, up to an end; those of its role come first.
@@ -62,15 +49,14 @@ fn stands_again(table: &[u16], i: usize, end: usize) -> bool
     requires roles_rise { RolesRise table.now i end }
     ensures { result ≡ stands_again table.now i end }
 {
-    let mut j = i + 1;
-    while j < end {
-        if role(table, j) != role(table, i) {
+    let own = role(table, i);
+    for j in i + 1..end {
+        if role(table, j) != own {
             return false;
         }
         if same_atom(table, i, j) {
             return true;
         }
-        j += 1;
     }
     false
 }
@@ -95,10 +81,7 @@ fn repeats(table: &[u16], i: usize, end: usize, bit: usize, behind: u64) -> bool
     requires holds_behind { HoldsBehind table.now i end behind }
     ensures { result ≡ stands_again table.now i end }
 {
-    if !has(behind, bit) {
-        return false;
-    }
-    stands_again(table, i, end)
+    has(behind, bit) && stands_again(table, i, end)
 }
 
 // "no atom twice in one role", of the atoms from one index to another: from the last back, with the predicates behind
@@ -111,9 +94,7 @@ fn atoms_differ(table: &[u16], first: usize, end: usize) -> bool
     ensures { result ≡ distinct (atoms_in table.now first (end - first)) }
 {
     let mut seen = [0; ROLES];
-    let mut i = end;
-    while first < i {
-        i -= 1;
+    for i in (first..end).rev() {
         let own = role(table, i);
         let bit = predicate_bit(table, i);
         let behind = seen[own];
@@ -133,11 +114,9 @@ fn parameters(table: &[u16], bound: usize, first: usize, end: usize) -> u64
     ensures { (x : ℕ) → member result x ≡ any (names x) (atoms_in table.now first (end - first)) }
 {
     let mut set = 0;
-    let mut i = first;
-    while i < end {
+    for i in first..end {
         let from = arguments(table, i);
         set = joined_words(table, set, from, from + arity(table, predicate(table, i)));
-        i += 1;
     }
     set
 }
@@ -158,16 +137,7 @@ fn part_count(table: &[u16], first: usize, end: usize) -> usize
     requires first_le_end { (first ≤ end) × (end ≤ atom_total table.now) }
     ensures { result ≡ part_count (atoms_in table.now first (end - first)) }
 {
-    let mut count = 0;
-    let mut i = end;
-    while first < i {
-        i -= 1;
-        let next = part(table, i) + 1;
-        if count < next {
-            count = next;
-        }
-    }
-    count
+    (first..end).map(|i| part(table, i) + 1).max().unwrap_or(0)
 }
 
 // The parts of the atoms from one index to another.
@@ -179,10 +149,8 @@ fn parts(table: &[u16], first: usize, end: usize) -> u64
         member result p ≡ any (λ a. eqb p a.part) (atoms_in table.now first (end - first)) }
 {
     let mut set = 0;
-    let mut i = first;
-    while i < end {
+    for i in first..end {
         set = with(set, part(table, i));
-        i += 1;
     }
     set
 }
@@ -194,10 +162,7 @@ fn parts_fit(table: &[u16], first: usize, end: usize) -> bool
     ensures { result ≡ parts_fit (atoms_in table.now first (end - first)) }
 {
     let count = part_count(table, first, end);
-    if limits::MOST_PARTS < count {
-        return false;
-    }
-    has_all(parts(table, first, end), count)
+    count <= limits::MOST_PARTS && has_all(parts(table, first, end), count)
 }
 
 // Whether the pairs and the atoms from one index to another, with the parameter count of schema s, are a schema.
@@ -250,14 +215,9 @@ pub fn run_end(
     requires start_le_count { start ≤ count }
     ensures { RunOf (λ (i : ℕ). get_or table.now (base + size * i) 0) count s start result }
 {
-    let mut i = start;
-    while i < count {
-        if word(table, base + size * i) != s {
-            return i;
-        }
-        i += 1;
-    }
-    i
+    (start..count)
+        .find(|i| word(table, base + size * *i) != s)
+        .unwrap_or(count)
 }
 
 // Whether each schema, with the pairs and the atoms that name it, is one; they follow one another.
@@ -274,8 +234,7 @@ pub(crate) fn schemas_fit(table: &[u16]) -> bool
     let atoms = word(table, limits::SCHEMA_ATOMS);
     let mut pair = 0;
     let mut first = 0;
-    let mut s = 0;
-    while s < schemas {
+    for s in 0..schemas {
         let stop = run_end(table, pairs_base(table), limits::PAIR_SIZE, pairs, s, pair);
         let end = run_end(table, rows_base(table), limits::ATOM_SIZE, atoms, s, first);
         if !schema_fits(table, s, pair, stop, first, end) {
@@ -283,7 +242,6 @@ pub(crate) fn schemas_fit(table: &[u16]) -> bool
         }
         pair = stop;
         first = end;
-        s += 1;
     }
     true
 }

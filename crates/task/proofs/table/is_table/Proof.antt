@@ -7,7 +7,6 @@ use mathlib.Core.Bool.{Bool, true}
 use mathlib.Core.List.{List}
 use native.Mathlib.Omega.{arith}
 use borrow.Author.Rules.{rules}
-use borrow.Author.Tests.{not-false}
 use Rattle.words.specs.Lists.{every}
 use Rattle.task.specs.Layout.{head_in, goals_from, atom_total, words_used, atom_base}
 use Rattle.task.specs.Limits.{table_words}
