@@ -5,6 +5,8 @@ use mathlib.Core.Path.{◌≡◌, refl, sym, ◌∙◌, ap}
 use mathlib.Core.Bool.{Bool, true, false, not, ◌&&◌}
 use mathlib.Core.List.{List, [], ◌∷◌, ◌++◌, append_assoc, append-nil}
 use Rattle.std.specs.Prelude.{None}
+use Rattle.std.specs.Char.{IsNotAsciiDigit}
+use mathlib.Core.Logic.{⊎_elim}
 use native.Mathlib.Omega.{arith}
 use lib.ListN.{length, drop, length-append}
 use lib.Dec.{leb}
@@ -17,13 +19,16 @@ use Rattle.text.specs.ReadCode.{rest, DigitHere, NumberHere}
 use Rattle.text.proofs.Digits.{Digits, no_digit, digit, value-append, digits_append, value-small}
 use Rattle.text.proofs.ReadersAt.{number-here}
 
-pub low-no-digit : (b : ℕ) → b < 48 → is_digit b ≡ false
+low-no-digit : (b : ℕ) → b < 48 → is_digit b ≡ false
 unfolding is_digit
 low-no-digit b h = ap (λ (x : Bool). x && leb b 57) (lt-leb 48 b h)
 
-pub high-no-digit : (b : ℕ) → 57 < b → is_digit b ≡ false
+high-no-digit : (b : ℕ) → 57 < b → is_digit b ≡ false
 unfolding is_digit
 high-no-digit b h = ap (λ (x : Bool). leb 48 b && x) (lt-leb b 57 h) ∙ and-false (leb 48 b)
+
+pub other-no-digit : (b : ℕ) → IsNotAsciiDigit b → is_digit b ≡ false
+other-no-digit b h = ⊎_elim (low-no-digit b) (high-no-digit b) h
 
 -- the digits from a cursor up to another, and what they say
 pub record SoFar (text : List ℕ) (start behind : Cursor) (value digits : ℕ) : Type 0 where

@@ -1,7 +1,7 @@
 -- Numbers as code finds their digits: the last digit of a number, and those of a tenth of it before; so how many
 -- digits a number has is found by comparing.
 use Prim.Native.Nat.{ℕ, zero, suc, ◌+◌, ◌*◌, ◌/◌, ◌%◌, ◌^◌, ◌≤◌, ◌<◌}
-use mathlib.Core.Path.{◌≡◌, sym, ◌∙◌, ap}
+use mathlib.Core.Path.{◌≡◌, refl, sym, ◌∙◌, ap}
 use mathlib.Core.Bool.{Bool, true, false}
 use mathlib.Core.List.{List, [], ◌∷◌, ◌++◌}
 use native.Mathlib.Nat.{one-le-pow}
@@ -26,11 +26,11 @@ spare f p same n h = elim (dec_lt n 10) [
 one-spare : (n : ℕ) → n < 10 → digits_within 1 n ≡ digits_within 2 n
 one-spare n h = digits-one 0 n h ∙ sym (digits-one 1 n h)
 
-pub digits_last : (n : ℕ) → n < 10 → digits n ≡ (48 + n) ∷ []
+digits_last : (n : ℕ) → n < 10 → digits n ≡ (48 + n) ∷ []
 unfolding digits
 digits_last n h = digits-one 4 n h
 
-pub digits_step : (n : ℕ) → 10 ≤ n → n < 100000 → digits n ≡ digits (n / 10) ++ ((48 + n % 10) ∷ [])
+digits_step : (n : ℕ) → 10 ≤ n → n < 100000 → digits n ≡ digits (n / 10) ++ ((48 + n % 10) ∷ [])
 unfolding digits
 digits_step n l h =
     digits_more 4 n l ∙
@@ -41,7 +41,7 @@ digits_step n l h =
 pub one-digit-long : (n : ℕ) → n < 10 → length (digits n) ≡ 1
 one-digit-long n h = ap length (digits_last n h)
 
-pub digits-longer : (n : ℕ) → 10 ≤ n → n < 100000 → length (digits n) ≡ length (digits (n / 10)) + 1
+digits-longer : (n : ℕ) → 10 ≤ n → n < 100000 → length (digits n) ≡ length (digits (n / 10)) + 1
 digits-longer n l h =
     ap length (digits_step n l h) ∙ length-append (digits (n / 10)) ((48 + n % 10) ∷ [])
 
@@ -54,12 +54,24 @@ digits_long (suc d) n l h small =
     let r = digits_long d (n / 10) (omega arith) (omega arith) (omega arith) in
     omega arith
 
--- a number has a digit, and one of ten or more has two
-pub some-digit : (n : ℕ) → n < 100000 → 1 ≤ length (digits n)
-some-digit n h = elim (dec_lt n 10) [
-  | yes l ↦ let e = one-digit-long n l in omega arith
-  | no l ↦ let e = digits-longer n (omega arith) h in omega arith
+-- as many digits as there may be, where the number has no fewer
+within-full : (most n : ℕ) → 10 ^ most ≤ 10 * n → length (digits_within most n) ≡ most
+unfolding digits_within
+within-full zero n h = refl
+within-full (suc zero) n h = elim (dec_lt n 10) [
+  | yes l ↦ ap length (digits-one 0 n l)
+  | no l ↦ ap length (digits_more 0 n (omega arith)) ∙ length-append (digits_within 0 (n / 10)) ((48 + n % 10) ∷ [])
 ]
+within-full (suc (suc most)) n h =
+    let p = one-le-pow most 10 (omega arith) in
+    let r = within-full (suc most) (n / 10) (omega arith) in
+    let e = ap length (digits_more (suc most) n (omega arith)) in
+    omega (arith, length-append (digits_within (suc most) (n / 10)) ((48 + n % 10) ∷ []))
+
+-- "1 to 5 digits": the fifth is the last
+pub five-long : (n : ℕ) → 10000 ≤ n → length (digits n) ≡ 5
+unfolding digits
+five-long n h = within-full 5 n (omega arith)
 
 -- "1 to 5 digits"
 within-long : (f n : ℕ) → length (digits_within f n) ≤ f

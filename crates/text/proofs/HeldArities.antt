@@ -5,7 +5,7 @@ use mathlib.Core.Path.{◌≡◌, refl, sym, ◌∙◌, ap}
 use mathlib.Core.Bool.{Bool, true, false, ◌&&◌}
 use mathlib.Core.List.{List, [], ◌∷◌}
 use native.Mathlib.Omega.{arith}
-use lib.ListN.{length, get_or}
+use lib.ListN.{length, get_or, take}
 use lib.Dec.{ltb, leb, leb-suc-suc}
 use borrow.Author.Tests.{le-leb, lt-leb}
 use Rattle.words.specs.Lists.{all, concat_map, joined}
@@ -16,21 +16,28 @@ use Rattle.words.proofs.Lists.{and_both}
 use Rattle.words.proofs.Words.{and-false}
 use Rattle.text.specs.Reading.{go_on, refuse}
 use Rattle.text.specs.Text.{between, Draft, at_phase, with_arities, arity_line, take_line, arity}
-use Rattle.text.specs.ReadCode.{Wrote, Listed}
+use Rattle.text.specs.declared.keys.Key.TheVariants as code
+use Rattle.text.specs.ReadCode.{number_of, Wrote, Listed}
 use Rattle.text.specs.Holding.{Holds, row_blocks, rows_of, pairs_of, Allows}
 use Rattle.text.proofs.Reading.{need-met}
+use Rattle.text.proofs.RowTests.{listed-take}
 use Rattle.text.proofs.LineTurns.{need-fails}
 use Rattle.text.proofs.WroteWords.{stands}
 use Rattle.text.specs.declared.draft.Counts.{Counts}
 use Rattle.text.proofs.Dispatch.{head-place}
 
 -- below 5 is at most 4
-pub low-arities : (ns : List ℕ) → all (λ n. ltb n 5) ns ≡ all (λ n. leb n 4) ns
+low-arities : (ns : List ℕ) → all (λ n. ltb n 5) ns ≡ all (λ n. leb n 4) ns
 unfolding all
 low-arities [] = refl
 low-arities (n ∷ ns) =
     ap (λ (b : Bool). b && all (λ n. ltb n 5) ns) (leb-suc-suc n 4) ∙
     ap (λ (b : Bool). leb n 4 && b) (low-arities ns)
+
+-- what a test of the numbers that were kept found, said of all that were read
+pub low-found : {ns kept : List ℕ} {count : ℕ} {found : Bool} → Listed ns count kept → count ≤ length kept →
+    found ≡ all (λ n. ltb n 5) (take count kept) → all (λ n. leb n 4) ns ≡ found
+low-found {ns} s l e = sym (low-arities ns) ∙ (ap (all (λ n. ltb n 5)) (sym (listed-take s l)) ∙ sym e)
 
 module _ (d : Draft) (ns : List ℕ) where
   pub too-many-predicates : 400 < length ns → take_line d (arity_line ns) ≡ refuse 4
@@ -49,7 +56,7 @@ module _ (d : Draft) (ns : List ℕ) where
   arities-taken l f = need-met 4 (and_both _ _ (le-leb (length ns) 400 l) f) refl
 
 -- no atom is read before the arities
-no_rows : {d : Draft} {w : List ℕ} {c : Counts} → Holds d w c → c.phase ≤ 2 → rows_of d ≡ []
+no_rows : {d : Draft} {w : List ℕ} {c : Counts} → Holds d w c → number_of c.phase ≤ 2 → rows_of d ≡ []
 unfolding row_blocks joined concat_map rows_from
 no_rows {d = d} h l =
     let o = h.order in
@@ -57,7 +64,7 @@ no_rows {d = d} h l =
 
 abbrev counted : Counts → ℕ → Counts
 counted c n = record {
-  phase = 8;
+  phase = code.Schema;
   objects = c.objects;
   predicates = n;
   schemas = c.schemas;
@@ -76,7 +83,7 @@ module _ {d : Draft} {w after : List ℕ} {c : Counts} (h : Holds d w c) (ns kep
       Holds (at_phase between (with_arities d.task ns)) after (counted c n)
   unfolding at_phase with_arities all row_blocks pairs_of joined concat_map rows_from
   arities-held allowed l low room listed wrote =
-      let z = head-place c.phase arity (omega arith) allowed in
+      let z = head-place (number_of c.phase) arity (omega arith) allowed in
       let o = h.order in
       let few = h.few in
       let e = o.not-open (omega arith) in

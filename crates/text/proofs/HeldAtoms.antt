@@ -18,7 +18,7 @@ use Rattle.task.proofs.AtomsStand.{Sized, sized, length-atom_words, length-facts
 use Rattle.task.proofs.Tables.{table_words-is}
 use Rattle.text.specs.Reading.{go_on, refuse}
 use Rattle.text.specs.Text.{Draft, role_phase, add_atom, Line, atom_line, take_line}
-use Rattle.text.specs.ReadCode.{Standing, Wrote, Listed, Fitting, bare_atom, row_same, phase_number}
+use Rattle.text.specs.ReadCode.{Standing, Wrote, Listed, Fitting, bare_atom, row_same, number_of, phase_number}
 use Rattle.text.specs.Holding.{Few, row_at, row_blocks, rows_of, Holds, Touched, InSchema, with_atom, one_atom_more}
 use Rattle.text.specs.Holding.{entry_of, Grows, first_row, pairs_at, rows_at, pairs_of}
 use Rattle.text.proofs.Reading.{need-met}
@@ -219,7 +219,8 @@ module _ {d : Draft} {w : List ℕ} {c : Counts} (h : Holds d w c) (r p : ℕ) (
       let o = h.order in
       let few = h.few in
       let role = inside.known in
-      let (opened, place) = atom-place c.phase r role inside.allowed in
+      let (opened, place) = atom-place (number_of c.phase) r role inside.allowed in
+      let later : phase_number (role_phase r) ≡ 4 + r = role-number r role in
       let i = o.no-init (omega arith) in
       let g = o.no-goal (omega arith) in
       let n = h.atoms in
@@ -230,7 +231,7 @@ module _ {d : Draft} {w : List ℕ} {c : Counts} (h : Holds d w c) (r p : ℕ) (
       let total = h.rows-length in
       let y = length-append (rows_of d) (atom_words S new) in
       record {
-        phase = sym (role-number r role);
+        phase = refl;
         objects = h.objects;
         predicates = h.predicates;
         schemas = h.schemas;

@@ -20,7 +20,7 @@ use Rattle.task.proofs.AtomsStand.{Sized, sized, length-atom_words, length-facts
 use Rattle.text.specs.Reading.{go_on, refuse}
 use Rattle.text.specs.Text.{Draft, in_init, in_goal, at_phase, with_init, with_goal, follows, add_fact, init}
 use Rattle.text.specs.Text.{Phase, Line, take_line}
-use Rattle.text.specs.ReadCode.{Standing, Wrote, Listed, Fitting, bare_atom, phase_number}
+use Rattle.text.specs.ReadCode.{Standing, Wrote, Listed, Fitting, bare_atom, number_of, phase_number}
 use Rattle.text.specs.Holding.{Few, row_at, row_blocks, rows_of, Holds, Allows, fact_key, fact_line, facts_of}
 use Rattle.text.specs.Holding.{with_facts, so_far, with_counted, one_fact_more, Grows, entry_of, rows_at}
 use Rattle.text.proofs.Reading.{need-met}
@@ -187,9 +187,9 @@ module _ {d : Draft} {w : List ℕ} {c : Counts} (h : Holds d w c) where
   }
 
   -- before an `init` line there is no goal atom yet
-  init-allowed : Allows c init → (8 ≤ c.phase) × (d.task.goal ≡ [])
+  init-allowed : Allows c init → (8 ≤ number_of c.phase) × (d.task.goal ≡ [])
   init-allowed allowed =
-      let stands = may-stand c.phase 9 allowed in
+      let stands = may-stand (number_of c.phase) 9 allowed in
       let before = stands.before in
       (stands.between (omega arith), h.order.no-goal (omega arith))
 
@@ -334,7 +334,7 @@ module _ {d : Draft} {w : List ℕ} {c : Counts} (h : Holds d w c) (p : ℕ) (ns
       (fact-length 3 fits) wrote
   fact-held kind.Goal allowed l fits wrote =
       let few = h.few.initial in
-      let between = (may-stand c.phase 10 allowed).between (omega arith) in
+      let between = (may-stand (number_of c.phase) 10 allowed).between (omega arith) in
       let s = h.order.closed (omega arith) in
       let n = h.goal in
       let z = length-append d.task.goal (new ∷ []) in

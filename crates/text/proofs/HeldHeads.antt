@@ -15,7 +15,9 @@ use Rattle.words.proofs.Words.{and-false}
 use Rattle.text.specs.Reading.{go_on, finish, refuse}
 use Rattle.text.specs.Text.{Phase, at_objects, at_arity, in_differ, Draft, at_phase, with_objects, task_line}
 use Rattle.text.specs.Text.{objects_line, schema_line, end_line, take_line, task, objects, schema}
-use Rattle.text.specs.ReadCode.{phase_number, Standing}
+use Rattle.text.specs.declared.keys.Key.{Key as Code}
+use Rattle.text.specs.declared.keys.Key.TheVariants as code
+use Rattle.text.specs.ReadCode.{first_key, number_of, phase_number, Standing}
 use Rattle.text.specs.Holding.{Order, Holds, row_blocks, rows_of, Allows, rows_at}
 use Rattle.text.proofs.Reading.{need-met}
 use Rattle.text.proofs.LineTurns.{need-fails}
@@ -24,9 +26,9 @@ use Rattle.text.proofs.Dispatch.{head-place, schema-place}
 use Rattle.text.proofs.HeldPairs.{pairs-stay}
 
 -- the counts at another place in the order
-abbrev pub at_place : Counts → ℕ → Counts
-at_place c n = record {
-  phase = n;
+abbrev pub at_place : Counts → Code → Counts
+at_place c k = record {
+  phase = k;
   objects = c.objects;
   predicates = c.predicates;
   schemas = c.schemas;
@@ -48,7 +50,7 @@ rows-at d p s e = ap (λ (x : Schema). rows_of (record { phase = p; task = d.tas
 module _ {d : Draft} {w : List ℕ} {c : Counts} (h : Holds d w c) where
   -- the same draft at another place, with an empty schema
   pub held_at : (p : Phase) → d.current ≡ no_schema → (let e : Draft = at_phase p d.task in Order e (phase_number p)) →
-      Holds (at_phase p d.task) w (at_place c (phase_number p))
+      Holds (at_phase p d.task) w (at_place c (first_key p))
   unfolding at_phase
   held_at p e o =
       let rows = rows-at d p no_schema e in
@@ -92,10 +94,10 @@ module _ {d : Draft} {w : List ℕ} {c : Counts} (h : Holds d w c) where
         rows-length = ap length (sym rows) ∙ h.rows-length;
       }
 
-  pub task-held : Allows c task → Holds (at_phase at_objects d.task) w (at_place c 1)
+  pub task-held : Allows c task → Holds (at_phase at_objects d.task) w (at_place c code.Objects)
   unfolding at_phase
   task-held allowed =
-      let z = head-place c.phase task (omega arith) allowed in
+      let z = head-place (number_of c.phase) task (omega arith) allowed in
       let o = h.order in
       held_at at_objects (o.not-open (omega arith)) (record {
         no-arity = λ l. o.no-arity (omega arith);
@@ -109,7 +111,7 @@ module _ {d : Draft} {w : List ℕ} {c : Counts} (h : Holds d w c) where
 
   abbrev with_many : ℕ → Counts
   with_many n = record {
-    phase = 2;
+    phase = code.Arity;
     objects = n;
     predicates = c.predicates;
     schemas = c.schemas;
@@ -126,7 +128,7 @@ module _ {d : Draft} {w : List ℕ} {c : Counts} (h : Holds d w c) where
       Holds (at_phase at_arity (with_objects d.task n)) w (with_many n)
   unfolding at_phase with_objects row_blocks all
   objects-held n allowed l =
-      let z = head-place c.phase objects (omega arith) allowed in
+      let z = head-place (number_of c.phase) objects (omega arith) allowed in
       let o = h.order in
       let few = h.few in
       let e = o.not-open (omega arith) in
@@ -182,7 +184,7 @@ module _ {d : Draft} {w : List ℕ} {c : Counts} (h : Holds d w c) where
 
   abbrev opening : ℕ → Counts
   opening n = record {
-    phase = 3;
+    phase = code.Differ;
     objects = c.objects;
     predicates = c.predicates;
     schemas = c.schemas;
@@ -199,7 +201,7 @@ module _ {d : Draft} {w : List ℕ} {c : Counts} (h : Holds d w c) where
       Holds (record { phase = in_differ; task = d.task; current = bare_schema n }) w (opening n)
   unfolding row_blocks all
   schema-held n allowed l r =
-      let z = schema-place c.phase allowed in
+      let z = schema-place (number_of c.phase) allowed in
       let o = h.order in
       let few = h.few in
       let e = o.closed (omega arith) in

@@ -1,11 +1,11 @@
 -- A `differ` line: the code's tests of its pair are the definitions' tests, and behind the line the code holds the
 -- draft with one pair more. The words of the pairs that were read, here for the other lines too, stand before all rows
 -- of atoms.
-use Rattle.text.specs.declared.draft.Check.TheVariants as check
 use Prim.Native.Nat.{ℕ, zero, suc, ◌+◌, ◌-◌, ◌*◌, ◌≤◌, ◌<◌}
 use mathlib.Core.Path.{◌≡◌, refl, sym, ◌∙◌, ap, ap₂, subst}
 use mathlib.Core.Bool.{Bool, true, false}
 use mathlib.Core.List.{List, [], ◌∷◌, ◌++◌, map, append_assoc, append-nil}
+use Rattle.std.specs.Prelude.{Ok}
 use native.Mathlib.Omega.{arith}
 use lib.ListN.{length, get_or, length-append, length-map}
 use lib.Dec.{eqb, ltb}
@@ -23,7 +23,7 @@ use Rattle.task.proofs.SchemaRows.{length-rows_from}
 use Rattle.task.proofs.Tables.{table_words-is}
 use Rattle.text.specs.Reading.{go_on, refuse}
 use Rattle.text.specs.Text.{Draft, differ, pair_follows, add_pair}
-use Rattle.text.specs.ReadCode.{Standing, Wrote, Listed, Words}
+use Rattle.text.specs.ReadCode.{number_of, Standing, Wrote, Listed}
 use Rattle.text.specs.Holding.{Holds, Allows, PairTurn, row_blocks, rows_of, pairs_of, pairs_at, rows_at, pair_at}
 use Rattle.text.specs.Holding.{pair_of, with_pair, one_pair_more}
 use Rattle.text.proofs.Reading.{need-met, need-went}
@@ -197,7 +197,7 @@ module _ {d : Draft} {w : List ℕ} {c : Counts} (h : Holds d w c) {ns kept : Li
           pub not_behind : pair_follows d.current.pairs (pair_of kept) ≡ false → add_pair d ns ≡ refuse 19
           not_behind e = pair-unordered d ns line-two line-room low (line-follows e)
 
-          pub pair-passes : pair_follows d.current.pairs (pair_of kept) ≡ true → PairTurn d ns check.Passes
+          pub pair-passes : pair_follows d.current.pairs (pair_of kept) ≡ true → PairTurn d ns (Ok tt)
           pair-passes e = (pair-taken d ns line-two line-room low (line-follows e), line-two)
 
 -- what a pair that is taken has passed
@@ -242,7 +242,7 @@ module _ {d : Draft} {w : List ℕ} {c : Counts} (h : Holds d w c) (q : Pair) wh
   pair_held {after} allowed room wrote =
       let o = h.order in
       let few = h.few in
-      let z = differ-place c.phase allowed in
+      let z = differ-place (number_of c.phase) allowed in
       let p = h.predicates in
       let s = h.schemas in
       let most = few.schemas in
@@ -302,8 +302,9 @@ module _ {d : Draft} {w : List ℕ} {c : Counts} (h : Holds d w c) (q : Pair) wh
         rows-length = h.rows-length;
       }
 
-three-words : {a b c : ℕ} → a < word_bound → b < word_bound → c < word_bound → Words pair_size (a ∷ b ∷ c ∷ [])
-three-words {a} {b} {c} ha hb hc = record { enough = omega arith; small = at }
+three-words : {a b c : ℕ} → a < word_bound → b < word_bound → c < word_bound → (k : ℕ) → k < pair_size →
+    get_or (a ∷ b ∷ c ∷ []) k 0 < word_bound
+three-words {a} {b} {c} ha hb hc = at
   where
     at : (k : ℕ) → k < pair_size → get_or (a ∷ b ∷ c ∷ []) k 0 < word_bound
     at zero l = ha
@@ -324,7 +325,7 @@ pair_row {w} {after} {at} {at'} {s} {s'} q r e f g h =
 -- of a pair that passes: its words lie in the table, before its rows, they are words, and once they are put the code
 -- holds the draft again
 module _ {d : Draft} {w : List ℕ} {c : Counts} (h : Holds d w c) {ns kept : List ℕ} {count : ℕ}
-    (s : Listed ns count kept) (size : length kept ≡ 2) (passes : PairTurn d ns check.Passes) where
+    (s : Listed ns count kept) (size : length kept ≡ 2) (passes : PairTurn d ns (Ok tt)) where
   passed : PairPassed d ns
   passed = pair-passed d ns _ passes.0
 
@@ -334,7 +335,8 @@ module _ {d : Draft} {w : List ℕ} {c : Counts} (h : Holds d w c) {ns kept : Li
   pub pair_inside : {at : ℕ} → at ≡ pair_at c → at + pair_size ≤ table_length
   pair_inside e = let l = room in let p = h.few.predicates in omega arith
 
-  pub pair-numbers : Words pair_size (c.schemas ∷ get_or kept 0 0 ∷ get_or kept 1 0 ∷ [])
+  pub pair-numbers : (k : ℕ) → k < pair_size →
+      get_or (c.schemas ∷ get_or kept 0 0 ∷ get_or kept 1 0 ∷ []) k 0 < word_bound
   pair-numbers =
       let two = passes.1 in
       let lower = s.held 0 (omega arith) (omega arith) in

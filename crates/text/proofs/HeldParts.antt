@@ -5,7 +5,7 @@ use mathlib.Core.Path.{◌≡◌, refl, sym, ◌∙◌, ap, ap₂}
 use mathlib.Core.Bool.{Bool, true, false, ◌&&◌, ◌||◌}
 use mathlib.Core.List.{List, [], ◌∷◌}
 use native.Mathlib.Omega.{arith}
-use lib.ListN.{length, get_or}
+use lib.ListN.{length, get_or, take}
 use lib.Dec.{eqb, ltb}
 use borrow.Author.Tests.{le-leb, lt-leb, eq-eqb, ne_eqb}
 use Rattle.words.specs.Lists.{all, any, up_to}
@@ -15,10 +15,11 @@ use Rattle.words.proofs.Lists.{In, here, there, in-get_or}
 use Rattle.task.proofs.AtomsStand.{Sized}
 use Rattle.text.specs.Reading.{go_on, refuse}
 use Rattle.text.specs.Text.{Draft, with_parts, close_schema}
-use Rattle.text.specs.ReadCode.{RowIn, row_names, one_above, no_gap_in}
+use Rattle.text.specs.ReadCode.{Listed, RowIn, row_names, one_above, no_gap_in}
 use Rattle.text.specs.Holding.{Holds, with_closed, rows_at}
 use Rattle.text.proofs.Reading.{need-met}
 use Rattle.text.proofs.LineTurns.{need-fails}
+use Rattle.text.proofs.RowTests.{listed-take}
 use Rattle.text.proofs.RowCompare.{any-index, names-row, pred-word}
 use Rattle.text.proofs.HeldAtoms.{atom-sized, atom-stands}
 use Rattle.text.specs.declared.draft.Counts.{Counts}
@@ -97,6 +98,28 @@ module _ {d : Draft} {w : List ℕ} {c : Counts} (h : Holds d w c) where
       let size = size-at i l in
       names-row w (first + atom_size * i) S x a size.short (atom-stands h i no_atom l)
       (h.arities-stand a.pred size.known ∙ sym size.count)))
+
+-- ---- what the tests of the rows and of the parts that were kept found, said of the draft and of all that were read
+pub parts_named : {d : Draft} {w : List ℕ} {c : Counts} (h : Holds d w c) {row : ℕ} {found : Bool} →
+    row ≡ rows_at c.predicates + atom_size * c.closed →
+    found ≡ all (λ x. any (λ i. row_names w (row + atom_size * i) x) (up_to c.atoms)) (up_to c.params) →
+    all_named d.current ≡ found
+parts_named h e told = sym (named-is h) ∙ sym (rw e at told)
+
+pub record Kept (d : Draft) (ps kept : List ℕ) (count : ℕ) : Type 0 where
+  pub same : length ps ≡ length d.current.atoms
+  pub low : {found : Bool} → found ≡ all (λ p. ltb p 16) (take count kept) → all (λ p. ltb p 16) ps ≡ found
+  pub gap : {found : Bool} → found ≡ no_gap_in (take count kept) → no_gap_in ps ≡ found
+
+pub kept-parts : {d : Draft} {w : List ℕ} {c : Counts} → Holds d w c → {ps kept : List ℕ} {count : ℕ} →
+    Listed ps count kept → length kept ≡ 64 → count ≡ c.atoms → Kept d ps kept count
+kept-parts h {ps} {kept} {count} s size many =
+    let first : take count kept ≡ ps = listed-take s (omega (arith, h.few.atoms)) in
+    record {
+      same = omega (arith, h.atoms, s.counted);
+      low = λ e. ap (all (λ p. ltb p 16)) (sym first) ∙ sym e;
+      gap = λ e. ap no_gap_in (sym first) ∙ sym e;
+    }
 
 -- ---- the tests of a part line
 module _ (d : Draft) (ps : List ℕ) where

@@ -16,7 +16,8 @@ use Rattle.words.proofs.JoinedWords.{concat-stands}
 use Rattle.task.proofs.AtomsStand.{Sized, length-atom_words}
 use Rattle.task.proofs.Tables.{table_words-is}
 use Rattle.text.specs.Text.{Draft, at_phase, with_schemas, with_parts, part}
-use Rattle.text.specs.ReadCode.{Standing, PartsPut, may_stand}
+use Rattle.text.specs.declared.keys.Key.TheVariants as code
+use Rattle.text.specs.ReadCode.{Standing, PartsPut, number_of, may_stand}
 use Rattle.text.specs.Holding.{row_blocks, rows_of, pairs_of, Holds, Touched, with_closed, Allows, pairs_at, rows_at}
 use Rattle.text.proofs.TaskWritten.{schema_atoms-part}
 use Rattle.text.proofs.TaskGrows.{length-closed}
@@ -85,7 +86,8 @@ row-parted w after row s a p few h e same k l = go k l
         kept (suc (suc (suc (suc k)))) (omega arith) (λ q. omega arith)
 
 -- a `part` line stands inside a schema, so there is room for that schema
-in-schema : {d : Draft} {w : List ℕ} {c : Counts} → Holds d w c → Allows c part → (3 ≤ c.phase) × (c.phase ≤ 6)
+in-schema : {d : Draft} {w : List ℕ} {c : Counts} → Holds d w c → Allows c part →
+    (3 ≤ number_of c.phase) × (number_of c.phase ≤ 6)
 in-schema {d = d} h allowed =
     subst (λ (p : ℕ). (3 ≤ p) × (p ≤ 6)) (sym h.phase)
     (part-place d.phase (subst (λ (p : ℕ). may_stand p 7 ≡ true) h.phase allowed))
@@ -231,7 +233,7 @@ module _ {d : Draft} {w mid : List ℕ} {c : Counts} (h : Holds d w c) (ps kept 
 
   abbrev closing : Counts
   closing = record {
-    phase = 8;
+    phase = code.Schema;
     objects = c.objects;
     predicates = c.predicates;
     schemas = c.schemas + 1;

@@ -1,7 +1,5 @@
 -- The line at a cursor by the key that stands there: no two keys stand at one place, so the line is the body of that
 -- key where the fixed order allows it, and there is none elsewhere. What the order allows is a run of key numbers.
-use Rattle.text.specs.declared.keys.Keyed.TheVariants as variant
-use Rattle.text.specs.declared.cursor.Behind.TheVariants as behind
 use Prim.Native.Nat.{ℕ, ◌<◌}
 use Prim.Native.String.{String}
 use mathlib.Core.Path.{◌≡◌, refl, sym, ◌∙◌, ap, subst}
@@ -20,11 +18,10 @@ use Rattle.text.specs.Text.{Key, task, objects, arity, schema, differ, pre, add,
 use Rattle.text.specs.Text.{key_name, Phase, at_task, at_objects, at_arity, between, in_differ, in_pre, in_add, in_del}
 use Rattle.text.specs.Text.{in_init, in_goal, read_body, keys_at, Draft, next_line}
 use Rattle.text.specs.declared.cursor.Cursor.{Cursor}
-use Rattle.text.specs.declared.keys.Keyed.{Keyed}
-use Rattle.text.specs.ReadCode.{rest, key_bytes, key_number, phase_number, last_key, KeyHere, KeyAt, OnceKeyAt}
-use Rattle.text.specs.ReadCode.{may_stand, WordAt}
+use Rattle.text.specs.declared.keys.Key.{Key as Code}
+use Rattle.text.specs.ReadCode.{rest, key_bytes, key_number, meant, phase_number, last_key, KeyHere, KeyAt, OnceKeyAt}
+use Rattle.text.specs.ReadCode.{may_stand, WordHere}
 use Rattle.text.proofs.Taken.{after_read}
-use Rattle.text.specs.declared.cursor.Behind.{Behind}
 use Rattle.text.proofs.KeyedLines.{clash, after-clash, keyed, apart}
 
 -- ---- readers of several keys
@@ -125,7 +122,7 @@ numbered init = refl
 numbered goal = refl
 numbered end = refl
 
-pub key-of-number : (j k : Key) → key_number j ≡ key_number k → j ≡ k
+key-of-number : (j k : Key) → key_number j ≡ key_number k → j ≡ k
 key-of-number j k e = sym (numbered j) ∙ (ap (λ (n : ℕ). get_or every_key n task) e ∙ numbered k)
 
 every-key : (k : Key) → In k every_key
@@ -216,16 +213,12 @@ module _ (d : Draft) (bs : List ℕ) where
         (other_keys bs k rest e j))
 
 -- ---- the key at a cursor
-pub key-found : {text : List ℕ} {c body : Cursor} {r : Behind} (k : Key) → r ≡ behind.At body →
-    WordAt text c (key_bytes k) r → KeyHere text c (key_number k) body
-key-found {text} {c} k told word =
-    let w = subst (WordAt text c (key_bytes k)) told word in
+pub key-found : {text : List ℕ} {c body : Cursor} (k : Code) → WordHere text c (key_bytes (meant k)) body →
+    KeyHere text c k body
+key-found k w =
     let f = w.far in
-    let l = length-append (bytes (key_name k)) (equals ∷ []) in
+    let l = length-append (bytes (key_name (meant k))) (equals ∷ []) in
     record {
-      key =
-          k;
-      numbered = refl;
       is = w.is;
       moved = record { on = omega arith; inside = w.inside; line = w.line };
     }
@@ -240,9 +233,10 @@ pub record NoLaterKey (bs : List ℕ) : Type 0 where
   pub no-init : after (key_bytes init) bs ≡ None
   pub no-goal : after (key_bytes goal) bs ≡ None
 
-pub once-key : (text : List ℕ) (c : Cursor) (r : Keyed) → OnceKeyAt text c r → NoLaterKey (rest text c) → KeyAt text c r
-once-key text c (variant.Of n body) h l = h
-once-key text c variant.Missing h l = no_key
+pub once-key : (text : List ℕ) (c : Cursor) (r : Option (Code × Cursor)) → OnceKeyAt text c r →
+    NoLaterKey (rest text c) → KeyAt text c r
+once-key text c (Some (k, body)) h l = h
+once-key text c None h l = no_key
   where
     no_key : (k : Key) → after (key_bytes k) (rest text c) ≡ None
     no_key task = h.no-task

@@ -20,7 +20,7 @@ use Rattle.words.proofs.Words.{At, at-move}
 use Rattle.words.proofs.JoinedWords.{length-joined, at_place, stands-concat, concat-row}
 use Rattle.task.proofs.Tables.{content, words_are, words-length, table_words-is}
 use Rattle.text.specs.Text.{Draft, between}
-use Rattle.text.specs.ReadCode.{Wrote, phase_number}
+use Rattle.text.specs.ReadCode.{Wrote, number_of, phase_number}
 use Rattle.text.specs.Holding.{row_blocks, rows_of, pairs_of, Holds, Touched, pairs_at, rows_at}
 use Rattle.text.proofs.WroteWords.{stands, stays-before, stays-behind}
 use Rattle.text.proofs.HeldPairs.{pairs-length}
@@ -82,7 +82,8 @@ over-touched xs lent w e l t =
     (get_or-append-add xs (drop (length xs) w) (k - length xs) 0 ∙
     (get_or-drop (length xs) w (k - length xs) 0 ∙ (ap (λ (i : ℕ). get_or w i 0) z ∙ t.beyond k (omega arith)))))
 
-module _ {d : Draft} {w : List ℕ} {c : Counts} (h : Holds d w c) (closed : phase_number between ≤ c.phase) where
+module _ {d : Draft} {w : List ℕ} {c : Counts} (h : Holds d w c)
+    (closed : phase_number between ≤ number_of c.phase) where
   abbrev pairs_to : ℕ
   pairs_to = head_words + c.predicates + c.schemas
 

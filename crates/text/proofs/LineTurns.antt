@@ -1,22 +1,17 @@
 -- What a line's turn comes to, once its body is read: refused where there is none, and else what the line does to the
 -- draft, as `take_line` says for the lines of a task.
-use Rattle.text.specs.declared.draft.Check.TheVariants as check
 use Prim.Native.Nat.{ℕ, suc}
-use mathlib.Core.Path.{◌≡◌, refl, ◌∙◌, ap, sym, subst}
+use mathlib.Core.Path.{◌≡◌, refl, ◌∙◌, ap}
 use mathlib.Core.Bool.{Bool, false}
 use mathlib.Core.List.{List, [], ◌∷◌}
 use Rattle.std.specs.Prelude.{Option, None, Some}
-use native.Mathlib.Omega.{arith}
 use Rattle.task.specs.Task.{Task}
 use Rattle.text.specs.Lines.{newline, Taken, taken, and_then, after, ended, Entry, entry}
 use Rattle.text.specs.Reading.{Turn, go_on, finish, refuse, need, Reading, at_end, turn_at, line_at, refused_at}
 use Rattle.text.specs.Text.{Line, Draft, take_line}
-use Rattle.text.specs.ReadCode.{whole, rest, Listed, ListLine, ListLineAt, EntryLine}
-use Rattle.text.specs.Holding.{Next, Refuses, Holds, GoesOn, Checked, entry_of}
-use Rattle.text.specs.declared.lists.List.{List as Listing}
-use Rattle.text.specs.declared.lists.List.TheVariants as list
+use Rattle.text.specs.ReadCode.{whole, rest, EntryLine}
+use Rattle.text.specs.Holding.{Next, Refuses, GoesOn, Grows, entry_of}
 use Rattle.text.specs.declared.cursor.Cursor.{Cursor}
-use Rattle.text.specs.declared.draft.Check.{Check}
 use Rattle.text.specs.declared.draft.Counts.{Counts}
 
 module _ {A L : Type 0} (says : A → L) (o : Option (Taken A)) where
@@ -61,22 +56,6 @@ module _ {A L : Type 0} (says : A → L) (o : Option (Taken A)) where
       unfolding turn_at
       turn-ends r e = turn_is ∙ ap (λ (t : Turn D R). turn_at n t left next) e
 
--- what is no body, or another one, is not this one; what is the same is
-pub none-taken : {A : Type 0} {o : Option (Taken A)} {a : A} → o ≡ None → (left : List ℕ) → o ≡ taken a left → ⊥
-none-taken e left h = let z : ◌≡◌ {A = ℕ} 0 1 = cc in omega arith
-
-pub other-taken : {A : Type 0} {o : Option (Taken A)} {a b : A} {rest : List ℕ} → o ≡ taken b rest → (b ≡ a → ⊥) →
-    (left : List ℕ) → o ≡ taken a left → ⊥
-other-taken {A} {b = b} e other left h = other (ap value (sym e ∙ h))
-  where
-    value : Option (Taken A) → A
-    value None = b
-    value (Some x) = x.value
-
-pub same_taken : {A : Type 0} {o : Option (Taken A)} {a b : A} {left : List ℕ} → o ≡ taken b left → b ≡ a →
-    o ≡ taken a left
-same_taken {A} {left = left} e q = e ∙ ap (λ (b : A). taken b left) q
-
 -- a body that must be 1, and isn't
 pub not-one : {L D R : Type 0} (says : ℕ → L) (o : Option (Taken ℕ)) (takes : L → Turn D R) →
     ((left : List ℕ) → whole o ≡ taken 1 left → ⊥) → ((a : ℕ) → (a ≡ 1 → ⊥) → takes (says a) ≡ refuse 3) → (n : ℕ)
@@ -106,45 +85,18 @@ module _ {A : Type 0} (says : A → Line) (d : Draft) (o : Option (Taken A)) whe
         line_at n (take_line d) (ended says o) next ≡ at_end t (suc n) left
     line-ends t q n next = turn-ends says o (take_line d) a left h n next t q
 
--- ---- lines that have a list
--- there is none
-pub no-list : (says : List ℕ → Line) (d : Draft) (text : List ℕ) (from : Cursor) (body : Option (Taken (List ℕ)))
-    (kept : List ℕ) {found : Listing} → found ≡ list.Missing → ListLineAt text from body kept found →
-    Refuses d (ended says body) 3
-no-list says d text from body kept e read = no_line says d body (subst (ListLineAt text from body kept) e read)
-
--- or its check refuses
-module _ (says : List ℕ → Line) {text kept : List ℕ} {from : Cursor} {body : Option (Taken (List ℕ))} where
-  pub list-refused : {count : ℕ} {next : Cursor} (read : ListLine text from body count kept next)
-      (Told : Draft → List ℕ → Check → Type 0) {told : Check} {k : ℕ} → told ≡ check.Refuses k →
-      ((d : Draft) → Told d read.ns (check.Refuses k) → take_line d (says read.ns) ≡ refuse k) →
-      {w : List ℕ} {c : Counts} →
-      ((d : Draft) (ns : List ℕ) → Holds d w c → Listed ns count kept → Told d ns told) →
-      (d : Draft) → Holds d w c → Refuses d (ended says body) k
-  list-refused read Told {k = k} e refuses checked d h =
-      line_refused says d body _ _ read.is k
-      (refuses d (subst (Told d read.ns) e (checked d read.ns h read.listed)))
-
 -- ---- lines that have an atom
-module _ (says : Entry → Line) (d : Draft) {text kept : List ℕ} {from next : Cursor} {p count : ℕ}
-    (read : EntryLine text from p count kept next) (grown : Counts) (after : List ℕ) {told : Check} where
-  pub atom-refused : (k : ℕ) → told ≡ check.Refuses k → Checked d (says (entry_of p read.ns)) grown told after →
-      Refuses d (ended says (entry (rest text from))) k
-  atom-refused k e checked =
-      line_refused says d _ _ _ read.is k
-      (subst (λ (t : Check). Checked d (says (entry_of p read.ns)) grown t after) e checked)
-
-  pub atom-goes-on : {counts : Counts} → counts ≡ grown → told ≡ check.Passes →
-      Checked d (says (entry_of p read.ns)) grown told after →
-      GoesOn text from d (ended says (entry (rest text from))) after counts next
-  atom-goes-on q e checked =
-      let grows = subst (λ (t : Check). Checked d (says (entry_of p read.ns)) grown t after) e checked in
-      record {
-        draft = grows.draft;
-        is = line-goes-on says d _ _ _ read.is grows.draft grows.is;
-        holds = subst (Holds grows.draft after) (sym q) grows.holds;
-        line = read.line;
-      }
+-- its check passes
+pub atom-goes-on : (says : Entry → Line) (d : Draft) {text kept : List ℕ} {from next : Cursor} {p count : ℕ}
+    (read : EntryLine text from p count kept next) {grown : Counts} {after : List ℕ} →
+    Grows d (says (entry_of p read.ns)) grown after →
+    GoesOn text from d (ended says (entry (rest text from))) after grown next
+atom-goes-on says d read grows = record {
+  draft = grows.draft;
+  is = line-goes-on says d _ _ _ read.is grows.draft grows.is;
+  holds = grows.holds;
+  line = read.line;
+}
 
 -- a test that fails refuses
 pub need-fails : {D R : Type 0} {b : Bool} (k : ℕ) (t : _) → b ≡ false → need {D = D} {R = R} b k t ≡ refuse k

@@ -4,7 +4,7 @@ use Prim.Native.Nat.{ℕ, suc, ◌+◌, ◌-◌, ◌*◌, ◌≤◌, ◌<◌}
 use mathlib.Core.Path.{◌≡◌, refl, sym, ◌∙◌, ap}
 use mathlib.Core.List.{List, [], ◌∷◌, ◌++◌, map, append_assoc}
 use native.Mathlib.Omega.{arith}
-use lib.ListN.{length, get_or, length-append}
+use lib.ListN.{length, get_or}
 use Rattle.words.specs.Lists.{up_to, up_from, concat_map}
 use Rattle.text.specs.Lines.{comma, newline, digits, commaed}
 use Rattle.text.specs.TableLines.{spaced}
@@ -28,11 +28,6 @@ onwards-none piece k n h = let e : n - k ≡ 0 = omega arith in ap (λ (m : ℕ)
 pub onwards-all : (piece : ℕ → List ℕ) (n : ℕ) → onwards piece 0 n ≡ concat_map piece (up_to n)
 unfolding up_to
 onwards-all piece n = let e : n - 0 ≡ n = omega arith in ap (λ (m : ℕ). concat_map piece (up_from 0 m)) e
-
-pub onwards-longer : (piece : ℕ → List ℕ) (k n : ℕ) → k < n →
-    length (onwards piece k n) ≡ length (piece k) + length (onwards piece (k + 1) n)
-onwards-longer piece k n h =
-    ap length (onwards-next piece k n h) ∙ length-append (piece k) (onwards piece (k + 1) n)
 
 pub onwards-short : (piece : ℕ → List ℕ) (k n : ℕ) → n ≤ k → length (onwards piece k n) ≡ 0
 onwards-short piece k n h = ap length (onwards-none piece k n h)

@@ -10,16 +10,19 @@ use lib.ListN.{length, take, replicate}
 use Rattle.task.specs.Limits.{step_size}
 use Rattle.task.specs.declared.Place.{Place}
 use Rattle.words.specs.Lists.{concat_map, over}
-use Rattle.task.specs.Answers.{result, refused}
+use Rattle.std.specs.Prelude.{Err}
+use Rattle.task.specs.declared.refusals.Reason.{Reason}
+use Rattle.task.specs.declared.refusals.Refusal.{Refusal}
+use Rattle.task.specs.Answers.{result, refused, reason_number}
 use Rattle.task.specs.Task.{Task}
 use Rattle.task.specs.Table.{task_of, is_table}
 use Rattle.task.specs.Run.{Step, step_words}
 use Rattle.task.proofs.Tables.{of-table}
 use Rattle.text.specs.Reading.{Reading, read, refused_at}
 use Rattle.text.specs.Plan.{plan_words, read_plan}
-use Rattle.text.specs.Outcomes.{plan_done, plan_outcome}
+use Rattle.text.specs.Outcomes.{plan_done, plan_outcome, plan_answer_told}
 use Rattle.text.proofs.PlanSteps.{PlanWords, plan-words}
-use Rattle.task.proofs.Answers.{told-by, left_by}
+use Rattle.task.proofs.Answers.{told-by, left_by, both}
 
 -- ---- of a plan
 module _ (table text lent : List ℕ) where
@@ -34,6 +37,14 @@ module _ (table text lent : List ℕ) where
       record { told = refused k (place.Line n) []; buffer = over (replicate plan_words 0) lent }
   unfolding plan_outcome plan_done
   refused-outcome k n e = ap (plan_done lent) e
+
+  -- what the code's refusal tells
+  pub told-turned-back : (n : ℕ) (why : Reason) {r : Refusal} →
+      read_plan (task_of table) text ≡ refused_at (reason_number why) n →
+      r ≡ record { reason = why; place = place.Line n } →
+      plan_answer_told (Err r) ≡ (plan_outcome table text lent).told
+  told-turned-back n why e q =
+      ap (λ (r : Refusal). plan_answer_told (Err r)) q ∙ (both (refused-outcome (reason_number why) n e)).0
 
 -- ---- by the answer
 pub record PlanRead (t : Task) (text : List ℕ) (n : ℕ) (after : List ℕ) : Type 0 where

@@ -5,7 +5,8 @@ use Prim.Native.Nat.{ℕ, suc, ◌+◌, ◌*◌, ◌≤◌, ◌<◌}
 use mathlib.Core.Path.{◌≡◌, refl, sym, ◌∙◌, ap, subst}
 use mathlib.Core.Bool.{true, false}
 use mathlib.Core.List.{List, [], ◌∷◌, ◌++◌}
-use Rattle.std.specs.Prelude.{Option, None, Some}
+use Rattle.std.specs.Prelude.{Option, None, Some, Result, Ok, Err}
+use Rattle.task.specs.declared.refusals.Reason.{Reason}
 use mathlib.Core.Logic.{◌⊎◌, inl, inr}
 use native.Mathlib.Omega.{arith}
 use lib.ListN.{length, get_or, replicate, length-append, drop_of_length-le}
@@ -106,9 +107,9 @@ word_moved word l w = let f = w.far in record { on = omega arith; inside = w.ins
 
 -- a turn at a body is the turn at its line
 pub plan-turned-at : (t : Task) (text : List ℕ) (from body : Cursor) (xs : List Step) (l m : Option (Taken PlanLine))
-    (w : List ℕ) (r : PlanTurn) (after : List ℕ) → Moved text from body → l ≡ m →
+    (w : List ℕ) (r : Result PlanTurn Reason) (after : List ℕ) → Moved text from body → l ≡ m →
     PlanTurned t text body xs m w r after → PlanTurned t text from xs l w r after
-plan-turned-at t text from body xs l m w (turn.GoOn at) after moved e h = record {
+plan-turned-at t text from body xs l m w (Ok (turn.GoOn at)) after moved e h = record {
   last = h.last;
   is-choice = h.is-choice;
   room = h.room;
@@ -116,9 +117,9 @@ plan-turned-at t text from body xs l m w (turn.GoOn at) after moved e h = record
   put = h.put;
   line = next-from moved h.line;
 }
-plan-turned-at t text from body xs l m w (turn.Finish at) after moved e (h, q) =
+plan-turned-at t text from body xs l m w (Ok (turn.Finish at)) after moved e (h, q) =
     (record { is = λ n next. rw e (h.is n next); line = next-from moved h.line }, q)
-plan-turned-at t text from body xs l m w (turn.Refuse k) after moved e (h, q) = (λ n next. rw e (h n next), q)
+plan-turned-at t text from body xs l m w (Err k) after moved e (h, q) = (λ n next. rw e (h n next), q)
 
 -- ---- the loop
 module _ (t : Task) (text lent : List ℕ) where

@@ -7,7 +7,7 @@ use mathlib.Core.List.{List, [], ◌∷◌, ◌++◌, map, append-nil}
 use native.Mathlib.Omega.{arith}
 use native.Mathlib.Decide.{dec_lt}
 use lib.ListN.{length, get_or, take, set, replicate, length-set, get_or-replicate, get_or-append}
-use lib.Seq.{get_or-append-add, get_or-take, length-take-le, get_or-set_same, get_or-set_other}
+use lib.Seq.{get_or-append-add, get_or-set_same, get_or-set_other}
 use lib.Dec.{eqb, ltb}
 use borrow.Author.Tests.{leb-true, le-ltb, lt-ltb, eq-eqb, ne_eqb}
 use Rattle.words.specs.Lists.{all, concat_map, up_to, up_from, over, padded}
@@ -28,6 +28,7 @@ use Rattle.text.specs.ReadCode.{Listed, Wrote}
 use Rattle.text.specs.PlanCode.{step_of}
 use Rattle.text.proofs.PlanText.{plan-read-choices}
 use Rattle.text.proofs.RowTests.{listed-take}
+use Rattle.text.proofs.WroteWords.{wrote-behind}
 use Rattle.text.proofs.LaidOut.{over-is}
 
 -- ---- refusal 5: "a wrong schema, object or number of objects"
@@ -102,12 +103,9 @@ plan_words-is = refl
 pub step_room : {n long : ℕ} → plan_words ≤ long → n < 100 → step_size * n + step_size ≤ long
 step_room l few = let z = plan_words-is in omega arith
 
-module _ (w : List ℕ) (at s count : ℕ) (objects v u : List ℕ) (room : at + step_size ≤ length w) (few : count ≤ 12)
-    (enough : count ≤ length objects) (put : Wrote (set w at s) (at + 1) count (λ k. get_or objects k 0) v)
-    (zeros : Wrote v (at + 1 + count) (12 - count) (λ k. 0) u) where
-  abbrev os : List ℕ
-  os = take count objects
-
+module _ (w : List ℕ) (at s : ℕ) (os v u : List ℕ) (room : at + step_size ≤ length w) (few : length os ≤ 12)
+    (put : Wrote (set w at s) (at + 1) (length os) (λ k. get_or os k 0) v)
+    (zeros : Wrote v (at + 1 + length os) (12 - length os) (λ k. 0) u) where
   abbrev behind : List ℕ
   behind = replicate (12 - length os) 0
 
@@ -116,19 +114,17 @@ module _ (w : List ℕ) (at s count : ℕ) (objects v u : List ℕ) (room : at +
       let z : at + 0 ≡ at = omega arith in
       ap (λ (i : ℕ). get_or u i 0) z ∙ (zeros.before at (omega arith) ∙
       (put.before at (omega arith) ∙ get_or-set_same w at s 0 (omega arith)))
-  word-put (suc j) l = elim (dec_lt j count) [
+  word-put (suc j) l = elim (dec_lt j (length os)) [
     | yes m ↦
-        let n = length-take-le count objects enough in
         let z : at + suc j ≡ at + 1 + j = omega arith in
         ap (λ (i : ℕ). get_or u i 0) z ∙ (zeros.before (at + 1 + j) (omega arith) ∙
-        (put.put j m ∙ (sym (get_or-take count objects j 0 m) ∙ sym (get_or-append os behind 0 j (omega arith)))))
+        (put.put j m ∙ sym (get_or-append os behind 0 j m)))
     | no m ↦
-        let n = length-take-le count objects enough in
-        let z : at + suc j ≡ at + 1 + count + (j - count) = omega arith in
-        let q : length os + (j - count) ≡ j = omega arith in
-        ap (λ (i : ℕ). get_or u i 0) z ∙ (zeros.put (j - count) (omega arith) ∙
-        (sym (get_or-replicate (12 - length os) (j - count) 0 0 (omega arith)) ∙
-        (sym (get_or-append-add os behind (j - count) 0) ∙ ap (λ (i : ℕ). get_or (os ++ behind) i 0) q)))
+        let z : at + suc j ≡ at + 1 + length os + (j - length os) = omega arith in
+        let q : length os + (j - length os) ≡ j = omega arith in
+        ap (λ (i : ℕ). get_or u i 0) z ∙ (zeros.put (j - length os) (omega arith) ∙
+        (sym (get_or-replicate (12 - length os) (j - length os) 0 0 (omega arith)) ∙
+        (sym (get_or-append-add os behind (j - length os) 0) ∙ ap (λ (i : ℕ). get_or (os ++ behind) i 0) q)))
   ]
 
   pub step-put : Wrote w at step_size (λ k. get_or (step_words (step_of s os)) k 0) u
@@ -141,28 +137,6 @@ module _ (w : List ℕ) (at s count : ℕ) (objects v u : List ℕ) (room : at +
     behind = λ j l. zeros.behind j (omega arith) ∙ (put.behind j (omega arith) ∙
         get_or-set_other w at j s 0 (λ e. omega arith));
   }
-
--- ---- words put behind others
-pub wrote_on : {lent w after : List ℕ} {n m : ℕ} (xs ys : List ℕ) → length xs ≡ n →
-    Wrote lent 0 n (λ k. get_or xs k 0) w → Wrote w n m (λ k. get_or ys k 0) after →
-    Wrote lent 0 (n + m) (λ k. get_or (xs ++ ys) k 0) after
-wrote_on {lent} {w} {after} {n} {m} xs ys e a b = record {
-  size = b.size ∙ a.size;
-  put = λ k l. go k l;
-  before = λ j l. absurd (omega arith);
-  behind = λ j l. b.behind j (omega arith) ∙ a.behind j (omega arith);
-}
-  where
-    go : (k : ℕ) → k < n + m → get_or after (0 + k) 0 ≡ get_or (xs ++ ys) k 0
-    go k l = elim (dec_lt k n) [
-      | yes q ↦
-          b.before (0 + k) (omega arith) ∙ (a.put k q ∙ sym (get_or-append xs ys 0 k (omega arith)))
-      | no q ↦
-          let z : 0 + k ≡ n + (k - n) = omega arith in
-          let y : length xs + (k - n) ≡ k = omega arith in
-          ap (λ (i : ℕ). get_or after i 0) z ∙ (b.put (k - n) (omega arith) ∙
-          (sym (get_or-append-add xs ys (k - n) 0) ∙ ap (λ (i : ℕ). get_or (xs ++ ys) i 0) y))
-    ]
 
 -- ---- the words of choices
 -- each has thirteen words, and is read back
@@ -203,15 +177,11 @@ module _ (t : Task) (well : well_formed t ≡ true) (xs : List Step) (choices : 
   unfolding concat_map
   one_more x is {lent} {w} {after} {n} e a b =
       let l = length-steps xs all-sized in
-      let z : step_size * length xs ≡ step_size * n = omega arith in
-      let y : step_size * n + step_size ≡ step_size * (n + 1) = omega arith in
       let words : concat_map step_words xs ++ step_words x ≡ concat_map step_words (xs ++ (x ∷ [])) =
       sym (append-concat_map step_words xs (x ∷ []) ∙
       ap (λ (ys : List ℕ). concat_map step_words xs ++ ys) (append-nil (step_words x))) in
-      subst (λ (m : ℕ). Wrote lent 0 m (λ k. get_or (concat_map step_words (xs ++ (x ∷ []))) k 0) after) y
-      (subst (λ (ys : List ℕ). Wrote lent 0 (step_size * n + step_size) (λ k. get_or ys k 0) after) words
-      (wrote_on (concat_map step_words xs) (step_words x) (omega arith) a
-      (subst (λ (i : ℕ). Wrote w i step_size (λ k. get_or (step_words x) k 0) after) z b)))
+      subst (λ (ys : List ℕ). Wrote lent 0 (step_size * (n + 1)) (λ k. get_or ys k 0) after) words
+      (wrote-behind (concat_map step_words xs) (step_words x) (omega arith) (omega arith) (omega arith) a b)
 
   -- the words lie over those that were lent
   pub words-over : {lent after : List ℕ} {n : ℕ} → length xs ≡ n → step_size * n ≤ length lent →

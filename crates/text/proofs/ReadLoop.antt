@@ -1,7 +1,6 @@
 -- The loop over the lines: reading the whole text is reading on from the cursor with the draft that the code holds. A
 -- line that is refused, and one that ends reading, give the outcome; any other leaves the loop's facts as they were.
 use Rattle.task.specs.declared.Place.TheVariants as place
-use Rattle.text.specs.declared.ReadAnswer.TheVariants as answer
 use Prim.Native.Nat.{ℕ, suc, ◌≤◌, ◌<◌}
 use mathlib.Core.Path.{◌≡◌, refl, sym, ◌∙◌, ap}
 use mathlib.Core.Bool.{Bool, true}
@@ -15,12 +14,14 @@ use Rattle.words.specs.Lists.{over, all, sum, concat_map, joined}
 use Rattle.task.specs.Task.{Task, well_formed}
 use Rattle.task.specs.Table.{words_of, rows_from, long_enough}
 use Rattle.text.specs.declared.cursor.Cursor.{Cursor}
-use Rattle.text.specs.declared.ReadAnswer.{ReadAnswer}
-use Rattle.task.specs.Answers.{refused, refuse_unless, in_order}
+use Rattle.std.specs.Prelude.{Ok, Err}
+use Rattle.task.specs.declared.refusals.Reason.{Reason}
+use Rattle.task.specs.declared.refusals.Refusal.{Refusal}
+use Rattle.task.specs.Answers.{reason_number, refused, refuse_unless, in_order}
 use Rattle.text.specs.Outcomes.{read_done, read_outcome, read_answer_told}
 use Rattle.text.specs.Reading.{Reading, read, refused_at, at_end, read_lines}
 use Rattle.text.specs.Text.{Draft, started, at_phase, take_line, next_line, read_text}
-use Rattle.text.specs.ReadCode.{rest, Placed, start_cursor}
+use Rattle.text.specs.ReadCode.{rest, number_of, Placed, start_cursor}
 use Rattle.text.specs.Holding.{no_counts, row_blocks, pairs_of, Holds, Touched, Refuses, GoesOn, Finishes}
 use Rattle.text.proofs.ReadersAt.{read_text-lines, text-line}
 use Rattle.text.proofs.TaskRead.{read_fits}
@@ -130,7 +131,7 @@ module _ {text lent : List ℕ} {at : Cursor} {c : Counts} {w : List ℕ} (s : S
     unfolding at_end
     whole-text l = ends ∙ ap (at_end s.draft.task next.line) (drop_of_length-le text l)
 
-    pub last-phase : 8 ≤ c.phase
+    pub last-phase : 8 ≤ number_of c.phase
     last-phase = let p = s.holds.phase in let q = f.closed in omega arith
 
     pub well : length text ≤ next.at → well_formed s.draft.task ≡ true
@@ -138,18 +139,21 @@ module _ {text lent : List ℕ} {at : Cursor} {c : Counts} {w : List ℕ} (s : S
 
 -- ---- outcomes
 module _ (lent text : List ℕ) where
-  pub told-refused : (k n : ℕ) (r : ReadAnswer) → read_text text ≡ refused_at k n → r ≡ answer.Refused k (place.Line n) →
-      read_answer_told r ≡ (read_done lent (read_text text)).told
-  unfolding read_answer_told read_done
-  told-refused k n r e q = ap read_answer_told q ∙ sym (ap (λ (x : Reading Task). (read_done lent x).told) e)
+  pub told-refused : (n : ℕ) (why : Reason) {r : Refusal} → read_text text ≡ refused_at (reason_number why) n →
+      r ≡ record { reason = why; place = place.Line n } →
+      read_answer_told (Err r) ≡ (read_done lent (read_text text)).told
+  unfolding read_done
+  told-refused n why e q =
+      ap (λ (r : Refusal). read_answer_told (Err r)) q ∙ sym (ap (λ (x : Reading Task). (read_done lent x).told) e)
 
   pub buffer-refused : (k n : ℕ) (after : List ℕ) → read_text text ≡ refused_at k n →
       after ≡ over (replicate table_words 0) lent → after ≡ (read_done lent (read_text text)).buffer
   unfolding read_done
   buffer-refused k n after e q = q ∙ sym (ap (λ (x : Reading Task). (read_done lent x).buffer) e)
 
-  pub told-read : (t : Task) → read_text text ≡ read t → read_answer_told answer.Read ≡ (read_done lent (read_text text)).told
-  unfolding read_answer_told read_done
+  pub told-read : (t : Task) → read_text text ≡ read t →
+      read_answer_told (Ok tt) ≡ (read_done lent (read_text text)).told
+  unfolding read_done
   told-read t e = sym (ap (λ (x : Reading Task). (read_done lent x).told) e)
 
   pub buffer-read : (t : Task) (after : List ℕ) → read_text text ≡ read t → after ≡ over (words_of t) lent →

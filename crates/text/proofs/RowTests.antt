@@ -1,20 +1,21 @@
 -- What the tests of a row come to: whether an atom fits its predicate, and the four words of its arguments.
-use Prim.Native.Nat.{ℕ, zero, suc, ◌+◌, ◌*◌, ◌≤◌, ◌<◌}
+use Prim.Native.Nat.{ℕ, zero, suc, ◌+◌, ◌-◌, ◌*◌, ◌≤◌, ◌<◌}
 use mathlib.Core.Path.{◌≡◌, refl, sym, ◌∙◌, ap, ap₂, subst}
 use mathlib.Core.Bool.{Bool, true, false, ◌&&◌}
-use mathlib.Core.List.{List, [], ◌∷◌}
+use mathlib.Core.List.{List, [], ◌∷◌, ◌++◌}
 use native.Mathlib.Omega.{arith}
-use lib.ListN.{length, get_or, take, set, length-set}
+use lib.ListN.{length, get_or, take, set, replicate, length-set, get_or-replicate}
 use lib.Seq.{ext_get_or, get_or-take, length-take-le, get_or-set_same, get_or-set_other}
 use lib.Dec.{eqb, ltb, leb}
-use borrow.Author.Tests.{ltb-true, ltb-false, leb-true, lt-ltb, le-ltb, eq-eqb, ne_eqb, eqb-true, eqb-false}
+use borrow.Author.Tests.{ltb-true, leb-true, lt-ltb, le-ltb, eq-eqb, ne_eqb, eqb-true, eqb-false}
 use Rattle.words.specs.Lists.{all, padded}
-use Rattle.task.specs.Limits.{head_words, atom_size}
+use Rattle.task.specs.Limits.{head_words, atom_size, most_arity}
 use Rattle.task.specs.Task.{args_fit}
 use Rattle.task.specs.Table.{atom_words}
 use Rattle.words.proofs.Lists.{no_ft, all_in, in-get_or}
-use Rattle.words.proofs.Words.{and-false, each_first, past_end}
-use Rattle.text.specs.ReadCode.{Listed, Fitting, PartsPut, Words, bare_atom}
+use Rattle.words.proofs.Words.{and-false, each_first}
+use Rattle.text.specs.ReadCode.{Listed, Fitting, PartsPut, Wrote, bare_atom}
+use Rattle.text.proofs.WroteWords.{wrote-all, wrote-same, wrote-behind}
 
 -- the numbers that were kept are the list, where there was room for all
 pub listed-take : {ns : List ℕ} {count : ℕ} {kept : List ℕ} → Listed ns count kept → count ≤ length kept →
@@ -85,30 +86,33 @@ module _ (w : List ℕ) (predicates bound p : ℕ) (kept : List ℕ) (count : �
   }
 
 -- ---- the words of a row
-pub four-words : (ns : List ℕ) → length ns ≤ 4 →
-    padded 4 ns ≡ get_or ns 0 0 ∷ get_or ns 1 0 ∷ get_or ns 2 0 ∷ get_or ns 3 0 ∷ []
-unfolding padded
-four-words [] l = refl
-four-words (a ∷ []) l = refl
-four-words (a ∷ b ∷ []) l = refl
-four-words (a ∷ b ∷ c ∷ []) l = refl
-four-words (a ∷ b ∷ c ∷ d ∷ []) l = refl
-four-words (a ∷ b ∷ c ∷ d ∷ e ∷ ns) l = absurd (omega arith)
+pub row-put : {w v u z : List ℕ} {at s r p : ℕ} (args : List ℕ) → length args ≤ most_arity →
+    Wrote w at 4 (λ k. get_or (s ∷ r ∷ p ∷ 0 ∷ []) k 0) v →
+    Wrote v (at + 4) (length args) (λ k. get_or args k 0) u →
+    Wrote u (at + 4 + length args) (most_arity - length args) (λ k. 0) z →
+    Wrote w at atom_size (λ k. get_or (atom_words s (bare_atom r p args)) k 0) z
+unfolding atom_words padded
+row-put {s = s} {r = r} {p = p} args few head list zeros =
+    let many = most_arity - length args in
+    let rest : List ℕ = replicate many 0 in
+    wrote-behind {m = most_arity} (s ∷ r ∷ p ∷ 0 ∷ []) (args ++ rest) refl refl refl head
+    (wrote-behind {n = length args} {m = many} {whole = most_arity} args rest refl refl (omega arith) list
+    (wrote-same (λ k h. sym (get_or-replicate many k 0 0 h)) zeros))
 
-pub row_words : (s r p : ℕ) (ns : List ℕ) → length ns ≤ 4 → (a b c d : ℕ) → a ≡ get_or ns 0 0 → b ≡ get_or ns 1 0 →
-    c ≡ get_or ns 2 0 → d ≡ get_or ns 3 0 → s ∷ r ∷ p ∷ 0 ∷ a ∷ b ∷ c ∷ d ∷ [] ≡ atom_words s (bare_atom r p ns)
-unfolding atom_words
-row_words s r p ns l a b c d e f g h =
-    rw (e, f, g, h) (ap {B = List ℕ} (λ (xs : List ℕ). s ∷ r ∷ p ∷ 0 ∷ xs) (sym (four-words ns l)))
+-- the first of some numbers that were written, by the place where each stands
+pub first-put : {w z : List ℕ} {at : ℕ} (n : ℕ) (xs : List ℕ) → n ≤ length xs →
+    Wrote w at (length (take n xs)) (λ k. get_or (take n xs) k 0) z → Wrote w at n (λ k. get_or xs k 0) z
+first-put n xs l h = wrote-same (λ k q. get_or-take n xs k 0 q) (wrote-all (length-take-le n xs l) h)
+
+-- the first of some numbers are small where the numbers at their places are
+pub first-small : (n : ℕ) (xs : List ℕ) {m : ℕ} → n ≤ length xs → ((k : ℕ) → k < n → get_or xs k 0 < m) → (k : ℕ) →
+    k < length (take n xs) → get_or (take n xs) k 0 < m
+first-small n xs l h k q =
+    let z = length-take-le n xs l in
+    let y = h k (omega arith) in
+    omega (arith, get_or-take n xs k 0 (omega arith))
 
 -- ---- parts
-pub no-part-put : (w : List ℕ) (first : ℕ) (parts : List ℕ) → PartsPut w first 0 parts w
-no-part-put w first parts = record {
-  size = refl;
-  put = λ k l. absurd (omega arith);
-  other = λ j n. refl;
-}
-
 pub part-put : {w after : List ℕ} {first n : ℕ} {parts : List ℕ} → PartsPut w first n parts after →
     first + atom_size * n + 3 < length w →
     PartsPut w first (n + 1) parts (set after (first + atom_size * n + 3) (get_or parts n 0))
@@ -138,40 +142,9 @@ pub parts_all : {w after : List ℕ} {first n k : ℕ} {parts : List ℕ} → n 
     PartsPut w first k parts after
 parts_all {w} {after} {first} {n} {k} {parts} e h = subst (λ (i : ℕ). PartsPut w first i parts after) e h
 
-pub small-taken : (xs : List ℕ) (n : ℕ) → n ≤ length xs → ((k : ℕ) → k < n → get_or xs k 0 < 65536) → (k : ℕ) →
-    get_or (take n xs) k 0 < 65536
-small-taken xs n l h k = go (ltb k n) refl
-  where
-    go : (b : Bool) → ltb k n ≡ b → get_or (take n xs) k 0 < 65536
-    go true e =
-        let m = ltb-true k n e in
-        let s = h k m in
-        let q = get_or-take n xs k 0 m in
-        omega arith
-    go false e =
-        let m = ltb-false k n e in
-        let t = length-take-le n xs l in
-        let q = past_end (take n xs) k (omega arith) in
-        omega arith
-
-pub eight-words : {s r p z a b c d : ℕ} → s < 65536 → r < 65536 → p < 65536 → z < 65536 → a < 65536 → b < 65536 →
-    c < 65536 → d < 65536 → Words atom_size (s ∷ r ∷ p ∷ z ∷ a ∷ b ∷ c ∷ d ∷ [])
-eight-words {s} {r} {p} {z} {a} {b} {c} {d} hs hr hp hz ha hb hc hd = record { enough = omega arith; small = at }
-  where
-    at : (k : ℕ) → k < atom_size → get_or (s ∷ r ∷ p ∷ z ∷ a ∷ b ∷ c ∷ d ∷ []) k 0 < 65536
-    at zero l = hs
-    at (suc zero) l = hr
-    at (suc (suc zero)) l = hp
-    at (suc (suc (suc zero))) l = hz
-    at (suc (suc (suc (suc zero)))) l = ha
-    at (suc (suc (suc (suc (suc zero))))) l = hb
-    at (suc (suc (suc (suc (suc (suc zero)))))) l = hc
-    at (suc (suc (suc (suc (suc (suc (suc zero))))))) l = hd
-    at (suc (suc (suc (suc (suc (suc (suc (suc k)))))))) l = absurd (omega arith)
-
 pub seven-words : {a b c d e f g : ℕ} → a < 65536 → b < 65536 → c < 65536 → d < 65536 → e < 65536 → f < 65536 →
-    g < 65536 → Words 7 (a ∷ b ∷ c ∷ d ∷ e ∷ f ∷ g ∷ [])
-seven-words {a} {b} {c} {d} {e} {f} {g} ha hb hc hd he hf hg = record { enough = omega arith; small = at }
+    g < 65536 → (k : ℕ) → k < 7 → get_or (a ∷ b ∷ c ∷ d ∷ e ∷ f ∷ g ∷ []) k 0 < 65536
+seven-words {a} {b} {c} {d} {e} {f} {g} ha hb hc hd he hf hg = at
   where
     at : (k : ℕ) → k < 7 → get_or (a ∷ b ∷ c ∷ d ∷ e ∷ f ∷ g ∷ []) k 0 < 65536
     at zero l = ha

@@ -2,15 +2,12 @@
 -- written when it is laid out, and the numbers of an atom's row.
 use Prim.Native.Nat.{ℕ, ◌+◌, ◌-◌, ◌*◌, ◌≤◌, ◌<◌}
 use mathlib.Core.Path.{◌≡◌}
-use mathlib.Core.Bool.{Bool, true}
 use mathlib.Core.List.{List, [], ◌∷◌}
 use native.Mathlib.Omega.{arith}
 use lib.ListN.{length, get_or}
-use Rattle.words.specs.Words.{word_bound}
-use Rattle.task.specs.Limits.{head_words, pair_size, atom_size, table_length, table_words, most_predicates, most_arity}
+use Rattle.task.specs.Limits.{head_words, pair_size, atom_size, table_length, table_words}
 use Rattle.task.proofs.Tables.{table_words-is}
 use Rattle.text.specs.Text.{Draft}
-use Rattle.text.specs.ReadCode.{Words, Fitting}
 use Rattle.text.specs.Holding.{Holds, pairs_at, rows_at}
 use Rattle.text.proofs.RowTests.{seven-words}
 use Rattle.text.specs.declared.draft.Counts.{Counts}
@@ -84,8 +81,8 @@ module _ {d : Draft} {w : List ℕ} {c : Counts} (h : Holds d w c) where
   pub head-room : {long : ℕ} → long ≡ length w → head_words ≤ long
   head-room size = let z = table_words-is in let long = h.long in omega arith
 
-  pub head-words : Words head_words
-      (c.objects ∷ c.predicates ∷ c.schemas ∷ c.closed ∷ c.initial ∷ c.goal ∷ c.pairs ∷ [])
+  pub head-words : (k : ℕ) → k < head_words →
+      get_or (c.objects ∷ c.predicates ∷ c.schemas ∷ c.closed ∷ c.initial ∷ c.goal ∷ c.pairs ∷ []) k 0 < 65536
   head-words =
       let few = h.few in
       let objects = few.objects in
@@ -96,17 +93,3 @@ module _ {d : Draft} {w : List ℕ} {c : Counts} (h : Holds d w c) where
       let goal = few.goal in
       let pairs = few.pairs in
       seven-words (omega arith) (omega arith) (omega arith) (omega arith) (omega arith) (omega arith) (omega arith)
-
--- ---- an atom that fits has a row
-module _ {w : List ℕ} {predicates bound p : ℕ} {kept : List ℕ} {count : ℕ} {told : Bool}
-    (fits : Fitting w predicates bound p kept count told) (yes : told ≡ true) where
-  pub row-numbers : {schema role : ℕ} → schema < word_bound → role < word_bound → predicates ≤ most_predicates →
-      length kept ≡ most_arity →
-      (schema < word_bound) × (role < word_bound) × (p < word_bound) × (count ≤ length kept) × (count ≤ most_arity)
-  row-numbers schema role few four =
-      let known = fits.known yes in
-      let enough = fits.enough yes in
-      (schema, role, omega arith, enough, omega arith)
-
-  pub args-small : bound < word_bound → (k : ℕ) → k < count → get_or kept k 0 < word_bound
-  args-small few k l = let low = fits.low yes k l in omega arith

@@ -1,45 +1,48 @@
--- The turns of the loop that looks for some bytes at a cursor: what follows all of them is what follows those that are
--- left, behind those that were found.
-use Prim.Native.Nat.{ℕ, suc, ◌+◌, ◌≤◌, ◌<◌}
-use mathlib.Core.Path.{◌≡◌, refl, ◌∙◌, ap}
-use mathlib.Core.Bool.{Bool, true, false}
+-- Bytes at the front, by the test whether a text starts with them.
+use Prim.Native.Nat.{ℕ, ◌+◌, ◌-◌}
+use mathlib.Core.Path.{◌≡◌, refl, sym, ◌∙◌, ap}
+use mathlib.Core.Bool.{Bool, true, false, ◌&&◌}
 use mathlib.Core.List.{List, [], ◌∷◌}
 use Rattle.std.specs.Prelude.{Option, None, Some}
+use Rattle.std.specs.List.{starts_with}
 use native.Mathlib.Omega.{arith}
-use native.Mathlib.Numerals.{add-one}
-use lib.ListN.{length, get_or, drop, drop_of_length-le}
-use lib.Seq.{drop-cons}
+use lib.ListN.{length, take, drop, length-drop}
+use lib.Seq.{drop-drop, take_all}
 use lib.Dec.{eqb}
+use Rattle.words.proofs.Lists.{and_left, and_right, no_ft}
 use Rattle.text.specs.Lines.{after}
-use Rattle.text.proofs.ReadersAt.{after-here, not-after-here}
+use Rattle.text.proofs.Taken.{if-true}
 
--- more bytes than there are
-pub after-short : (ks bs : List ℕ) → length bs < length ks → after ks bs ≡ None
+starts-after : (ks bs : List ℕ) → starts_with eqb bs ks ≡ true → after ks bs ≡ Some (drop (length ks) bs)
 unfolding after
-after-short [] bs h = absurd (omega arith)
-after-short (k ∷ ks) [] h = refl
-after-short (k ∷ ks) (b ∷ bs) h = go (eqb k b) (after-short ks bs (omega arith))
+starts-after [] bs h = refl
+starts-after (k ∷ ks) [] h = absurd (no_ft h)
+starts-after (k ∷ ks) (b ∷ bs) h =
+    if-true None (and_left (eqb k b) (starts_with eqb bs ks) h) ∙
+    starts-after ks bs (and_right (eqb k b) (starts_with eqb bs ks) h)
+
+not-starts-after : (ks bs : List ℕ) → starts_with eqb bs ks ≡ false → after ks bs ≡ None
+unfolding after
+not-starts-after [] bs h = absurd (no_ft (sym h))
+not-starts-after (k ∷ ks) [] h = refl
+not-starts-after (k ∷ ks) (b ∷ bs) h = go (eqb k b) h (not-starts-after ks bs)
   where
-    go : (c : Bool) → after ks bs ≡ None →
+    go : (c : Bool) → (c && starts_with eqb bs ks) ≡ false → (starts_with eqb bs ks ≡ false → after ks bs ≡ None) →
         ◌≡◌ {A = Option (List ℕ)} (elim c [ true ↦ after ks bs | false ↦ None ]) None
-    go true e = e
-    go false e = refl
+    go true e i = i e
+    go false e i = refl
 
-module _ (text word : List ℕ) (at k : ℕ) (l : k < length word) (m : at + k < length text) where
-  pub found_here : get_or text (at + k) 0 ≡ get_or word k 0 →
-      after (drop k word) (drop (at + k) text) ≡ after (drop (k + 1) word) (drop (at + (k + 1)) text)
-  found_here e =
-      let z : at + (k + 1) ≡ suc (at + k) = omega arith in
-      ap (λ (xs : List ℕ). after xs (drop (at + k) text)) (drop-cons word k 0 l) ∙
-      (after-here text (at + k) (get_or word k 0) (drop (suc k) word) m e ∙
-      rw (z, add-one) refl)
+-- ---- at an offset of a text
+module _ (text word : List ℕ) (at : ℕ) where
+  abbrev left : List ℕ
+  left = take (length text - at) (drop at text)
 
-  pub differs-here : (get_or text (at + k) 0 ≡ get_or word k 0 → ⊥) → after (drop k word) (drop (at + k) text) ≡ None
-  differs-here e =
-      ap (λ (xs : List ℕ). after xs (drop (at + k) text)) (drop-cons word k 0 l) ∙
-      not-after-here text (at + k) (get_or word k 0) (drop (suc k) word) m e
+  whole-left : left ≡ drop at text
+  whole-left = let l = length-drop at text in take_all (length text - at) (drop at text) (omega arith)
 
-pub all_found : (text word : List ℕ) (at k : ℕ) → length word ≤ k →
-    after (drop k word) (drop (at + k) text) ≡ Some (drop (at + k) text)
-unfolding after
-all_found text word at k l = ap (λ (xs : List ℕ). after xs (drop (at + k) text)) (drop_of_length-le word l)
+  pub found_here : true ≡ starts_with eqb left word → after word (drop at text) ≡ Some (drop (at + length word) text)
+  found_here h =
+      starts-after word (drop at text) (sym (rw whole-left at h)) ∙ ap Some (drop-drop (length word) at text)
+
+  pub differs-here : false ≡ starts_with eqb left word → after word (drop at text) ≡ None
+  differs-here h = not-starts-after word (drop at text) (sym (rw whole-left at h))

@@ -2,9 +2,10 @@
 -- far. And what the code's turn at a line says of the definitions' turn.
 use Rattle.text.specs.declared.draft.Kind.TheVariants as kind
 use Rattle.text.specs.declared.draft.Turn.TheVariants as turn
-use Rattle.text.specs.declared.draft.Check.TheVariants as check
-use Rattle.std.specs.Prelude.{ℕ, suc, ◌+◌, ◌-◌, ◌*◌, ◌≤◌, ◌<◌, ◌≡◌, true, List, [], ◌∷◌, ◌++◌, map, length, get_or, ltb, leb}
-use Rattle.std.specs.Prelude.{Option}
+use Rattle.std.specs.Prelude.{ℕ, suc, ◌+◌, ◌*◌, ◌≤◌, ◌<◌, ◌≡◌, true, List, [], ◌∷◌, ◌++◌, map, length, get_or, ltb, leb}
+use Rattle.std.specs.Prelude.{Option, Result, Ok, Err}
+use Rattle.task.specs.declared.refusals.Reason.{Reason}
+use Rattle.task.specs.Answers.{reason_number}
 use Rattle.task.specs.Limits.{table_words, most_initial, most_goal, most_objects, most_predicates, most_schemas}
 use Rattle.task.specs.Limits.{most_schema_atoms, most_arity, most_parameters, most_atoms, most_parts, most_pairs, head_words}
 use Rattle.task.specs.Limits.{pair_size, atom_size}
@@ -18,13 +19,13 @@ use Rattle.text.specs.Reading.{Reading, go_on, refuse, refused_at, at_end, line_
 use Rattle.text.specs.Text.{Line, between, Draft, role_phase, at_phase, with_schemas, with_parts}
 use Rattle.text.specs.Text.{add_pair, close_schema, take_line, Key, init, goal, init_line, goal_line, Phase, in_init}
 use Rattle.text.specs.Text.{in_goal}
-use Rattle.text.specs.Text.{with_init, with_goal, pre, role_key, at_task, at_arity, in_differ, in_del}
-use Rattle.text.specs.ReadCode.{rest, Standing, NextLine, phase_number, bare_atom, key_number, may_stand}
+use Rattle.text.specs.Text.{with_init, with_goal, role_key, at_task, at_arity, in_differ, in_del}
+use Rattle.text.specs.ReadCode.{rest, Standing, NextLine, first_key, phase_number, bare_atom, key_number, number_of}
+use Rattle.text.specs.ReadCode.{role_place, may_stand}
 use Rattle.text.specs.declared.draft.Counts.{Counts}
 use Rattle.text.specs.declared.draft.Facts.{Facts}
 use Rattle.text.specs.declared.draft.Kind.{Kind}
 use Rattle.text.specs.declared.draft.Turn.{Turn}
-use Rattle.text.specs.declared.draft.Check.{Check}
 
 -- ---- counts
 -- the limits of document 01
@@ -42,7 +43,7 @@ pub record Few (c : Counts) : Type 0 where
 -- nothing is read yet
 abbrev pub no_counts : Counts
 no_counts = record {
-  phase = phase_number at_task;
+  phase = first_key at_task;
   objects = 0;
   predicates = 0;
   schemas = 0;
@@ -104,7 +105,7 @@ pub record Order (d : Draft) (phase : ℕ) : Type 0 where
   pub room : phase_number in_differ ≤ phase → phase ≤ phase_number in_del → length d.task.schemas < most_schemas
 
 pub record Holds (d : Draft) (w : List ℕ) (c : Counts) : Type 0 where
-  pub phase : c.phase ≡ phase_number d.phase
+  pub phase : number_of c.phase ≡ phase_number d.phase
   pub objects : c.objects ≡ d.task.objects
   pub predicates : c.predicates ≡ length d.task.arities
   pub schemas : c.schemas ≡ length d.task.schemas
@@ -116,7 +117,7 @@ pub record Holds (d : Draft) (w : List ℕ) (c : Counts) : Type 0 where
   pub pairs : c.pairs ≡ schema_pairs d.task.schemas
   pub apart : c.apart ≡ length d.current.pairs
   pub few : Few c
-  pub order : Order d c.phase
+  pub order : Order d (number_of c.phase)
   pub low : all (λ n. leb n most_arity) d.task.arities ≡ true
   pub fit : all (λ a. args_fit d.task.arities d.current.params a.pred a.args) d.current.atoms ≡ true
   pub init-fit : all (λ f. args_fit d.task.arities d.task.objects f.pred f.args) d.task.init ≡ true
@@ -141,7 +142,7 @@ pub record Touched (w after : List ℕ) : Type 0 where
 -- ---- turns
 -- the fixed order allows a line with this key here
 abbrev pub Allows : Counts → Key → Type 0
-Allows c k = may_stand c.phase (key_number k) ≡ true
+Allows c k = may_stand (number_of c.phase) (key_number k) ≡ true
 
 abbrev pub Next : Type 0
 Next = Draft → List ℕ → Reading Task
@@ -165,14 +166,19 @@ pub record Finishes (text : List ℕ) (from : Cursor) (d : Draft) (l : Option (T
   pub closed : phase_number between ≤ phase_number d.phase
 
 -- what the code does at a line whose body begins at a cursor, with the words before it and after it
-abbrev pub Turned : List ℕ → Cursor → Draft → Option (Taken Line) → List ℕ → Turn → List ℕ → Type 0
-Turned text from d l w (turn.GoOn read at) after = GoesOn text from d l after read at
-Turned text from d l w (turn.Finish at) after = Finishes text from d l at × (after ≡ w)
-Turned text from d l w (turn.Refuse k) after = Refuses d l k
+abbrev pub Turned : List ℕ → Cursor → Draft → Option (Taken Line) → List ℕ → Result Turn Reason → List ℕ → Type 0
+Turned text from d l w (Ok (turn.GoOn read at)) after = GoesOn text from d l after read at
+Turned text from d l w (Ok (turn.Finish at)) after = Finishes text from d l at × (after ≡ w)
+Turned text from d l w (Err r) after = Refuses d l (reason_number r)
 
 -- the turn at a line with this body: it is taken by every draft that the code may hold
-abbrev pub Takes : (List ℕ → Option (Taken Line)) → List ℕ → Cursor → Counts → List ℕ → Turn → List ℕ → Type 0
+abbrev pub Takes : (List ℕ → Option (Taken Line)) → List ℕ → Cursor → Counts → List ℕ → Result Turn Reason → List ℕ →
+    Type 0
 Takes body text from c w r after = (d : Draft) → Holds d w c → Turned text from d (body (rest text from)) w r after
+
+-- what a check answers
+abbrev pub Passed : Type 0
+Passed = Result (Unit {0}) Reason
 
 -- a line whose check passes, and the draft that it leaves, which the code holds again
 pub record Grows (d : Draft) (l : Line) (read : Counts) (after : List ℕ) : Type 0 where
@@ -181,9 +187,9 @@ pub record Grows (d : Draft) (l : Line) (read : Counts) (after : List ℕ) : Typ
   pub holds : Holds draft after read
 
 -- what the code's check of a line says, with the counts and the words behind it
-abbrev pub Checked : Draft → Line → Counts → Check → List ℕ → Type 0
-Checked d l read check.Passes after = Grows d l read after
-Checked d l read (check.Refuses k) after = take_line d l ≡ refuse k
+abbrev pub Checked : Draft → Line → Counts → Passed → List ℕ → Type 0
+Checked d l read (Ok done) after = Grows d l read after
+Checked d l read (Err r) after = take_line d l ≡ refuse (reason_number r)
 
 -- "An atom is predicate, colon, arguments"
 abbrev pub entry_of : ℕ → List ℕ → Entry
@@ -204,7 +210,7 @@ with_pair d q = record {
 
 abbrev pub one_pair_more : Counts → Counts
 one_pair_more c = record {
-  phase = phase_number in_differ;
+  phase = first_key in_differ;
   objects = c.objects;
   predicates = c.predicates;
   schemas = c.schemas;
@@ -218,9 +224,9 @@ one_pair_more c = record {
 }
 
 -- the numbers of a `differ` line make one pair more, or are refused
-abbrev pub PairTurn : Draft → List ℕ → Check → Type 0
-PairTurn d ns check.Passes = (add_pair d ns ≡ go_on (with_pair d (pair_of ns))) × (length ns ≡ 2)
-PairTurn d ns (check.Refuses k) = add_pair d ns ≡ refuse k
+abbrev pub PairTurn : Draft → List ℕ → Passed → Type 0
+PairTurn d ns (Ok done) = (add_pair d ns ≡ go_on (with_pair d (pair_of ns))) × (length ns ≡ 2)
+PairTurn d ns (Err r) = add_pair d ns ≡ refuse (reason_number r)
 
 -- ---- atoms
 -- an atom of a role may come, one of the schema that is being read
@@ -238,7 +244,7 @@ with_atom d r p args = record {
 
 abbrev pub one_atom_more : Counts → ℕ → Counts
 one_atom_more c r = record {
-  phase = key_number pre + r;
+  phase = role_place r;
   objects = c.objects;
   predicates = c.predicates;
   schemas = c.schemas;
@@ -278,7 +284,7 @@ so_far c kind.Goal = record { role = goal_role; read = c.goal; most = most_goal 
 -- the counts behind a line, with so many of either kind
 abbrev pub with_counted : Counts → Phase → ℕ → ℕ → Counts
 with_counted c p inits goals = record {
-  phase = phase_number p;
+  phase = first_key p;
   objects = c.objects;
   predicates = c.predicates;
   schemas = c.schemas;
@@ -303,9 +309,9 @@ with_closed d ps = at_phase between (with_schemas d.task (d.task.schemas ++
     (with_atoms d.current (with_parts d.current.atoms ps) ∷ [])))
 
 -- the parts close the schema, or are refused
-abbrev pub PartsTurn : Draft → List ℕ → Check → Type 0
-PartsTurn d ps check.Passes =
+abbrev pub PartsTurn : Draft → List ℕ → Passed → Type 0
+PartsTurn d ps (Ok done) =
     (close_schema d ps ≡ go_on (with_closed d ps)) ×
     (length ps ≡ length d.current.atoms) ×
     (all (λ p. ltb p most_parts) ps ≡ true)
-PartsTurn d ps (check.Refuses k) = close_schema d ps ≡ refuse k
+PartsTurn d ps (Err r) = close_schema d ps ≡ refuse (reason_number r)

@@ -1,16 +1,12 @@
 -- The entry points `read` and `write`, and `read_plan`, on bytes and words: what each answers, and its lent buffer
 -- afterwards.
 use Rattle.task.specs.declared.Place.TheVariants as place
-use Rattle.text.specs.declared.ReadAnswer.TheVariants as read_answer
-use Rattle.text.specs.declared.WriteAnswer.TheVariants as write_answer
-use Rattle.text.specs.declared.plan.PlanAnswer.TheVariants as plan_answer
 use Rattle.std.specs.Prelude.{ℕ, List, [], ◌∷◌, length, replicate, leb}
-use Rattle.text.specs.declared.ReadAnswer.{ReadAnswer}
-use Rattle.text.specs.declared.WriteAnswer.{WriteAnswer}
-use Rattle.text.specs.declared.plan.PlanAnswer.{PlanAnswer}
+use Rattle.std.specs.Prelude.{Result}
+use Rattle.task.specs.declared.refusals.Refusal.{Refusal}
 use Rattle.words.specs.Lists.{over, concat_map}
 use Rattle.task.specs.Limits.{table_words}
-use Rattle.task.specs.Answers.{Told, result, refused, Outcome, refuse_unless, in_order}
+use Rattle.task.specs.Answers.{Told, result, refused, Outcome, refuse_unless, in_order, answer_told}
 use Rattle.task.specs.Task.{Task}
 use Rattle.task.specs.Table.{words_of, task_of, long_enough, is_table}
 use Rattle.task.specs.Run.{Step, step_words}
@@ -61,14 +57,11 @@ unfolding plan_done read_plan task_of
 plan_outcome table text lent = plan_done lent (read_plan (task_of table) text)
 
 -- document 01's number, place and values of each case of the answers
-unfoldable pub read_answer_told : ReadAnswer → Told
-read_answer_told read_answer.Read = result []
-read_answer_told (read_answer.Refused n at) = refused n at []
+abbrev pub read_answer_told : Result (Unit {0}) Refusal → Told
+read_answer_told = answer_told (λ done. [])
 
-unfoldable pub write_answer_told : WriteAnswer → Told
-write_answer_told (write_answer.Written n) = result (n ∷ [])
-write_answer_told (write_answer.Refused n at) = refused n at []
+abbrev pub write_answer_told : Result ℕ Refusal → Told
+write_answer_told = answer_told (λ size. size ∷ [])
 
-unfoldable pub plan_answer_told : PlanAnswer → Told
-plan_answer_told (plan_answer.Read n) = result (n ∷ [])
-plan_answer_told (plan_answer.Refused n at) = refused n at []
+abbrev pub plan_answer_told : Result ℕ Refusal → Told
+plan_answer_told = answer_told (λ steps. steps ∷ [])

@@ -2,7 +2,9 @@
 -- before it and after it, and a step's line by its words.
 use Rattle.text.specs.declared.plan.PlanTurn.TheVariants as turn
 use Rattle.std.specs.Prelude.{ℕ, suc, ◌+◌, ◌*◌, ◌<◌, ◌≡◌, true, List, [], ◌∷◌, ◌++◌, length, get_or}
-use Rattle.std.specs.Prelude.{Option}
+use Rattle.std.specs.Prelude.{Option, Result, Ok, Err}
+use Rattle.task.specs.declared.refusals.Reason.{Reason}
+use Rattle.task.specs.Answers.{reason_number}
 use Rattle.words.specs.Words.{words_at}
 use Rattle.task.specs.Task.{Task}
 use Rattle.task.specs.Run.{Step, is_choice, step_words}
@@ -42,11 +44,11 @@ module _ (t : Task) (text : List ℕ) (from : Cursor) (xs : List Step) (l : Opti
     pub line : NextLine text from at
 
 -- what the code does at a line behind the steps xs, with the words before it and after it
-abbrev pub PlanTurned : Task → List ℕ → Cursor → List Step → Option (Taken PlanLine) → List ℕ → PlanTurn → List ℕ →
-    Type 0
-PlanTurned t text from xs l w (turn.GoOn at) after = PlanGoesOn t text from xs l at w after
-PlanTurned t text from xs l w (turn.Finish at) after = PlanFinishes t text from xs l at × (after ≡ w)
-PlanTurned t text from xs l w (turn.Refuse k) after = PlanRefuses t text from xs l k × (after ≡ w)
+abbrev pub PlanTurned : Task → List ℕ → Cursor → List Step → Option (Taken PlanLine) → List ℕ →
+    Result PlanTurn Reason → List ℕ → Type 0
+PlanTurned t text from xs l w (Ok (turn.GoOn at)) after = PlanGoesOn t text from xs l at w after
+PlanTurned t text from xs l w (Ok (turn.Finish at)) after = PlanFinishes t text from xs l at × (after ≡ w)
+PlanTurned t text from xs l w (Err r) after = PlanRefuses t text from xs l (reason_number r) × (after ≡ w)
 
 -- ---- writing
 -- the line of a step with so many objects, whose words begin at b

@@ -1,27 +1,17 @@
 -- What the inner functions of the reader answer, by the readers of `Lines` at a cursor: a cursor at an offset `at` of a
 -- text has `drop at text` before it.
-use Rattle.text.specs.declared.lists.Atom.{Atom as AtomRead}
-use Rattle.text.specs.declared.lists.List.{List as Listing}
-use Rattle.text.specs.declared.cursor.Digit.TheVariants as digit
-use Rattle.text.specs.declared.cursor.Number.TheVariants as found
-use Rattle.text.specs.declared.cursor.Behind.TheVariants as behind
-use Rattle.text.specs.declared.lists.List.TheVariants as list
-use Rattle.text.specs.declared.lists.Atom.TheVariants as atom_read
-use Rattle.text.specs.declared.keys.Keyed.TheVariants as keyed
 use Rattle.std.specs.Prelude.{ℕ, suc, ◌+◌, ◌*◌, ◌≤◌, ◌<◌, max, ◌≡◌, Bool, true, cond, ◌&&◌, List, [], ◌∷◌, ◌++◌, length, get_or, drop, eqb, ltb, leb}
 use Rattle.std.specs.Prelude.{Option, None, Some}
 use Rattle.words.specs.Lists.{all, any, up_to, eq_list}
 use Rattle.task.specs.Task.{Atom, args_fit}
-use Rattle.words.specs.Words.{words_at, word_bound}
+use Rattle.words.specs.Words.{words_at}
 use Rattle.text.specs.declared.cursor.Cursor.{Cursor}
-use Rattle.text.specs.declared.cursor.Digit.{Digit}
-use Rattle.text.specs.declared.cursor.Number.{Number}
-use Rattle.text.specs.declared.cursor.Behind.{Behind}
-use Rattle.text.specs.declared.keys.Keyed.{Keyed}
+use Rattle.text.specs.declared.keys.Key.{Key as Code}
+use Rattle.text.specs.declared.keys.Key.TheVariants as code
 use Rattle.text.specs.Lines.{bytes, equals, newline, leading_digits, Taken, taken, after, number, entry, ended}
 use Rattle.text.specs.Text.{Key, task, objects, arity, schema, differ, pre, add, del, part, init, goal, end}
 use Rattle.text.specs.Text.{key_name, Phase, at_task, at_objects, at_arity, between, in_differ, in_pre, in_add, in_del}
-use Rattle.text.specs.Text.{in_init, in_goal}
+use Rattle.text.specs.Text.{in_init, in_goal, role_phase}
 use Rattle.task.specs.Limits.{most_arity, head_words, atom_size}
 
 -- what remains of a text at a cursor
@@ -49,9 +39,9 @@ pub record DigitHere (text : List ℕ) (c : Cursor) (d : ℕ) (next : Cursor) : 
   pub one : next.at ≡ c.at + 1
   pub moved : Moved text c next
 
-abbrev pub DigitAt : List ℕ → Cursor → Digit → Type 0
-DigitAt text c (digit.Of d next) = DigitHere text c d next
-DigitAt text c digit.Missing = leading_digits (rest text c) ≡ []
+abbrev pub DigitAt : List ℕ → Cursor → Option (ℕ × Cursor) → Type 0
+DigitAt text c (Some (d, next)) = DigitHere text c d next
+DigitAt text c None = leading_digits (rest text c) ≡ []
 
 -- "Numbers have 1 to 5 digits": each is below
 abbrev pub number_limit : ℕ
@@ -62,9 +52,9 @@ pub record NumberHere (text : List ℕ) (c : Cursor) (n : ℕ) (next : Cursor) :
   pub small : n < number_limit
   pub moved : Moved text c next
 
-abbrev pub NumberAt : List ℕ → Cursor → Number → Type 0
-NumberAt text c (found.Of n next) = NumberHere text c n next
-NumberAt text c found.Missing = number (rest text c) ≡ None
+abbrev pub NumberAt : List ℕ → Cursor → Option (ℕ × Cursor) → Type 0
+NumberAt text c (Some (n, next)) = NumberHere text c n next
+NumberAt text c None = number (rest text c) ≡ None
 
 -- some bytes at a cursor, and the cursor behind them
 pub record WordHere (text : List ℕ) (c : Cursor) (word : List ℕ) (next : Cursor) : Type 0 where
@@ -73,9 +63,9 @@ pub record WordHere (text : List ℕ) (c : Cursor) (word : List ℕ) (next : Cur
   pub inside : next.at ≤ length text
   pub line : next.line ≡ c.line
 
-abbrev pub WordAt : List ℕ → Cursor → List ℕ → Behind → Type 0
-WordAt text c word (behind.At next) = WordHere text c word next
-WordAt text c word behind.Missing = after word (rest text c) ≡ None
+abbrev pub WordAt : List ℕ → Cursor → List ℕ → Option Cursor → Type 0
+WordAt text c word (Some next) = WordHere text c word next
+WordAt text c word None = after word (rest text c) ≡ None
 
 -- byte 10 at a cursor, and the cursor at the next line
 pub record EndHere (text : List ℕ) (c next : Cursor) : Type 0 where
@@ -84,9 +74,9 @@ pub record EndHere (text : List ℕ) (c next : Cursor) : Type 0 where
   pub inside : next.at ≤ length text
   pub line : next.line ≡ c.line + 1
 
-abbrev pub EndAt : List ℕ → Cursor → Behind → Type 0
-EndAt text c (behind.At next) = EndHere text c next
-EndAt text c behind.Missing = after (newline ∷ []) (rest text c) ≡ None
+abbrev pub EndAt : List ℕ → Cursor → Option Cursor → Type 0
+EndAt text c (Some next) = EndHere text c next
+EndAt text c None = after (newline ∷ []) (rest text c) ≡ None
 
 -- ---- bodies
 -- a cursor at the same place or further on in its line
@@ -114,13 +104,13 @@ pub record ListHere (text : List ℕ) (c : Cursor) (found : Option (Taken (List 
   pub listed : Listed ns count kept
   pub onward : Onward text c next
 
-abbrev pub ListAt : List ℕ → Cursor → Option (Taken (List ℕ)) → List ℕ → Listing → Type 0
-ListAt text c found kept (list.Of count next) = ListHere text c found count kept next
-ListAt text c found kept list.Missing = found ≡ None
+abbrev pub ListAt : List ℕ → Cursor → Option (Taken (List ℕ)) → List ℕ → Option (ℕ × Cursor) → Type 0
+ListAt text c found kept (Some (count, next)) = ListHere text c found count kept next
+ListAt text c found kept None = found ≡ None
 
 -- the cursor behind a list lies in the text
-abbrev pub ListPlaced : List ℕ → Listing → Type 0
-ListPlaced text found = (count : ℕ) (next : Cursor) → found ≡ list.Of count next → Placed text next
+abbrev pub ListPlaced : List ℕ → Option (ℕ × Cursor) → Type 0
+ListPlaced text found = (count : ℕ) (next : Cursor) → found ≡ Some (count, next) → Placed text next
 
 pub record EntryHere (text : List ℕ) (c : Cursor) (head count : ℕ) (kept : List ℕ) (next : Cursor) : Type 0 where
   pub ns : List ℕ
@@ -128,9 +118,9 @@ pub record EntryHere (text : List ℕ) (c : Cursor) (head count : ℕ) (kept : L
   pub listed : Listed ns count kept
   pub onward : Onward text c next
 
-abbrev pub EntryAt : List ℕ → Cursor → List ℕ → AtomRead → Type 0
-EntryAt text c kept (atom_read.Of head count next) = EntryHere text c head count kept next
-EntryAt text c kept atom_read.Missing = entry (rest text c) ≡ None
+abbrev pub EntryAt : List ℕ → Cursor → List ℕ → Option (ℕ × ℕ × Cursor) → Type 0
+EntryAt text c kept (Some (head, count, next)) = EntryHere text c head count kept next
+EntryAt text c kept None = entry (rest text c) ≡ None
 
 -- ---- a body and its line's end
 abbrev pub whole : {A : Type 0} → Option (Taken A) → Option (Taken A)
@@ -141,18 +131,18 @@ pub record NumberLine (text : List ℕ) (c : Cursor) (n : ℕ) (next : Cursor) :
   pub small : n < number_limit
   pub line : NextLine text c next
 
-abbrev pub NumberLineAt : List ℕ → Cursor → Number → Type 0
-NumberLineAt text c (found.Of n next) = NumberLine text c n next
-NumberLineAt text c found.Missing = whole (number (rest text c)) ≡ None
+abbrev pub NumberLineAt : List ℕ → Cursor → Option (ℕ × Cursor) → Type 0
+NumberLineAt text c (Some (n, next)) = NumberLine text c n next
+NumberLineAt text c None = whole (number (rest text c)) ≡ None
 
 -- a body that must be 1, and is: otherwise nothing stands behind it
 pub record OneLine (text : List ℕ) (c next : Cursor) : Type 0 where
   pub is : whole (number (rest text c)) ≡ taken 1 (rest text next)
   pub line : NextLine text c next
 
-abbrev pub OneLineAt : List ℕ → Cursor → Behind → Type 0
-OneLineAt text c (behind.At next) = OneLine text c next
-OneLineAt text c behind.Missing = (left : List ℕ) → whole (number (rest text c)) ≡ taken 1 left → ⊥
+abbrev pub OneLineAt : List ℕ → Cursor → Option Cursor → Type 0
+OneLineAt text c (Some next) = OneLine text c next
+OneLineAt text c None = (left : List ℕ) → whole (number (rest text c)) ≡ taken 1 left → ⊥
 
 pub record ListLine (text : List ℕ) (c : Cursor) (found : Option (Taken (List ℕ))) (count : ℕ) (kept : List ℕ)
     (next : Cursor) : Type 0 where
@@ -161,9 +151,9 @@ pub record ListLine (text : List ℕ) (c : Cursor) (found : Option (Taken (List 
   pub listed : Listed ns count kept
   pub line : NextLine text c next
 
-abbrev pub ListLineAt : List ℕ → Cursor → Option (Taken (List ℕ)) → List ℕ → Listing → Type 0
-ListLineAt text c found kept (list.Of count next) = ListLine text c found count kept next
-ListLineAt text c found kept list.Missing = whole found ≡ None
+abbrev pub ListLineAt : List ℕ → Cursor → Option (Taken (List ℕ)) → List ℕ → Option (ℕ × Cursor) → Type 0
+ListLineAt text c found kept (Some (count, next)) = ListLine text c found count kept next
+ListLineAt text c found kept None = whole found ≡ None
 
 pub record EntryLine (text : List ℕ) (c : Cursor) (head count : ℕ) (kept : List ℕ) (next : Cursor) : Type 0 where
   pub ns : List ℕ
@@ -171,9 +161,9 @@ pub record EntryLine (text : List ℕ) (c : Cursor) (head count : ℕ) (kept : L
   pub listed : Listed ns count kept
   pub line : NextLine text c next
 
-abbrev pub EntryLineAt : List ℕ → Cursor → List ℕ → AtomRead → Type 0
-EntryLineAt text c kept (atom_read.Of head count next) = EntryLine text c head count kept next
-EntryLineAt text c kept atom_read.Missing = whole (entry (rest text c)) ≡ None
+abbrev pub EntryLineAt : List ℕ → Cursor → List ℕ → Option (ℕ × ℕ × Cursor) → Type 0
+EntryLineAt text c kept (Some (head, count, next)) = EntryLine text c head count kept next
+EntryLineAt text c kept None = whole (entry (rest text c)) ≡ None
 
 -- ---- keys
 -- "Each line is a key, =": the bytes that a line begins with
@@ -195,18 +185,43 @@ key_number init = 9
 key_number goal = 10
 key_number end = 11
 
--- a place in the order has the number of the first key that it allows
+-- the key that the code's names, and its number
+abbrev pub meant : Code → Key
+meant code.Task = task
+meant code.Objects = objects
+meant code.Arity = arity
+meant code.Differ = differ
+meant code.Pre = pre
+meant code.Add = add
+meant code.Del = del
+meant code.Part = part
+meant code.Schema = schema
+meant code.Init = init
+meant code.Goal = goal
+meant code.End = end
+
+abbrev pub number_of : Code → ℕ
+number_of k = key_number (meant k)
+
+-- a place in the order is told by the first key that it allows, and has its number
+abbrev pub first_key : Phase → Code
+first_key at_task = code.Task
+first_key at_objects = code.Objects
+first_key at_arity = code.Arity
+first_key in_differ = code.Differ
+first_key in_pre = code.Pre
+first_key in_add = code.Add
+first_key in_del = code.Del
+first_key between = code.Schema
+first_key in_init = code.Init
+first_key in_goal = code.Goal
+
 abbrev pub phase_number : Phase → ℕ
-phase_number at_task = 0
-phase_number at_objects = 1
-phase_number at_arity = 2
-phase_number in_differ = 3
-phase_number in_pre = 4
-phase_number in_add = 5
-phase_number in_del = 6
-phase_number between = 8
-phase_number in_init = 9
-phase_number in_goal = 10
+phase_number p = number_of (first_key p)
+
+-- the place behind an atom of a role
+abbrev pub role_place : ℕ → Code
+role_place r = first_key (role_phase r)
 
 -- the last key that a place allows, by their numbers
 unfoldable pub last_key : ℕ → ℕ
@@ -218,15 +233,13 @@ last_key phase =
 abbrev pub may_stand : ℕ → ℕ → Bool
 may_stand phase key = leb phase key && leb key (last_key phase)
 
-pub record KeyHere (text : List ℕ) (c : Cursor) (number : ℕ) (body : Cursor) : Type 0 where
-  pub key : Key
-  pub numbered : key_number key ≡ number
-  pub is : after (key_bytes key) (rest text c) ≡ Some (rest text body)
+pub record KeyHere (text : List ℕ) (c : Cursor) (key : Code) (body : Cursor) : Type 0 where
+  pub is : after (key_bytes (meant key)) (rest text c) ≡ Some (rest text body)
   pub moved : Moved text c body
 
-abbrev pub KeyAt : List ℕ → Cursor → Keyed → Type 0
-KeyAt text c (keyed.Of number body) = KeyHere text c number body
-KeyAt text c keyed.Missing = (k : Key) → after (key_bytes k) (rest text c) ≡ None
+abbrev pub KeyAt : List ℕ → Cursor → Option (Code × Cursor) → Type 0
+KeyAt text c (Some (key, body)) = KeyHere text c key body
+KeyAt text c None = (k : Key) → after (key_bytes k) (rest text c) ≡ None
 
 -- the same, of the keys of lines that stand once
 pub record NoOnceKey (bs : List ℕ) : Type 0 where
@@ -235,9 +248,9 @@ pub record NoOnceKey (bs : List ℕ) : Type 0 where
   pub no-arity : after (key_bytes arity) bs ≡ None
   pub no_end : after (key_bytes end) bs ≡ None
 
-abbrev pub OnceKeyAt : List ℕ → Cursor → Keyed → Type 0
-OnceKeyAt text c (keyed.Of number body) = KeyHere text c number body
-OnceKeyAt text c keyed.Missing = NoOnceKey (rest text c)
+abbrev pub OnceKeyAt : List ℕ → Cursor → Option (Code × Cursor) → Type 0
+OnceKeyAt text c (Some (key, body)) = KeyHere text c key body
+OnceKeyAt text c None = NoOnceKey (rest text c)
 
 -- ---- words of a table
 -- a list that stands in words from a place on
@@ -250,11 +263,6 @@ pub record Wrote (w : List ℕ) (at n : ℕ) (f : ℕ → ℕ) (after : List ℕ
   pub put : (k : ℕ) → k < n → get_or after (at + k) 0 ≡ f k
   pub before : (j : ℕ) → j < at → get_or after j 0 ≡ get_or w j 0
   pub behind : (j : ℕ) → at + n ≤ j → get_or after j 0 ≡ get_or w j 0
-
--- the first n of some numbers are words
-pub record Words (n : ℕ) (xs : List ℕ) : Type 0 where
-  pub enough : n ≤ length xs
-  pub small : (k : ℕ) → k < n → get_or xs k 0 < word_bound
 
 -- one more than the highest number, 0 for none
 unfoldable pub one_above : List ℕ → ℕ

@@ -9,7 +9,7 @@ ghost use Rattle.text.specs.Writes.{Writes};
 
 use crate::put::{number_size, put_byte, put_bytes, put_digits};
 use task::layout::{predicate_at, role_at};
-use task::limits::ARGUMENTS;
+use task::limits::{ADDITION, ARGUMENTS, DELETION, INITIAL, PRECONDITION};
 
 pub fn write_byte(text: &mut [u8], at: usize, byte: u8) -> usize
     requires { at + 1 < 2 ^ 64 }
@@ -128,10 +128,10 @@ pub fn write_key(text: &mut [u8], at: usize, role: u16) -> usize
     ensures { Writes text.old at (key_bytes role) text.new result }
 {
     match role {
-        0 => write_bytes(text, at, b"pre="),
-        1 => write_bytes(text, at, b"add="),
-        2 => write_bytes(text, at, b"del="),
-        3 => write_bytes(text, at, b"init="),
+        PRECONDITION => write_bytes(text, at, b"pre="),
+        ADDITION => write_bytes(text, at, b"add="),
+        DELETION => write_bytes(text, at, b"del="),
+        INITIAL => write_bytes(text, at, b"init="),
         _ => write_bytes(text, at, b"goal="),
     }
 }

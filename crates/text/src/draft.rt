@@ -5,12 +5,12 @@ ghost use Rattle.std.specs.Prelude.{◌≡◌};
 ghost use Rattle.text.specs.Holding.{Few, no_counts, pair_at, first_row, row_at, so_far, one_fact_more};
 
 use crate::cursor::Cursor;
-use crate::keys::{GOAL, INIT, TASK};
+use crate::keys::Key;
 use task::limits;
 
-#[derive(Clone, Copy)]
+#[derive(Clone, Copy, Debug, PartialEq, Eq)]
 pub struct Counts {
-    pub phase: u16,
+    pub phase: Key,
     pub objects: u16,
     pub predicates: usize,
     pub schemas: usize,
@@ -27,33 +27,25 @@ pub struct Counts {
 }
 
 // The ground atoms are of two kinds, one a key: `init` and `goal`.
-#[derive(Clone, Copy)]
+#[derive(Clone, Copy, Debug, PartialEq, Eq)]
 pub enum Kind {
     Initial,
     Goal,
 }
 
 // The ground atoms of a kind: their role, how many are read, and the most there may be.
-#[derive(Clone, Copy)]
+#[derive(Clone, Copy, Debug, PartialEq, Eq)]
 pub struct Facts {
     pub role: u32,
     pub read: usize,
     pub most: usize,
 }
 
-// What a line does: reading goes on at the next line, has come to its end, or is refused.
-#[derive(Clone, Copy)]
+// What a line does that is not refused: reading goes on at the next line, or has come to its end.
+#[derive(Clone, Copy, Debug, PartialEq, Eq)]
 pub enum Turn {
     GoOn(Counts, Cursor),
     Finish(Cursor),
-    Refuse(u32),
-}
-
-// A check passes, or refuses with a number.
-#[derive(Clone, Copy)]
-pub enum Check {
-    Passes,
-    Refuses(u32),
 }
 
 // Pairs stand behind the seven counts, the arities, and room for the parameter counts of all schemas that may come;
@@ -68,7 +60,7 @@ impl Counts {
         ensures { result ≡ no_counts }
     {
         Counts {
-            phase: TASK,
+            phase: Key::Task,
             objects: 0,
             predicates: 0,
             schemas: 0,
@@ -131,17 +123,17 @@ impl Counts {
         requires { Few self }
         ensures { result ≡ one_fact_more self kind }
     {
-        let mut read = self;
         match kind {
-            Kind::Initial => {
-                read.phase = INIT;
-                read.initial = self.initial + 1;
-            }
-            Kind::Goal => {
-                read.phase = GOAL;
-                read.goal = self.goal + 1;
-            }
+            Kind::Initial => Counts {
+                phase: Key::Init,
+                initial: self.initial + 1,
+                ..self
+            },
+            Kind::Goal => Counts {
+                phase: Key::Goal,
+                goal: self.goal + 1,
+                ..self
+            },
         }
-        read
     }
 }

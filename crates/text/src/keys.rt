@@ -1,113 +1,109 @@
 // "Each line is a key, =, a body and byte 10. Fixed order": which key stands at a cursor, and whether the order allows
-// it. Keys are numbered so that those of a place in the order follow one another, and a place bears the number of its
-// first.
+// it. Keys come in such an order that those of a place follow one another, and a place is told by the first that it
+// allows.
 ghost use Rattle.std.specs.Prelude.{◌≡◌};
-ghost use Rattle.text.specs.ReadCode.{Placed, KeyAt, OnceKeyAt, last_key, may_stand};
+ghost use Rattle.text.specs.ReadCode.{Placed, KeyAt, OnceKeyAt, number_of, last_key, may_stand, role_place};
 
-use crate::cursor::{Behind, Cursor};
+use crate::cursor::Cursor;
+use task::limits::{ADDITION, PRECONDITION};
 
-pub const TASK: u16 = 0;
-
-pub const OBJECTS: u16 = 1;
-
-pub const ARITY: u16 = 2;
-
-pub const DIFFER: u16 = 3;
-
-pub const PRE: u16 = 4;
-
-pub const ADD: u16 = 5;
-
-pub const DEL: u16 = 6;
-
-pub const PART: u16 = 7;
-
-pub const SCHEMA: u16 = 8;
-
-pub const INIT: u16 = 9;
-
-pub const GOAL: u16 = 10;
-
-pub const END: u16 = 11;
-
-// A key's number, and the cursor at its body.
-#[derive(Clone, Copy)]
-pub enum Keyed {
-    Of(u16, Cursor),
-    Missing,
+#[derive(Clone, Copy, Debug, PartialEq, Eq, PartialOrd, Ord)]
+pub enum Key {
+    Task,
+    Objects,
+    Arity,
+    Differ,
+    Pre,
+    Add,
+    Del,
+    Part,
+    Schema,
+    Init,
+    Goal,
+    End,
 }
 
-// The key at a cursor.
-pub fn key_at(text: &[u8], from: Cursor) -> Keyed
+impl Key {
+    // "role (0 precondition, 1 add, 2 delete ..)": the key of a schema's atom of a role.
+    pub fn of_role(role: u16) -> Key
+        ensures { result ≡ role_place role }
+    {
+        if role == PRECONDITION {
+            return Key::Pre;
+        }
+        if role == ADDITION {
+            return Key::Add;
+        }
+        Key::Del
+    }
+}
+
+// The key at a cursor, and the cursor at its body.
+pub fn key_at(text: &[u8], from: Cursor) -> Option<(Key, Cursor)>
     requires { Placed text.now from }
     ensures { KeyAt text.now from result }
 {
-    if let Behind::At(body) = from.word(text, b"pre=") {
-        return Keyed::Of(PRE, body);
+    if let Some(body) = from.word(text, b"pre=") {
+        return Some((Key::Pre, body));
     }
-    if let Behind::At(body) = from.word(text, b"add=") {
-        return Keyed::Of(ADD, body);
+    if let Some(body) = from.word(text, b"add=") {
+        return Some((Key::Add, body));
     }
-    if let Behind::At(body) = from.word(text, b"del=") {
-        return Keyed::Of(DEL, body);
+    if let Some(body) = from.word(text, b"del=") {
+        return Some((Key::Del, body));
     }
-    if let Behind::At(body) = from.word(text, b"part=") {
-        return Keyed::Of(PART, body);
+    if let Some(body) = from.word(text, b"part=") {
+        return Some((Key::Part, body));
     }
-    if let Behind::At(body) = from.word(text, b"schema=") {
-        return Keyed::Of(SCHEMA, body);
+    if let Some(body) = from.word(text, b"schema=") {
+        return Some((Key::Schema, body));
     }
-    if let Behind::At(body) = from.word(text, b"differ=") {
-        return Keyed::Of(DIFFER, body);
+    if let Some(body) = from.word(text, b"differ=") {
+        return Some((Key::Differ, body));
     }
-    if let Behind::At(body) = from.word(text, b"init=") {
-        return Keyed::Of(INIT, body);
+    if let Some(body) = from.word(text, b"init=") {
+        return Some((Key::Init, body));
     }
-    if let Behind::At(body) = from.word(text, b"goal=") {
-        return Keyed::Of(GOAL, body);
+    if let Some(body) = from.word(text, b"goal=") {
+        return Some((Key::Goal, body));
     }
     head_key_at(text, from)
 }
 
 // The key of a line that stands once, at a cursor where no other key stands.
-fn head_key_at(text: &[u8], from: Cursor) -> Keyed
+fn head_key_at(text: &[u8], from: Cursor) -> Option<(Key, Cursor)>
     requires { Placed text.now from }
     ensures { OnceKeyAt text.now from result }
 {
-    if let Behind::At(body) = from.word(text, b"task=") {
-        return Keyed::Of(TASK, body);
+    if let Some(body) = from.word(text, b"task=") {
+        return Some((Key::Task, body));
     }
-    if let Behind::At(body) = from.word(text, b"objects=") {
-        return Keyed::Of(OBJECTS, body);
+    if let Some(body) = from.word(text, b"objects=") {
+        return Some((Key::Objects, body));
     }
-    if let Behind::At(body) = from.word(text, b"arity=") {
-        return Keyed::Of(ARITY, body);
+    if let Some(body) = from.word(text, b"arity=") {
+        return Some((Key::Arity, body));
     }
-    if let Behind::At(body) = from.word(text, b"end=") {
-        return Keyed::Of(END, body);
+    if let Some(body) = from.word(text, b"end=") {
+        return Some((Key::End, body));
     }
-    Keyed::Missing
+    None
 }
 
 // The last key that a place of the order allows.
-fn last_key(phase: u16) -> u16
-    ensures { result ≡ last_key phase }
+fn last_key(phase: Key) -> Key
+    ensures { number_of result ≡ last_key (number_of phase) }
 {
-    if phase < DIFFER {
-        return phase;
+    match phase {
+        Key::Task | Key::Objects | Key::Arity => phase,
+        Key::Differ | Key::Pre | Key::Add | Key::Del | Key::Part => Key::Part,
+        Key::Schema | Key::Init | Key::Goal | Key::End => Key::End,
     }
-    if phase < SCHEMA {
-        return PART;
-    }
-    END
 }
 
 // Whether the order allows a key at a place.
-pub fn allowed(phase: u16, key: u16) -> bool
-    ensures { result ≡ may_stand phase key }
+pub fn allowed(phase: Key, key: Key) -> bool
+    ensures { result ≡ may_stand (number_of phase) (number_of key) }
 {
-    if key < phase {
-        return false;
-    }
-    key <= last_key(phase)
+    phase <= key && key <= last_key(phase)
 }

@@ -3,6 +3,7 @@
 ghost use Rattle.std.specs.Prelude.{◌≡◌, true, List, ℕ, ◌+◌, ◌*◌, ◌^◌, ◌≤◌, ◌<◌, length, get_or, take};
 ghost use Rattle.std.specs.Prelude.{None};
 ghost use Rattle.words.specs.Lists.{over};
+ghost use Rattle.task.specs.declared.Place.TheVariants.{Line};
 ghost use Rattle.task.specs.Task.{Task};
 ghost use Rattle.task.specs.Table.{task_of, is_table};
 ghost use Rattle.task.specs.Run.{Step, is_choice, step_words, steps_in, bad_step};
@@ -17,26 +18,18 @@ ghost use Rattle.task.specs.Limits.{most_parameters, step_size};
 
 use crate::checks::all_below;
 use crate::counted::{write_bytes, write_entry};
-use crate::cursor::{Behind, Cursor};
-use crate::lists::{Atom, entry_line, one_line};
+use crate::cursor::Cursor;
+use crate::lists::{entry_line, one_line};
 use crate::storing::{clear, put_words};
-use task::Place;
 use task::layout::{object_count, param_count, schema_count};
 use task::limits::{MOST_PARAMETERS, STEP_SIZE};
+use task::{Reason, Refusal};
 
-// What reading a plan answers: how many steps it has, or a refusal.
-#[derive(Clone, Copy)]
-pub enum PlanAnswer {
-    Read(u64),
-    Refused(u32, Place),
-}
-
-// What a line does: reading goes on with a step more, has come to its end, or is refused.
-#[derive(Clone, Copy)]
+// What a line does that is not refused: reading goes on with a step more, or has come to its end.
+#[derive(Clone, Copy, Debug, PartialEq, Eq)]
 pub enum PlanTurn {
     GoOn(Cursor),
     Finish(Cursor),
-    Refuse(u32),
 }
 
 // "at most 100 `step=` lines".
@@ -62,25 +55,35 @@ fn is_choice(table: &[u16], schema: u32, objects: &[u32], count: usize) -> bool
     if param_count(table, schema as u16) != count {
         return false;
     }
-    all_below(objects, count, object_count(table) as u32)
+    all_below(&objects[..count], object_count(table) as u32)
 }
 
 // "schema, one object per parameter, zeros": puts a step's words at a place.
-fn put_step(steps: &mut [u16], at: usize, schema: u32, objects: &[u32], count: usize)
+fn put_step(steps: &mut [u16], at: usize, schema: u32, objects: &[u32])
     requires step_size_in_bounds { at + step_size ≤ length steps.old }
-    requires schema_lt_word_bound { (schema < word_bound) × (count ≤ most_parameters) × (count ≤ length objects.now) }
-    requires by_index { (k : ℕ) → k < count → get_or objects.now k 0 < word_bound }
+    requires schema_lt_word_bound { (schema < word_bound) × (length objects.now ≤ most_parameters) }
+    requires by_index { (k : ℕ) → k < length objects.now → get_or objects.now k 0 < word_bound }
     ensures { Wrote steps.old at step_size
-        (λ k. get_or (step_words (step_of schema (take count objects.now))) k 0) steps.new }
+        (λ k. get_or (step_words (step_of schema objects.now)) k 0) steps.new }
 {
     steps[at] = schema as u16;
-    put_words(steps, at + 1, objects, count);
-    clear(steps, at + 1 + count, MOST_PARAMETERS - count);
+    put_words(steps, at + 1, objects);
+    clear(
+        steps,
+        at + 1 + objects.len(),
+        MOST_PARAMETERS - objects.len(),
+    );
 }
 
 // The body of a `step` line, behind n steps: "a line out of form is 3, a 101st step 4, a wrong schema, object or number
 // of objects 5".
-fn step_line(table: &[u16], text: &[u8], from: Cursor, steps: &mut [u16], n: usize) -> PlanTurn
+fn step_line(
+    table: &[u16],
+    text: &[u8],
+    from: Cursor,
+    steps: &mut [u16],
+    n: usize,
+) -> Result<PlanTurn, Reason>
     requires table_value { is_table table.now ≡ true }
     requires placed { Placed text.now from }
     requires plan_words_in_bounds { plan_words ≤ length steps.old }
@@ -90,34 +93,40 @@ fn step_line(table: &[u16], text: &[u8], from: Cursor, steps: &mut [u16], n: usi
         steps.old result steps.new) }
 {
     let mut objects = [0u32; MOST_PARAMETERS];
-    let Atom::Of(schema, count, next) = entry_line(text, from, &mut objects) else {
-        return PlanTurn::Refuse(3);
+    let Some((schema, count, next)) = entry_line(text, from, &mut objects) else {
+        return Err(Reason::OutOfForm);
     };
     if MOST_STEPS <= n {
-        return PlanTurn::Refuse(4);
+        return Err(Reason::OutsideLimits);
     }
     if !is_choice(table, schema, &objects, count) {
-        return PlanTurn::Refuse(5);
+        return Err(Reason::WrongAtom);
     }
-    put_step(steps, STEP_SIZE * n, schema, &objects, count);
-    PlanTurn::GoOn(next)
+    put_step(steps, STEP_SIZE * n, schema, &objects[..count]);
+    Ok(PlanTurn::GoOn(next))
 }
 
 // The body of an `end` line: "end=1".
-fn last_line(text: &[u8], from: Cursor) -> PlanTurn
+fn last_line(text: &[u8], from: Cursor) -> Result<PlanTurn, Reason>
     requires { Placed text.now from }
     ensures { let bs = text.now in
         ((t : Task) (xs : List Step) (w : List ℕ) →
         PlanTurned t bs from xs (ended end_line (number (rest bs from))) w result w) }
 {
-    let Behind::At(next) = one_line(text, from) else {
-        return PlanTurn::Refuse(3);
+    let Some(next) = one_line(text, from) else {
+        return Err(Reason::OutOfForm);
     };
-    PlanTurn::Finish(next)
+    Ok(PlanTurn::Finish(next))
 }
 
 // The turn at a line, behind n steps.
-fn plan_line(table: &[u16], text: &[u8], from: Cursor, steps: &mut [u16], n: usize) -> PlanTurn
+fn plan_line(
+    table: &[u16],
+    text: &[u8],
+    from: Cursor,
+    steps: &mut [u16],
+    n: usize,
+) -> Result<PlanTurn, Reason>
     requires table_value { is_table table.now ≡ true }
     requires placed { Placed text.now from }
     requires plan_words_in_bounds { plan_words ≤ length steps.old }
@@ -126,27 +135,28 @@ fn plan_line(table: &[u16], text: &[u8], from: Cursor, steps: &mut [u16], n: usi
         PlanTurned (task_of table.now) bs from xs (next_plan_line xs (rest bs from))
         steps.old result steps.new) }
 {
-    if let Behind::At(body) = from.word(text, b"step=") {
+    if let Some(body) = from.word(text, b"step=") {
         return step_line(table, text, body, steps, n);
     }
-    if let Behind::At(body) = from.word(text, b"end=") {
+    if let Some(body) = from.word(text, b"end=") {
         return last_line(text, body);
     }
-    PlanTurn::Refuse(3)
+    Err(Reason::OutOfForm)
 }
 
 // A refused plan leaves the words of 100 steps 0.
-fn refused(steps: &mut [u16], number: u32, line: u64) -> PlanAnswer
+fn refused(steps: &mut [u16], reason: Reason, line: u64) -> Refusal
     requires { plan_words ≤ length steps.old }
-    ensures value { result ≡ PlanAnswer.Refused number (Place.Line line) }
+    ensures value { result ≡ record { reason = reason; place = Line line } }
     ensures wrote { Wrote steps.old 0 plan_words (λ k. 0) steps.new }
 {
     clear(steps, 0, PLAN_WORDS);
-    PlanAnswer::Refused(number, Place::Line(line))
+    Refusal::at_line(reason, line)
 }
 
-// Reads a plan of a table's task: its steps come to stand at the front of the lent words, which have room for 100.
-pub fn read_plan(table: &[u16], text: &[u8], steps: &mut [u16]) -> PlanAnswer
+// Reads a plan of a table's task, and gives the number of its steps: they come to stand at the front of the lent words,
+// which have room for 100.
+pub fn read_plan(table: &[u16], text: &[u8], steps: &mut [u16]) -> Result<u64, Refusal>
     requires table_value { is_table table.now ≡ true }
     requires plan_words_in_bounds { plan_words ≤ length steps.old }
     ensures told { plan_answer_told result ≡
@@ -158,16 +168,16 @@ pub fn read_plan(table: &[u16], text: &[u8], steps: &mut [u16]) -> PlanAnswer
     let mut n: usize = 0;
     loop {
         match plan_line(table, text, cursor, steps, n) {
-            PlanTurn::Refuse(number) => {
-                return refused(steps, number, cursor.line);
+            Err(reason) => {
+                return Err(refused(steps, reason, cursor.line));
             }
-            PlanTurn::Finish(next) => {
+            Ok(PlanTurn::Finish(next)) => {
                 if next.at < text.len() {
-                    return refused(steps, 3, next.line);
+                    return Err(refused(steps, Reason::OutOfForm, next.line));
                 }
-                return PlanAnswer::Read(n as u64);
+                return Ok(n as u64);
             }
-            PlanTurn::GoOn(next) => {
+            Ok(PlanTurn::GoOn(next)) => {
                 n += 1;
                 cursor = next;
             }

@@ -8,19 +8,13 @@ ghost use Rattle.words.specs.Putting.{Puts};
 pub fn number_size(n: u16) -> usize
     ensures { result ≡ length (digits n) }
 {
-    if n < 10 {
-        return 1;
+    match n {
+        0..=9 => 1,
+        10..=99 => 2,
+        100..=999 => 3,
+        1000..=9999 => 4,
+        _ => 5,
     }
-    if n < 100 {
-        return 2;
-    }
-    if n < 1000 {
-        return 3;
-    }
-    if n < 10000 {
-        return 4;
-    }
-    5
 }
 
 // The byte of a digit.
@@ -36,14 +30,12 @@ pub fn put_digits(text: &mut [u8], end: usize, n: u16)
     requires { (length (digits n) ≤ end) × (end ≤ length text.old) }
     ensures { Puts text.old (end - length (digits n)) (digits n) text.new end }
 {
+    let first = end - number_size(n);
     let mut rest = n;
-    let mut place = end - 1;
-    while 10 <= rest {
+    for place in (first..end).rev() {
         text[place] = digit(rest % 10);
-        rest = rest / 10;
-        place -= 1;
+        rest /= 10;
     }
-    text[place] = digit(rest);
 }
 
 pub fn put_number(text: &mut [u8], at: usize, n: u16) -> usize
@@ -68,8 +60,7 @@ pub fn put_bytes(text: &mut [u8], at: usize, bytes: &[u8]) -> usize
     requires { at + length bytes.now ≤ length text.old }
     ensures { Puts text.old at bytes.now text.new result }
 {
-    for k in 0..bytes.len() {
-        text[at + k] = bytes[k];
-    }
-    at + bytes.len()
+    let end = at + bytes.len();
+    text[at..end].copy_from_slice(bytes);
+    end
 }

@@ -1,90 +1,62 @@
 // A text read line after line into a table: the turn at each line by its key, and the end of reading.
 ghost use Rattle.std.specs.Prelude.{◌≡◌, true, ◌+◌, ◌≤◌, ◌<◌, length};
+ghost use Rattle.task.specs.declared.Place.TheVariants.{Line};
 ghost use Rattle.task.specs.Limits.{table_words};
 ghost use Rattle.words.specs.Lists.{over};
 ghost use Rattle.task.specs.Task.{well_formed};
 ghost use Rattle.task.specs.Table.{words_of};
-ghost use Rattle.text.specs.Text.{Draft, Key, read_body, next_line, read_text, differ, init, goal, between};
+ghost use Rattle.text.specs.Text.{Draft, read_body, next_line, read_text, between};
 ghost use Rattle.text.specs.Outcomes.{read_done, read_answer_told};
-ghost use Rattle.text.specs.ReadCode.{rest, Placed, Wrote, key_number, may_stand, phase_number};
-ghost use Rattle.text.specs.Holding.{Holds, Drafted, Touched, Turned, fact_key};
+ghost use Rattle.text.specs.ReadCode.{rest, Placed, Wrote, meant, number_of, phase_number};
+ghost use Rattle.text.specs.Holding.{Holds, Drafted, Touched, Turned, Allows};
 
-use crate::ReadAnswer;
 use crate::cursor::Cursor;
 use crate::draft::{Counts, Kind, PAIRS_AT, ROWS_AT, Turn};
-use crate::keys::{DIFFER, END, INIT, Keyed, OBJECTS, PART, PRE, SCHEMA, TASK, allowed, key_at};
+use crate::keys::{Key, allowed, key_at};
 use crate::lines::atom::{atom_line, fact_line};
 use crate::lines::differ::differ_line;
 use crate::lines::head::{arity_line, end_line, objects_line, schema_line, task_line};
 use crate::lines::part::part_line;
 use crate::storing::{clear, move_down, put_words};
-use task::Place;
-use task::limits::{ATOM_SIZE, HEAD_WORDS, PAIR_SIZE, TABLE_WORDS};
-
-// The turn at the body of a line that comes before all schemas.
-fn head_turn(text: &[u8], table: &mut [u16], body: Cursor, counts: Counts, key: u16) -> Turn
-    requires placed { Placed text.now body }
-    requires drafted { Drafted table.old counts }
-    requires key_value { may_stand counts.phase key ≡ true }
-    requires key_bound { key < key_number differ }
-    ensures touched { Touched table.old table.new }
-    ensures fact { let bs = text.now in
-        ((d : Draft) (k : Key) → key_number k ≡ key → Holds d table.old counts →
-        Turned bs body d (read_body k (rest bs body)) table.old result table.new) }
-{
-    if key == TASK {
-        return task_line(text, body, counts);
-    }
-    if key == OBJECTS {
-        return objects_line(text, body, counts);
-    }
-    arity_line(text, table, body, counts)
-}
-
-// The kind of ground atoms that a key names.
-fn kind_of(key: u16) -> Kind
-    requires { (key_number init ≤ key) × (key ≤ key_number goal) }
-    ensures { key_number (fact_key result) ≡ key }
-{
-    if key == INIT {
-        return Kind::Initial;
-    }
-    Kind::Goal
-}
+use task::limits::{
+    ADDITION, ATOM_SIZE, DELETION, HEAD_WORDS, PAIR_SIZE, PRECONDITION, TABLE_WORDS,
+};
+use task::{Reason, Refusal};
 
 // The turn at the body of a line whose key the fixed order allows.
-fn body_turn(text: &[u8], table: &mut [u16], body: Cursor, counts: Counts, key: u16) -> Turn
+fn body_turn(
+    text: &[u8],
+    table: &mut [u16],
+    body: Cursor,
+    counts: Counts,
+    key: Key,
+) -> Result<Turn, Reason>
     requires placed { Placed text.now body }
     requires drafted { Drafted table.old counts }
-    requires key_value { may_stand counts.phase key ≡ true }
+    requires key_value { Allows counts (meant key) }
     ensures touched { Touched table.old table.new }
     ensures fact { let bs = text.now in
-        ((d : Draft) (k : Key) → key_number k ≡ key → Holds d table.old counts →
-        Turned bs body d (read_body k (rest bs body)) table.old result table.new) }
+        ((d : Draft) → Holds d table.old counts →
+        Turned bs body d (read_body (meant key) (rest bs body)) table.old result table.new) }
 {
-    if key < DIFFER {
-        return head_turn(text, table, body, counts, key);
+    match key {
+        Key::Task => task_line(text, body, counts),
+        Key::Objects => objects_line(text, body, counts),
+        Key::Arity => arity_line(text, table, body, counts),
+        Key::Differ => differ_line(text, table, body, counts),
+        Key::Pre => atom_line(text, table, body, counts, PRECONDITION),
+        Key::Add => atom_line(text, table, body, counts, ADDITION),
+        Key::Del => atom_line(text, table, body, counts, DELETION),
+        Key::Part => part_line(text, table, body, counts),
+        Key::Schema => schema_line(text, body, counts),
+        Key::Init => fact_line(text, table, body, counts, Kind::Initial),
+        Key::Goal => fact_line(text, table, body, counts, Kind::Goal),
+        Key::End => end_line(text, body),
     }
-    if key == DIFFER {
-        return differ_line(text, table, body, counts);
-    }
-    if key < PART {
-        return atom_line(text, table, body, counts, key - PRE);
-    }
-    if key == PART {
-        return part_line(text, table, body, counts);
-    }
-    if key == SCHEMA {
-        return schema_line(text, body, counts);
-    }
-    if key < END {
-        return fact_line(text, table, body, counts, kind_of(key));
-    }
-    end_line(text, body)
 }
 
 // The turn at a line, "not a line the fixed order allows here" being 3.
-fn turn_at(text: &[u8], table: &mut [u16], from: Cursor, counts: Counts) -> Turn
+fn turn_at(text: &[u8], table: &mut [u16], from: Cursor, counts: Counts) -> Result<Turn, Reason>
     requires placed { Placed text.now from }
     requires drafted { Drafted table.old counts }
     ensures touched { Touched table.old table.new }
@@ -92,11 +64,11 @@ fn turn_at(text: &[u8], table: &mut [u16], from: Cursor, counts: Counts) -> Turn
         ((d : Draft) → Holds d table.old counts →
         Turned bs from d (next_line d (rest bs from)) table.old result table.new) }
 {
-    let Keyed::Of(key, body) = key_at(text, from) else {
-        return Turn::Refuse(3);
+    let Some((key, body)) = key_at(text, from) else {
+        return Err(Reason::OutOfForm);
     };
     if !allowed(counts.phase, key) {
-        return Turn::Refuse(3);
+        return Err(Reason::OutOfForm);
     }
     body_turn(text, table, body, counts, key)
 }
@@ -105,7 +77,7 @@ fn turn_at(text: &[u8], table: &mut [u16], from: Cursor, counts: Counts) -> Turn
 // counts come first.
 fn lay_out(table: &mut [u16], counts: Counts)
     requires { Drafted table.old counts }
-    ensures { (d : Draft) → Holds d table.old counts → phase_number between ≤ counts.phase →
+    ensures { (d : Draft) → Holds d table.old counts → phase_number between ≤ number_of counts.phase →
         well_formed d.task ≡ true → table.new ≡ over (words_of d.task) table.old }
 {
     let pairs_to = HEAD_WORDS + counts.predicates + counts.schemas;
@@ -124,21 +96,21 @@ fn lay_out(table: &mut [u16], counts: Counts)
         counts.goal as u32,
         counts.pairs as u32,
     ];
-    put_words(table, 0, &head, HEAD_WORDS);
+    put_words(table, 0, &head);
 }
 
 // Refusals 3 to 8, 19 and 21 leave the "table all 0".
-fn refused(table: &mut [u16], number: u32, line: u64) -> ReadAnswer
+fn refused(table: &mut [u16], reason: Reason, line: u64) -> Refusal
     requires { table_words ≤ length table.old }
-    ensures value { result ≡ ReadAnswer.Refused number (Place.Line line) }
+    ensures value { result ≡ record { reason = reason; place = Line line } }
     ensures wrote { Wrote table.old 0 table_words (λ k. 0) table.new }
 {
     clear(table, 0, TABLE_WORDS);
-    ReadAnswer::Refused(number, Place::Line(line))
+    Refusal::at_line(reason, line)
 }
 
 // "A text that reads as a task", into a table that is long enough.
-pub fn read_task(text: &[u8], table: &mut [u16]) -> ReadAnswer
+pub fn read_task(text: &[u8], table: &mut [u16]) -> Result<(), Refusal>
     requires { table_words ≤ length table.old }
     ensures result_value { read_answer_told result ≡ (read_done table.old (read_text text.now)).told }
     ensures table_after { table.new ≡ (read_done table.old (read_text text.now)).buffer }
@@ -147,17 +119,17 @@ pub fn read_task(text: &[u8], table: &mut [u16]) -> ReadAnswer
     let mut counts = Counts::start();
     loop {
         match turn_at(text, table, cursor, counts) {
-            Turn::Refuse(number) => {
-                return refused(table, number, cursor.line);
+            Err(reason) => {
+                return Err(refused(table, reason, cursor.line));
             }
-            Turn::Finish(next) => {
+            Ok(Turn::Finish(next)) => {
                 if next.at < text.len() {
-                    return refused(table, 3, next.line);
+                    return Err(refused(table, Reason::OutOfForm, next.line));
                 }
                 lay_out(table, counts);
-                return ReadAnswer::Read;
+                return Ok(());
             }
-            Turn::GoOn(read, next) => {
+            Ok(Turn::GoOn(read, next)) => {
                 counts = read;
                 cursor = next;
             }

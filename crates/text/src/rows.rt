@@ -1,14 +1,14 @@
 // "all atoms in file order, 8 words each: schema, role .., predicate, part, four arguments": rows of the table that is
 // being read, each tested and written by the place where it begins.
-ghost use Rattle.std.specs.Prelude.{◌≡◌, true, ℕ, ◌+◌, ◌*◌, ◌≤◌, ◌<◌, length, get_or, take};
+ghost use Rattle.std.specs.Prelude.{◌≡◌, true, ℕ, ◌+◌, ◌*◌, ◌≤◌, ◌<◌, length, get_or};
 ghost use Rattle.words.specs.Lists.{all, any, up_to};
 ghost use Rattle.task.specs.Table.{atom_words};
 ghost use Rattle.text.specs.ReadCode.{Wrote, Fitting, RowIn, row_names, row_same, PartsPut, bare_atom};
 ghost use Rattle.words.specs.Words.{word_bound};
 ghost use Rattle.task.specs.Limits.{most_arity, head_words, atom_size};
 
-use crate::checks::{all_below, number_or_zero};
-use crate::storing::put_words;
+use crate::checks::all_below;
+use crate::storing::{clear, put_words};
 use task::layout::{arity_of, predicate_at};
 use task::limits::{ARGUMENTS, ATOM_SIZE, MOST_ARITY, PART, ROLE};
 use words::runs::{has_word, same_words, wide};
@@ -26,41 +26,24 @@ pub fn fits(
     ensures { Fitting table.now predicates bound predicate args.now count result }
 {
     let p = predicate as usize;
-    if predicates <= p {
-        return false;
-    }
-    if args.len() < count {
-        return false;
-    }
-    if arity_of(table, p) != count {
-        return false;
-    }
-    all_below(args, count, bound as u32)
+    p < predicates
+        && count <= args.len()
+        && arity_of(table, p) == count
+        && all_below(&args[..count], bound as u32)
 }
 
 // Puts an atom's row at a place, in part 0.
-pub fn put_row(
-    table: &mut [u16],
-    at: usize,
-    schema: u32,
-    role: u32,
-    predicate: u32,
-    args: &[u32],
-    count: usize,
-)
+pub fn put_row(table: &mut [u16], at: usize, schema: u32, role: u32, predicate: u32, args: &[u32])
     requires atom_size_in_bounds { at + atom_size ≤ length table.old }
     requires schema_lt_word_bound { (schema < word_bound) × (role < word_bound) × (predicate < word_bound) ×
-        (count ≤ length args.now) × (count ≤ most_arity) }
-    requires by_index { (k : ℕ) → k < count → get_or args.now k 0 < word_bound }
-    ensures { let a = bare_atom role predicate (take count args.now) in
+        (length args.now ≤ most_arity) }
+    requires by_index { (k : ℕ) → k < length args.now → get_or args.now k 0 < word_bound }
+    ensures { let a = bare_atom role predicate args.now in
         Wrote table.old at atom_size (λ k. get_or (atom_words schema a) k 0) table.new }
 {
-    let a = number_or_zero(args, count, 0);
-    let b = number_or_zero(args, count, 1);
-    let c = number_or_zero(args, count, 2);
-    let d = number_or_zero(args, count, 3);
-    let row = [schema, role, predicate, 0, a, b, c, d];
-    put_words(table, at, &row, ATOM_SIZE);
+    put_words(table, at, &[schema, role, predicate, 0]);
+    put_words(table, at + ARGUMENTS, args);
+    clear(table, at + ARGUMENTS + args.len(), MOST_ARITY - args.len());
 }
 
 // Whether a parameter stands in the atom of a row.
@@ -77,12 +60,7 @@ fn named(table: &[u16], first: usize, n: usize, parameter: u16) -> bool
     requires { (i : ℕ) → i < n → RowIn table.now (first + atom_size * i) }
     ensures { result ≡ any (λ i. row_names table.now (first + atom_size * i) parameter) (up_to n) }
 {
-    for i in 0..n {
-        if names(table, first + ATOM_SIZE * i, parameter) {
-            return true;
-        }
-    }
-    false
+    (0..n).any(|i| names(table, first + ATOM_SIZE * i, parameter))
 }
 
 // "every parameter stands in some atom".
@@ -91,12 +69,7 @@ pub fn all_named(table: &[u16], first: usize, n: usize, params: u16) -> bool
     ensures { let w = table.now in
         result ≡ all (λ x. any (λ i. row_names w (first + atom_size * i) x) (up_to n)) (up_to params) }
 {
-    for x in 0..params {
-        if !named(table, first, n, x) {
-            return false;
-        }
-    }
-    true
+    (0..params).all(|x| named(table, first, n, x))
 }
 
 // Whether two rows have the same role, predicate and arguments.
@@ -104,10 +77,8 @@ fn same_atom(table: &[u16], a: usize, b: usize) -> bool
     requires { (a + atom_size ≤ length table.now) × (b + atom_size ≤ length table.now) }
     ensures { result ≡ row_same table.now a b }
 {
-    if !same_words(table, a + ROLE, b + ROLE, 2) {
-        return false;
-    }
-    same_words(table, a + ARGUMENTS, b + ARGUMENTS, MOST_ARITY)
+    same_words(table, a + ROLE, b + ROLE, PART - ROLE)
+        && same_words(table, a + ARGUMENTS, b + ARGUMENTS, MOST_ARITY)
 }
 
 // Refusal 6: "atom repeated", among the n rows from a place on.
@@ -115,12 +86,7 @@ pub fn repeated(table: &[u16], row: usize, first: usize, n: usize) -> bool
     requires { (row + atom_size ≤ length table.now) × (first + atom_size * n ≤ length table.now) }
     ensures { result ≡ any (λ i. row_same table.now row (first + atom_size * i)) (up_to n) }
 {
-    for i in 0..n {
-        if same_atom(table, row, first + ATOM_SIZE * i) {
-            return true;
-        }
-    }
-    false
+    (0..n).any(|i| same_atom(table, row, first + ATOM_SIZE * i))
 }
 
 // "`part` (a part for each atom)": puts the parts into the n rows from a place on.
@@ -129,7 +95,7 @@ pub fn put_parts(table: &mut [u16], first: usize, parts: &[u32], n: usize)
     requires by_index { (k : ℕ) → k < n → get_or parts.now k 0 < word_bound }
     ensures { PartsPut table.old first n parts.now table.new }
 {
-    for k in 0..n {
-        table[first + ATOM_SIZE * k + PART] = parts[k] as u16;
+    for (k, part) in parts[..n].iter().enumerate() {
+        table[first + ATOM_SIZE * k + PART] = *part as u16;
     }
 }

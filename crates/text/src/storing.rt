@@ -1,15 +1,16 @@
 // Runs of words of the table that is being read: written, cleared and moved down.
-ghost use Rattle.std.specs.Prelude.{◌+◌, ◌≤◌, length, get_or};
-ghost use Rattle.text.specs.ReadCode.{Wrote, Words};
+ghost use Rattle.std.specs.Prelude.{ℕ, ◌+◌, ◌≤◌, ◌<◌, length, get_or};
+ghost use Rattle.words.specs.Words.{word_bound};
+ghost use Rattle.text.specs.ReadCode.{Wrote};
 
-// Puts the first n of some words at a place.
-pub fn put_words(table: &mut [u16], at: usize, words: &[u32], n: usize)
-    requires n_in_bounds { at + n ≤ length table.old }
-    requires words { Words n words.now }
-    ensures { Wrote table.old at n (λ k. get_or words.now k 0) table.new }
+// Puts words at a place.
+pub fn put_words(table: &mut [u16], at: usize, words: &[u32])
+    requires words_in_bounds { at + length words.now ≤ length table.old }
+    requires by_index { (k : ℕ) → k < length words.now → get_or words.now k 0 < word_bound }
+    ensures { Wrote table.old at (length words.now) (λ k. get_or words.now k 0) table.new }
 {
-    for k in 0..n {
-        table[at + k] = words[k] as u16;
+    for (k, word) in words.iter().enumerate() {
+        table[at + k] = *word as u16;
     }
 }
 
@@ -18,9 +19,7 @@ pub fn clear(table: &mut [u16], at: usize, n: usize)
     requires { at + n ≤ length table.old }
     ensures { Wrote table.old at n (λ k. 0) table.new }
 {
-    for k in 0..n {
-        table[at + k] = 0;
-    }
+    table[at..at + n].fill(0);
 }
 
 // Moves n words down, from one place to another.
@@ -29,8 +28,5 @@ pub fn move_down(table: &mut [u16], from: usize, to: usize, n: usize)
     ensures { Wrote table.old to n (λ k. get_or table.old (from + k) 0)
         table.new }
 {
-    for k in 0..n {
-        let word = table[from + k];
-        table[to + k] = word;
-    }
+    table.copy_within(from..from + n, to);
 }

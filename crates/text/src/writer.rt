@@ -10,14 +10,14 @@ ghost use Rattle.text.specs.TableLines.{head_text, RowsInside, schema_text_of};
 ghost use Rattle.text.specs.TableLines.{schemas_text, SchemaRun, fact_count, facts_text};
 ghost use Rattle.task.specs.Limits.{pair_size, atom_size};
 
+use crate::LONGEST_TEXT;
 use crate::counted::{write_bytes, write_list_line, write_number_line, write_row};
-use crate::{LONGEST_TEXT, WriteAnswer};
-use task::Place;
 use task::layout::{arity_of, facts_base, pairs_base, params_of, predicate_at, rows_base};
 use task::limits::{
     ATOM_SIZE, GOAL_ATOMS, HEAD_WORDS, INITIAL_ATOMS, LOWER, OBJECTS, PAIR_SIZE, PAIRS, PART,
     PREDICATES, SCHEMA_ATOMS, SCHEMAS,
 };
+use task::{Reason, Refusal};
 use words::runs::{wide, word};
 
 // "An atom is predicate, colon, arguments": the line of the atom whose words begin at `base`.
@@ -48,12 +48,9 @@ fn rows_of(table: &[u16], size: usize, base: usize, left: usize, schema: usize) 
     requires { (k : ℕ) → k < left → base + size * k < length table.now }
     ensures { SchemaRun table.now size base left schema result }
 {
-    for n in 0..left {
-        if wide(table[base + size * n]) != schema {
-            return n;
-        }
-    }
-    left
+    (0..left)
+        .find(|n| word(table, base + size * n) != schema)
+        .unwrap_or(left)
 }
 
 // "`differ=` lines after its `schema` line": those of m pairs, whose words begin at `base`.
@@ -191,13 +188,13 @@ fn has_room(table: &[u16], bytes: usize) -> bool
 }
 
 // Writes the text of a table's task, or refuses with 11: "the text is longer than the lent bytes".
-pub fn write_task(table: &[u16], text: &mut [u8]) -> WriteAnswer
+pub fn write_task(table: &[u16], text: &mut [u8]) -> Result<u64, Refusal>
     requires { is_table table.now ≡ true }
     ensures result_value { write_answer_told result ≡ (write_outcome table.now text.old).told }
     ensures text_after { text.new ≡ (write_outcome table.now text.old).buffer }
 {
     if !has_room(table, text.len()) {
-        return WriteAnswer::Refused(11, Place::Nowhere);
+        return Err(Refusal::nowhere(Reason::TextTooLong));
     }
-    WriteAnswer::Written(write_text(text, table) as u64)
+    Ok(write_text(text, table) as u64)
 }

@@ -9,10 +9,11 @@ ghost use Rattle.text.specs.Holding.{Holds, Drafted, Touched, Allows, Checked, e
 ghost use Rattle.text.specs.Holding.{fact_key, fact_line, one_fact_more, Takes};
 
 use crate::cursor::Cursor;
-use crate::draft::{Check, Counts, Kind, Turn};
-use crate::keys::PRE;
-use crate::lists::{Atom, entry_line};
+use crate::draft::{Counts, Kind, Turn};
+use crate::keys::Key;
+use crate::lists::entry_line;
 use crate::rows::{fits, put_row, repeated};
+use task::Reason;
 use task::limits::{ATOM_SIZE, MOST_ARITY, MOST_ATOMS, MOST_SCHEMA_ATOMS, PREDICATE};
 use words::runs::less_words;
 
@@ -27,7 +28,7 @@ fn add_atom(
     predicate: u32,
     args: &[u32],
     count: usize,
-) -> Check
+) -> Result<(), Reason>
     requires drafted { Drafted table.old counts }
     requires in_schema { InSchema counts role }
     requires args_len { length args.now ≡ most_arity }
@@ -37,10 +38,10 @@ fn add_atom(
         (one_atom_more counts role) result table.new }
 {
     if MOST_ATOMS <= counts.atoms {
-        return Check::Refuses(4);
+        return Err(Reason::OutsideLimits);
     }
     if MOST_SCHEMA_ATOMS <= counts.closed + counts.atoms {
-        return Check::Refuses(4);
+        return Err(Reason::OutsideLimits);
     }
     if !fits(
         table,
@@ -50,7 +51,7 @@ fn add_atom(
         args,
         count,
     ) {
-        return Check::Refuses(5);
+        return Err(Reason::WrongAtom);
     }
     let row = counts.next_row();
     put_row(
@@ -59,17 +60,22 @@ fn add_atom(
         counts.schemas as u32,
         role as u32,
         predicate,
-        args,
-        count,
+        &args[..count],
     );
     if repeated(table, row, counts.first_row(), counts.atoms) {
-        return Check::Refuses(6);
+        return Err(Reason::RepeatedAtom);
     }
-    Check::Passes
+    Ok(())
 }
 
 // A `pre`, `add` or `del` line.
-pub fn atom_line(text: &[u8], table: &mut [u16], from: Cursor, counts: Counts, role: u16) -> Turn
+pub fn atom_line(
+    text: &[u8],
+    table: &mut [u16],
+    from: Cursor,
+    counts: Counts,
+    role: u16,
+) -> Result<Turn, Reason>
     requires placed { Placed text.now from }
     requires drafted { Drafted table.old counts }
     requires in_schema { InSchema counts role }
@@ -78,17 +84,16 @@ pub fn atom_line(text: &[u8], table: &mut [u16], from: Cursor, counts: Counts, r
         table.old result table.new }
 {
     let mut args = [0u32; MOST_ARITY];
-    let Atom::Of(predicate, count, next) = entry_line(text, from, &mut args) else {
-        return Turn::Refuse(3);
+    let Some((predicate, count, next)) = entry_line(text, from, &mut args) else {
+        return Err(Reason::OutOfForm);
     };
-    let check = add_atom(table, counts, role, predicate, &args, count);
-    if let Check::Refuses(number) = check {
-        return Turn::Refuse(number);
-    }
-    let mut read = counts;
-    read.phase = PRE + role;
-    read.atoms = counts.atoms + 1;
-    Turn::GoOn(read, next)
+    add_atom(table, counts, role, predicate, &args, count)?;
+    let read = Counts {
+        phase: Key::of_role(role),
+        atoms: counts.atoms + 1,
+        ..counts
+    };
+    Ok(Turn::GoOn(read, next))
 }
 
 // A fact's row joins those of its kind, unless it is refused.
@@ -99,7 +104,7 @@ fn add_fact(
     predicate: u32,
     args: &[u32],
     count: usize,
-) -> Check
+) -> Result<(), Reason>
     requires drafted { Drafted table.old counts }
     requires allows { Allows counts (fact_key kind) }
     requires args_len { length args.now ≡ most_arity }
@@ -110,7 +115,7 @@ fn add_fact(
 {
     let facts = counts.facts(kind);
     if facts.most <= facts.read {
-        return Check::Refuses(4);
+        return Err(Reason::OutsideLimits);
     }
     if !fits(
         table,
@@ -120,20 +125,26 @@ fn add_fact(
         args,
         count,
     ) {
-        return Check::Refuses(5);
+        return Err(Reason::WrongAtom);
     }
     let row = counts.next_row();
-    put_row(table, row, 0, facts.role, predicate, args, count);
+    put_row(table, row, 0, facts.role, predicate, &args[..count]);
     if 0 < facts.read {
         if !less_words(table, row - COMPARED, row + PREDICATE, COMPARED) {
-            return Check::Refuses(6);
+            return Err(Reason::RepeatedAtom);
         }
     }
-    Check::Passes
+    Ok(())
 }
 
 // An `init` or a `goal` line.
-pub fn fact_line(text: &[u8], table: &mut [u16], from: Cursor, counts: Counts, kind: Kind) -> Turn
+pub fn fact_line(
+    text: &[u8],
+    table: &mut [u16],
+    from: Cursor,
+    counts: Counts,
+    kind: Kind,
+) -> Result<Turn, Reason>
     requires placed { Placed text.now from }
     requires drafted { Drafted table.old counts }
     requires allows { Allows counts (fact_key kind) }
@@ -142,12 +153,9 @@ pub fn fact_line(text: &[u8], table: &mut [u16], from: Cursor, counts: Counts, k
         table.old result table.new }
 {
     let mut args = [0u32; MOST_ARITY];
-    let Atom::Of(predicate, count, next) = entry_line(text, from, &mut args) else {
-        return Turn::Refuse(3);
+    let Some((predicate, count, next)) = entry_line(text, from, &mut args) else {
+        return Err(Reason::OutOfForm);
     };
-    let check = add_fact(table, counts, kind, predicate, &args, count);
-    if let Check::Refuses(number) = check {
-        return Turn::Refuse(number);
-    }
-    Turn::GoOn(counts.one_fact_more(kind), next)
+    add_fact(table, counts, kind, predicate, &args, count)?;
+    Ok(Turn::GoOn(counts.one_fact_more(kind), next))
 }

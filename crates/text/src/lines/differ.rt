@@ -7,10 +7,11 @@ ghost use Rattle.text.specs.ReadCode.{Placed, Listed};
 ghost use Rattle.text.specs.Holding.{Holds, Drafted, Touched, PairTurn, Allows, Takes};
 
 use crate::cursor::Cursor;
-use crate::draft::{Check, Counts, Turn};
-use crate::keys::DIFFER;
-use crate::lists::{List, list_line, numbers};
+use crate::draft::{Counts, Turn};
+use crate::keys::Key;
+use crate::lists::{list_line, numbers};
 use crate::storing::put_words;
+use task::Reason;
 use task::limits::{HIGHER, LOWER, MOST_PAIRS, PAIR_SIZE};
 
 // How many numbers a `differ` line has.
@@ -34,34 +35,39 @@ fn follows(table: &[u16], counts: Counts, lower: u32, higher: u32) -> bool
 }
 
 // Whether the two numbers of a line make one pair more.
-fn check_pair(table: &[u16], counts: Counts, pair: &[u32], count: usize) -> Check
+fn check_pair(table: &[u16], counts: Counts, pair: &[u32], count: usize) -> Result<(), Reason>
     requires drafted { Drafted table.now counts }
     requires pair_len { length pair.now ≡ 2 }
     ensures { (d : Draft) (ns : Many ℕ) → Holds d table.now counts →
         Listed ns count pair.now → PairTurn d ns result }
 {
     if count != PARAMETERS {
-        return Check::Refuses(3);
+        return Err(Reason::OutOfForm);
     }
     if MOST_PAIRS <= counts.pairs + counts.apart {
-        return Check::Refuses(21);
+        return Err(Reason::TooManyPairs);
     }
     let lower = pair[0];
     let higher = pair[1];
     if higher <= lower {
-        return Check::Refuses(19);
+        return Err(Reason::WrongPair);
     }
     if counts.params as u32 <= higher {
-        return Check::Refuses(19);
+        return Err(Reason::WrongPair);
     }
     if !follows(table, counts, lower, higher) {
-        return Check::Refuses(19);
+        return Err(Reason::WrongPair);
     }
-    Check::Passes
+    Ok(())
 }
 
 // A `differ` line.
-pub fn differ_line(text: &[u8], table: &mut [u16], from: Cursor, counts: Counts) -> Turn
+pub fn differ_line(
+    text: &[u8],
+    table: &mut [u16],
+    from: Cursor,
+    counts: Counts,
+) -> Result<Turn, Reason>
     requires placed { Placed text.now from }
     requires drafted { Drafted table.old counts }
     requires allows { Allows counts differ }
@@ -70,17 +76,16 @@ pub fn differ_line(text: &[u8], table: &mut [u16], from: Cursor, counts: Counts)
         table.new }
 {
     let mut pair = [0u32; PARAMETERS];
-    let List::Of(count, next) = list_line(text, numbers(text, from, &mut pair)) else {
-        return Turn::Refuse(3);
+    let Some((count, next)) = list_line(text, numbers(text, from, &mut pair)) else {
+        return Err(Reason::OutOfForm);
     };
-    let check = check_pair(table, counts, &pair, count);
-    if let Check::Refuses(number) = check {
-        return Turn::Refuse(number);
-    }
+    check_pair(table, counts, &pair, count)?;
     let row = [counts.schemas as u32, pair[0], pair[1]];
-    put_words(table, counts.next_pair(), &row, PAIR_SIZE);
-    let mut read = counts;
-    read.phase = DIFFER;
-    read.apart = counts.apart + 1;
-    Turn::GoOn(read, next)
+    put_words(table, counts.next_pair(), &row);
+    let read = Counts {
+        phase: Key::Differ,
+        apart: counts.apart + 1,
+        ..counts
+    };
+    Ok(Turn::GoOn(read, next))
 }

@@ -16,7 +16,6 @@ use Rattle.text.proofs.WholeText.{end_bytes}
 use Rattle.text.proofs.PlanWritten.{line_at_step, plan-onwards, StepThere, step-there}
 use Rattle.text.proofs.Writes.{writes-same, writes-size, writes-over, Writing, writing_start, writing-long}
 use Rattle.text.proofs.Writes.{writing-left, writing-fits, writing-on, last_fits, writing-last}
-use borrow.Author.Rules.{rules}
 use Rattle.text.proofs.plan.write_plan.Statement.{statement}
 use Rattle.text.proofs.plan.write_plan.Tie as tie
 

@@ -7,7 +7,6 @@ use Rattle.text.specs.Lines.{bytes, line}
 use Rattle.text.specs.TableLines.{pairs_text}
 use Rattle.text.proofs.Writes.{Writing, writing_start, writing-long, writing-left, piece-fits, piece-written}
 use Rattle.text.proofs.Writes.{pieces_end}
-use borrow.Author.Rules.{rules}
 use Rattle.text.proofs.Onwards.{onwards}
 use Rattle.text.proofs.SchemaLines.{pair_line, pairs-onwards, pair_inside}
 use Rattle.text.proofs.writer.write_pairs.Statement.{statement}

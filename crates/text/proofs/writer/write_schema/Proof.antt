@@ -1,6 +1,6 @@
 -- `text::writer::write_schema` meets its contract: the schema line, the lines of the pairs and of the atoms and the
 -- part line are written one behind another. A lemma for each says what is still to come behind it.
-use Prim.Native.Nat.{ℕ, ◌+◌}
+use Prim.Native.Nat.{ℕ}
 use mathlib.Core.List.{List, ◌++◌}
 use Rattle.text.specs.Lines.{bytes, digits, line}
 use Rattle.text.specs.TableLines.{atoms_text, pairs_text, schema_text_of}
