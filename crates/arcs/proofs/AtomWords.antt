@@ -104,3 +104,8 @@ module _ (w : List ℕ) (i : ℕ) (is : IsSchemaAtom w i) where
       let m = length-up_from (atom_base w i + 4) n in
       get_or-map (λ (j : ℕ). get_or w j 0) ks k 0 0 (omega arith) ∙
       ap (λ (j : ℕ). get_or w j 0) (get_or-up_from (atom_base w i + 4) n k 0 (omega arith))
+
+-- two atoms of one predicate have as many arguments
+pub same-count : (w : List ℕ) (i j : ℕ) → IsSchemaAtom w i → IsSchemaAtom w j →
+    (atom_in w i).pred ≡ (atom_in w j).pred → length (atom_in w j).args ≡ length (atom_in w i).args
+same-count w i j a b e = argument-count w j b ∙ (ap (arity_in w) (sym e) ∙ sym (argument-count w i a))

@@ -165,8 +165,15 @@ pub only_below : (n p : ℕ) → p < n → (q : ℕ) → Some p ≡ Some q → q
 only_below n p l q e = let z : p ≡ q = cc in omega arith
 
 -- ---- what is found among the parts from a number on
--- of all pairs and atoms of which something is known, the sets and counts that the choice goes by
-module _ (Known : List Pair → List Atom → Type 0) (unplaced n : ℕ) where
+-- what is known of pairs and atoms, by the sets and counts that the choice goes by
+pub record Known (before counts tested : List ℕ) (bound unplaced count : ℕ) (pairs : List Pair)
+    (atoms : List Atom) : Type 0 where
+  pub arcs : AreArcs pairs atoms before
+  pub tests : AreTests atoms counts tested
+  pub placed : IsBound atoms (placed_parts atoms (members unplaced count)) bound
+
+-- of all pairs and atoms of which something is known
+module _ (IsKnown : List Pair → List Atom → Type 0) (unplaced n : ℕ) where
   abbrev is_ready : List Pair → List Atom → ℕ → Bool
   is_ready pairs atoms = ready pairs atoms (members unplaced n)
 
@@ -175,12 +182,12 @@ module _ (Known : List Pair → List Atom → Type 0) (unplaced n : ℕ) where
 
   -- the best of the candidates from p on
   abbrev pub FoundFrom : ℕ → Option ℕ → Type 0
-  FoundFrom p found = (pairs : List Pair) (atoms : List Atom) → Known pairs atoms →
+  FoundFrom p found = (pairs : List Pair) (atoms : List Atom) → IsKnown pairs atoms →
       found ≡ best atoms (placed atoms) (candidates unplaced (is_ready pairs atoms) n p)
 
   -- whether p is unplaced and ready
   abbrev Passes : ℕ → Bool → Type 0
-  Passes p b = (pairs : List Pair) (atoms : List Atom) → Known pairs atoms →
+  Passes p b = (pairs : List Pair) (atoms : List Atom) → IsKnown pairs atoms →
       member unplaced p && is_ready pairs atoms p ≡ b
 
   pub found_none : FoundFrom n None
@@ -196,7 +203,7 @@ module _ (Known : List Pair → List Atom → Type 0) (unplaced n : ℕ) where
       (candidates-skip unplaced (is_ready pairs atoms) n p z l (t pairs atoms k)))
 
   pub found_take : (p : ℕ) (found r : Option ℕ) → 0 < p → p ≤ n → Passes (p - 1) true → FoundFrom p found →
-      ((pairs : List Pair) (atoms : List Atom) → Known pairs atoms → r ≡ better atoms (placed atoms) (p - 1) found) →
+      ((pairs : List Pair) (atoms : List Atom) → IsKnown pairs atoms → r ≡ better atoms (placed atoms) (p - 1) found) →
       FoundFrom (p - 1) r
   unfolding best
   found_take p found r z l t h e pairs atoms k =
@@ -206,7 +213,7 @@ module _ (Known : List Pair → List Atom → Type 0) (unplaced n : ℕ) where
       (candidates-take unplaced (is_ready pairs atoms) n p z l (t pairs atoms k))))
 
   pub found_all : (found : Option ℕ) → FoundFrom 0 found → (pairs : List Pair) (atoms : List Atom) →
-      Known pairs atoms → found ≡ next_part pairs atoms (members unplaced n)
+      IsKnown pairs atoms → found ≡ next_part pairs atoms (members unplaced n)
   unfolding next_part
   found_all found h pairs atoms k =
       h pairs atoms k ∙ ap (best atoms (placed atoms)) (candidates-all unplaced (is_ready pairs atoms) n)

@@ -9,6 +9,8 @@ use lib.ListN.{length, get_or, set, replicate, length-append, length-map, length
 use lib.Seq.{get_or-set_same, get_or-set_other}
 use lib.Dec.{eqb}
 use borrow.Author.Tests.{eqb-true, eqb-false, eq-eqb, ne_eqb}
+use Rattle.std.specs.Ordering.{ord_max, nat_cmp}
+use Rattle.std.proofs.lemmas.Bool.Decides.{nat_tests}
 use Rattle.words.specs.Lists.{filter, up_from}
 use Rattle.words.proofs.Lists.{filter-append, length-up_from}
 use Rattle.words.proofs.Sums.{one, one-most, length-keep, eqb-turn}
@@ -131,3 +133,7 @@ module _ (atoms : List Atom) (a : Atom) where
       let next : Has more q (get_or counts q 0 + 1) = omega (arith, c.at q, preconditions-more atoms a q) in
       each-stored (Has atoms) (Has more) counts c q (get_or counts q 0 + 1) l next
       (λ p n d. stays p n (test-of-part p a e ∙ ne_eqb p a.part (λ g. d (f ∙ sym g))))
+
+-- the code's `count.max(n)`
+pub larger : (a b : ℕ) → ord_max nat_cmp a b ≡ max a b
+larger a b = grind (arith, nat_tests)

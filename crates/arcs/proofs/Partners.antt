@@ -51,6 +51,13 @@ pair_small w h i l =
     subst (PairFits most_parameters) (sym (ap (pair_in w) (sym e) ∙ pair-at w fr s k lies.known b))
     (record { ascends = q.ascends; known = omega (arith, q.known) })
 
+-- the same of a pair of a stretch, by what is read
+pub pair-within : {w : List ℕ} {from to i x y : ℕ} → IsPairStretch w from to → i < to → x ≡ (pair_in w i).lower →
+    y ≡ (pair_in w i).higher → (x < y) × (y < most_parameters)
+pair-within {w} {from} {to} {i} p l e f =
+    let fits = pair_small w p.table i (omega (arith, p.known)) in
+    (omega (arith, e, f, fits.ascends), omega (arith, f, fits.known))
+
 -- ---- their partners
 -- no pair, no partner
 pub partners-none : (n : ℕ) → ArePartners [] (replicate n 0)

@@ -1,6 +1,6 @@
 -- What the contracts of this crate's code speak of: stretches of a table's schema atoms and of its pairs, what is found
 -- of each parameter and each part, and the order that is handed back.
-use Rattle.std.specs.Prelude.{ℕ, ◌-◌, ◌≤◌, ◌<◌, ◌≡◌, Bool, true, false, not, cond, ◌&&◌, ◌||◌, List, [], map, length, get_or, take, eqb}
+use Rattle.std.specs.Prelude.{ℕ, ◌-◌, ◌≤◌, ◌<◌, ◌≡◌, Bool, true, false, not, ◌&&◌, ◌||◌, List, [], map, length, get_or, take, eqb}
 use Rattle.std.specs.Prelude.{Option, None, Some}
 use Rattle.words.specs.Lists.{any, up_from}
 use Rattle.task.specs.Layout.{head_in}
@@ -10,8 +10,6 @@ use Rattle.task.specs.Table.{pair_in, atom_in, is_table}
 use Rattle.task.specs.declared.Part.{Part}
 use Rattle.arcs.specs.declared.Order.{Order}
 use Rattle.arcs.specs.declared.before.Reach.{Reach}
-use Rattle.arcs.specs.declared.choice.Choice.{Choice}
-use Rattle.arcs.specs.declared.choice.Choice.TheVariants as choice
 use Rattle.arcs.specs.Order.{role_before, are_pair, gives_arc, arc, in_part, preconditions, tests}
 use Rattle.words.specs.Sets.{SetBelow, member}
 
@@ -107,15 +105,16 @@ IsBound atoms placed bound = (x : ℕ) → member bound x ≡ any (in_part atoms
 
 -- ---- the choice
 -- the part that is chosen, if one is ready
-unfoldable pub chosen : Choice → Option ℕ
-chosen (choice.Ready p) = Some p.0
-chosen choice.Circular = None
+unfoldable pub chosen : Option Part → Option ℕ
+chosen (Some p) = Some p.0
+chosen None = None
 
 -- a part that is chosen is below n
-abbrev pub ChosenBelow : ℕ → Choice → Type 0
+abbrev pub ChosenBelow : ℕ → Option Part → Type 0
 ChosenBelow n c = (p : ℕ) → chosen c ≡ Some p → p < n
 
 -- ---- the order handed back
 -- its part numbers, or none where no order complies
-unfoldable pub order_told : Order → Option (List ℕ)
-order_told o = cond o.found (Some (map (λ (p : Part). p.0) (take o.count o.parts))) None
+unfoldable pub order_told : Option Order → Option (List ℕ)
+order_told (Some o) = Some (map (λ (p : Part). p.0) (take o.count o.parts))
+order_told None = None

@@ -24,16 +24,11 @@ pub fn hold_pair(table: &[u16], i: usize, j: usize, partners: &PartnerSets) -> b
         result ≡ hold_pair pairs (atom_in table.now i).args (atom_in table.now j).args }
 {
     let n = argument_count(table, i);
-    let mut k = 0;
-    while k < n {
-        let x = argument(table, i, k).0 as usize;
-        let y = argument(table, j, k).0 as usize;
-        if has(partners[y], x) {
-            return true;
-        }
-        k += 1;
-    }
-    false
+    (0..n).any(|k| {
+        let x = usize::from(argument(table, i, k).0);
+        let y = usize::from(argument(table, j, k).0);
+        has(partners[y], x)
+    })
 }
 
 // "Two atoms of one schema with the same predicate give an arc", here by the roles that come after the first's, and "no
@@ -124,10 +119,8 @@ pub fn parameters_of(table: &[u16], i: usize) -> u16
 {
     let n = argument_count(table, i);
     let mut named = 0;
-    let mut k = 0;
-    while k < n {
-        named = with(named, argument(table, i, k).0 as usize);
-        k += 1;
+    for k in 0..n {
+        named = with(named, usize::from(argument(table, i, k).0));
     }
     named as u16
 }

@@ -42,8 +42,8 @@ fn add_arc(
     if !gives_arc(table, i, j, after, paired, partners) {
         return;
     }
-    let p = part_of(table, i).0 as usize;
-    let q = part_of(table, j).0 as usize;
+    let p = usize::from(part_of(table, i).0);
+    let q = usize::from(part_of(table, j).0);
     if p != q {
         before[q] = with(before[q], p);
     }
@@ -54,14 +54,9 @@ fn first_of(table: &[u16], roles: u64, from: usize, to: usize) -> usize
     requires { IsStretch table.now from to }
     ensures { (from ≤ result) × (result ≤ to) × NoneOf table.now roles from result }
 {
-    let mut i = from;
-    while i < to {
-        if has_role(table, i, roles) {
-            return i;
-        }
-        i += 1;
-    }
-    i
+    (from..to)
+        .find(|i| has_role(table, *i, roles))
+        .unwrap_or(to)
 }
 
 // Where the atoms begin that a stretch ends with and whose roles are not among these.
@@ -69,14 +64,12 @@ fn end_of(table: &[u16], roles: u64, from: usize, to: usize) -> usize
     requires { IsStretch table.now from to }
     ensures { (from ≤ result) × (result ≤ to) × NoneOf table.now roles result to }
 {
-    let mut i = to;
-    while from < i {
-        if has_role(table, i - 1, roles) {
-            return i;
+    for i in (from..to).rev() {
+        if has_role(table, i, roles) {
+            return i + 1;
         }
-        i -= 1;
     }
-    i
+    from
 }
 
 // The reach of role r.
@@ -112,10 +105,8 @@ fn add_from(
         Joins (arcs_between pairs (atom_in table.now i ∷ []) (stretch_in table.now from to))
         before.old before.new }
 {
-    let mut j = from;
-    while j < to {
+    for j in from..to {
         add_arc(table, i, j, after, paired, partners, before);
-        j += 1;
     }
 }
 
@@ -137,8 +128,7 @@ pub fn arcs_of(table: &[u16], from: usize, to: usize, pair: usize, end: usize) -
         reach_of(table, DELETION as usize, first, to),
     ];
     let mut before = [0; MOST_PARTS];
-    let mut i = from;
-    while i < to {
+    for i in from..to {
         let reach = reaches[role_of(table, i)];
         add_from(
             table,
@@ -150,7 +140,6 @@ pub fn arcs_of(table: &[u16], from: usize, to: usize, pair: usize, end: usize) -
             &partners,
             &mut before,
         );
-        i += 1;
     }
     before
 }

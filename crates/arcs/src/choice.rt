@@ -10,13 +10,6 @@ use crate::{ParameterSets, PartCounts, PartSets};
 use task::Part;
 use words::sets;
 
-// A part that is ready, or none: then the parts left stand in a circle.
-#[derive(Clone, Copy)]
-pub enum Choice {
-    Ready(Part),
-    Circular,
-}
-
 // "unplaced parts that no unplaced part has an arc to"
 fn is_ready(before: &PartSets, unplaced: u64, p: usize) -> bool
     requires { p < most_parts }
@@ -56,8 +49,8 @@ fn better_of(
     tested: &ParameterSets,
     bound: u64,
     p: usize,
-    found: Choice,
-) -> Choice
+    found: Option<Part>,
+) -> Option<Part>
     requires p_lt_most_parts { p < most_parts }
     requires chosen_below { ChosenBelow most_parts found }
     ensures result_value { (atoms : List Atom) (placed : List ℕ) →
@@ -65,18 +58,14 @@ fn better_of(
         chosen result ≡ better atoms placed p (chosen found) }
     ensures by_index { (n : ℕ) → p < n → ChosenBelow n found → ChosenBelow n result }
 {
-    let Choice::Ready(part) = found else {
-        return Choice::Ready(Part(p as u16));
-    };
-    if is_ahead(counts, tested, bound, part.0 as usize, p) {
-        found
-    } else {
-        Choice::Ready(Part(p as u16))
+    match found {
+        Some(part) if is_ahead(counts, tested, bound, usize::from(part.0), p) => found,
+        _ => Some(Part(p as u16)),
     }
 }
 
-// The choice among the parts that are ready, tried from the highest number down. `bound` has the parameters of the
-// parts already placed.
+// The choice among the parts that are ready, tried from the highest number down; none where no part is, as the parts
+// left stand in a circle. `bound` has the parameters of the parts already placed.
 pub fn choose(
     before: &PartSets,
     counts: &PartCounts,
@@ -84,7 +73,7 @@ pub fn choose(
     bound: u64,
     unplaced: u64,
     count: usize,
-) -> Choice
+) -> Option<Part>
     requires count_le_most_parts { count ≤ most_parts }
     requires set_below { SetBelow count unplaced }
     ensures result_value { (pairs : List Pair) (atoms : List Atom) → AreArcs pairs atoms before.now →
@@ -93,10 +82,8 @@ pub fn choose(
         chosen result ≡ next_part pairs atoms (members unplaced count) }
     ensures chosen_below { ChosenBelow count result }
 {
-    let mut found = Choice::Circular;
-    let mut p = count;
-    while 0 < p {
-        p -= 1;
+    let mut found = None;
+    for p in (0..count).rev() {
         if is_ready(before, unplaced, p) {
             found = better_of(counts, tested, bound, p, found);
         }

@@ -12,13 +12,11 @@ pub fn partners_of(table: &[u16], from: usize, to: usize) -> PartnerSets
     ensures { ArePartners (pair_stretch_in table.now from to) result }
 {
     let mut partners = [0; MOST_PARAMETERS];
-    let mut i = from;
-    while i < to {
+    for i in from..to {
         let x = lower(table, i);
         let y = higher(table, i);
         partners[y] = with(partners[y], x);
         partners[x] = with(partners[x], y);
-        i += 1;
     }
     partners
 }

@@ -29,19 +29,15 @@ pub fn gather(
     ensures are_parameters { AreParameters (stretch_in table.now from to) named.new }
 {
     let mut count = 0;
-    let mut i = from;
-    while i < to {
-        let part = part_of(table, i).0 as usize;
+    for i in from..to {
+        let part = usize::from(part_of(table, i).0);
         let parameters = parameters_of(table, i);
         named[part] = word_union(named[part], parameters);
         if is_precondition(table, i) {
             preconditions[part] += 1;
             tested[part] = word_union(tested[part], parameters);
         }
-        if count <= part {
-            count = part + 1;
-        }
-        i += 1;
+        count = count.max(part + 1);
     }
     count
 }

@@ -32,12 +32,10 @@ pub fn roles_after(r: usize) -> u64
     ensures { AreAfter r result }
 {
     let mut after = 0;
-    let mut q = 0;
-    while q < SCHEMA_ROLES {
+    for q in 0..SCHEMA_ROLES {
         if role_before(r, q) {
             after = with(after, q);
         }
-        q += 1;
     }
     after
 }
@@ -47,10 +45,8 @@ pub fn roles_reached() -> u64
     ensures { (q : ℕ) → member result q ≡ any (λ r. role_before r q) (up_to schema_roles) }
 {
     let mut reached = 0;
-    let mut r = 0;
-    while r < SCHEMA_ROLES {
+    for r in 0..SCHEMA_ROLES {
         reached = union(reached, roles_after(r));
-        r += 1;
     }
     reached
 }
