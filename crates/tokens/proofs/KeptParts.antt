@@ -1,6 +1,6 @@
 -- What is kept of one schema's parts grows position by position.
 use Prim.Native.Nat.{ℕ, ◌+◌, ◌<◌}
-use mathlib.Core.Path.{◌≡◌, refl, sym, ◌∙◌, ap, subst}
+use mathlib.Core.Path.{◌≡◌, sym, ◌∙◌, ap, subst}
 use mathlib.Core.List.{List}
 use native.Mathlib.Omega.{arith}
 use native.Mathlib.Decide.{dec_lt}
@@ -16,16 +16,6 @@ pub part-is : (parts : List Part) (j : ℕ) → j < length parts → (get_or par
 part-is parts j l = sym (get_or-map (λ (p : Part). p.0) parts j (record { 0 = 0 }) 0 l)
 
 module _ (from : ℕ) (parts : List Part) (named kept₀ : List ℕ) where
-  pub order-none : OrderKept from 0 parts named kept₀ kept₀
-  order-none = record {
-    long = refl;
-    rows = λ k l. refl;
-    parts-before = λ i l. refl;
-    owns-before = λ i l. refl;
-    part = λ j l. absurd (omega arith);
-    own = λ j l. absurd (omega arith);
-  }
-
   module _ (n p r : ℕ) (kept : List ℕ) (inside : from + n < most_schema_atoms)
       (wide : length kept ≡ kept_words) (is-part : p ≡ part_at parts n)
       (is-own : r ≡ get_or named p 0)

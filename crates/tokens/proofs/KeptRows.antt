@@ -7,19 +7,15 @@ use mathlib.Core.List.{List}
 use native.Mathlib.Omega.{arith}
 use lib.ListN.{length, get_or, set, length-set}
 use lib.Seq.{get_or-set_same, get_or-set_other}
-use borrow.Author.Tests.{lt-ltb, le-ltb}
+use borrow.Author.Tests.{lt-ltb}
 use Rattle.task.specs.Limits.{most_schemas, most_schema_atoms}
 use Rattle.tokens.specs.Kept.{start_place, first_place, pair_place, kept_row, kept_words, order_place, own_place, field}
 use Rattle.tokens.specs.Kept.{with_field, part_word, own_word, with_part, word_in, kept_start, kept_first, kept_pair}
 
--- a word inside the array, and behind it
+-- a word inside the array
 pub word-inside : (kept : List ℕ) (i : ℕ) → i < kept_words → word_in kept i ≡ get_or kept i 0
 unfolding word_in
 word-inside kept i l = ap (λ (b : Bool). cond b (get_or kept i 0) 0) (lt-ltb i kept_words l)
-
-pub word-behind : (kept : List ℕ) (i : ℕ) → kept_words ≤ i → word_in kept i ≡ 0
-unfolding word_in
-word-behind kept i l = ap (λ (b : Bool). cond b (get_or kept i 0) 0) (le-ltb i kept_words l)
 
 -- a place in all is one place of one row
 one_place : (s k r i : ℕ) → k < kept_row → i < kept_row → kept_row * s + k ≡ kept_row * r + i → (s ≡ r) × (k ≡ i)

@@ -11,12 +11,12 @@ use borrow.Author.Tests.{leb-true}
 use Rattle.task.specs.Layout.{head_in}
 use Rattle.task.specs.Task.{schema_fits, Task}
 use Rattle.task.specs.Run.{schema_at}
-use Rattle.task.specs.Table.{task_of, atom_in}
+use Rattle.task.specs.Table.{task_of, is_table, atom_in}
 use Rattle.words.proofs.Lists.{in-get_or}
 use Rattle.task.proofs.AtomsStand.{no_atom}
 use Rattle.task.proofs.SchemaAtoms.{role-rises}
 use Rattle.task.proofs.Tests.{SchemaTests, schema-tests}
-use Rattle.task.proofs.TablesByIndex.{table-frame, start-suc}
+use Rattle.task.proofs.TablesByIndex.{table-frame, schemas-word, start-suc}
 use Rattle.arcs.specs.Stretches.{IsStretch, stretch_in, IsPairStretch, pair_stretch_in}
 use Rattle.task.proofs.SchemaWords.{part_small}
 use Rattle.arcs.proofs.OrderTaken.{OrderOf, order_of-laws}
@@ -30,7 +30,16 @@ use Rattle.task.specs.Limits.{most_schemas, most_parts, most_atoms, most_paramet
 use Rattle.task.specs.Turns.{first_atom, first_pair}
 use Rattle.arcs.specs.Order.{order_of}
 use Rattle.words.specs.Sets.{word_bits}
-use Rattle.tokens.specs.Kept.{kept_start, kept_end, kept_count, kept_pair, kept_pair_end, ParamsKept, SchemaKept}
+use Rattle.tokens.specs.Kept.{kept_start, kept_end, kept_count, kept_pair, kept_pair_end, ParamsKept, PartsKept, SchemaKept}
+
+-- as many schemas as a table's head says, and a schema below that number
+module _ (w : List ℕ) (h : is_table w ≡ true) {n : ℕ} (told : n ≡ (head_in w).schemas) where
+  pub schemas-told : n ≡ length (task_of w).schemas
+  schemas-told = told ∙ sym (schemas-word w (table-frame w h))
+
+  pub one-kept : {kept : List ℕ} → PartsKept (task_of w) (length (task_of w).schemas) kept → {s : ℕ} → s < n →
+      SchemaKept w s kept
+  one-kept all l = record { table = h; known = let e = schemas-told in omega arith; all = all }
 
 module _ {w : List ℕ} {s : ℕ} {kept : List ℕ} (K : SchemaKept w s kept) where
   abbrev t : Task

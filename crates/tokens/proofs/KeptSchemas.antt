@@ -1,11 +1,11 @@
 -- What is kept of the parts grows schema by schema, as long as an order complies; and the first schema for which none
 -- does is the circular one. A row is written behind those of earlier schemas, and so are the parts: no schema has more
 -- parts than atoms. So what is kept of earlier schemas stays.
-use Prim.Native.Nat.{ℕ, suc, ◌+◌, ◌-◌, ◌*◌, ◌≤◌, ◌<◌}
+use Prim.Native.Nat.{ℕ, suc, ◌+◌, ◌*◌, ◌≤◌, ◌<◌}
 use mathlib.Core.Path.{◌≡◌, sym, ◌∙◌, ap, subst}
-use mathlib.Core.Bool.{Bool, true, false, cond}
+use mathlib.Core.Bool.{Bool, true, false}
 use mathlib.Core.List.{List, [], ◌∷◌, map}
-use Rattle.std.specs.Prelude.{None, Some}
+use Rattle.std.specs.Prelude.{Option, None, Some}
 use native.Mathlib.Omega.{arith}
 use native.Mathlib.Decide.{dec_lt}
 use native.Mathlib.Numerals.{add-one}
@@ -32,7 +32,7 @@ use Rattle.words.specs.Sets.{member}
 use Rattle.arcs.specs.Stretches.{AreParameters, stretch_in, order_told}
 use Rattle.arcs.proofs.OrderTaken.{order_of-laws}
 use Rattle.arcs.proofs.Stretches.{schema-stretch}
-use Rattle.tokens.specs.Split.{has, is_none, order_at, or_empty, orders, parts, first_of}
+use Rattle.tokens.specs.Split.{has, is_none, order_at, or_empty, orders, first_of}
 use Rattle.tokens.specs.Acceptance.{part_at, OrderKept}
 use Rattle.tokens.proofs.Accepted.{circular_at}
 use Rattle.tokens.proofs.Refusals.{is-first}
@@ -72,40 +72,41 @@ found_part f j l k =
     ap (λ (p : Part). p.0) (get_or-take f.count f.parts j (record { 0 = 0 }) k) ∙
     part-is f.parts j (omega arith)
 
-module _ (t : Task) (s : ℕ) (f : Order) (told : order_told f ≡ order_of (schema_at t s)) where
-  pub told_none : f.found ≡ false → order_of (schema_at t s) ≡ None
-  unfolding order_told
-  told_none e = sym told ∙ ap (λ (b : Bool). cond b (Some (parts_found f)) None) e
+pub told_none : (t : Task) (s : ℕ) {found : Option Order} → order_told found ≡ order_of (schema_at t s) → found ≡ None →
+    order_of (schema_at t s) ≡ None
+unfolding order_told
+told_none t s told e = sym told ∙ ap order_told e
 
-  told-some : f.found ≡ true → order_of (schema_at t s) ≡ Some (parts_found f)
+module _ (t : Task) (s : ℕ) (f : Order) (told : order_told (Some f) ≡ order_of (schema_at t s)) where
+  told-some : order_of (schema_at t s) ≡ Some (parts_found f)
   unfolding order_told
-  told-some e = sym told ∙ ap (λ (b : Bool). cond b (Some (parts_found f)) None) e
+  told-some = sym told
 
-  told-order : f.found ≡ true → orders t s ≡ parts_found f
+  told-order : orders t s ≡ parts_found f
   unfolding orders order_at or_empty
-  told-order e = ap or_empty (told-some e)
+  told-order = ap or_empty told-some
 
-  told-count : f.found ≡ true → f.count ≤ length f.parts → length (orders t s) ≡ f.count
-  told-count e l = ap length (told-order e) ∙ found-count f l
+  told-count : f.count ≤ length f.parts → length (orders t s) ≡ f.count
+  told-count l = ap length told-order ∙ found-count f l
 
   -- each part found is one of the schema's
-  pub found-small : f.found ≡ true → f.count ≤ length f.parts → part_count (schema_at t s).atoms ≤ most_parts →
+  pub found-small : f.count ≤ length f.parts → part_count (schema_at t s).atoms ≤ most_parts →
       (j : ℕ) → j < f.count → part_at f.parts j < most_parts
-  found-small e l b j k =
+  found-small l b j k =
       let n = found-count f l in
-      let laws = order_of-laws (schema_at t s) (parts_found f) (told-some e) in
+      let laws = order_of-laws (schema_at t s) (parts_found f) told-some in
       let i = in-get_or (parts_found f) j 0 (omega arith) in
       let m = up_to-in (part_count (schema_at t s).atoms) (get_or (parts_found f) j 0) (laws.from _ i) in
       omega (arith, found_part f j l k)
 
   -- the next schema's parts come behind those of this one
-  pub first_more : f.found ≡ true → f.count ≤ length f.parts → (first : ℕ) → first ≡ first_of t s →
+  pub first_more : f.count ≤ length f.parts → (first : ℕ) → first ≡ first_of t s →
       first + f.count ≡ first_of t (s + 1)
-  first_more e l first h =
-      omega (arith, told-count e l, before-step t s, ap (first_of t) (add-one s))
+  first_more l first h =
+      omega (arith, told-count l, before-step t s, ap (first_of t) (add-one s))
 
-  told-taken : f.found ≡ true → order_of (schema_at t s) ≡ Some (orders t s)
-  told-taken e = told-some e ∙ ap Some (sym (told-order e))
+  told-taken : order_of (schema_at t s) ≡ Some (orders t s)
+  told-taken = told-some ∙ ap Some (sym told-order)
 
 -- ---- a table's schemas
 module _ (w : List ℕ) (h : is_table w ≡ true) where
@@ -166,12 +167,12 @@ module _ (w : List ℕ) (h : is_table w ≡ true) where
 
   -- and before the last place for an atom
   pub found_inside : (s : ℕ) → s < length (task_of w).schemas → (f : Order) →
-      order_told f ≡ order_of (schema_at (task_of w) s) → f.found ≡ true → f.count ≤ length f.parts →
+      order_told (Some f) ≡ order_of (schema_at (task_of w) s) → f.count ≤ length f.parts →
       first_atom (task_of w) s + f.count ≤ most_schema_atoms
-  found_inside s l f told e fits =
+  found_inside s l f told fits =
       let t = task_of w in
-      let n = told-count t s f told e fits in
-      let b = parts-end s (suc s) (omega arith) (omega arith) (told-taken t s f told e) in
+      let n = told-count t s f told fits in
+      let b = parts-end s (suc s) (omega arith) (omega arith) (told-taken t s f told) in
       let k = (schema-stretch w h s (schema-known w h s l)).known in
       omega (arith, atoms-few)
 
@@ -201,10 +202,11 @@ module _ (w : List ℕ) (h : is_table w ≡ true) where
   module _ (s from to next pair : ℕ) (l : s < length (task_of w).schemas) (begins : from ≡ first_atom (task_of w) s)
       (ends : to ≡ first_atom (task_of w) (suc s)) (pairs_end : pair ≡ first_pair (task_of w) (suc s))
       (atoms : (schema_at (task_of w) s).atoms ≡ stretch_in w from to) (f : Order) (fits : f.count ≤ length f.parts)
-      (found : f.found ≡ true) (told : order_told f ≡ order_of (schema_at (task_of w) s))
-      (goes-on : next ≡ first_of (task_of w) (s + 1)) (named : AreParameters (stretch_in w from to) f.named)
+      (told : order_told (Some f) ≡ order_of (schema_at (task_of w) s))
+      (goes-on : next ≡ first_of (task_of w) (s + 1)) (sets : List ℕ)
+      (named : AreParameters (stretch_in w from to) sets)
       (kept ordered : List ℕ)
-      (new : OrderKept from f.count f.parts f.named (with_field kept s count_place f.count) ordered)
+      (new : OrderKept from f.count f.parts sets (with_field kept s count_place f.count) ordered)
       (old : PartsKept (task_of w) s kept) where
     abbrev t : Task
     t = task_of w
@@ -247,10 +249,10 @@ module _ (w : List ℕ) (h : is_table w ≡ true) where
     ordered-long = new.long ∙ counted-long
 
     here-count : length (orders t s) ≡ f.count
-    here-count = told-count t s f told found fits
+    here-count = told-count t s f told fits
 
     here-part : (j : ℕ) → j < f.count → part_at f.parts j ≡ get_or (orders t s) j 0
-    here-part j k = sym (ap (λ (o : List ℕ). get_or o j 0) (told-order t s f told found) ∙ found_part f j fits k)
+    here-part j k = sym (ap (λ (o : List ℕ). get_or o j 0) (told-order t s f told) ∙ found_part f j fits k)
 
     here-params : (j x : ℕ) → j < f.count →
         member (own_word ordered (from + j)) x ≡ has (schema_at t s) x (get_or (orders t s) j 0)
@@ -315,7 +317,7 @@ module _ (w : List ℕ) (h : is_table w ≡ true) where
       word-here : (j : ℕ) → j < f.count →
           word_in after (base + (kept_start after s + j)) ≡ get_or ordered (base + (from + j)) 0
       word-here j k =
-          let q = found_inside s l f told found fits in
+          let q = found_inside s l f told fits in
           ap (λ (b : ℕ). word_in after (base + (b + j))) (starts_more s (omega arith) ∙ sym begins) ∙
           word-inside after (base + (from + j)) (omega arith) ∙ after-behind (base + (from + j)) (omega arith)
 
@@ -348,7 +350,7 @@ module _ (w : List ℕ) (h : is_table w ≡ true) where
       start = starts_more;
       first = firsts_more;
       pair = pairs-more;
-      taken = up-to (λ r. order_of (schema_at t r) ≡ Some (orders t r)) old.taken (told-taken t s f told found);
+      taken = up-to (λ r. order_of (schema_at t r) ≡ Some (orders t r)) old.taken (told-taken t s f told);
       count = counts-more;
       part = λ r j k. orders-more r k j;
       params = λ r j x k. owns-more r k j x;

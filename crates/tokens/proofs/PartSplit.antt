@@ -2,7 +2,7 @@
 -- own, so a parameter's number among the set's is its index among the own, and its atoms are those of each role.
 use Prim.Native.Nat.{ℕ, suc, ◌+◌, ◌-◌, ◌<◌}
 use mathlib.Core.Path.{◌≡◌, refl, sym, ◌∙◌, ap, ap₂}
-use mathlib.Core.Bool.{Bool, true, false, cond, ◌&&◌}
+use mathlib.Core.Bool.{Bool, true, false, cond, ◌&&◌, not}
 use mathlib.Core.List.{List, [], ◌∷◌, ◌++◌, map}
 use native.Mathlib.Omega.{arith}
 use lib.ListN.{length, get_or, length-append}
@@ -15,9 +15,11 @@ use Rattle.task.specs.Run.{schema_at}
 use Rattle.task.specs.Table.{atom_words, task_of}
 use Rattle.words.proofs.Lists.{In, map_same, filter-in, append-concat_map, filter-append, up_from-append, filter_same}
 use Rattle.words.specs.Sets.{member, members, word_bits}
-use Rattle.tokens.specs.Split.{has, params_of, orders, par_token, token, own, old_atoms, required, lone, first_here}
+use Rattle.tokens.specs.Split.{has, params_of, orders, par_token, token, own, old_atoms, first_here}
 use Rattle.tokens.specs.Split.{last_here, later_here, pars, split_schema}
-use Rattle.tokens.specs.Writing.{new_number, renumbered, old_in, par_in, old_words, par_words, role_words, part_words}
+use Rattle.tokens.specs.Writing.{new_number, renumbered, old_in, par_in, old_words, par_words, token_words, role_words}
+use Rattle.std.specs.Bool.{then_some}
+use Rattle.tokens.specs.Writing.{part_words}
 use Rattle.tokens.specs.Writing.{PlaceOf, TokensOf}
 use Rattle.tokens.specs.declared.part_atoms.PartPlace.{PartPlace}
 use Rattle.words.proofs.Sums.{filter-filter}
@@ -121,15 +123,14 @@ module _ (w : List ℕ) (s j : ℕ) (here : PartPlace) (place : PlaceOf w s j he
   abbrev words : List Atom → List ℕ
   words = concat_map (atom_words here.number)
 
-  role-words : (r : ℕ) (tokens : RoleTokens) (test : ℕ → Bool) →
+  role-words : (r : ℕ) (lone : Bool) (tokens : RoleTokens) (test : ℕ → Bool) →
       filter test (own t s o j) ≡ members tokens.which (schema_at t s).params →
-      role_words w here r tokens ≡ words (role_atoms t s o j r tokens.lone tokens.bare test)
+      role_words w here r (then_some (not lone) tokens) ≡ words (role_atoms t s o j r lone tokens.bare test)
   unfolding concat_map
-  role-words r tokens test e =
-      ap₂ (λ (xs ys : List ℕ).
-      xs ++ cond tokens.lone [] (atom_words here.number (token r tokens.bare []) ++ ys)) old new ∙
-      (go tokens.lone ∙ sym (append-concat_map (atom_words here.number) (old_atoms t s o j r)
-      (cond tokens.lone [] (token r tokens.bare [] ∷ pars t s o j r test))))
+  role-words r lone tokens test e =
+      ap₂ (λ (xs ys : List ℕ). xs ++ ys) old (go lone) ∙
+      sym (append-concat_map (atom_words here.number) (old_atoms t s o j r)
+      (cond lone [] (token r tokens.bare [] ∷ pars t s o j r test)))
     where
       old : old_words w here r ≡ words (old_atoms t s o j r)
       old =
@@ -141,12 +142,10 @@ module _ (w : List ℕ) (s j : ℕ) (here : PartPlace) (place : PlaceOf w s j he
           ap (λ (n : ℕ). words (map (par_in here.own here.par r) (members tokens.which n))) place.params ∙
           ap words (par-same t s o j P here.own place.own here.par r tokens.which test place.par e)
 
-      go : (b : Bool) →
-          words (old_atoms t s o j r) ++
-          cond b [] (atom_words here.number (token r tokens.bare []) ++ words (pars t s o j r test)) ≡
-          words (old_atoms t s o j r) ++ words (cond b [] (token r tokens.bare [] ∷ pars t s o j r test))
+      go : (b : Bool) → token_words here r (then_some (not b) tokens) ≡
+          words (cond b [] (token r tokens.bare [] ∷ pars t s o j r test))
       go true = refl
-      go false = refl
+      go false = ap (λ (ys : List ℕ). atom_words here.number (token r tokens.bare []) ++ ys) new
 
   pub part-words : (tokens : PartTokens) → TokensOf t s j tokens →
       part_words w here tokens ≡ words (split_schema t s o j).atoms
@@ -157,13 +156,13 @@ module _ (w : List ℕ) (s j : ℕ) (here : PartPlace) (place : PlaceOf w s j he
       let f = here-members t s o j sets.first (first_here t s o j) T.pars.first in
       let g = here-members t s o j sets.last (last_here t s o j) T.pars.last in
       ap₂ (λ (xs ys : List ℕ). xs ++ ys)
-      (role-words precondition (record { lone = false; bare = bare; which = sets.later }) (later_here t s o j) e ∙
+      (role-words precondition false (record { bare = bare; which = sets.later }) (later_here t s o j) e ∙
       ap (λ (p : ℕ). words (role_atoms t s o j precondition false p (later_here t s o j))) T.before)
       (ap₂ (λ (xs ys : List ℕ). xs ++ ys)
-      (role-words addition (record { lone = tokens.lone; bare = tokens.handed; which = sets.first })
+      (role-words addition tokens.lone (record { bare = tokens.handed; which = sets.first })
       (first_here t s o j) f ∙
       ap₂ (λ (b : Bool) (p : ℕ). words (role_atoms t s o j addition b p (first_here t s o j))) T.alone T.behind)
-      (role-words deletion (record { lone = tokens.lone; bare = bare; which = sets.last }) (last_here t s o j) g ∙
+      (role-words deletion tokens.lone (record { bare = bare; which = sets.last }) (last_here t s o j) g ∙
       ap₂ (λ (b : Bool) (p : ℕ). words (role_atoms t s o j deletion b p (last_here t s o j))) T.alone T.before) ∙
       sym (append-concat_map (atom_words here.number) (add_atoms t s o j) (del_atoms t s o j))) ∙
       (sym (append-concat_map (atom_words here.number) (pre_atoms t s o j) (add_atoms t s o j ++ del_atoms t s o j)) ∙

@@ -7,9 +7,8 @@ use mathlib.Core.Bool.{Bool, true, false, ◌&&◌}
 use mathlib.Core.List.{List, [], ◌∷◌, ◌++◌, map, append-nil}
 use native.Mathlib.Omega.{arith}
 use native.Mathlib.Decide.{dec_lt}
-use native.Mathlib.Numerals.{add-one}
-use lib.ListN.{length, get_or, take, replicate, length-map}
-use lib.Seq.{take-suc, take_all}
+use lib.ListN.{length, take, replicate, length-map}
+use lib.Seq.{take_all}
 use lib.Dec.{eqb, ltb}
 use borrow.Author.Tests.{ltb-true, lt-ltb, ne_eqb}
 use Rattle.words.specs.Lists.{filter, keep_if, concat_map, up_to, padded}
@@ -42,13 +41,6 @@ members-below own x below l h =
     inside : (k : ℕ) (b : Bool) → k < x → b && ltb k x ≡ b
     inside k true m = lt-ltb k x m
     inside k false m = refl
-
--- arguments, one further
-pub arguments-more : (own : ℕ) (xs : List ℕ) (k : ℕ) → k < length xs →
-    map (new_number own) (take (k + 1) xs) ≡ map (new_number own) (take k xs) ++ (new_number own (get_or xs k 0) ∷ [])
-arguments-more own xs k l =
-    ap (λ (n : ℕ). map (new_number own) (take n xs)) (add-one k) ∙ ap (map (new_number own)) (take-suc xs k 0 l) ∙
-    map-append (new_number own) (take k xs) (get_or xs k 0 ∷ [])
 
 -- all arguments, and zeros up to four words
 pub arguments-end : (w : List ℕ) (at own : ℕ) (args : List ℕ) (k : ℕ) (out : List ℕ) (count : ℕ)

@@ -1,27 +1,33 @@
--- The sizes of the split, once every schema is counted; and a limit that is passed.
-use Prim.Native.Nat.{ℕ, ◌+◌}
+-- The sizes of the split, once every schema is counted; and by them, whether the split passes a limit.
+use Prim.Native.Nat.{ℕ, suc, ◌+◌, ◌*◌, ◌≤◌, ◌<◌}
 use mathlib.Core.Path.{◌≡◌, refl, ◌∙◌, ap}
-use mathlib.Core.Bool.{Bool, true}
-use mathlib.Core.List.{List, map}
+use mathlib.Core.Bool.{true}
+use mathlib.Core.List.{List, [], ◌∷◌, map}
 use native.Mathlib.Omega.{arith}
 use lib.ListN.{length, take}
+use lib.Dec.{leb}
 use lib.Seq.{take-length}
-use Rattle.words.specs.Lists.{every, up_to, concat_map}
+use borrow.Author.Tests.{leb-true}
+use Rattle.words.specs.Lists.{all, every, filter, last_or, sum, up_to, concat_map}
+use Rattle.words.specs.Sets.{word_bits}
+use Rattle.words.proofs.Lists.{In, here, there, all_in, filter-in, up_to-in}
+use Rattle.task.specs.Limits.{most_atoms, most_parameters, most_parts, most_schemas}
 use Rattle.task.specs.Layout.{head_in}
-use Rattle.task.specs.Task.{Schema, Task, schema_atoms, schema_pairs}
+use Rattle.task.specs.Task.{Schema, Task, part_count, schema_atoms, schema_fits, schema_pairs}
 use Rattle.task.specs.Table.{task_of, is_table}
+use Rattle.task.proofs.Tables.{of-table}
 use Rattle.task.proofs.TablesByIndex.{table-frame, arities-word, init-word, goal-word}
-use Rattle.tokens.specs.Split.{later_parts, shared_bound, maximum, par_count, split_task, limit_tests, within_limits}
-use Rattle.tokens.specs.Acceptance.{part_schemas, are_few, sizes_fit, SizesBefore, SizesTold, are_within}
+use Rattle.task.proofs.Tests.{schema-tests, task-tests}
+use Rattle.tokens.specs.Split.{parts, later_parts, shared, shared_bound, maximum, par_count, split_task, limit_tests}
+use Rattle.tokens.specs.Split.{within_limits}
+use Rattle.tokens.specs.Acceptance.{part_schemas, largest_of, SizesBefore, SizesTold, are_within}
 use Rattle.tokens.specs.declared.measure.Sizes.{Sizes}
 use Rattle.tokens.proofs.Predicates.{predicate-count}
 use Rattle.tokens.proofs.Sizes.{init-count, goal-count}
+use Rattle.tokens.proofs.KeptSchemas.{schemas-few}
+use Rattle.tokens.proofs.SplitSizes.{few-largest}
 
-module _ (w : List ℕ) (h : is_table w ≡ true) (r : Sizes) (n : ℕ) (all-counted : n ≡ length (task_of w).schemas)
-    (counted : SizesBefore (task_of w) n r) where
-  abbrev t : Task
-  t = task_of w
-
+module _ (t : Task) (r : Sizes) (n : ℕ) (all-counted : n ≡ length t.schemas) (counted : SizesBefore t n r) where
   all-taken : take n t.schemas ≡ t.schemas
   all-taken = ap (λ (k : ℕ). take k t.schemas) all-counted ∙ take-length t.schemas
 
@@ -44,16 +50,70 @@ module _ (w : List ℕ) (h : is_table w ≡ true) (r : Sizes) (n : ℕ) (all-cou
   unfolding split_task
   pairs-told = counted.pairs ∙ ap (λ (k : ℕ). schema_pairs (concat_map (part_schemas t) (up_to k))) all-counted
 
-  few-told : r.within ≡ are_few (split_task t).schemas
+  largest-told : r.largest ≡ largest_of (split_task t).schemas
   unfolding split_task
-  few-told = counted.within ∙ ap (λ (k : ℕ). are_few (concat_map (part_schemas t) (up_to k))) all-counted
+  largest-told = counted.largest ∙ ap (λ (k : ℕ). largest_of (concat_map (part_schemas t) (up_to k))) all-counted
+
+  pub sizes-told : SizesTold t r
+  sizes-told = record {
+    later = later-told;
+    pars = pars-told;
+    schemas = schemas-told;
+    atoms = atoms-told;
+    largest = largest-told;
+    pairs = pairs-told;
+  }
+
+-- ---- what a schema may have bounds how many new predicates there are
+last-below : (n d : ℕ) (xs : List ℕ) → d ≤ n → ((x : ℕ) → In x xs → x < n) → last_or (map suc xs) d ≤ n
+unfolding last_or
+last-below n d [] l k = l
+last-below n d (x ∷ xs) l k = last-below n (suc x) xs (omega (arith, k x (here refl))) (λ y i. k y (there i))
+
+shared-few : (s : Schema) → shared_bound s ≤ s.params
+unfolding shared_bound
+shared-few s =
+    last-below s.params 0 (filter (shared s) (up_to s.params)) (omega arith)
+    (λ x i. up_to-in s.params x (filter-in (shared s) (up_to s.params) x i).0)
+
+module _ (arities : List ℕ) where
+  later-few : (ss : List Schema) → ((s : Schema) → In s ss → schema_fits arities s ≡ true) →
+      later_parts ss ≤ most_parts * length ss
+  unfolding later_parts parts sum
+  later-few [] h = omega arith
+  later-few (s ∷ ss) h =
+      let few = leb-true (part_count s.atoms) most_parts (schema-tests arities s (h s (here refl))).parts in
+      omega (arith, later-few ss (λ u i. h u (there i)))
+
+  pars-few : (ss : List Schema) → ((s : Schema) → In s ss → schema_fits arities s ≡ true) →
+      maximum (map shared_bound ss) ≤ word_bits
+  unfolding maximum
+  pars-few [] h = omega arith
+  pars-few (s ∷ ss) h =
+      let few = leb-true s.params most_parameters (schema-tests arities s (h s (here refl))).params in
+      omega (arith, shared-few s, pars-few ss (λ u i. h u (there i)))
+
+-- ---- whether they pass a limit
+module _ (w : List ℕ) (h : is_table w ≡ true) (r : Sizes) (told : SizesTold (task_of w) r) where
+  abbrev t : Task
+  t = task_of w
+
+  all-fit : (s : Schema) → In s t.schemas → schema_fits t.arities s ≡ true
+  all-fit s i = all_in (schema_fits t.arities) (task-tests t (of-table w h).0).fit i
+
+  pub few-later : r.later ≤ most_parts * most_schemas
+  few-later = omega (arith, told.later, later-few t.arities t.schemas all-fit, schemas-few w h)
+
+  pub few-pars : r.pars ≤ word_bits
+  unfolding par_count
+  few-pars = omega (arith, told.pars, pars-few t.arities t.schemas all-fit)
 
   predicates-told : (head_in w).predicates + 1 + r.later + r.pars ≡ length (split_task t).arities
   predicates-told =
       let e = predicate-count t in
       let a = arities-word w (table-frame w h) in
-      let l = later-told in
-      let p = pars-told in
+      let l = told.later in
+      let p = told.pars in
       omega arith
 
   init-told : (head_in w).initial_atoms + 1 ≡ length (split_task t).init
@@ -62,26 +122,12 @@ module _ (w : List ℕ) (h : is_table w ≡ true) (r : Sizes) (n : ℕ) (all-cou
   goal-told : (head_in w).goal_atoms + 1 ≡ length (split_task t).goal
   goal-told = let e = goal-count t in let a = goal-word w (table-frame w h) in omega arith
 
-  within-told : sizes_fit w r ≡ within_limits (split_task t)
-  unfolding sizes_fit are_within within_limits limit_tests every are_few
-  within-told =
-      rw (predicates-told, schemas-told, atoms-told, few-told, init-told, goal-told, pairs-told) refl
+  few-told : leb r.largest most_atoms ≡ all (λ (s : Schema). leb (length s.atoms) most_atoms) (split_task t).schemas
+  few-told = ap (λ (n : ℕ). leb n most_atoms) told.largest ∙ few-largest (split_task t).schemas
 
-  pub sizes-told : (within : Bool) → within ≡ sizes_fit w r →
-      SizesTold t
-      (record {
-        later = r.later;
-        pars = r.pars;
-        schemas = r.schemas;
-        atoms = r.atoms;
-        pairs = r.pairs;
-        within = within;
-      })
-  sizes-told within e = record {
-    later = later-told;
-    pars = pars-told;
-    schemas = schemas-told;
-    atoms = atoms-told;
-    pairs = pairs-told;
-    within = e ∙ within-told;
-  }
+  pub within-told : are_within ((head_in w).predicates + 1 + r.later + r.pars) r.schemas r.atoms r.largest
+      ((head_in w).initial_atoms + 1)
+      ((head_in w).goal_atoms + 1) r.pairs ≡ within_limits (split_task t)
+  unfolding are_within within_limits limit_tests every
+  within-told =
+      rw (predicates-told, told.schemas, told.atoms, few-told, init-told, goal-told, told.pairs) refl

@@ -1,24 +1,25 @@
 -- What splitting finds, the first check of acceptance that fails by what is found, and what splitting does then:
 -- refusals 1, 2, 9, 20 and 10 leave all as found.
 use Rattle.task.specs.declared.Place.TheVariants as place
-use Rattle.tokens.specs.declared.acceptance.Acceptance.TheVariants as acceptance
 use Prim.Native.Nat.{ℕ}
 use mathlib.Core.Path.{◌≡◌, refl, ◌∙◌, ap, ap₂, subst}
 use mathlib.Core.Bool.{Bool, true, false, cond, ◌&&◌}
 use mathlib.Core.List.{List, [], ◌∷◌}
-use Rattle.std.specs.Prelude.{Option, None, Some}
+use Rattle.std.specs.Prelude.{Option, None, Some, Result, Ok, Err}
 use Rattle.task.specs.declared.Place.{Place}
 use Rattle.words.specs.Lists.{over}
-use Rattle.task.specs.Answers.{result, Check, Outcome, refuse_unless, in_order, first_refusal}
+use Rattle.task.specs.declared.refusals.Refusal.{Refusal}
+use Rattle.task.specs.Answers.{result, reason_number, Check, passes, refuses, Outcome, refuse_unless, in_order}
+use Rattle.task.specs.Answers.{first_refusal, table_checks}
 use Rattle.task.specs.Task.{Task}
 use Rattle.task.specs.Table.{task_of, words_of, long_enough, is_table}
 use Rattle.tokens.specs.Split.{circular, parted, too_large, split_as, settle, split, split_task}
 use Rattle.tokens.specs.Split.{within_limits, split_check, split_outcome, Splitting}
 use Rattle.tokens.specs.declared.measure.Sizes.{Sizes}
-use Rattle.tokens.specs.declared.acceptance.Acceptance.{Acceptance}
 use Rattle.tokens.specs.Acceptance.{accepted_then, RefusedAs, AcceptedKept, AcceptanceTold}
 use Rattle.tokens.proofs.Accepted.{circular_at, parted_at}
-use Rattle.task.proofs.Answers.{as_found, check-refuses, first_passes, first-refuses, same-refusal, refusal-stands}
+use Rattle.task.proofs.Answers.{as_found, check-refuses, first_passes, first-refuses, first-refused, passed-first}
+use Rattle.task.proofs.Answers.{passed-table, same-refusal, refusal-stands}
 
 -- ---- what splitting gives, by what is found of the orders, the pairs and the sizes
 module _ (t : Task) where
@@ -49,6 +50,14 @@ module _ (w : List ℕ) where
 
   abbrev table_then : List Check → List Check
   table_then more = refuse_unless (is_table w) 2 ∷ split_then more
+
+  pub refused-table : {n : ℕ} {at : Place} → refuses n at ≡ first_refusal (table_checks w) → RefusedAs w n at
+  refused-table h more = first-refused (table_checks w) (split_then more) h
+
+  -- a table whose checks pass is long enough, and one
+  pub passed-tests : passes ≡ first_refusal (table_checks w) → (long_enough w ≡ true) × (is_table w ≡ true)
+  passed-tests h =
+      ((passed-first (long_enough w) 1 (refuse_unless (is_table w) 2 ∷ []) h).0, passed-table w h)
 
   pub refused-short : long_enough w ≡ false → RefusedAs w 1 place.Nowhere
   refused-short h more = first-refuses 1 (table_then more) h
@@ -84,15 +93,15 @@ module _ (w : List ℕ) where
       accepted-passes e more found done = same-refusal (accepted_then w more) more found done (decided e more)
 
 -- ---- what the answer tells
-pub told-accepted : {w : List ℕ} {r : Acceptance} {sizes : Sizes} {kept : List ℕ} → r ≡ acceptance.Accepted sizes →
+pub told-accepted : {w : List ℕ} {r : Result Sizes Refusal} {sizes : Sizes} {kept : List ℕ} → r ≡ Ok sizes →
     AcceptanceTold w r kept → AcceptedKept w sizes kept
 unfolding AcceptanceTold
-told-accepted {w} {r} {sizes} {kept} e h = subst (λ (r : Acceptance). AcceptanceTold w r kept) e h
+told-accepted {w} {r} {sizes} {kept} e h = subst (λ (r : Result Sizes Refusal). AcceptanceTold w r kept) e h
 
-pub told-refused : (w kept : List ℕ) {r : Acceptance} {n : ℕ} {at : Place} → r ≡ acceptance.Refused n at →
-    AcceptanceTold w r kept → RefusedAs w n at
+pub told-refused : (w kept : List ℕ) {r : Result Sizes Refusal} {refusal : Refusal} → r ≡ Err refusal →
+    AcceptanceTold w r kept → RefusedAs w (reason_number refusal.reason) refusal.place
 unfolding AcceptanceTold
-told-refused w kept e h = subst (λ (r : Acceptance). AcceptanceTold w r kept) e h
+told-refused w kept e h = subst (λ (r : Result Sizes Refusal). AcceptanceTold w r kept) e h
 
 -- ---- the outcome of splitting
 module _ (w out : List ℕ) where

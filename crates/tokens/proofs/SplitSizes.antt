@@ -2,13 +2,15 @@
 -- schema by schema. Each size is of a list that grows at its end.
 use Prim.Native.Nat.{ℕ, zero, suc, ◌+◌, ◌-◌, ◌≤◌, ◌<◌, max}
 use mathlib.Core.Path.{◌≡◌, refl, sym, ◌∙◌, ap, ap₂}
-use mathlib.Core.Bool.{Bool, true, false, cond, ◌&&◌}
+use mathlib.Core.Bool.{Bool, cond, ◌&&◌}
 use mathlib.Core.List.{List, [], ◌∷◌, ◌++◌, map, append-nil}
 use native.Mathlib.Omega.{arith}
+use native.Mathlib.Decide.{dec_lt}
 use native.Mathlib.Numerals.{add-one}
 use lib.ListN.{length, get_or, take, length-append, length-map}
 use lib.Seq.{take-suc}
 use lib.Dec.{eqb, leb}
+use borrow.Author.Tests.{le-leb, lt-leb}
 use Rattle.words.specs.Lists.{all, filter, sum, concat_map, up_to, up_from}
 use Rattle.task.specs.Limits.{most_atoms, most_parts}
 use Rattle.task.specs.Task.{Atom, Schema, Task, no_schema}
@@ -17,37 +19,39 @@ use Rattle.task.specs.Table.{task_of}
 use Rattle.words.proofs.Lists.{append-concat_map, length-up_to, map-append, sum-append, up_to-suc}
 use Rattle.words.specs.Sets.{member, members, word_bits}
 use Rattle.arcs.specs.Stretches.{stretch, stretch_in}
-use Rattle.arcs.proofs.Stretches.{rows_none, rows_more}
 use Rattle.tokens.specs.Split.{has, parts, later_parts, shared_bound, maximum, orders, lone, first_here, last_here}
 use Rattle.tokens.specs.Split.{later_here, split_schema}
-use Rattle.tokens.specs.Acceptance.{ParsHere, part_schemas, are_few, SchemaSized, SizesBefore}
+use Rattle.tokens.specs.Acceptance.{ParsHere, part_schemas, largest_of, SchemaSized, SizesBefore}
 use Rattle.tokens.specs.declared.pars.Pars.{Pars}
 use Rattle.tokens.specs.declared.measure.Measured.{Measured}
 use Rattle.tokens.specs.declared.measure.Sizes.{Sizes}
 use Rattle.tokens.proofs.Accepted.{later-step}
-use Rattle.words.proofs.Sums.{one, total}
+use Rattle.words.proofs.Sums.{total, length-keep}
 use Rattle.tokens.proofs.Sizes.{atoms_of, pars_of, part-size}
 use Rattle.tokens.proofs.KeptSchema.{kept-atoms, kept-fits, kept-params, counted}
 use Rattle.tokens.proofs.ParPlaces.{picked-listed}
-use Rattle.tokens.proofs.SharedParameters.{filter_more}
 use Rattle.tokens.specs.Kept.{kept_start, kept_end, kept_count, kept_part, SchemaKept}
 
 -- ---- the rows of a stretch that a test takes
 abbrev pub in_part_count : ℕ → List Atom → ℕ
 in_part_count p atoms = length (filter (λ a. eqb p a.part) atoms)
 
-module _ {Row : Type 0} (row : ℕ → Row) (test : Row → Bool) (from : ℕ) where
-  abbrev pub taken_up_to : ℕ → ℕ
-  taken_up_to i = length (filter test (stretch row from i))
-
-  pub taken_none : taken_up_to from ≡ 0
+module _ {A B : Type 0} (p : B → Bool) (f : A → B) where
+  filtered-map : (xs : List A) → length (filter (λ x. p (f x)) xs) ≡ length (filter p (map f xs))
   unfolding filter
-  taken_none = ap (λ (rows : List Row). length (filter test rows)) (rows_none row from)
+  filtered-map [] = refl
+  filtered-map (x ∷ xs) = omega (
+    arith,
+    filtered-map xs,
+    length-keep (p (f x)) x (filter (λ x. p (f x)) xs),
+    length-keep (p (f x)) (f x) (filter p (map f xs)),
+  )
 
-  pub taken_more : (i : ℕ) → from ≤ i → taken_up_to (i + 1) ≡ taken_up_to i + one (test (row i))
-  taken_more i l =
-      ap (λ (rows : List Row). length (filter test rows)) (rows_more row from i l) ∙
-      filter_more test (stretch row from i) (row i)
+-- as many as a test takes of their indices
+pub taken-rows : {Row : Type 0} (row : ℕ → Row) (test : Row → Bool) (from to : ℕ) →
+    length (filter (λ i. test (row i)) (up_from from (to - from))) ≡ length (filter test (stretch row from to))
+unfolding stretch
+taken-rows row test from to = filtered-map test row (up_from from (to - from))
 
 -- ---- a part of the split
 module _ {w : List ℕ} {s : ℕ} {kept : List ℕ} (K : SchemaKept w s kept) where
@@ -86,16 +90,36 @@ module _ {w : List ℕ} {s : ℕ} {kept : List ℕ} (K : SchemaKept w s kept) wh
 sums-append : (size : Schema → ℕ) (xs ys : List Schema) → total size (xs ++ ys) ≡ total size xs + total size ys
 sums-append size xs ys = ap sum (map-append size xs ys) ∙ sum-append (map size xs) (map size ys)
 
-few-append : (xs ys : List Schema) → are_few (xs ++ ys) ≡ are_few xs && are_few ys
-unfolding are_few all
-few-append [] ys = refl
-few-append (x ∷ xs) ys =
-    ap (λ b. leb (length x.atoms) most_atoms && b) (few-append xs ys) ∙
-    sym (and_assoc (leb (length x.atoms) most_atoms) (are_few xs) (are_few ys))
+maximum-append : (xs ys : List ℕ) → maximum (xs ++ ys) ≡ max (maximum xs) (maximum ys)
+unfolding maximum
+maximum-append [] ys = omega arith
+maximum-append (x ∷ xs) ys = let e = maximum-append xs ys in omega arith
+
+maximum-more : (xs : List ℕ) (y : ℕ) → maximum (xs ++ (y ∷ [])) ≡ max (maximum xs) y
+unfolding maximum
+maximum-more xs y = let e = maximum-append xs (y ∷ []) in omega arith
+
+largest-append : (xs ys : List Schema) → largest_of (xs ++ ys) ≡ max (largest_of xs) (largest_of ys)
+largest-append xs ys =
+    ap maximum (map-append (λ (s : Schema). length s.atoms) xs ys) ∙
+    maximum-append (map (λ (s : Schema). length s.atoms) xs) (map (λ (s : Schema). length s.atoms) ys)
+
+-- the largest has few enough where all have
+pub few-largest : (xs : List Schema) → leb (largest_of xs) most_atoms ≡ all (λ s. leb (length s.atoms) most_atoms) xs
+unfolding maximum all
+few-largest [] = refl
+few-largest (x ∷ xs) =
+    both-leb (length x.atoms) (largest_of xs) most_atoms ∙
+    ap (λ b. leb (length x.atoms) most_atoms && b) (few-largest xs)
   where
-    and_assoc : (a b c : Bool) → (a && b) && c ≡ a && (b && c)
-    and_assoc true b c = refl
-    and_assoc false b c = refl
+    both-leb : (a b n : ℕ) → leb (max a b) n ≡ leb a n && leb b n
+    both-leb a b n = elim (dec_lt n a) [
+      | yes l ↦ rw (lt-leb a n l, lt-leb (max a b) n (omega arith)) refl
+      | no l ↦ elim (dec_lt n b) [
+        | yes k ↦ rw (le-leb a n (omega arith), lt-leb b n k, lt-leb (max a b) n (omega arith)) refl
+        | no k ↦ rw (le-leb a n (omega arith), le-leb b n (omega arith), le-leb (max a b) n (omega arith)) refl
+      ]
+    ]
 
 module _ (t : Task) (s : ℕ) where
   -- the schemas of the first j parts
@@ -111,9 +135,9 @@ module _ (t : Task) (s : ℕ) where
   unfolding up_to up_from sum
   part-sum-none size = refl
 
-  pub part-few-none : are_few (parts_up_to 0) ≡ true
-  unfolding up_to up_from are_few all
-  part-few-none = refl
+  pub part-largest-none : largest_of (parts_up_to 0) ≡ 0
+  unfolding up_to up_from maximum
+  part-largest-none = refl
 
   pub part-sum-more : (size : Schema → ℕ) (j : ℕ) →
       total size (parts_up_to (j + 1)) ≡ total size (parts_up_to j) + size (split_schema t s (orders t s) j)
@@ -132,18 +156,15 @@ module _ (t : Task) (s : ℕ) where
       let e = ap (λ (n : ℕ). total size (parts_up_to n)) (add-one j) in
       omega (arith, part-sum-more size j, part-sum-nothing size h j, h j)
 
-  pub part-few-more : (j : ℕ) →
-      are_few (parts_up_to (j + 1)) ≡
-      are_few (parts_up_to j) && leb (length (split_schema t s (orders t s) j).atoms) most_atoms
-  unfolding are_few all
-  part-few-more j =
+  pub part-largest-more : (j : ℕ) →
+      largest_of (parts_up_to (j + 1)) ≡
+      max (largest_of (parts_up_to j)) (length (split_schema t s (orders t s) j).atoms)
+  unfolding maximum
+  part-largest-more j =
       let u = split_schema t s (orders t s) j in
-      ap are_few (parts_more j) ∙ few-append (parts_up_to j) (u ∷ []) ∙
-      ap (λ b. are_few (parts_up_to j) && b) (and-true (leb (length u.atoms) most_atoms))
-    where
-      and-true : (b : Bool) → b && true ≡ b
-      and-true true = refl
-      and-true false = refl
+      let z : max (length u.atoms) 0 ≡ length u.atoms = omega arith in
+      ap largest_of (parts_more j) ∙ largest-append (parts_up_to j) (u ∷ []) ∙
+      ap (max (largest_of (parts_up_to j))) z
 
 module _ (t : Task) where
   -- the schemas of the split of the first n schemas
@@ -157,23 +178,17 @@ module _ (t : Task) where
       append-concat_map (part_schemas t) (up_to n) (n ∷ []) ∙
       ap (λ (xs : List Schema). schemas_up_to n ++ xs) (append-nil (part_schemas t n))
 
-  maximum-append : (xs : List ℕ) (y : ℕ) → maximum (xs ++ (y ∷ [])) ≡ max (maximum xs) y
-  unfolding maximum
-  maximum-append [] y = omega arith
-  maximum-append (x ∷ xs) y = let e = maximum-append xs y in omega arith
-
-  pub sizes-none : (r : Sizes) → r.later ≡ 0 → r.pars ≡ 0 → r.schemas ≡ 0 → r.atoms ≡ 0 → r.pairs ≡ 0 →
-      r.within ≡ true → SizesBefore t 0 r
-  unfolding later_parts maximum concat_map up_to up_from sum are_few all
-  sizes-none r a b c d p e = record {
+  pub sizes-none : (r : Sizes) → r.later ≡ 0 → r.pars ≡ 0 → r.schemas ≡ 0 → r.atoms ≡ 0 → r.largest ≡ 0 → r.pairs ≡ 0 →
+      SizesBefore t 0 r
+  unfolding later_parts maximum concat_map up_to up_from sum
+  sizes-none r a b c d m p = record {
     later = a;
     pars = b;
     schemas = c;
     atoms = d;
+    largest = m;
     pairs = p;
-    within = e;
     later-most = omega arith;
-    pars-most = omega arith;
     schemas-most = omega arith;
     atoms-most = omega arith;
     pairs-most = omega arith;
@@ -183,10 +198,10 @@ module _ (t : Task) where
       count ≡ length (orders t n) → count ≡ parts (schema_at t n) → count ≤ most_parts → SchemaSized t n one →
       SizesBefore t n r →
       next.later ≡ r.later + (count - 1) → next.pars ≡ max r.pars one.shared →
-      next.schemas ≡ r.schemas + count → next.atoms ≡ r.atoms + one.atoms →
-      next.pairs ≡ r.pairs + one.pairs → next.within ≡ r.within && one.few → SizesBefore t (n + 1) next
+      next.schemas ≡ r.schemas + count → next.atoms ≡ r.atoms + one.atoms → next.largest ≡ max r.largest one.largest →
+      next.pairs ≡ r.pairs + one.pairs → SizesBefore t (n + 1) next
   unfolding schema_at
-  sizes-more n r next one count l c p f sized old a b d e q g =
+  sizes-more n r next one count l c p f sized old a b d e g q =
       let later = ap (λ k. later_parts (take k t.schemas)) (add-one n) ∙ later-step t.schemas n no_schema l in
       let la = old.later in
       let ln = ap length (schemas-more n) ∙ length-append (schemas_up_to n) (part_schemas t n) in
@@ -195,8 +210,6 @@ module _ (t : Task) where
       let ls = old.schemas in
       let atoms = sum_more (λ s. length s.atoms) in
       let pairs = sum_more (λ s. length s.pairs) in
-      let m = sized.shared-most in
-      let v = old.pars-most in
       let x = sized.atoms-most in
       let y = old.atoms-most in
       let i = old.schemas-most in
@@ -206,11 +219,10 @@ module _ (t : Task) where
         pars = b ∙ ap₂ max old.pars sized.shared ∙ sym pars-more;
         schemas = omega arith;
         atoms = omega (arith, atoms, old.atoms, sized.atoms);
+        largest = g ∙ ap₂ max old.largest sized.largest ∙
+            sym (ap largest_of (schemas-more n) ∙ largest-append (schemas_up_to n) (part_schemas t n));
         pairs = omega (arith, pairs, old.pairs, sized.pairs);
-        within = g ∙ ap₂ ◌&&◌ old.within sized.few ∙
-            sym (ap are_few (schemas-more n) ∙ few-append (schemas_up_to n) (part_schemas t n));
         later-most = omega arith;
-        pars-most = omega arith;
         schemas-most = omega arith;
         atoms-most = omega arith;
         pairs-most = omega (arith, old.pairs-most, sized.pairs-most);
@@ -226,4 +238,4 @@ module _ (t : Task) where
           ap (λ k. maximum (map shared_bound (take k t.schemas))) (add-one n) ∙
           ap (λ ss. maximum (map shared_bound ss)) (take-suc t.schemas n no_schema l) ∙
           ap maximum (map-append shared_bound (take n t.schemas) (get_or t.schemas n no_schema ∷ [])) ∙
-          maximum-append (map shared_bound (take n t.schemas)) (shared_bound (get_or t.schemas n no_schema))
+          maximum-more (map shared_bound (take n t.schemas)) (shared_bound (get_or t.schemas n no_schema))

@@ -1,6 +1,6 @@
 -- The runs of words that splitting writes are the words of the split, piece by piece: its six counts, its arities, its
 -- parameter counts, and its initial and goal atoms. (The schemas' atoms are in the proofs of the code that puts them.)
-use Prim.Native.Nat.{ℕ, ◌+◌, ◌-◌, ◌*◌, ◌≤◌, ◌<◌}
+use Prim.Native.Nat.{ℕ, ◌+◌, ◌*◌, ◌≤◌, ◌<◌}
 use mathlib.Core.Path.{◌≡◌, sym, ◌∙◌, ap, ap₂}
 use mathlib.Core.Bool.{true}
 use mathlib.Core.List.{List, [], ◌∷◌, ◌++◌, map, append-nil}

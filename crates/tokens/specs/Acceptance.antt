@@ -1,15 +1,12 @@
 -- What the inner functions of this crate promise: of the pars of a part, the parts of a schema, the sizes of the split,
 -- and acceptance. No promise of an entry point cites these.
-use Rattle.tokens.specs.declared.parts.Circular.TheVariants as circle
-use Rattle.tokens.specs.declared.pairs.Parted.TheVariants as parting
-use Rattle.tokens.specs.declared.acceptance.Acceptance.TheVariants as acceptance
 use Rattle.std.specs.Prelude.{ℕ, ◌+◌, ◌*◌, ◌≤◌, ◌<◌, ◌≡◌, Bool, true, ◌&&◌, List, [], ◌∷◌, map, length, get_or, take, leb}
-use Rattle.std.specs.Prelude.{Option, None, Some}
-use Rattle.words.specs.Lists.{all, every, concat_map, up_to}
-use Rattle.task.specs.Layout.{head_in}
+use Rattle.words.specs.Lists.{every, concat_map, up_to}
 use Rattle.task.specs.Limits.{most_predicates, most_schemas, most_schema_atoms, most_atoms, most_initial, most_goal, most_parts}
 use Rattle.task.specs.Limits.{most_pairs}
-use Rattle.task.specs.Answers.{Check, refuse_unless, refuses, first_refusal}
+use Rattle.std.specs.Prelude.{Result, Ok, Err}
+use Rattle.task.specs.declared.refusals.Refusal.{Refusal}
+use Rattle.task.specs.Answers.{Check, reason_number, refuse_unless, refuses, first_refusal}
 use Rattle.task.specs.Task.{Schema, Task, schema_atoms, schema_pairs}
 use Rattle.task.specs.declared.Part.{Part}
 use Rattle.task.specs.declared.Place.{Place}
@@ -17,13 +14,10 @@ use Rattle.task.specs.Run.{schema_at}
 use Rattle.task.specs.Table.{task_of, long_enough, is_table}
 use Rattle.words.specs.Sets.{member, word_bits}
 use Rattle.tokens.specs.Split.{has, later_parts, shared_bound, maximum, par_count, orders, first_here, last_here}
-use Rattle.tokens.specs.Split.{later_here, split_schema, split_task, within_limits, split_as, split, split_check}
+use Rattle.tokens.specs.Split.{later_here, split_schema, split_task, split_as, split, split_check}
 use Rattle.tokens.specs.declared.pars.Pars.{Pars}
 use Rattle.tokens.specs.declared.measure.Sizes.{Sizes}
 use Rattle.tokens.specs.declared.measure.Measured.{Measured}
-use Rattle.tokens.specs.declared.parts.Circular.{Circular}
-use Rattle.tokens.specs.declared.pairs.Parted.{Parted}
-use Rattle.tokens.specs.declared.acceptance.Acceptance.{Acceptance}
 use Rattle.tokens.specs.Kept.{order_place, part_word, own_word, PartsKept}
 
 -- ---- parameters
@@ -54,20 +48,19 @@ pub record OrderKept (from n : ℕ) (parts : List Part) (named kept kept' : List
 abbrev pub part_schemas : Task → ℕ → List Schema
 part_schemas t s = map (split_schema t s (orders t s)) (up_to (length (orders t s)))
 
--- no schema has too many atoms
-unfoldable pub are_few : List Schema → Bool
-unfolding all
-are_few ss = all (λ s. leb (length s.atoms) most_atoms) ss
+-- the most atoms that one of some schemas has, or 0
+abbrev pub largest_of : List Schema → ℕ
+largest_of ss = maximum (map (λ (s : Schema). length s.atoms) ss)
 
 -- what a part has at most: the atoms of its schema, and in each role a bare token and a par for each bit of a set
 abbrev pub most_part_atoms : ℕ
 most_part_atoms = most_atoms + 3 + 3 * word_bits
 
--- what is counted of schema s: the atoms of its parts, and that none has too many; its shared parameters; the pairs
--- that its parts carry
+-- what is counted of schema s: the atoms of its parts, and the most that one has; its shared parameters; the pairs that
+-- its parts carry
 pub record SchemaSized (t : Task) (s : ℕ) (r : Measured) : Type 0 where
   pub atoms : r.atoms ≡ schema_atoms (part_schemas t s)
-  pub few : r.few ≡ are_few (part_schemas t s)
+  pub largest : r.largest ≡ largest_of (part_schemas t s)
   pub shared : r.shared ≡ shared_bound (schema_at t s)
   pub pairs : r.pairs ≡ schema_pairs (part_schemas t s)
   pub atoms-most : r.atoms ≤ most_parts * most_part_atoms
@@ -80,55 +73,34 @@ pub record SizesBefore (t : Task) (n : ℕ) (r : Sizes) : Type 0 where
   pub pars : r.pars ≡ maximum (map shared_bound (take n t.schemas))
   pub schemas : r.schemas ≡ length (concat_map (part_schemas t) (up_to n))
   pub atoms : r.atoms ≡ schema_atoms (concat_map (part_schemas t) (up_to n))
+  pub largest : r.largest ≡ largest_of (concat_map (part_schemas t) (up_to n))
   pub pairs : r.pairs ≡ schema_pairs (concat_map (part_schemas t) (up_to n))
-  pub within : r.within ≡ are_few (concat_map (part_schemas t) (up_to n))
   pub later-most : r.later ≤ most_parts * n
-  pub pars-most : r.pars ≤ word_bits
   pub schemas-most : r.schemas ≤ most_parts * n
   pub atoms-most : r.atoms ≤ most_parts * most_part_atoms * n
   pub pairs-most : r.pairs ≤ most_parts * most_pairs * n
 
 -- the limits of a table that a split can pass, a test each
-unfoldable pub are_within : ℕ → ℕ → ℕ → Bool → ℕ → ℕ → ℕ → Bool
+unfoldable pub are_within : ℕ → ℕ → ℕ → ℕ → ℕ → ℕ → ℕ → Bool
 unfolding every
-are_within predicates schemas atoms few initial goal pairs =
+are_within predicates schemas atoms largest initial goal pairs =
     every
     (leb predicates most_predicates ∷
     leb schemas most_schemas ∷
     leb atoms most_schema_atoms ∷
-    few ∷
+    leb largest most_atoms ∷
     leb initial most_initial ∷
     leb goal most_goal ∷
     leb pairs most_pairs ∷ [])
 
--- of the sizes counted of a table
-unfoldable pub sizes_fit : List ℕ → Sizes → Bool
-unfolding are_within
-sizes_fit w r =
-    are_within ((head_in w).predicates + 1 + r.later + r.pars) r.schemas r.atoms r.within
-    ((head_in w).initial_atoms + 1)
-    ((head_in w).goal_atoms + 1) r.pairs
-
--- the sizes of the split
+-- the sizes of the split, also where it passes a limit
 pub record SizesTold (t : Task) (r : Sizes) : Type 0 where
   pub later : r.later ≡ later_parts t.schemas
   pub pars : r.pars ≡ par_count t
   pub schemas : r.schemas ≡ length (split_task t).schemas
   pub atoms : r.atoms ≡ schema_atoms (split_task t).schemas
+  pub largest : r.largest ≡ largest_of (split_task t).schemas
   pub pairs : r.pairs ≡ schema_pairs (split_task t).schemas
-  pub within : r.within ≡ within_limits (split_task t)
-
--- ---- circular parts
--- the schema for whose parts no order complies, if any
-unfoldable pub circular_told : Circular → Option ℕ
-circular_told (circle.At s) = Some s
-circular_told circle.Nowhere = None
-
--- ---- parted pairs
--- the schema with a pair that no part has both parameters of, if any
-unfoldable pub parted_told : Parted → Option ℕ
-parted_told (parting.At s) = Some s
-parted_told parting.Nowhere = None
 
 -- ---- acceptance
 -- the checks of a table that splitting, unfolding and folding make first, and those behind them
@@ -153,6 +125,6 @@ abbrev pub AcceptedParts : List ℕ → List ℕ → Type 0
 AcceptedParts w kept = (sizes : Sizes) × AcceptedKept w sizes kept
 
 -- what each case of the answer says
-unfoldable pub AcceptanceTold : List ℕ → Acceptance → List ℕ → Type 0
-AcceptanceTold w (acceptance.Accepted sizes) kept = AcceptedKept w sizes kept
-AcceptanceTold w (acceptance.Refused n at) kept = RefusedAs w n at
+unfoldable pub AcceptanceTold : List ℕ → Result Sizes Refusal → List ℕ → Type 0
+AcceptanceTold w (Ok sizes) kept = AcceptedKept w sizes kept
+AcceptanceTold w (Err refusal) kept = RefusedAs w (reason_number refusal.reason) refusal.place

@@ -1,6 +1,8 @@
 -- What the functions that write the split promise: the words that each one puts, over what it is handed. No promise of
 -- an entry point cites these.
-use Rattle.std.specs.Prelude.{ℕ, ◌+◌, ◌-◌, ◌*◌, ◌≤◌, ◌<◌, ◌≡◌, Bool, false, cond, ◌&&◌, List, [], ◌∷◌, ◌++◌, map, length, get_or, replicate, eqb}
+use Rattle.std.specs.Prelude.{ℕ, ◌+◌, ◌-◌, ◌*◌, ◌≤◌, ◌<◌, ◌≡◌, Bool, not, ◌&&◌, List, [], ◌∷◌, ◌++◌, map, length, get_or, replicate, eqb}
+use Rattle.std.specs.Prelude.{Option, None, Some}
+use Rattle.std.specs.Bool.{then_some}
 use Rattle.words.specs.Lists.{filter, concat_map, up_to}
 use Rattle.task.specs.Layout.{Head, head_block, head_in}
 use Rattle.task.specs.Task.{Atom, Pair, Task, precondition, addition, deletion}
@@ -76,21 +78,23 @@ abbrev pub par_words : PartPlace → ℕ → ℕ → List ℕ
 par_words here r which =
     concat_map (atom_words here.number) (map (par_in here.own here.par r) (members which here.params))
 
--- the old atoms of role r, then, but for the only part of a schema, a bare token and pars
-abbrev pub role_words : List ℕ → PartPlace → ℕ → RoleTokens → List ℕ
-role_words w here r tokens =
-    old_words w here r ++
-    cond tokens.lone [] (atom_words here.number (token r tokens.bare []) ++ par_words here r tokens.which)
+-- the tokens of role r, if it has any: a bare token and pars
+abbrev pub token_words : PartPlace → ℕ → Option RoleTokens → List ℕ
+token_words here r None = []
+token_words here r (Some tokens) = atom_words here.number (token r tokens.bare []) ++ par_words here r tokens.which
+
+-- the old atoms of role r, then its tokens
+abbrev pub role_words : List ℕ → PartPlace → ℕ → Option RoleTokens → List ℕ
+role_words w here r tokens = old_words w here r ++ token_words here r tokens
 
 -- of all three roles: the only part of a schema has tokens among its preconditions alone
 abbrev pub part_words : List ℕ → PartPlace → PartTokens → List ℕ
 part_words w here tokens =
-    role_words w here precondition
-    (record { lone = false; bare = tokens.required; which = tokens.pars.later }) ++
+    role_words w here precondition (Some (record { bare = tokens.required; which = tokens.pars.later })) ++
     (role_words w here addition
-    (record { lone = tokens.lone; bare = tokens.handed; which = tokens.pars.first }) ++
+    (then_some (not tokens.lone) (record { bare = tokens.handed; which = tokens.pars.first })) ++
     role_words w here deletion
-    (record { lone = tokens.lone; bare = tokens.required; which = tokens.pars.last }))
+    (then_some (not tokens.lone) (record { bare = tokens.required; which = tokens.pars.last })))
 
 -- the words that they take at most
 abbrev pub most_part_words : ℕ

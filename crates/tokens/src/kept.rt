@@ -105,11 +105,8 @@ fn of_part(kept: &Kept, base: usize, s: usize, j: usize) -> u16
     requires s_lt_most_schemas { (s < most_schemas) × (j < most_parts) }
     ensures { result ≡ word_in kept.now (base + (kept_start kept.now s + j)) }
 {
-    let at = base + (wide(word(kept, s, START)) + j);
-    if KEPT_WORDS <= at {
-        return 0;
-    }
-    kept[at]
+    let at = base + (start_of(kept, s) + j);
+    kept.get(at).copied().unwrap_or(0)
 }
 
 // The part at position j of their order.

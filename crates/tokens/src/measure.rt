@@ -1,14 +1,12 @@
 // The sizes of the split, counted before anything is written.
-ghost use Rattle.std.specs.Prelude.{◌+◌, ◌-◌, ◌≤◌, ◌<◌, max, ◌*◌, ◌≡◌, true, ◌&&◌, length, eqb};
+ghost use Rattle.std.specs.Prelude.{◌+◌, ◌-◌, ◌≤◌, ◌<◌, max, ◌*◌, ◌≡◌, true, length, eqb};
 ghost use Rattle.words.specs.Lists.{filter};
 ghost use Rattle.task.specs.Table.{task_of, is_table};
 ghost use Rattle.arcs.specs.Stretches.{IsStretch, stretch_in};
-ghost use Rattle.tokens.specs.Split.{orders, split_schema};
-ghost use Rattle.tokens.specs.Acceptance.{SchemaSized, SizesTold, sizes_fit, most_part_atoms, are_within};
-ghost use Rattle.tokens.specs.Acceptance.{part_schemas};
+ghost use Rattle.tokens.specs.Split.{orders, split_schema, split_task, within_limits};
+ghost use Rattle.tokens.specs.Acceptance.{SchemaSized, SizesTold, most_part_atoms, are_within, part_schemas};
 ghost use Rattle.task.specs.Task.{schema_pairs};
 ghost use Rattle.task.specs.Limits.{most_parts, most_schemas, most_pairs};
-ghost use Rattle.words.specs.Sets.{word_bits};
 ghost use Rattle.tokens.specs.Kept.{kept_count, PartsKept, SchemaKept};
 
 use crate::kept::{Kept, count_of, end_of, own_at, pair_end_of, pair_of, part_at, start_of};
@@ -23,23 +21,23 @@ use task::limits::{
 use words::runs::word;
 use words::sets::{bound, size};
 
-// The sizes that a table limits: later parts, pars, schemas, schema atoms and pairs; and whether all limits are kept.
-#[derive(Clone, Copy)]
+// The sizes that a table limits: later parts, pars, schemas, schema atoms, the most atoms of one schema, and pairs.
+#[derive(Clone, Copy, Debug, PartialEq, Eq)]
 pub struct Sizes {
     pub later: usize,
     pub pars: usize,
     pub schemas: usize,
     pub atoms: usize,
+    pub largest: usize,
     pub pairs: usize,
-    pub within: bool,
 }
 
-// Of one schema: how many atoms its parts have, whether each part has few enough, one more than the largest parameter
+// Of one schema: how many atoms its parts have, the most that one of them has, one more than the largest parameter
 // found in two parts, or 0, and how many pairs its parts carry.
-#[derive(Clone, Copy)]
+#[derive(Clone, Copy, Debug, PartialEq, Eq)]
 pub struct Measured {
     pub atoms: usize,
-    pub few: bool,
+    pub largest: usize,
     pub shared: usize,
     pub pairs: usize,
 }
@@ -50,15 +48,9 @@ fn atoms_in(table: &[u16], from: usize, to: usize, part: Part) -> usize
     ensures value { result ≡ length (filter (λ a. eqb part.0 a.part) (stretch_in table.now from to)) }
     ensures upper_bound { result ≤ to - from }
 {
-    let mut n = 0;
-    let mut i = from;
-    while i < to {
-        if part_of(table, i).0 == part.0 {
-            n += 1;
-        }
-        i += 1;
-    }
-    n
+    (from..to)
+        .filter(|i| part_of(table, *i).0 == part.0)
+        .count()
 }
 
 // The atoms of the part at position j of schema s: its old ones, procnone or do, and pars.
@@ -91,43 +83,33 @@ fn pairs_carried(table: &[u16], kept: &Kept, s: usize) -> usize
 {
     let from = pair_of(kept, s);
     let to = pair_end_of(kept, s);
-    let count = count_of(kept, s);
-    let mut n = 0;
     if from == to {
-        return n;
+        return 0;
     }
-    let mut j = 0;
-    while j < count {
+    let mut n = 0;
+    for j in 0..count_of(kept, s) {
         n += carried(table, own_at(kept, s, j), from, to);
-        j += 1;
     }
     n
 }
 
-// Of one schema: its parts' atoms, whether each part has few enough, its shared parameters, and its parts' pairs.
+// Of one schema: its parts' atoms, the most of one part, its shared parameters, and its parts' pairs.
 fn measure_schema(table: &[u16], kept: &Kept, s: usize) -> Measured
     requires { SchemaKept table.now s kept.now }
     ensures { SchemaSized (task_of table.now) s result }
 {
-    let shared = bound(shared_in(kept, s));
-    let count = count_of(kept, s);
     let mut atoms = 0;
-    let mut few = true;
-    let mut j = 0;
-    while j < count {
+    let mut largest = 0;
+    for j in 0..count_of(kept, s) {
         let n = part_size(table, kept, s, j);
-        if MOST_ATOMS < n {
-            few = false;
-        }
         atoms += n;
-        j += 1;
+        largest = n.max(largest);
     }
-    let pairs = pairs_carried(table, kept, s);
     Measured {
         atoms,
-        few,
-        shared,
-        pairs,
+        largest,
+        shared: bound(shared_in(kept, s)),
+        pairs: pairs_carried(table, kept, s),
     }
 }
 
@@ -142,61 +124,45 @@ fn with_schema(sizes: Sizes, one: Measured, count: usize) -> Sizes
     ensures pars_value { result.pars ≡ max sizes.pars one.shared }
     ensures schemas_value { result.schemas ≡ sizes.schemas + count }
     ensures atoms_value { result.atoms ≡ sizes.atoms + one.atoms }
+    ensures largest_value { result.largest ≡ max sizes.largest one.largest }
     ensures pairs_value { result.pairs ≡ sizes.pairs + one.pairs }
-    ensures within_value { result.within ≡ sizes.within && one.few }
 {
-    let mut pars = sizes.pars;
-    if pars < one.shared {
-        pars = one.shared;
-    }
     Sizes {
         later: sizes.later + (count - 1),
-        pars,
+        pars: sizes.pars.max(one.shared),
         schemas: sizes.schemas + count,
         atoms: sizes.atoms + one.atoms,
+        largest: sizes.largest.max(one.largest),
         pairs: sizes.pairs + one.pairs,
-        within: sizes.within && one.few,
     }
 }
 
-// The limits of a table that a split can pass, by what it would have, and whether no schema has too many atoms.
+// The limits of a table that a split can pass, by what it would have.
 fn are_within(
     predicates: usize,
     schemas: usize,
     atoms: usize,
-    few: bool,
+    largest: usize,
     initial: usize,
     goal: usize,
     pairs: usize,
 ) -> bool
-    ensures { result ≡ are_within predicates schemas atoms few initial goal pairs }
+    ensures { result ≡ are_within predicates schemas atoms largest initial goal pairs }
 {
-    if MOST_PREDICATES < predicates {
-        return false;
-    }
-    if MOST_SCHEMAS < schemas {
-        return false;
-    }
-    if MOST_SCHEMA_ATOMS < atoms {
-        return false;
-    }
-    if !few {
-        return false;
-    }
-    if MOST_INITIAL < initial {
-        return false;
-    }
-    if MOST_GOAL < goal {
-        return false;
-    }
-    pairs <= MOST_PAIRS
+    predicates <= MOST_PREDICATES
+        && schemas <= MOST_SCHEMAS
+        && atoms <= MOST_SCHEMA_ATOMS
+        && largest <= MOST_ATOMS
+        && initial <= MOST_INITIAL
+        && goal <= MOST_GOAL
+        && pairs <= MOST_PAIRS
 }
 
-// Whether the split has no more than a table can.
-fn within_limits(table: &[u16], sizes: Sizes) -> bool
+// Whether the split has no more than a table can, by its sizes.
+pub fn within_limits(table: &[u16], sizes: Sizes) -> bool
     requires table_value { is_table table.now ≡ true }
-    requires later_bound { (sizes.later ≤ most_parts * most_schemas) × (sizes.pars ≤ word_bits) }
-    ensures { result ≡ sizes_fit table.now sizes }
+    requires sizes_told { SizesTold (task_of table.now) sizes }
+    ensures { result ≡ within_limits (split_task (task_of table.now)) }
 {
     let old = word(table, PREDICATES);
     let initial = word(table, INITIAL_ATOMS);
@@ -206,41 +172,30 @@ fn within_limits(table: &[u16], sizes: Sizes) -> bool
         predicates,
         sizes.schemas,
         sizes.atoms,
-        sizes.within,
+        sizes.largest,
         initial + 1,
         goal + 1,
         sizes.pairs,
     )
 }
 
-// The sizes of the split of a table whose parts are kept.
+// The sizes of the split of a table whose parts are kept, also where the split passes a limit.
 pub fn sizes_of(table: &[u16], kept: &Kept) -> Sizes
     requires table_value { is_table table.now ≡ true }
     requires parts_kept { PartsKept (task_of table.now) (length (task_of table.now).schemas) kept.now }
     ensures { SizesTold (task_of table.now) result }
 {
-    let schemas = word(table, SCHEMAS);
     let mut sizes = Sizes {
         later: 0,
         pars: 0,
         schemas: 0,
         atoms: 0,
+        largest: 0,
         pairs: 0,
-        within: true,
     };
-    let mut s = 0;
-    while s < schemas {
+    for s in 0..word(table, SCHEMAS) {
         let one = measure_schema(table, kept, s);
         sizes = with_schema(sizes, one, count_of(kept, s));
-        s += 1;
     }
-    let within = within_limits(table, sizes);
-    Sizes {
-        later: sizes.later,
-        pars: sizes.pars,
-        schemas: sizes.schemas,
-        atoms: sizes.atoms,
-        pairs: sizes.pairs,
-        within,
-    }
+    sizes
 }

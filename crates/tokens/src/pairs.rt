@@ -11,7 +11,7 @@ ghost use Rattle.task.specs.Table.{task_of, is_table, pair_in, pair_words, pairs
 ghost use Rattle.arcs.specs.Stretches.{IsPairStretch, pair_stretch_in};
 ghost use Rattle.tokens.specs.Split.{has_both, pairs_kept, parts, split_task};
 ghost use Rattle.tokens.specs.Kept.{kept_first, kept_count, PartsKept, SchemaKept};
-ghost use Rattle.tokens.specs.Acceptance.{parted_told, part_schemas, AcceptedParts};
+ghost use Rattle.tokens.specs.Acceptance.{part_schemas, AcceptedParts};
 ghost use Rattle.tokens.specs.Writing.{carries, renumbered_pair, carried_words};
 
 use crate::kept::{Kept, count_of, first_of, own_at, pair_end_of, pair_of};
@@ -21,13 +21,6 @@ use task::layout::{higher, lower};
 use task::limits::{PAIR_SIZE, SCHEMAS};
 use words::runs::word;
 use words::sets::has;
-
-// The lowest schema with a pair that no part has both parameters of, if there is one.
-#[derive(Clone, Copy)]
-pub enum Parted {
-    At(u64),
-    Nowhere,
-}
 
 // Whether a part with these parameters has both of pair i.
 pub fn carries_pair(table: &[u16], own: u64, i: usize) -> bool
@@ -46,15 +39,7 @@ fn some_part_carries(table: &[u16], kept: &Kept, s: usize, i: usize) -> bool
         let t = schema_at (task_of w) s in
         result ≡ any (has_both t (pair_in w i)) (up_to (parts t)) }
 {
-    let count = count_of(kept, s);
-    let mut j = 0;
-    while j < count {
-        if carries_pair(table, own_at(kept, s, j), i) {
-            return true;
-        }
-        j += 1;
-    }
-    false
+    (0..count_of(kept, s)).any(|j| carries_pair(table, own_at(kept, s, j), i))
 }
 
 // Whether each pair of schema s has a part that has both its parameters.
@@ -62,34 +47,20 @@ fn pairs_kept(table: &[u16], kept: &Kept, s: usize) -> bool
     requires { SchemaKept table.now s kept.now }
     ensures { result ≡ pairs_kept (schema_at (task_of table.now) s) }
 {
-    let end = pair_end_of(kept, s);
-    let mut i = pair_of(kept, s);
-    while i < end {
-        if !some_part_carries(table, kept, s, i) {
-            return false;
-        }
-        i += 1;
-    }
-    true
+    (pair_of(kept, s)..pair_end_of(kept, s)).all(|i| some_part_carries(table, kept, s, i))
 }
 
-// The lowest schema with a pair that no part has both parameters of.
-pub fn first_parted(table: &[u16], kept: &Kept) -> Parted
+// The lowest schema with a pair that no part has both parameters of, if there is one.
+pub fn first_parted(table: &[u16], kept: &Kept) -> Option<u64>
     requires table_value { is_table table.now ≡ true }
     requires parts_kept { PartsKept (task_of table.now) (length (task_of table.now).schemas) kept.now }
-    ensures { parted_told result ≡
+    ensures { result ≡
         first (λ s. not (pairs_kept (schema_at (task_of table.now) s)))
         (up_to (length (task_of table.now).schemas)) }
 {
-    let schemas = word(table, SCHEMAS);
-    let mut s = 0;
-    while s < schemas {
-        if !pairs_kept(table, kept, s) {
-            return Parted::At(s as u64);
-        }
-        s += 1;
-    }
-    Parted::Nowhere
+    (0..word(table, SCHEMAS))
+        .find(|s| !pairs_kept(table, kept, *s))
+        .map(|s| s as u64)
 }
 
 // How many of the pairs `from` to `to - 1` a part with these parameters carries.
@@ -98,15 +69,7 @@ pub fn carried(table: &[u16], own: u64, from: usize, to: usize) -> usize
     ensures value { result ≡ length (filter (carries own) (pair_stretch_in table.now from to)) }
     ensures upper_bound { result ≤ to - from }
 {
-    let mut n = 0;
-    let mut i = from;
-    while i < to {
-        if carries_pair(table, own, i) {
-            n += 1;
-        }
-        i += 1;
-    }
-    n
+    (from..to).filter(|i| carries_pair(table, own, *i)).count()
 }
 
 // Pair i, renumbered for a part with these parameters, under the part's number in the split.
@@ -142,12 +105,10 @@ fn put_carried(
         out.new result }
 {
     let mut next = at;
-    let mut i = from;
-    while i < to {
+    for i in from..to {
         if carries_pair(table, own, i) {
             next = put_pair(table, own, number, i, out, next);
         }
-        i += 1;
     }
     next
 }
@@ -165,16 +126,13 @@ fn schema_pairs(table: &[u16], kept: &Kept, s: usize, out: &mut [u16], at: usize
     let from = pair_of(kept, s);
     let to = pair_end_of(kept, s);
     let first = first_of(kept, s);
-    let count = count_of(kept, s);
-    let mut next = at;
     if from == to {
-        return next;
+        return at;
     }
-    let mut j = 0;
-    while j < count {
+    let mut next = at;
+    for j in 0..count_of(kept, s) {
         let own = own_at(kept, s, j);
         next = put_carried(table, own, (first + j) as u16, from, to, out, next);
-        j += 1;
     }
     next
 }
@@ -186,12 +144,9 @@ pub fn all_pairs(table: &[u16], kept: &Kept, out: &mut [u16], at: usize) -> usiz
     ensures { Puts out.old at (pairs_from 0 (split_task (task_of table.now)).schemas)
         out.new result }
 {
-    let schemas = word(table, SCHEMAS);
     let mut next = at;
-    let mut s = 0;
-    while s < schemas {
+    for s in 0..word(table, SCHEMAS) {
         next = schema_pairs(table, kept, s, out, next);
-        s += 1;
     }
     next
 }

@@ -14,7 +14,7 @@ use words::sets::{common, minus, union};
 
 // The parameters of the part at a position; and of these, those that stand in a part before it,
 // those that stand first here and again later, and those that stand here last and stood before.
-#[derive(Clone, Copy)]
+#[derive(Clone, Copy, Debug, PartialEq, Eq)]
 pub struct Pars {
     pub own: u64,
     pub later: u64,
@@ -30,10 +30,8 @@ fn parameters_between(kept: &Kept, s: usize, from: usize, to: usize) -> u64
         any (λ j. member (kept_own kept.now s j) x) (up_from from (to - from)) }
 {
     let mut all = 0;
-    let mut j = from;
-    while j < to {
+    for j in from..to {
         all = union(all, own_at(kept, s, j));
-        j += 1;
     }
     all
 }
@@ -64,15 +62,12 @@ pub fn shared_in(kept: &Kept, s: usize) -> u64
     ensures { (t : Task) (o : List ℕ) → ParamsKept t s o kept.now →
         (x : ℕ) → member result x ≡ ltb 1 (length (positions (schema_at t s) o x)) }
 {
-    let count = count_of(kept, s);
     let mut seen = 0;
     let mut twice = 0;
-    let mut j = 0;
-    while j < count {
+    for j in 0..count_of(kept, s) {
         let here = own_at(kept, s, j);
         twice = union(twice, common(seen, here));
         seen = union(seen, here);
-        j += 1;
     }
     twice
 }

@@ -34,7 +34,7 @@ pub struct PartPlace {
 
 // The tokens of a part: which it requires and which it hands on, the pars of its parameters, and whether it is the only
 // part of its schema.
-#[derive(Clone, Copy)]
+#[derive(Clone, Copy, Debug, PartialEq, Eq)]
 pub struct PartTokens {
     pub lone: bool,
     pub required: u16,
@@ -42,16 +42,15 @@ pub struct PartTokens {
     pub pars: Pars,
 }
 
-// Those of one role: a bare token and the pars of the parameters in a set; none for the only part of a schema.
-#[derive(Clone, Copy)]
+// Those of one role: a bare token and the pars of the parameters in a set.
+#[derive(Clone, Copy, Debug, PartialEq, Eq)]
 struct RoleTokens {
-    lone: bool,
     bare: u16,
     which: u64,
 }
 
 // How far a role is put: the place behind its atoms, and the schema's first old atom of a later role.
-#[derive(Clone, Copy)]
+#[derive(Clone, Copy, Debug, PartialEq, Eq)]
 struct Reached {
     next: usize,
     atom: usize,
@@ -62,7 +61,7 @@ pub(crate) fn renumbered_in(own: u64, x: Parameter) -> Parameter
     requires { x.0 < word_bits }
     ensures { result.0 ≡ new_number own x.0 }
 {
-    let before = sets::common(own, sets::below(x.0 as usize));
+    let before = sets::common(own, sets::below(usize::from(x.0)));
     Parameter(sets::size(before) as u16)
 }
 
@@ -75,10 +74,8 @@ fn arguments(table: &[u16], i: usize, own: u64, out: &mut [u16], at: usize) -> u
     ensures value { result ≡ at + most_arity }
 {
     let count = argument_count(table, i);
-    let mut k = 0;
-    while k < count {
+    for k in 0..count {
         out[at + k] = renumbered_in(own, argument(table, i, k)).0;
-        k += 1;
     }
     fill(out, at + count, MOST_ARITY - count, 0)
 }
@@ -128,19 +125,19 @@ fn old_atoms(
     ensures next_bound { result.next ≤ at + atom_size * (here.to - here.from) }
     ensures role_begins_2 { RoleBegins table.now here (role + 1) result.atom }
 {
-    let to = here.to;
     let mut next = at;
-    let mut i = first;
-    while i < to {
+    for i in first..here.to {
         if !is_of_role(table, i, role) {
             return Reached { next, atom: i };
         }
         if part_of(table, i).0 == here.part.0 {
             next = old_atom(table, i, here.own, here.number, role, out, next);
         }
-        i += 1;
     }
-    Reached { next, atom: i }
+    Reached {
+        next,
+        atom: here.to,
+    }
 }
 
 // A bare token: procnone or a do.
@@ -178,25 +175,22 @@ fn par_atoms(here: PartPlace, role: u16, which: u64, out: &mut [u16], at: usize)
     if which == 0 {
         return at;
     }
-    let params = here.params;
     let mut next = at;
-    let mut x = 0;
-    while x < params {
+    for x in 0..here.params {
         if sets::has(which, x) {
             next = par_atom(here, role, Parameter(x as u16), out, next);
         }
-        x += 1;
     }
     next
 }
 
-// All atoms of one role, of which the old ones begin at atom `first`.
+// All atoms of one role, of which the old ones begin at atom `first`: behind these its tokens, if it has any.
 fn role_atoms(
     table: &[u16],
     here: PartPlace,
     role: u16,
     first: usize,
-    tokens: RoleTokens,
+    tokens: Option<RoleTokens>,
     out: &mut [u16],
     at: usize,
 ) -> Reached
@@ -210,9 +204,9 @@ fn role_atoms(
     ensures role_begins_2 { RoleBegins table.now here (role + 1) result.atom }
 {
     let old = old_atoms(table, here, role, first, out, at);
-    if tokens.lone {
+    let Some(tokens) = tokens else {
         return old;
-    }
+    };
     let behind = bare_token(here.number, role, tokens.bare, out, old.next);
     let next = par_atoms(here, role, tokens.which, out, behind);
     Reached {
@@ -236,21 +230,19 @@ pub fn part_atoms(
     ensures { Puts out.old at (part_words table.now here tokens) out.new result }
 {
     let pars = tokens.pars;
-    let required = RoleTokens {
-        lone: false,
+    let several = !tokens.lone;
+    let required = Some(RoleTokens {
         bare: tokens.required,
         which: pars.later,
-    };
-    let added = RoleTokens {
-        lone: tokens.lone,
+    });
+    let added = several.then_some(RoleTokens {
         bare: tokens.handed,
         which: pars.first,
-    };
-    let deleted = RoleTokens {
-        lone: tokens.lone,
+    });
+    let deleted = several.then_some(RoleTokens {
         bare: tokens.required,
         which: pars.last,
-    };
+    });
     let pre = role_atoms(table, here, PRECONDITION, here.from, required, out, at);
     let add = role_atoms(table, here, ADDITION, pre.atom, added, out, pre.next);
     let del = role_atoms(table, here, DELETION, add.atom, deleted, out, add.next);

@@ -27,10 +27,8 @@ fn part_params(kept: &Kept, s: usize, out: &mut [u16], at: usize) -> usize
     ensures { Puts out.old at (set_sizes kept.now s) out.new result }
 {
     let count = count_of(kept, s);
-    let mut j = 0;
-    while j < count {
+    for j in 0..count {
         out[at + j] = sets::size(own_at(kept, s, j)) as u16;
-        j += 1;
     }
     at + count
 }
@@ -44,10 +42,8 @@ pub fn all_params(kept: &Kept, schemas: usize, out: &mut [u16], at: usize) -> us
         out.new result }
 {
     let mut next = at;
-    let mut s = 0;
-    while s < schemas {
+    for s in 0..schemas {
         next = part_params(kept, s, out, next);
-        s += 1;
     }
     next
 }
@@ -58,10 +54,7 @@ fn token_at(procnone: usize, before: usize, count: usize, j: usize) -> u16
     requires j_le_count { j ≤ count }
     ensures { result ≡ cond (eqb j 0) procnone (cond (eqb j count) procnone (procnone + before + j)) }
 {
-    if j == 0 {
-        return procnone as u16;
-    }
-    if j == count {
+    if j == 0 || j == count {
         return procnone as u16;
     }
     (procnone + before + j) as u16
@@ -147,12 +140,9 @@ fn schema_parts(
         (schemas_from (kept_first kept.now s) (part_schemas (task_of table.now) s))
         out.new result }
 {
-    let count = count_of(kept, s);
     let mut next = at;
-    let mut j = 0;
-    while j < count {
+    for j in 0..count_of(kept, s) {
         next = one_part(table, kept, sizes, s, j, out, next);
-        j += 1;
     }
     next
 }
@@ -165,12 +155,9 @@ pub fn all_parts(table: &[u16], kept: &Kept, sizes: Sizes, out: &mut [u16], at: 
     ensures { Puts out.old at (schemas_from 0 (split_task (task_of table.now)).schemas)
         out.new result }
 {
-    let schemas = word(table, SCHEMAS);
     let mut next = at;
-    let mut s = 0;
-    while s < schemas {
+    for s in 0..word(table, SCHEMAS) {
         next = schema_parts(table, kept, sizes, s, out, next);
-        s += 1;
     }
     next
 }
