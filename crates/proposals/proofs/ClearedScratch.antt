@@ -1,13 +1,13 @@
 -- The scratch afterwards: its 128 words are "all 0", and those behind them are as lent, whatever the merging left. So a
--- scratch whose words are set to 0 one after another is cleared, and clearing forgets what was there.
+-- scratch whose words are filled with 0 is cleared, and clearing forgets what was there.
 use Prim.Native.Nat.{ℕ, ◌+◌, ◌-◌, ◌*◌, ◌≤◌, ◌<◌}
-use mathlib.Core.Path.{◌≡◌, refl, sym, ◌∙◌, ap, subst}
+use mathlib.Core.Path.{◌≡◌, sym, ◌∙◌, ap, ap₂, subst}
 use mathlib.Core.List.{List, ◌++◌}
 use native.Mathlib.Omega.{arith}
 use native.Mathlib.Decide.{dec_lt}
-use lib.ListN.{length, get_or, set, drop, replicate, length-append, length-set, length-drop, length-replicate}
+use lib.ListN.{length, get_or, take, drop, replicate, length-append, length-drop, length-replicate}
 use lib.ListN.{get_or-replicate, get_or-append}
-use lib.Seq.{ext_get_or, get_or-append-add, get_or-drop, get_or-set_same, get_or-set_other}
+use lib.Seq.{ext_get_or, get_or-append-add, get_or-drop, length-take-le}
 use Rattle.words.specs.Lists.{over}
 use Rattle.task.specs.Limits.{most_atoms}
 use Rattle.proposals.specs.Outcome.{scratch_words, cleared}
@@ -48,28 +48,16 @@ cleared-behind scratch i =
     (get_or-drop (length front) scratch i 0 ∙ ap (λ (k : ℕ). get_or scratch (k + i) 0) n))
 
 -- ---- words set to 0
--- those before i are 0, all others are as lent
-pub record Clearing (lent : List ℕ) (i : ℕ) (after : List ℕ) : Type 0 where
-  pub long : length after ≡ length lent
-  pub done : (k : ℕ) → k < i → get_or after k 0 ≡ 0
-  pub left : (k : ℕ) → i ≤ k → get_or after k 0 ≡ get_or lent k 0
+-- 0 in the scratch's words, and the lent words behind them, which code fills and leaves
+pub filled : (lent : List ℕ) (n : ℕ) → n ≡ scratch_words → {zeroed : List ℕ} → n ≤ length lent →
+    zeroed ≡ replicate (length (take n lent)) 0 → zeroed ++ drop n lent ≡ cleared lent
+unfolding cleared over
+filled lent n e room z =
+    let front : length (take n lent) ≡ scratch_words = length-take-le n lent room ∙ e in
+    let behind : n ≡ length (zeros scratch_words) = e ∙ sym (length-zeros scratch_words) in
+    ap₂ {C = List ℕ} (λ (v : List ℕ) (k : ℕ). v ++ drop k lent) (z ∙ ap zeros front) behind
 
-pub clearing-none : (lent : List ℕ) → Clearing lent 0 lent
-clearing-none lent = record { long = refl; done = λ k l. absurd (omega arith); left = λ k l. refl }
-
-pub clearing-more : {lent : List ℕ} {i : ℕ} {after : List ℕ} → Clearing lent i after → i < length after →
-    Clearing lent (i + 1) (set after i 0)
-clearing-more {lent} {i} {after} h l = record {
-  long = length-set after i 0 ∙ h.long;
-  done = λ k m. elim (dec_lt k i) [
-    | yes n ↦ get_or-set_other after i k 0 0 (λ e. let o = e in omega arith) ∙ h.done k n
-    | no n ↦
-        let o : k ≡ i = omega arith in
-        ap (λ (j : ℕ). get_or (set after i 0) j 0) o ∙ get_or-set_same after i 0 0 l
-  ];
-  left = λ k m. get_or-set_other after i k 0 0 (λ e. let o = e in omega arith) ∙ h.left k (omega arith);
-}
-
+-- what is 0 in these words, and as lent behind them, is the scratch cleared
 length-cleared : (lent : List ℕ) → scratch_words ≤ length lent → length (cleared lent) ≡ length lent
 unfolding cleared over
 length-cleared lent room =
@@ -90,11 +78,6 @@ is-cleared lent after room long done left =
           left k (omega arith) ∙ sym (subst (λ (j : ℕ). get_or (cleared lent) j 0 ≡ get_or lent j 0) o
           (cleared-behind lent (k - scratch_words)))
     ])
-
-pub clearing-all : {lent : List ℕ} {i : ℕ} {after : List ℕ} → scratch_words ≤ length lent → Clearing lent i after →
-    i ≡ scratch_words → after ≡ cleared lent
-clearing-all {lent} {i} {after} room h e =
-    is-cleared lent after room h.long (λ k l. h.done k (omega arith)) (λ k l. h.left k (omega arith))
 
 -- clearing forgets what was there
 pub cleared-same : {lent kept : List ℕ} → scratch_words ≤ length lent → KeepsBehind lent kept →

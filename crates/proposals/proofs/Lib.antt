@@ -22,6 +22,8 @@ pub mod Examples
 -- ---- for the code: the lent buffers
 pub mod Scratches
 pub mod ClearedScratch
+-- ---- those of a set that pass a test
+pub mod Those
 -- ---- a schema's start
 pub mod StartWords
 pub mod StartArcs

@@ -5,7 +5,7 @@ use mathlib.Core.Path.{◌≡◌, refl, sym, ◌∙◌, ap}
 use mathlib.Core.Bool.{Bool, true, false, ◌&&◌, ◌||◌}
 use mathlib.Core.List.{List}
 use mathlib.Core.Logic.{◌⊎◌, inl, inr}
-use Rattle.std.specs.Prelude.{Option, None, Some}
+use Rattle.std.specs.Prelude.{None, Some}
 use native.Mathlib.Decide.{ℕ_discrete}
 use native.Mathlib.Omega.{arith}
 use lib.Bits.{bit_or}
@@ -19,10 +19,9 @@ use Rattle.words.proofs.Ascending.{ascend-filter, ascend-up_to, covered-few}
 use Rattle.words.proofs.BitSets.{member-or, member-zero}
 use Rattle.words.proofs.SetLoops.{gone, left_in, lowest-first, others-stay}
 use Rattle.task.specs.Task.{Schema}
-use Rattle.proposals.specs.Proposal.{PartPair, mergeable, first_pair}
+use Rattle.proposals.specs.Proposal.{mergeable, first_pair}
 use Rattle.proposals.specs.Circle.{merged_arcs, no_circle}
-use Rattle.proposals.specs.Scratch.{arcs_in, parameters_to, Named, InPlay, pair_found}
-use Rattle.proposals.specs.declared.search.Found.TheVariants as found
+use Rattle.proposals.specs.Scratch.{arcs_in, parameters_to, Named, InPlay}
 use Rattle.proposals.proofs.InPlay.{in-play-gap-free, mergeable-in-play}
 use Rattle.proposals.proofs.PartPairs.{pair, Before}
 use Rattle.proposals.proofs.Turns.{first-pair-is, first-pair-none}
@@ -172,7 +171,7 @@ module _ (width n : ℕ) (scratch : List ℕ) where
 
     -- a can't be merged with any of them
     pub searching-next :
-        Tells (λ s ps. (b : ℕ) → member less b ≡ true → b < n → mergeable width s ps (pair a b) ≡ false) →
+        Tells (λ s ps. (b : ℕ) → member less b ≡ true → mergeable width s ps (pair a b) ≡ false) →
         Searching narrow less
     searching-next tried = record {
       narrowed = h.narrowed;
@@ -184,24 +183,24 @@ module _ (width n : ℕ) (scratch : List ℕ) where
       none = λ s ps known play c b k m out. elim (ℕ_discrete a c) [
         | yes o ↦
             ap (λ (x : ℕ). mergeable width s ps (pair x b)) (sym o) ∙
-            partner b (omega arith) m s ps known play (λ i. tried s ps known play b i m)
+            partner b (omega arith) m s ps known play (tried s ps known play b)
         | no d ↦ h.none s ps known play c b k m (sym (others-stay rest a less loses c d) ∙ out)
       ];
     }
 
     -- it can be merged with b, and with none of them before
     pub searching-found : {b : ℕ} → a < b → b < n →
-        Tells (λ s ps. ((c : ℕ) → member less c ≡ true → c < b → mergeable width s ps (pair a c) ≡ false) ×
-        (b < n → mergeable width s ps (pair a b) ≡ true)) →
+        Tells (λ s ps. (mergeable width s ps (pair a b) ≡ true) ×
+        ((c : ℕ) → member less c ≡ true → c < b → mergeable width s ps (pair a c) ≡ false)) →
         Tells (λ s ps. Some (pair a b) ≡ first_pair width s ps)
     searching-found {b} k m tried s ps known play =
-        sym (first-pair-is width s n ps (in-play-gap-free play) a b k m ((tried s ps known play).1 m) earlier)
+        sym (first-pair-is width s n ps (in-play-gap-free play) a b k m (tried s ps known play).0 earlier)
       where
         earlier : (c d : ℕ) → c < d → d < n → Before c d a b → mergeable width s ps (pair c d) ≡ false
         earlier c d i j (inl e) = h.none s ps known play c d i j (l.least c e)
         earlier c d i j (inr (e, f)) =
             ap (λ (x : ℕ). mergeable width s ps (pair x d)) e ∙
-            partner d (omega arith) j s ps known play (λ x. (tried s ps known play).0 d x f)
+            partner d (omega arith) j s ps known play (λ x. (tried s ps known play).1 d x f)
 
   -- none is left
   pub searching-ends : {narrow rest : ℕ} → Searching narrow rest → rest ≡ 0 →
@@ -209,21 +208,3 @@ module _ (width n : ℕ) (scratch : List ℕ) where
   searching-ends h z s ps known play =
       sym (first-pair-none width s n ps (in-play-gap-free play) (λ a b l m.
       h.none s ps known play a b l m (ap (λ (x : ℕ). member x a) z ∙ member-zero a)))
-
--- ---- the pair that is found
--- its parts, of which no pair that isn't there has any
-abbrev ends : Option PartPair → ℕ × ℕ
-ends None = (0, 0)
-ends (Some c) = (c.lower, c.higher)
-
-pub found_below : {a b n : ℕ} → a < b → b < n → (c d : ℕ) → pair_found (found.Pair a b) ≡ Some (pair c d) →
-    (c < d) × (d < n)
-unfolding pair_found
-found_below l m c d e =
-    let x = ap (λ o. (ends o).0) e in
-    let y = ap (λ o. (ends o).1) e in
-    (omega arith, omega arith)
-
-pub nowhere-none : (c d : ℕ) → pair_found found.Nowhere ≡ Some (pair c d) → ⊥
-unfolding pair_found
-nowhere-none c d e = let z : ◌≡◌ {A = ℕ} 0 1 = cc in omega arith

@@ -1,9 +1,8 @@
 -- What `propose` does, case by case: 1, 2 and 22 leave all as found, 23 clears the scratch, and a result clears it too
 -- and has the table of the task proposed in the second table.
 use Rattle.task.specs.declared.Place.TheVariants as place
-use Rattle.proposals.specs.declared.TooMany.TheVariants as many
 use Prim.Native.Nat.{ℕ, ◌≤◌, ◌<◌}
-use mathlib.Core.Path.{◌≡◌, sym, ◌∙◌, ap}
+use mathlib.Core.Path.{◌≡◌, ◌∙◌, ap}
 use mathlib.Core.Bool.{Bool, true, false, ◌&&◌}
 use mathlib.Core.List.{List, [], ◌∷◌}
 use Rattle.std.specs.Prelude.{Option, None, Some}
@@ -18,12 +17,10 @@ use Rattle.task.specs.Limits.{table_length}
 use Rattle.task.specs.Answers.{Told, result, refused, Outcome, Check, refuse_unless, in_order}
 use Rattle.task.specs.Task.{Task}
 use Rattle.task.specs.Table.{task_of, words_of, long_enough, is_table}
-use Rattle.task.proofs.Answers.{as_found, check-passes, check-refuses, told-by, left_by, both}
+use Rattle.task.proofs.Answers.{as_found, check-passes, check-refuses, both}
 use Rattle.task.proofs.LongEnough.{too_short, long-enough}
-use Rattle.proposals.specs.declared.TooMany.{TooMany}
 use Rattle.proposals.specs.Proposal.{proposed_task, too_many}
 use Rattle.proposals.specs.Outcome.{Lent, scratch_words, most_width, cleared, settled, propose_outcome}
-use Rattle.proposals.specs.Scratch.{many_told}
 
 -- ---- what is settled once the parts are found
 module _ (t : Task) (lent : Lent) where
@@ -51,19 +48,16 @@ module _ (t : Task) (lent : Lent) where
       (told ≡ (settled (too_many t) t lent).told) ×
       (◌≡◌ {A = Lent} (record { proposed = proposed; scratch = scratch }) (settled (too_many t) t lent).buffer)
 
-  module _ {found : TooMany} {scratch : List ℕ} (clear : scratch ≡ cleared lent.scratch)
-      (told : many_told found ≡ too_many t) where
-    pub many-settles : {k : ℕ} → found ≡ many.At k → Settled (refused 23 (place.Schema k) []) lent.proposed scratch
-    unfolding many_told
+  module _ {scratch : List ℕ} (clear : scratch ≡ cleared lent.scratch) where
+    pub many-settles : {k : ℕ} → too_many t ≡ Some k → Settled (refused 23 (place.Schema k) []) lent.proposed scratch
     many-settles e =
-        let (same, left) = both (settled-many (sym told ∙ ap many_told e)) in
+        let (same, left) = both (settled-many e) in
         (same, (λ j. record { proposed = lent.proposed; scratch = clear j }) ∙ left)
 
-    pub none-settles : found ≡ many.Nowhere → {proposed : List ℕ} → proposed ≡ over (words_of t) lent.proposed →
+    pub none-settles : too_many t ≡ None → {proposed : List ℕ} → proposed ≡ over (words_of t) lent.proposed →
         Settled (result []) proposed scratch
-    unfolding many_told
     none-settles e written =
-        let (same, left) = both (settled-done (sym told ∙ ap many_told e)) in
+        let (same, left) = both (settled-done e) in
         (same, (λ j. record { proposed = written j; scratch = clear j }) ∙ left)
 
 -- ---- the cases
@@ -139,10 +133,3 @@ module _ (width : ℕ) (scratch : List ℕ) where
   lent_fits a b =
       and_both (leb width most_width) (leb scratch_words (length scratch)) (le-leb width most_width a)
       (le-leb scratch_words (length scratch) b)
-
--- what is told and left where the outcome is known
-pub known-outcome : {o p : Outcome Lent} → o ≡ p → {told : Told} → told ≡ p.told → {left : Lent} → left ≡ p.buffer →
-    (told ≡ o.told) × ((left.proposed ≡ o.buffer.proposed) × (left.scratch ≡ o.buffer.scratch))
-known-outcome e told buffer =
-    let l = buffer ∙ sym (left_by e) in
-    (told ∙ sym (told-by e), (ap (λ (l : Lent). l.proposed) l, ap (λ (l : Lent). l.scratch) l))

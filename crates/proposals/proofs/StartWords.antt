@@ -4,8 +4,7 @@ use mathlib.Core.Path.{◌≡◌, refl, sym, ◌∙◌, ap, subst}
 use mathlib.Core.List.{List}
 use native.Mathlib.Omega.{arith}
 use native.Mathlib.Nat.{lt_of_lt_of_le}
-use lib.ListN.{length, get_or, set}
-use lib.Seq.{get_or-set_same, get_or-set_other}
+use lib.ListN.{length, set}
 use borrow.Author.Count.{below_more}
 use Rattle.words.specs.Lists.{put, up_to, up_from}
 use Rattle.words.specs.Sets.{member}
@@ -40,13 +39,6 @@ words_more : (Is : ℕ → ℕ → Type 0) (word after : ℕ → ℕ) (k own : �
 words_more Is word after k own stays here before is =
     below_more (λ j. Is j (after j)) k
     (λ j l. subst (Is j) (sym (stays j (λ e. let o = e in omega arith))) (before j l)) (subst (Is k) (sym here) is)
-
--- the same of a list
-pub list-more : (Is : ℕ → ℕ → Type 0) (words : List ℕ) (k own : ℕ) → k < length words →
-    ((j : ℕ) → j < k → Is j (get_or words j 0)) → Is k own → (j : ℕ) → j < k + 1 → Is j (get_or (set words k own) j 0)
-list-more Is words k own l =
-    words_more Is (λ j. get_or words j 0) (λ j. get_or (set words k own) j 0) k own
-    (λ j d. get_or-set_other words k j own 0 d) (get_or-set_same words k own 0 l)
 
 -- ---- the parameters of each atom
 -- those of the first n atoms are put; the arcs stay, and so does what lies behind the scratch

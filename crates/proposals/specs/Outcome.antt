@@ -1,12 +1,11 @@
 -- Document 02's notes 5 and 7: what the entry point `propose` does.
 use Rattle.task.specs.declared.Place.TheVariants as place
-use Rattle.proposals.specs.declared.ProposeAnswer.TheVariants as answer
 use Rattle.std.specs.Prelude.{ℕ, ◌&&◌, List, [], ◌∷◌, length, replicate, leb}
-use Rattle.std.specs.Prelude.{Option, None, Some}
-use Rattle.proposals.specs.declared.ProposeAnswer.{ProposeAnswer}
+use Rattle.std.specs.Prelude.{Option, None, Some, Result, ⊤}
+use Rattle.task.specs.declared.refusals.Refusal.{Refusal}
 use Rattle.words.specs.Lists.{over}
 use Rattle.task.specs.Limits.{most_parameters}
-use Rattle.task.specs.Answers.{Told, result, refused, Outcome, refuse_unless, in_order}
+use Rattle.task.specs.Answers.{Told, result, refused, Outcome, answer_told, refuse_unless, in_order}
 use Rattle.task.specs.Task.{Task}
 use Rattle.task.specs.Table.{task_of, words_of, long_enough, is_table}
 use Rattle.proposals.specs.Proposal.{proposed_task, too_many}
@@ -57,6 +56,5 @@ propose_outcome table width proposed scratch =
     (settled (too_many t) t lent)
 
 -- the number and place of each case of the answer; a result carries nothing
-unfoldable pub propose_answer_told : ProposeAnswer → Told
-propose_answer_told answer.Proposed = result []
-propose_answer_told (answer.Refused n at) = refused n at []
+unfoldable pub propose_answer_told : Result ⊤ Refusal → Told
+propose_answer_told = answer_told (λ nothing. [])

@@ -11,10 +11,6 @@ use Rattle.task.specs.Task.{Schema, Task, names}
 use Rattle.task.specs.Run.{schema_at}
 use Rattle.task.specs.Turns.{first_atom}
 use Rattle.arcs.specs.Order.{in_part}
-use Rattle.proposals.specs.declared.search.Found.{Found}
-use Rattle.proposals.specs.declared.search.Found.TheVariants as found
-use Rattle.proposals.specs.declared.TooMany.{TooMany}
-use Rattle.proposals.specs.declared.TooMany.TheVariants as many
 use Rattle.proposals.specs.Proposal.{PartPair, with_parts, proposed_parts}
 use Rattle.proposals.specs.Circle.{Arcs, arcs_of, becoming, merged_arcs}
 use Rattle.proposals.specs.Outcome.{scratch_words}
@@ -98,17 +94,12 @@ pub record InPlay (s : Schema) (n : ℕ) (ps scratch : List ℕ) : Type 0 where
   pub named : (p x : ℕ) → p < n → member (parameters_to scratch p) x ≡ in_part (with_parts s ps).atoms x p
 
 -- the pair that is found, if there is one
-unfoldable pub pair_found : Found → Option PartPair
-pair_found (found.Pair a b) = Some (record { lower = a; higher = b })
-pair_found found.Nowhere = None
+unfoldable pub pair_found : Option (ℕ × ℕ) → Option PartPair
+pair_found (Some p) = Some (record { lower = p.0; higher = p.1 })
+pair_found None = None
 
 -- ---- all schemas
 -- the words for the atoms of the first k schemas are the parts proposed for them
 abbrev pub HaveParts : ℕ → Task → ℕ → List ℕ → Type 0
 HaveParts width t k parts = (s : ℕ) → s < k →
     words_at parts (first_atom t s) (length (schema_at t s).atoms) ≡ proposed_parts width (schema_at t s)
-
--- the first schema that ends with too many parts, if there is one
-unfoldable pub many_told : TooMany → Option ℕ
-many_told (many.At s) = Some s
-many_told many.Nowhere = None

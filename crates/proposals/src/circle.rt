@@ -8,7 +8,8 @@ ghost use Rattle.proposals.specs.Outcome.{scratch_words};
 ghost use Rattle.proposals.specs.Scratch.{ArcsOfBoth, NoOwn, arcs_in, is_free, shared_in};
 
 use crate::scratch::arcs_to;
-use words::sets::{lowest, meet, minus, union, up_to, with, without, without_lowest};
+use crate::sets::those;
+use words::sets::{lowest, meet, minus, union, up_to, without, without_lowest};
 
 // The parts that a or b has an arc from, but for the two.
 pub fn arcs_to_both(scratch: &[u64], a: usize, b: usize) -> u64
@@ -28,15 +29,7 @@ fn free_parts(scratch: &[u64], a: usize, b: usize, joined: u64, unplaced: u64) -
         member result p ≡ member unplaced p && is_free (shared_in a b joined scratch.now) unplaced p }
 {
     let others = without(without(unplaced, a), b);
-    let mut free = 0;
-    let mut rest = others;
-    while rest != 0 {
-        let p = lowest(rest);
-        rest = without_lowest(rest);
-        if !meet(arcs_to(scratch, p), unplaced) {
-            free = with(free, p);
-        }
-    }
+    let free = those(others, |p| !meet(arcs_to(scratch, p), unplaced));
     if meet(joined, unplaced) {
         return free;
     }

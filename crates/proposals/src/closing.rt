@@ -40,10 +40,8 @@ pub fn merge_arcs(scratch: &mut [u64], n: usize, a: usize, b: usize)
     ensures { MergesArcs a b n scratch.old scratch.new }
 {
     scratch[a] = arcs_to_both(scratch, a, b);
-    let mut q = 0;
-    while q + 1 < n {
+    for q in 0..n - 1 {
         scratch[q] = merged_set(arcs_to(scratch, came_from(b, q)), a, b);
-        q += 1;
     }
 }
 
@@ -54,9 +52,7 @@ pub fn merge_parameters(scratch: &mut [u64], n: usize, a: usize, b: usize)
     ensures { MergesParameters a b n scratch.old scratch.new }
 {
     scratch[MOST_ATOMS + a] = union(parameters_to(scratch, a), parameters_to(scratch, b));
-    let mut q = b;
-    while q + 1 < n {
+    for q in b..n - 1 {
         scratch[MOST_ATOMS + q] = parameters_to(scratch, q + 1);
-        q += 1;
     }
 }

@@ -8,6 +8,7 @@ mod merging;
 mod schemas;
 pub mod scratch;
 mod search;
+mod sets;
 mod start;
 mod writing;
 
@@ -20,25 +21,11 @@ ghost use Rattle.proposals.specs.Outcome.{scratch_words, settled, propose_outcom
 use crate::schemas::all_parts;
 use crate::scratch::{SCRATCH_WORDS, clear};
 use crate::writing::write_proposed;
-use task::Place;
 use task::limits::{MOST_PARAMETERS, MOST_SCHEMA_ATOMS, TABLE_WORDS};
+use task::{Reason, Refusal};
 
 // The part numbers of a table's schema atoms.
 type Parts = [u16; MOST_SCHEMA_ATOMS];
-
-// "the first such schema" of those that end with more than 16 parts, if there is one.
-#[derive(Clone, Copy)]
-pub enum TooMany {
-    At(u64),
-    Nowhere,
-}
-
-// What proposing answers.
-#[derive(Clone, Copy)]
-pub enum ProposeAnswer {
-    Proposed,
-    Refused(u32, Place),
-}
 
 // The parts are found before anything is written, since 23 leaves the second table as found.
 fn propose_parts(
@@ -46,7 +33,7 @@ fn propose_parts(
     width: usize,
     proposed: &mut [u16],
     scratch: &mut [u64],
-) -> ProposeAnswer
+) -> Result<(), Refusal>
     requires table_value { is_table table.now ≡ true }
     requires table_words_in_bounds { table_words ≤ length proposed.old }
     requires scratch_words_in_bounds { scratch_words ≤ length scratch.old }
@@ -61,13 +48,11 @@ fn propose_parts(
     let mut parts = [0u16; MOST_SCHEMA_ATOMS];
     let many = all_parts(table, width, &mut parts, scratch);
     clear(scratch);
-    match many {
-        TooMany::At(s) => ProposeAnswer::Refused(23, Place::Schema(s)),
-        TooMany::Nowhere => {
-            write_proposed(table, &parts, proposed);
-            ProposeAnswer::Proposed
-        }
+    if let Some(s) = many {
+        return Err(Refusal::at_schema(Reason::TooManyParts, s));
     }
+    write_proposed(table, &parts, proposed);
+    Ok(())
 }
 
 // Proposes a partition for each schema of a table's task: "Given a task and a width from 0 to 12, write its table with
@@ -77,7 +62,7 @@ pub fn propose(
     width: u64,
     proposed: &mut [u16],
     scratch: &mut [u64],
-) -> ProposeAnswer
+) -> Result<(), Refusal>
     ensures told { propose_answer_told result ≡
         (propose_outcome table.now width proposed.old scratch.old).told }
     ensures written { proposed.new ≡
@@ -86,13 +71,13 @@ pub fn propose(
         (propose_outcome table.now width proposed.old scratch.old).buffer.scratch }
 {
     if table.len() < TABLE_WORDS || proposed.len() < TABLE_WORDS {
-        return ProposeAnswer::Refused(1, Place::Nowhere);
+        return Err(Refusal::nowhere(Reason::ShortTable));
     }
     if !task::table::is_table(table) {
-        return ProposeAnswer::Refused(2, Place::Nowhere);
+        return Err(Refusal::nowhere(Reason::NotATable));
     }
     if (MOST_PARAMETERS as u64) < width || scratch.len() < SCRATCH_WORDS {
-        return ProposeAnswer::Refused(22, Place::Nowhere);
+        return Err(Refusal::nowhere(Reason::NoWidth));
     }
     propose_parts(table, width as usize, proposed, scratch)
 }

@@ -10,7 +10,7 @@ ghost use Rattle.proposals.specs.Scratch.{InPlay, KeepsBehind, Named};
 
 use crate::Parts;
 use crate::closing::{merge_arcs, merge_parameters};
-use crate::search::{Found, first_pair};
+use crate::search::first_pair;
 
 // "the merged part takes the lower number and higher ones close up": what becomes of part p.
 fn merged_number(a: usize, b: usize, p: u16) -> u16
@@ -32,10 +32,8 @@ fn renumber(parts: &mut Parts, from: usize, to: usize, a: usize, b: usize)
     ensures { parts.new ≡
         put parts.old from (merged a b (words_at parts.old from (to - from))) }
 {
-    let mut i = from;
-    while i < to {
+    for i in from..to {
         parts[i] = merged_number(a, b, parts[i]);
-        i += 1;
     }
 }
 
@@ -60,7 +58,7 @@ pub fn merge_all(
 {
     let mut n = to - from;
     loop {
-        let Found::Pair(a, b) = first_pair(scratch, n, width) else {
+        let Some((a, b)) = first_pair(scratch, n, width) else {
             return n;
         };
         renumber(parts, from, to, a, b);

@@ -8,11 +8,11 @@ ghost use Rattle.task.specs.Table.{task_of, is_table};
 ghost use Rattle.arcs.specs.Stretches.{IsPairStretch, IsStretch, pair_stretch_in, stretch_in};
 ghost use Rattle.proposals.specs.Proposal.{count_of, proposed_parts, proposed_task, too_many};
 ghost use Rattle.proposals.specs.Outcome.{scratch_words};
-ghost use Rattle.proposals.specs.Scratch.{HaveParts, KeepsBehind, Named, many_told};
+ghost use Rattle.proposals.specs.Scratch.{HaveParts, KeepsBehind, Named};
 
+use crate::Parts;
 use crate::merging::merge_all;
 use crate::start::{number, put_arcs, put_parameters};
-use crate::{Parts, TooMany};
 use arcs::ends::schema_ends;
 use task::limits::{MOST_PARTS, SCHEMAS};
 use words::runs::word;
@@ -47,31 +47,29 @@ fn schema_parts(
 }
 
 // The parts of all schemas, up to the first that ends with more than 16.
-pub fn all_parts(table: &[u16], width: usize, parts: &mut Parts, scratch: &mut [u64]) -> TooMany
+pub fn all_parts(table: &[u16], width: usize, parts: &mut Parts, scratch: &mut [u64]) -> Option<u64>
     requires table_value { is_table table.now ≡ true }
     requires parts_len { length parts.old ≡ most_schema_atoms }
     requires scratch_words_in_bounds { scratch_words ≤ length scratch.old }
     ensures keeps_behind { KeepsBehind scratch.old scratch.new }
-    ensures result_value { many_told result ≡ too_many (proposed_task width (task_of table.now)) }
-    ensures have_parts { many_told result ≡ None →
+    ensures result_value { result ≡ too_many (proposed_task width (task_of table.now)) }
+    ensures have_parts { result ≡ None →
         HaveParts width (task_of table.now) (length (task_of table.now).schemas)
         parts.new }
 {
     let schemas = word(table, SCHEMAS);
     let mut from = 0;
     let mut pair = 0;
-    let mut s = 0;
-    while s < schemas {
+    for s in 0..schemas {
         let ends = schema_ends(table, s, from, pair);
         let count = schema_parts(
             table, width, from, ends.atoms, pair, ends.pairs, parts, scratch,
         );
         if MOST_PARTS < count {
-            return TooMany::At(s as u64);
+            return Some(s as u64);
         }
         from = ends.atoms;
         pair = ends.pairs;
-        s += 1;
     }
-    TooMany::Nowhere
+    None
 }

@@ -33,9 +33,5 @@ pub fn clear(scratch: &mut [u64])
     requires { scratch_words ≤ length scratch.old }
     ensures { scratch.new ≡ cleared scratch.old }
 {
-    let mut i = 0;
-    while i < SCRATCH_WORDS {
-        scratch[i] = 0;
-        i += 1;
-    }
+    scratch[..SCRATCH_WORDS].fill(0);
 }

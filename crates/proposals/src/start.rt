@@ -12,13 +12,15 @@ ghost use Rattle.proposals.specs.Outcome.{scratch_words};
 ghost use Rattle.proposals.specs.Scratch.{KeepsArcs, KeepsBehind, arcs_in, arcs_to, parameters_to};
 
 use crate::Parts;
+use crate::sets::those;
 use arcs::PartnerSets;
 use arcs::atoms::{hold_pair, parameters_of, role_of};
 use arcs::pairs::partners_of;
 use arcs::rule::role_before;
+use std::array;
 use task::layout::predicate;
 use task::limits::{MOST_ATOMS, SCHEMA_ROLES};
-use words::sets::{common, held, lowest, minus, up_to, with, without_lowest};
+use words::sets::{common, held, lowest, minus, up_to, without_lowest};
 
 // For each role the atoms whose role comes before it.
 type RoleSets = [u64; SCHEMA_ROLES];
@@ -31,15 +33,10 @@ fn before_role(table: &[u16], from: usize, to: usize, role: usize) -> u64
     ensures { (p : ℕ) → member result p ≡
         ltb p (to - from) && role_before (atom_in table.now (from + p)).role role }
 {
-    let mut before = 0;
-    let mut i = from;
-    while i < to {
-        if role_before(role_of(table, i), role) {
-            before = with(before, i - from);
-        }
-        i += 1;
-    }
-    before
+    those(
+        up_to(to - from),
+        |p| role_before(role_of(table, from + p), role),
+    )
 }
 
 // The same for each role.
@@ -50,13 +47,7 @@ fn before_roles(table: &[u16], from: usize, to: usize) -> RoleSets
     ensures by_index { (role p : ℕ) → role < schema_roles → member (get_or result role 0) p ≡
         ltb p (to - from) && role_before (atom_in table.now (from + p)).role role }
 {
-    let mut before = [0; SCHEMA_ROLES];
-    let mut role = 0;
-    while role < SCHEMA_ROLES {
-        before[role] = before_role(table, from, to, role);
-        role += 1;
-    }
-    before
+    array::from_fn(|role| before_role(table, from, to, role))
 }
 
 // Of a set of atoms those with the predicate of atom q.
@@ -68,16 +59,7 @@ fn of_predicate(table: &[u16], from: usize, to: usize, set: u64, q: usize) -> u6
         eqb (atom_in table.now (from + p)).pred (atom_in table.now (from + q)).pred }
 {
     let named = predicate(table, from + q);
-    let mut alike = 0;
-    let mut rest = set;
-    while rest != 0 {
-        let p = lowest(rest);
-        rest = without_lowest(rest);
-        if predicate(table, from + p) == named {
-            alike = with(alike, p);
-        }
-    }
-    alike
+    those(set, |p| predicate(table, from + p) == named)
 }
 
 // Of a set of atoms with the predicate of atom q those that hold no declared pair with it.
@@ -98,16 +80,7 @@ fn holding_none(
         member result p ≡ member set p && not (hold_pair pairs (atom_in table.now (from + p)).args
         (atom_in table.now (from + q)).args) }
 {
-    let mut apart = 0;
-    let mut rest = set;
-    while rest != 0 {
-        let p = lowest(rest);
-        rest = without_lowest(rest);
-        if !hold_pair(table, from + p, from + q, partners) {
-            apart = with(apart, p);
-        }
-    }
-    apart
+    those(set, |p| !hold_pair(table, from + p, from + q, partners))
 }
 
 // Of a set of atoms with the predicate of atom q those that give an arc to it.
@@ -209,10 +182,8 @@ pub fn put_parameters(table: &[u16], from: usize, to: usize, scratch: &mut [u64]
     ensures by_index { (p x : ℕ) → p < to - from →
         member (parameters_to scratch.new p) x ≡ names x (atom_in table.now (from + p)) }
 {
-    let mut i = from;
-    while i < to {
+    for i in from..to {
         scratch[MOST_ATOMS + (i - from)] = held(parameters_of(table, i));
-        i += 1;
     }
 }
 
@@ -222,9 +193,7 @@ pub fn number(parts: &mut Parts, from: usize, to: usize)
     requires parts_len { length parts.old ≡ most_schema_atoms }
     ensures { parts.new ≡ put parts.old from (up_to (to - from)) }
 {
-    let mut i = from;
-    while i < to {
+    for i in from..to {
         parts[i] = (i - from) as u16;
-        i += 1;
     }
 }

@@ -24,9 +24,7 @@ pub fn write_proposed(table: &[u16], parts: &Parts, proposed: &mut [u16])
 {
     copy(table, 0, TABLE_WORDS, proposed, 0);
     let atoms = word(table, SCHEMA_ATOMS);
-    let mut i = 0;
-    while i < atoms {
+    for i in 0..atoms {
         proposed[row_of(table, i) + PART] = parts[i];
-        i += 1;
     }
 }
