@@ -1,10 +1,10 @@
 -- Which schema's block a split step begins: as the schemas' first parts are noted one after another, each has a number
 -- of its own.
-use Prim.Native.Nat.{ℕ, suc, ◌+◌, ◌<◌}
+use Prim.Native.Nat.{ℕ, suc, ◌+◌, ◌-◌, ◌≤◌, ◌<◌}
 use mathlib.Core.Path.{◌≡◌, refl, sym, ◌∙◌, ap}
 use mathlib.Core.Bool.{Bool, false, cond}
 use mathlib.Core.List.{List, [], ◌∷◌, ◌++◌}
-use Rattle.std.specs.Prelude.{Option, None, Some}
+use Rattle.std.specs.Prelude.{Option, None, Some, SomeIff}
 use native.Mathlib.Omega.{arith}
 use native.Mathlib.Decide.{ℕ_discrete}
 use native.Mathlib.Numerals.{add-one}
@@ -71,3 +71,23 @@ module _ {t : Task} {kept : List ℕ} (K : BlocksKept t kept) (s : ℕ)
       found : beginner t (first_of t s) (up_to (s + 1)) ≡ Some s
       found = beginner-is t K.some-part s l (up_to (s + 1))
           (λ q i. let m = up_to-in (s + 1) q i in omega arith) (in-up_to (s + 1) s (omega arith))
+
+-- ---- as it is read
+-- a word of 0 says none, another the number before it
+pub begun_read : (o : Option ℕ) (n : ℕ) → SomeIff o (1 ≤ n) (n - 1) → begun_word o ≡ n
+unfolding begun_word
+begun_read None n h = omega (arith, h)
+begun_read (Some s) n h = omega (arith, h.0, h.1)
+
+pub begun_none : begun_word None ≡ 0
+unfolding begun_word
+begun_none = refl
+
+-- so what the word is says which
+pub begun_some : {o : Option ℕ} {s n : ℕ} → begun_word o ≡ n → o ≡ Some s → n ≡ s + 1
+unfolding begun_word
+begun_some e f = sym e ∙ ap begun_word f
+
+pub begun_nothing : {o : Option ℕ} {n : ℕ} → begun_word o ≡ n → o ≡ None → n ≡ 0
+unfolding begun_word
+begun_nothing e f = sym e ∙ ap begun_word f

@@ -1,11 +1,13 @@
 -- Folding by the moves that code makes: a block is begun, goes on part after part, and is complete past its last part.
-use Rattle.blocks.specs.declared.folding.Taken.TheVariants as taken
-use Rattle.blocks.specs.declared.folding.Judged.TheVariants as judged
+use Rattle.task.specs.declared.Place.TheVariants as place
+use Rattle.task.specs.declared.refusals.Reason.TheVariants as reason
 use Prim.Native.Nat.{ℕ, suc, ◌+◌, ◌<◌}
 use mathlib.Core.Path.{◌≡◌, refl, sym, ◌∙◌, ap}
 use mathlib.Core.Bool.{Bool, true, false, cond}
 use mathlib.Core.List.{List, [], ◌∷◌}
-use Rattle.std.specs.Prelude.{Option, None, Some}
+use Rattle.std.specs.Prelude.{Option, None, Some, Result, Ok, Err, MatchResult}
+use Rattle.task.specs.declared.refusals.Reason.{Reason}
+use Rattle.task.specs.declared.refusals.Refusal.{Refusal}
 use native.Mathlib.Omega.{arith}
 use lib.ListN.{length, replicate}
 use lib.Dec.{eqb}
@@ -14,7 +16,6 @@ use Rattle.words.specs.Lists.{up_to}
 use Rattle.task.specs.Task.{Task}
 use Rattle.task.specs.Run.{Step, schema_at}
 use Rattle.tokens.specs.Split.{orders}
-use Rattle.blocks.specs.declared.folding.Taken.{Taken}
 use Rattle.blocks.specs.Blocks.{params_at, Folding, folded, misfit, prepend, beginner, Stage, outside, inside}
 use Rattle.blocks.specs.Blocks.{begun, stage_for, fits_at, last_at, advanced, completed, fold_end, fold_from}
 use Rattle.blocks.specs.FoldCode.{taken_of, judged_of}
@@ -22,59 +23,47 @@ use Rattle.blocks.proofs.FoldBlock.{fold-off, fold-move, fold-finish}
 use Rattle.task.specs.Bindings.{Bound, bind}
 
 -- ---- what is taken apart, behind n steps found
-unfoldable pub taken_after : ℕ → Folding → Taken
-taken_after n (folded xs) = taken.Whole (n + length xs)
-taken_after n (misfit i) = taken.Misfit i
+unfoldable pub taken_after : ℕ → Folding → Result ℕ ℕ
+taken_after n (folded xs) = Ok (n + length xs)
+taken_after n (misfit i) = Err i
 
 pub after_none : (f : Folding) → taken_of f ≡ taken_after 0 f
 unfolding taken_of taken_after
-after_none (folded xs) = let e : length xs ≡ 0 + length xs = omega arith in ap (λ (n : ℕ). taken.Whole n) e
+after_none (folded xs) = let e : length xs ≡ 0 + length xs = omega arith in ap (λ (n : ℕ). Ok n) e
 after_none (misfit i) = refl
 
 pub after_one : (n : ℕ) (x : Step) (f : Folding) → taken_after n (prepend x f) ≡ taken_after (n + 1) f
 unfolding taken_after prepend
 after_one n x (folded xs) =
-    let e : n + suc (length xs) ≡ n + 1 + length xs = omega arith in ap (λ (n : ℕ). taken.Whole n) e
+    let e : n + suc (length xs) ≡ n + 1 + length xs = omega arith in ap (λ (n : ℕ). Ok n) e
 after_one n x (misfit i) = refl
 
 -- ---- how a list is judged: by its first bad step, or else by what it is taken apart into
-pub judged-bad : (b : Option ℕ) (f : Folding) (i : ℕ) → b ≡ Some i → judged.Bad i ≡ judged_of b f
+-- a refusal of a step
+abbrev pub refused_step : Reason → ℕ → Refusal
+refused_step r i = record { reason = r; place = place.Step i }
+
+pub judged-bad : (b : Option ℕ) (f : Folding) (i : ℕ) → b ≡ Some i → Err (refused_step reason.NotAStep i) ≡ judged_of b f
 unfolding judged_of
 judged-bad b f i e = sym (ap (λ (c : Option ℕ). judged_of c f) e)
 
-pub judged-whole : (b : Option ℕ) (f : Folding) (n : ℕ) → b ≡ None → taken.Whole n ≡ taken_of f →
-    judged.Whole n ≡ judged_of b f
+pub judged-taken : (b : Option ℕ) (f : Folding) → b ≡ None → (k : Result ℕ ℕ) → k ≡ taken_of f →
+    (r : Result ℕ Refusal) → MatchResult k (λ n. r ≡ Ok n) (λ i. r ≡ Err (refused_step reason.Misfit i)) → r ≡ judged_of b f
 unfolding judged_of taken_of
-judged-whole (Some i) f n e h = absurd (let z : ◌≡◌ {A = ℕ} 0 1 = cc in omega arith)
-judged-whole None (folded xs) n e h = let z : n ≡ length xs = cc in ap (λ (k : ℕ). judged.Whole k) z
-judged-whole None (misfit i) n e h = absurd (let z : ◌≡◌ {A = ℕ} 0 1 = cc in omega arith)
-
-pub judged-misfit : (b : Option ℕ) (f : Folding) (i : ℕ) → b ≡ None → taken.Misfit i ≡ taken_of f →
-    judged.Misfit i ≡ judged_of b f
-unfolding judged_of taken_of
-judged-misfit (Some k) f i e h = absurd (let z : ◌≡◌ {A = ℕ} 0 1 = cc in omega arith)
-judged-misfit None (folded xs) i e h = absurd (let z : ◌≡◌ {A = ℕ} 0 1 = cc in omega arith)
-judged-misfit None (misfit k) i e h = let z : i ≡ k = cc in ap (λ (k : ℕ). judged.Misfit k) z
+judged-taken (Some i) f e k h r m = absurd (let z : ◌≡◌ {A = ℕ} 0 1 = cc in omega arith)
+judged-taken None (folded xs) e (Ok n) h r m = let z : n ≡ length xs = cc in m ∙ ap (λ (k : ℕ). Ok k) z
+judged-taken None (folded xs) e (Err i) h r m = absurd (let z : ◌≡◌ {A = ℕ} 0 1 = cc in omega arith)
+judged-taken None (misfit i) e (Ok n) h r m = absurd (let z : ◌≡◌ {A = ℕ} 0 1 = cc in omega arith)
+judged-taken None (misfit i) e (Err k) h r m =
+    let z : k ≡ i = cc in m ∙ ap (λ (k : ℕ). Err (refused_step reason.Misfit k)) z
 
 -- and back: the judgement tells what the list folds to
-pub is-bad : (b : Option ℕ) (f : Folding) (i : ℕ) → judged.Bad i ≡ judged_of b f → b ≡ Some i
-unfolding judged_of
-is-bad (Some k) f i e = let z : k ≡ i = cc in ap (λ (n : ℕ). Some n) z
-is-bad None (folded xs) i e = absurd (let z : ◌≡◌ {A = ℕ} 0 1 = cc in omega arith)
-is-bad None (misfit k) i e = absurd (let z : ◌≡◌ {A = ℕ} 0 1 = cc in omega arith)
-
-pub is_whole : (b : Option ℕ) (f : Folding) (n : ℕ) → judged.Whole n ≡ judged_of b f →
+pub is_whole : (b : Option ℕ) (f : Folding) (n : ℕ) → Ok n ≡ judged_of b f →
     (b ≡ None) × ((xs : List Step) × (f ≡ folded xs) × (n ≡ length xs))
 unfolding judged_of
 is_whole (Some k) f n e = absurd (let z : ◌≡◌ {A = ℕ} 0 1 = cc in omega arith)
 is_whole None (folded xs) n e = (refl, (xs, refl, cc))
 is_whole None (misfit k) n e = absurd (let z : ◌≡◌ {A = ℕ} 0 1 = cc in omega arith)
-
-pub is-misfit : (b : Option ℕ) (f : Folding) (i : ℕ) → judged.Misfit i ≡ judged_of b f → (b ≡ None) × (f ≡ misfit i)
-unfolding judged_of
-is-misfit (Some k) f i e = absurd (let z : ◌≡◌ {A = ℕ} 0 1 = cc in omega arith)
-is-misfit None (folded xs) i e = absurd (let z : ◌≡◌ {A = ℕ} 0 1 = cc in omega arith)
-is-misfit None (misfit k) i e = let z : k ≡ i = cc in (refl, ap (λ (n : ℕ). misfit n) z)
 
 -- ---- moves of folding
 -- a list that folds behind a step folds to that step and more

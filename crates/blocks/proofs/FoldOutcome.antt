@@ -1,12 +1,17 @@
 -- What folding does by the first check that fails, and what it does where all pass: its refusals leave all as found.
 use Rattle.task.specs.declared.Place.TheVariants as place
+use Rattle.task.specs.declared.refusals.Reason.TheVariants as reason
 use Prim.Native.Nat.{ℕ}
 use mathlib.Core.Path.{◌≡◌, refl, ◌∙◌, ap}
 use mathlib.Core.Bool.{true, false}
 use mathlib.Core.List.{List, [], ◌∷◌}
-use Rattle.std.specs.Prelude.{None, Some}
+use Rattle.std.specs.Prelude.{Option, None, Some, Err}
+use native.Mathlib.Omega.{arith}
+use Rattle.task.specs.declared.refusals.Refusal.{Refusal}
+use Rattle.blocks.specs.FoldCode.{judged_of}
+use Rattle.blocks.proofs.FoldMoves.{refused_step}
 use Rattle.task.specs.declared.Place.{Place}
-use Rattle.task.specs.Answers.{Outcome, Check, refuse_unless, in_order, refuse_at}
+use Rattle.task.specs.Answers.{reason_number, Outcome, Check, refuse_unless, in_order, refuse_at}
 use Rattle.task.specs.Table.{task_of}
 use Rattle.task.specs.Run.{Step, steps_in, bad_step}
 use Rattle.task.proofs.Answers.{as_found, check-passes, check-refuses, refusal-stands, place-passes, place-refuses}
@@ -70,10 +75,26 @@ module _ (w steps out : List ℕ) where
       unfolding in_order fold_check
       fold-misfit {i} e = taken (misfit i) e
 
+    -- what the list's judgement refuses the outcome refuses
+    pub fold-judged : (b : Option ℕ) → bad_step (split_task (task_of w)) steps ≡ b → (f : Folding) →
+        folding_of w steps ≡ f → (r : Refusal) → Err r ≡ judged_of b f →
+        fold_outcome w steps out ≡ as_found (reason_number r.reason) r.place out
+    unfolding judged_of
+    fold-judged (Some i) e f q r h =
+        fold-bad-step e ∙
+        ap (λ (r : Refusal). as_found (reason_number r.reason) r.place out)
+        (let z : refused_step reason.NotAStep i ≡ r = cc in z)
+    fold-judged None e (folded xs) q r h = absurd (let z : ◌≡◌ {A = ℕ} 0 1 = cc in omega arith)
+    fold-judged None e (misfit i) q r h =
+        fold-misfit e q ∙
+        ap (λ (r : Refusal). as_found (reason_number r.reason) r.place out)
+        (let z : refused_step reason.Misfit i ≡ r = cc in z)
+
+    module _ (good : bad_step (split_task (task_of w)) steps ≡ None) where
       module _ (xs : List Step) (f : folding_of w steps ≡ folded xs) where
         blocks-pass : fold_outcome w steps out ≡ in_order (room_check (folded xs)) out (done_by (folded xs))
         unfolding in_order fold_check
-        blocks-pass = taken (folded xs) f
+        blocks-pass = taken good (folded xs) f
 
         pub fold-no-room : fits_in (list_words xs) out ≡ false →
             fold_outcome w steps out ≡ as_found 13 place.Nowhere out

@@ -1,10 +1,9 @@
 -- A list taken apart block by block: the steps passed are the split's, and, if all are, what was found so far is right.
-use Rattle.blocks.specs.declared.folding.Taken.TheVariants as taken
 use Prim.Native.Nat.{ℕ, ◌+◌, ◌-◌, ◌*◌, ◌/◌, ◌≤◌, ◌<◌}
 use mathlib.Core.Path.{◌≡◌, sym, subst}
 use mathlib.Core.Bool.{true, false}
 use mathlib.Core.List.{List}
-use Rattle.std.specs.Prelude.{None}
+use Rattle.std.specs.Prelude.{None, Ok, Err}
 use native.Mathlib.Omega.{arith}
 use native.Mathlib.Decide.{dec_lt}
 use lib.ListN.{length, get_or}
@@ -29,7 +28,7 @@ found_none t steps = record { good = λ k l. absurd (omega arith); right = λ g.
 
 -- at the list's end
 pub found-whole : {t : Task} {steps : List ℕ} (n i : ℕ) → i ≡ length steps / step_size → FoundSo t steps n i →
-    TakenTold t steps (taken.Whole n)
+    TakenTold t steps (Ok n)
 unfolding reached_by
 found-whole {t} {steps} n i e h = record {
   good = λ k l. h.good k (omega arith);
@@ -47,7 +46,7 @@ module _ {t : Task} {kept begins params origins places limits pairs : List ℕ}
   judged g = record { blocks = K.blocks; good = g; begun = B; origin = K.origin }
 
   -- the step begins no block
-  pub found-no-block : word ≡ 0 → TakenTold t steps (taken.Misfit i)
+  pub found-no-block : word ≡ 0 → TakenTold t steps (Err i)
   unfolding reached_by
   found-no-block e = record {
     good = h.good;
@@ -79,9 +78,9 @@ module _ {t : Task} {kept begins params origins places limits pairs : List ℕ}
 
       -- but the next doesn't
       pub found-broken : (k : ℕ) → k ≡ i + r → r < length (orders t s) → is_part t steps origins i s r ≡ false →
-          TakenTold t steps (taken.Misfit k)
+          TakenTold t steps (Err k)
       unfolding reached_by
-      found-broken k z m stops = subst (λ (k : ℕ). TakenTold t steps (taken.Misfit k)) (sym z) (record {
+      found-broken k z m stops = subst (λ (k : ℕ). TakenTold t steps (Err k)) (sym z) (record {
         good = good-past;
         right = λ g.
             taken-misfit t steps n (i + r)

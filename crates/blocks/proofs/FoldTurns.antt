@@ -1,12 +1,11 @@
 -- The turns of folding's loops. Between blocks, and in a block before each of its parts, what the whole list folds to
 -- is known from what is left of it; a claim F of that is carried from turn to turn.
-use Rattle.blocks.specs.declared.folding.Taken.TheVariants as taken
 use Prim.Native.Nat.{ℕ, zero, suc, ◌+◌, ◌-◌, ◌*◌, ◌/◌, ◌≤◌, ◌<◌}
 use mathlib.Core.Path.{◌≡◌, refl, sym, ◌∙◌, ap, ap₂, subst}
 use mathlib.Core.Bool.{Bool, true, false, cond}
 use mathlib.Core.List.{List, [], ◌∷◌}
 use mathlib.Core.Logic.{inl, inr}
-use Rattle.std.specs.Prelude.{Some}
+use Rattle.std.specs.Prelude.{Some, Ok, Err}
 use native.Mathlib.Omega.{arith}
 use native.Mathlib.Decide.{dec_lt}
 use native.Mathlib.Numerals.{add-one}
@@ -191,15 +190,15 @@ unfolding fold_steps
 taken_start t steps = after_none (fold_from t outside 0 (steps_in (split_task t) steps))
 
 pub taken-whole : (t : Task) (steps : List ℕ) (n i : ℕ) → length steps / step_size ≤ i →
-    TakenSo t steps n (left_from t steps i) → taken.Whole n ≡ taken_of (fold_steps t (steps_in (split_task t) steps))
+    TakenSo t steps n (left_from t steps i) → Ok n ≡ taken_of (fold_steps t (steps_in (split_task t) steps))
 unfolding taken_after
 taken-whole t steps n i l h =
     let e : n ≡ n + 0 = omega arith in
-    ap (λ (k : ℕ). taken.Whole k) e
+    ap (λ (k : ℕ). Ok k) e
     ∙ sym (h ∙ ap (taken_after n) (ap (fold_from t outside i) (step-none t steps i l) ∙ list-ends t i))
 
 pub taken-misfit : (t : Task) (steps : List ℕ) (n i : ℕ) → TakenSo t steps n (misfit i) →
-    taken.Misfit i ≡ taken_of (fold_steps t (steps_in (split_task t) steps))
+    Err i ≡ taken_of (fold_steps t (steps_in (split_task t) steps))
 unfolding taken_after
 taken-misfit t steps n i h = sym h
 

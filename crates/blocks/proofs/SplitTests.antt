@@ -1,12 +1,11 @@
 -- What code finds of a step of the split, one test after another, from what is noted of each schema: it is whole, its
 -- schema is known, behind that are objects of the task and zeros, as many as the schema's parameters say, and at each
 -- pair that the schema carries, of the rows of all, the objects differ.
-use Rattle.task.specs.declared.BadStep.TheVariants as bad
 use Prim.Native.Nat.{ℕ, ◌+◌, ◌*◌, ◌≤◌, ◌<◌}
 use mathlib.Core.Path.{◌≡◌, refl, sym, ◌∙◌, ap, ap₂, subst}
 use mathlib.Core.Bool.{Bool, true, false, ◌&&◌, and-true}
 use mathlib.Core.List.{List, [], ◌∷◌}
-use Rattle.std.specs.Prelude.{None}
+use Rattle.std.specs.Prelude.{Option, None, Some}
 use native.Mathlib.Omega.{arith}
 use lib.ListN.{length, get_or, set, take}
 use borrow.Author.Tests.{leb-true}
@@ -19,11 +18,12 @@ use Rattle.words.proofs.Words.{At, at_right, at-words_at, words_at-take}
 use Rattle.task.specs.Limits.{most_pairs, pair_size, step_size}
 use Rattle.task.specs.Task.{Pair, Schema, Task, no_schema, schema_pairs, well_formed}
 use Rattle.task.specs.Table.{pair_words, pairs_from}
-use Rattle.task.specs.declared.BadStep.{BadStep}
-use Rattle.task.specs.Run.{differ, schema_at, param_count, is_step_at, bad_step, bad_step_found}
+use Rattle.task.specs.Run.{differ, schema_at, param_count, is_step_at, bad_step}
 use Rattle.task.specs.StepTests.{limits_for, objects_then_zeros, apart_at, PairsFew}
 use Rattle.task.proofs.Tests.{task-tests}
-use Rattle.task.proofs.BadSteps.{good-steps}
+use Rattle.task.proofs.BadSteps.{good-steps, tried, bad-step-at, no-bad-step}
+use Rattle.std.specs.Option.{MatchOption}
+use native.Mathlib.Decide.{dec_lt}
 use Rattle.task.proofs.States.{PairFits, well_formed-is}
 use Rattle.task.proofs.SchemaRows.{length-rows_from}
 use Rattle.task.proofs.PairsStand.{pairs-even}
@@ -173,7 +173,22 @@ module _ {t : Task} {params limits pairs : List ℕ} (S : StepsKnown t params li
       (sym whole ∙ good-steps (split_task t) steps h i (omega arith))
 
   -- so where a list's first bad step is found, either it is told or no pair is left to tell
-  pub equal-told : (steps : List ℕ) (r : BadStep) → bad_step_found r ≡ bad_step (split_task t) steps → EqualTold t steps r
-  unfolding EqualTold bad_step_found
-  equal-told steps (bad.At i) e = sym e
-  equal-told steps bad.Nowhere e = good-apart steps (sym e)
+  pub equal-told : (steps : List ℕ) (r : Option ℕ) → r ≡ bad_step (split_task t) steps → EqualTold t steps r
+  unfolding EqualTold
+  equal-told steps (Some i) e = sym e
+  equal-told steps None e = good-apart steps (sym e)
+
+-- ---- a search from one step on
+-- of steps that are the split's up to one the first found behind that is not is the first bad one
+pub first_found : (u : Task) (w : List ℕ) (from end : ℕ) (r : Option ℕ) → end ≡ tried w →
+    ((k : ℕ) → k < from → is_step_at u w k ≡ true) →
+    MatchOption r ((k : ℕ) → from ≤ k → k < end → is_step_at u w k ≡ true)
+    (λ i. (from ≤ i) × (i < end) × (is_step_at u w i ≡ false) × ((k : ℕ) → from ≤ k → k < i → is_step_at u w k ≡ true)) →
+    r ≡ bad_step u w
+first_found u w from end None e g h =
+    sym (no-bad-step u w (λ k l. elim (dec_lt k from) [ yes q ↦ g k q | no q ↦ h k (omega arith) (omega arith) ]))
+first_found u w from end (Some i) e g h =
+    sym (bad-step-at u w i (omega (arith, h.1)) (λ k l. elim (dec_lt k from) [
+      | yes q ↦ g k q
+      | no q ↦ h.3 k (omega arith) l
+    ]) h.2)

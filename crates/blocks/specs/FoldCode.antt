@@ -1,23 +1,20 @@
 -- What folding's code looks up of a split and keeps while it goes over a list of split steps, and what its inner
 -- functions promise, by the words that they read. No promise of an entry point cites these.
-use Rattle.blocks.specs.declared.folding.Taken.TheVariants as taken
-use Rattle.blocks.specs.declared.folding.Judged.TheVariants as judged
-use Rattle.task.specs.declared.BadStep.TheVariants as bad
+use Rattle.task.specs.declared.Place.TheVariants as place
+use Rattle.task.specs.declared.refusals.Reason.TheVariants as reason
 use Rattle.std.specs.Prelude.{ℕ, ◌+◌, ◌*◌, ◌/◌, ◌≤◌, ◌<◌, ◌≡◌, Bool, true, false, ◌&&◌, List, ◌∷◌, map, length, get_or, eqb}
-use Rattle.std.specs.Prelude.{Option, None, Some}
+use Rattle.std.specs.Prelude.{Option, None, Some, Result, Ok, Err}
 use Rattle.words.specs.Lists.{all, up_to, eq_list}
 use Rattle.words.specs.Sets.{member, members}
 use Rattle.words.specs.Words.{words_at}
 use Rattle.task.specs.Limits.{most_parameters, most_schemas, most_pairs, pair_size, step_size}
 use Rattle.task.specs.Task.{Task, schema_pairs, well_formed}
 use Rattle.task.specs.Table.{pairs_from}
-use Rattle.task.specs.declared.BadStep.{BadStep}
+use Rattle.task.specs.declared.refusals.Refusal.{Refusal}
 use Rattle.task.specs.Run.{Step, schema_at, differ, param_count, step_at, is_step_at, steps_in, bad_step}
 use Rattle.task.specs.StepTests.{limits_for}
 use Rattle.tokens.specs.Split.{orders, split_task, first_of}
 use Rattle.tokens.specs.Kept.{kept_count, kept_own}
-use Rattle.blocks.specs.declared.folding.Taken.{Taken}
-use Rattle.blocks.specs.declared.folding.Judged.{Judged}
 use Rattle.blocks.specs.Blocks.{part_step, beginner, Folding, folded, misfit, fold_steps}
 use Rattle.blocks.specs.Unfolding.{BlocksKept}
 
@@ -169,27 +166,27 @@ KeepApart t steps = (i : ℕ) → step_size * i + step_size ≤ length steps →
     true
 
 -- a first look at the pairs alone: the first bad step, where some has equal objects
-unfoldable pub EqualTold : Task → List ℕ → BadStep → Type 0
-EqualTold t steps (bad.At i) = bad_step (split_task t) steps ≡ Some i
-EqualTold t steps bad.Nowhere = KeepApart t steps
+unfoldable pub EqualTold : Task → List ℕ → Option ℕ → Type 0
+EqualTold t steps (Some i) = bad_step (split_task t) steps ≡ Some i
+EqualTold t steps None = KeepApart t steps
 
 -- ---- what a list is taken apart into: so many steps, or a misfit
-unfoldable pub taken_of : Folding → Taken
-taken_of (folded xs) = taken.Whole (length xs)
-taken_of (misfit i) = taken.Misfit i
+unfoldable pub taken_of : Folding → Result ℕ ℕ
+taken_of (folded xs) = Ok (length xs)
+taken_of (misfit i) = Err i
 
 -- up to which step it was taken apart, of so many
-unfoldable pub reached_by : ℕ → Taken → ℕ
-reached_by count (taken.Whole n) = count
-reached_by count (taken.Misfit i) = i
+unfoldable pub reached_by : ℕ → Result ℕ ℕ → ℕ
+reached_by count (Ok n) = count
+reached_by count (Err i) = i
 
 -- the steps up to there are the split's, and if all are, the answer is right
-pub record TakenTold (t : Task) (steps : List ℕ) (r : Taken) : Type 0 where
+pub record TakenTold (t : Task) (steps : List ℕ) (r : Result ℕ ℕ) : Type 0 where
   pub good : GoodBefore t steps (reached_by (length steps / step_size) r)
   pub right : bad_step (split_task t) steps ≡ None → r ≡ taken_of (fold_steps t (steps_in (split_task t) steps))
 
 -- ---- the judgement of a list: 12 before 14
-unfoldable pub judged_of : Option ℕ → Folding → Judged
-judged_of (Some i) f = judged.Bad i
-judged_of None (folded xs) = judged.Whole (length xs)
-judged_of None (misfit i) = judged.Misfit i
+unfoldable pub judged_of : Option ℕ → Folding → Result ℕ Refusal
+judged_of (Some i) f = Err (record { reason = reason.NotAStep; place = place.Step i })
+judged_of None (folded xs) = Ok (length xs)
+judged_of None (misfit i) = Err (record { reason = reason.Misfit; place = place.Step i })

@@ -4,22 +4,22 @@ ghost use Rattle.words.specs.Lists.{all, up_to, over, put};
 ghost use Rattle.task.specs.Limits.{most_parameters, most_parts, most_schemas, step_size};
 ghost use Rattle.task.specs.Task.{Task};
 ghost use Rattle.task.specs.Table.{task_of};
-ghost use Rattle.task.specs.Run.{Step, step_words, is_step_at, bad_step, bad_step_found, steps_in};
+ghost use Rattle.task.specs.Run.{Step, step_words, is_step_at, bad_step, steps_in};
 ghost use Rattle.tokens.specs.Split.{orders, split_task, first_of};
 ghost use Rattle.tokens.specs.Kept.{kept_count};
 ghost use Rattle.tokens.specs.Acceptance.{AcceptedKept};
 ghost use Rattle.blocks.specs.Blocks.{fold_steps, folded, list_words};
 ghost use Rattle.blocks.specs.Unfolding.{BlocksKept, TableKept};
-ghost use Rattle.blocks.specs.FoldCode.{BeginsKept, ParamsNoted, origin_place, origin_words, OriginsKept};
+ghost use Rattle.blocks.specs.FoldCode.{BeginsKept, ParamsNoted, origin_place, OriginsKept};
 ghost use Rattle.blocks.specs.FoldCode.{PartNoted, PartsNoted, PartPlaced, PlacesNoted, PairsNoted};
 ghost use Rattle.blocks.specs.FoldCode.{object_in, agrees_at, gathered};
 ghost use Rattle.blocks.specs.FoldCode.{is_part, StepsKnown, BlocksKnown, GoodBefore, SplitStepsKept};
-ghost use Rattle.blocks.specs.FoldCode.{KeepApart, EqualTold, reached_by, TakenTold, judged_of};
+ghost use Rattle.blocks.specs.FoldCode.{begun_word, KeepApart, EqualTold, reached_by, TakenTold, judged_of};
 
 use task::layout::{object_count, param_count, schema_count};
 use task::limits::{MOST_PAIRS, MOST_PARAMETERS, MOST_SCHEMAS, PAIR_SIZE, STEP_SIZE};
 use task::steps::{Limits, are_within, keep_apart, limits_of, object_of, schema_at};
-use task::{BadStep, Object, Parameter};
+use task::{Object, Parameter, Reason, Refusal};
 use tokens::kept::{Kept, count_of, first_of, own_at};
 use tokens::measure::Sizes;
 use tokens::pairs::all_pairs;
@@ -46,22 +46,6 @@ type Places = [u16; ORIGIN_WORDS];
 const PAIR_WORDS: usize = 1 + PAIR_SIZE * MOST_PAIRS;
 
 type Pairs = [u16; PAIR_WORDS];
-
-// What a list is taken apart into: so many steps; or the step that fits no block is told, or the step count where the
-// last block is unfinished.
-#[derive(Clone, Copy)]
-pub enum Taken {
-    Whole(u64),
-    Misfit(u64),
-}
-
-// How it is judged: by the first step that is none of the split, or else by what it is taken apart into.
-#[derive(Clone, Copy)]
-pub enum Judged {
-    Whole(u64),
-    Misfit(u64),
-    Bad(u64),
-}
 
 // Which schema's block each schema of the split begins.
 pub fn begins_of(kept: &Kept, schemas: u16) -> Begins
@@ -120,21 +104,17 @@ pub fn origins_of(kept: &Kept, schemas: u16) -> Origins
 // Those of the parameters of schema s are noted, from its last part to its first, so that the first that has one
 // stands.
 fn note_origins(kept: &Kept, s: usize, origins: &mut Origins)
-    requires s_lt_most_schemas { (s < most_schemas) × (kept_count kept.now s ≤ most_parts) }
-    requires origins_len { length origins.old ≡ origin_words }
+    requires { (s < most_schemas) × (kept_count kept.now s ≤ most_parts) }
     ensures { PartsNoted kept.now s 0 origins.old origins.new }
 {
-    let mut j = count_of(kept, s);
-    while 0 < j {
-        j -= 1;
+    for j in (0..count_of(kept, s)).rev() {
         note_part(own_at(kept, s, j), s, j, origins);
     }
 }
 
 // Those of the part at position j, as it gives them.
 fn note_part(own: u64, s: usize, j: usize, origins: &mut Origins)
-    requires s_lt_most_schemas { (s < most_schemas) × (j < most_parts) }
-    requires origins_len { length origins.old ≡ origin_words }
+    requires { (s < most_schemas) × (j < most_parts) }
     ensures { PartNoted own s j most_parameters origins.old origins.new }
 {
     let mut next = STEP_SIZE * j + 1;
@@ -161,10 +141,8 @@ fn places_of(kept: &Kept, schemas: u16, origins: &Origins) -> Places
 
 // Those of the parts of schema s are noted.
 fn note_places(kept: &Kept, s: usize, origins: &Origins, places: &mut Places)
-    requires places_len { length places.old ≡ origin_words }
-    requires blocks_kept { (t : Task) × BlocksKept t kept.now × (s < length t.schemas) }
-    ensures places_len_2 { length places.new ≡ origin_words }
-    ensures places_noted { (t : Task) → BlocksKept t kept.now → s < length t.schemas →
+    requires { (t : Task) × BlocksKept t kept.now × (s < length t.schemas) }
+    ensures { (t : Task) → BlocksKept t kept.now → s < length t.schemas →
         PlacesNoted t kept.now origins.now (first_of t s) places.old →
         PlacesNoted t kept.now origins.now (first_of t (s + 1)) places.new }
 {
@@ -177,8 +155,7 @@ fn note_places(kept: &Kept, s: usize, origins: &Origins, places: &mut Places)
 
 // Those of one part of schema s, by its number in the split: its own parameters are those of the set, ascending.
 fn place_part(own: u64, s: usize, number: usize, origins: &Origins, places: &mut Places)
-    requires s_lt_most_schemas { (s < most_schemas) × (number < most_schemas) }
-    requires places_len { length places.old ≡ origin_words }
+    requires { (s < most_schemas) × (number < most_schemas) }
     ensures { PartPlaced own s number most_parameters origins.now places.old
         places.new }
 {
@@ -202,16 +179,13 @@ fn pairs_of(table: &[u16], kept: &Kept, sizes: Sizes) -> Pairs
     pairs
 }
 
-// The schema whose block the step whose words begin at `at` can begin: its number and one, 0 for none.
-fn begun_at(steps: &[u16], at: usize, begins: &Begins) -> usize
-    requires { (at < length steps.now) × (length begins.now ≡ most_schemas) }
-    ensures { result ≡ get_or begins.now (get_or steps.now at 0) 0 }
+// The schema whose block the step whose words begin at `at` can begin, if any.
+fn begun_at(steps: &[u16], at: usize, begins: &Begins) -> Option<usize>
+    requires { at < length steps.now }
+    ensures { begun_word result ≡ get_or begins.now (get_or steps.now at 0) 0 }
 {
-    let number = schema_at(steps, at);
-    if MOST_SCHEMAS <= number {
-        return 0;
-    }
-    wide(begins[number])
+    let begun = begins.get(schema_at(steps, at))?;
+    wide(*begun).checked_sub(1)
 }
 
 // The object that the block which begins at the word `begin` gives for a parameter of schema s: one of the task, by its
@@ -319,7 +293,9 @@ fn part_fits(
     agree(steps, places, STEP_SIZE * i, at, number, params[number])
 }
 
-// "Folding stops at the first step in any block that disagrees." Here it also stops at one that isn't the split's.
+// What a list is taken apart into: so many steps; or the step that fits no block, or the step count where the last block
+// is unfinished. "Folding stops at the first step in any block that disagrees." Here it also stops at one that isn't
+// the split's.
 fn take_apart(
     steps: &[u16],
     kept: &Kept,
@@ -327,7 +303,7 @@ fn take_apart(
     params: &Params,
     places: &Places,
     limits: &Limits,
-) -> Taken
+) -> Result<u64, u64>
     requires { (t : Task) × (origins : List ℕ) × (pairs : List ℕ) ×
         BlocksKnown t kept.now params.now origins places.now limits.now pairs × KeepApart t steps.now ×
         BeginsKept t begins.now }
@@ -341,34 +317,30 @@ fn take_apart(
     let mut i = 0;
     'list: loop {
         if i == count {
-            break 'list Taken::Whole(taken);
+            break 'list Ok(taken);
         }
         let begun = begun_at(steps, STEP_SIZE * i, begins);
-        if begun == 0 {
-            break 'list Taken::Misfit(i as u64);
-        }
-        let s = begun - 1;
+        let Some(s) = begun else {
+            break 'list Err(i as u64);
+        };
         let parts = count_of(kept, s);
-        let begin = i;
-        let mut j = 0;
-        while j < parts {
-            if !part_fits(steps, begin, s, j, kept, params, places, limits) {
-                break 'list Taken::Misfit(i as u64);
+        for j in 0..parts {
+            if !part_fits(steps, i, s, j, kept, params, places, limits) {
+                break 'list Err((i + j) as u64);
             }
-            i += 1;
-            j += 1;
         }
+        i += parts;
         taken += 1;
     }
 }
 
 // Up to which step a list was taken apart, of so many.
-fn reached(taken: Taken, count: usize) -> usize
+fn reached(taken: Result<u64, u64>, count: usize) -> usize
     ensures { result ≡ reached_by count taken }
 {
     match taken {
-        Taken::Whole(_) => count,
-        Taken::Misfit(i) => i as usize,
+        Ok(_) => count,
+        Err(i) => i as usize,
     }
 }
 
@@ -406,22 +378,17 @@ fn bad_from(
     params: &Params,
     limits: &Limits,
     pairs: &Pairs,
-) -> BadStep
+) -> Option<u64>
     requires { (t : Task) × StepsKnown t params.now limits.now pairs.now ×
         (splits ≡ first_of t (length t.schemas)) }
     ensures { (t : Task) → StepsKnown t params.now limits.now pairs.now →
         splits ≡ first_of t (length t.schemas) → GoodBefore t steps.now from →
-        bad_step_found result ≡ bad_step (split_task t) steps.now }
+        result ≡ bad_step (split_task t) steps.now }
 {
     let begun = (steps.len() + STEP_SIZE - 1) / STEP_SIZE;
-    let mut i = from;
-    while i < begun {
-        if !is_split_step(steps, i, splits, params, limits, pairs) {
-            return BadStep::At(i as u64);
-        }
-        i += 1;
-    }
-    BadStep::Nowhere
+    (from..begun)
+        .find(|i| !is_split_step(steps, *i, splits, params, limits, pairs))
+        .map(|i| i as u64)
 }
 
 // Where the split has pairs, the first bad step of the list, by all that 12 judges; where it has none, no step has
@@ -432,14 +399,14 @@ fn equal_step(
     params: &Params,
     limits: &Limits,
     pairs: &Pairs,
-) -> BadStep
+) -> Option<u64>
     requires { (t : Task) × StepsKnown t params.now limits.now pairs.now ×
         (splits ≡ first_of t (length t.schemas)) }
     ensures { (t : Task) → StepsKnown t params.now limits.now pairs.now →
         splits ≡ first_of t (length t.schemas) → EqualTold t steps.now result }
 {
     if pairs[0] == 0 {
-        return BadStep::Nowhere;
+        return None;
     }
     bad_from(steps, 0, splits, params, limits, pairs)
 }
@@ -453,7 +420,7 @@ pub fn judge(
     steps: &[u16],
     begins: &Begins,
     origins: &Origins,
-) -> Judged
+) -> Result<u64, Refusal>
     requires accepted_kept { AcceptedKept table.now sizes kept.now }
     requires begins_kept { BeginsKept (task_of table.now) begins.now }
     requires origins_kept { OriginsKept kept.now (length (task_of table.now).schemas) origins.now }
@@ -466,9 +433,8 @@ pub fn judge(
     let places = places_of(kept, schemas, origins);
     let limits = limits_of(object_count(table));
     let pairs = pairs_of(table, kept, sizes);
-    let equal = equal_step(steps, sizes.schemas, &params, &limits, &pairs);
-    if let BadStep::At(i) = equal {
-        return Judged::Bad(i);
+    if let Some(i) = equal_step(steps, sizes.schemas, &params, &limits, &pairs) {
+        return Err(Refusal::at_step(Reason::NotAStep, i));
     }
     let taken = take_apart(steps, kept, begins, &params, &places, &limits);
     let bad = bad_from(
@@ -479,13 +445,10 @@ pub fn judge(
         &limits,
         &pairs,
     );
-    if let BadStep::At(i) = bad {
-        return Judged::Bad(i);
+    if let Some(i) = bad {
+        return Err(Refusal::at_step(Reason::NotAStep, i));
     }
-    match taken {
-        Taken::Whole(found) => Judged::Whole(found),
-        Taken::Misfit(i) => Judged::Misfit(i),
-    }
+    taken.map_err(|i| Refusal::at_step(Reason::Misfit, i))
 }
 
 // "schema, one object per parameter, zeros": the step of schema s, with so many parameters, whose block begins at the
@@ -527,12 +490,9 @@ pub fn put_folded(table: &[u16], steps: &[u16], begins: &Begins, origins: &Origi
 {
     let count = steps.len() / STEP_SIZE;
     let mut next = 0;
-    let mut i = 0;
-    while i < count {
+    for i in 0..count {
         let begin = STEP_SIZE * i;
-        let begun = begun_at(steps, begin, begins);
-        if begun != 0 {
-            let s = begun - 1;
+        if let Some(s) = begun_at(steps, begin, begins) {
             put_gathered(
                 steps,
                 origins,
@@ -544,6 +504,5 @@ pub fn put_folded(table: &[u16], steps: &[u16], begins: &Begins, origins: &Origi
             );
             next += STEP_SIZE;
         }
-        i += 1;
     }
 }

@@ -2,29 +2,28 @@
 -- The measure is the schemas left.
 use Rattle.blocks.proofs.folding.origins_of.Tie as tie
 use Prim.Native.Nat.{ℕ, ◌-◌, ◌≤◌}
-use mathlib.Core.Path.{◌≡◌, refl, ◌∙◌, subst}
+use mathlib.Core.Path.{◌≡◌, subst}
 use native.Mathlib.Omega.{arith}
-use lib.ListN.{length}
-use Rattle.blocks.specs.FoldCode.{origin_words, OriginsKept}
+use Rattle.blocks.specs.FoldCode.{OriginsKept}
 use Rattle.blocks.proofs.Origins.{origins-start, origins-more}
 use Rattle.blocks.proofs.folding.origins_of.Statement.{statement}
 
 abbrev invariant-loop-s : tie.invariant-loop-s
 invariant-loop-s kept schemas origins₀ s₀ origins s =
-    (s ≤ schemas) × (length origins ≡ origin_words) × OriginsKept kept s origins
+    (s ≤ schemas) × OriginsKept kept s origins
 
 abbrev decreases-loop-s : tie.decreases-loop-s
 decreases-loop-s kept schemas origins₀ s₀ origins s = schemas - s
 
 loop-holds : tie.Need-loop-s-init invariant-loop-s decreases-loop-s
-loop-holds c = (omega arith, refl, origins-start c.args.kept.now _)
+loop-holds c = (omega arith, origins-start c.args.kept.now _)
 
 note-origins-requires : tie.Need-note_origins-requires invariant-loop-s decreases-loop-s
 note-origins-requires c κs =
     let d = c in
     let (few, parts) = d.requires in
     let l = d.loop-s-test.true in
-    ((omega arith, parts d.loop-s.s l), d.loop-s.invariant.1)
+    (omega arith, parts d.loop-s.s l)
 
 loop-again : tie.Need-loop-s-preserved invariant-loop-s decreases-loop-s
 loop-again c =
@@ -32,14 +31,14 @@ loop-again c =
     let h = d.loop-s in
     let l = d.loop-s-test.true in
     let n = c.note_origins.ensures in
-    (omega arith, n.long ∙ h.invariant.1, origins-more h.s h.invariant.2 n)
+    (omega arith, origins-more h.s h.invariant.1 n)
 
 returns : tie.Need-returns invariant-loop-s decreases-loop-s
 returns c =
     let h = c.loop-s in
     let a = c.args in
     let z : h.s ≡ a.schemas = omega (arith, c.loop-s-test.false) in
-    subst (λ (n : ℕ). OriginsKept a.kept.now n h.origins) z h.invariant.2
+    subst (λ (n : ℕ). OriginsKept a.kept.now n h.origins) z h.invariant.1
 
 pub origins_of_spec : {M : Type 1} → statement M
 origins_of_spec =

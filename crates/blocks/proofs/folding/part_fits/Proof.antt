@@ -9,7 +9,6 @@ use mathlib.Core.List.{List}
 use native.Mathlib.Omega.{arith}
 use lib.ListN.{length, get_or}
 use borrow.Author.Rules.{rules}
-use borrow.Author.Tests.{not-true, not-false}
 use Rattle.task.specs.Limits.{step_size}
 use Rattle.task.specs.Task.{Task}
 use Rattle.task.specs.Run.{is_step_at}
