@@ -25,6 +25,6 @@ pub mod DefinesIn
 -- How long it is at most, and how it is counted.
 pub mod Longest
 pub mod Sizes
-pub mod SizeTurns
+pub mod PieceSums
 -- What writing it answers.
 pub mod PddlOutcome

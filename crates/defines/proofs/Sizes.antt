@@ -1,7 +1,7 @@
 -- How long the text of a table's task is: the fixed bytes of both defines, the predicates, the actions without their
 -- atoms and pairs, the objects, the items of all atoms, since those of the schemas stand one schema behind another and
 -- the initial and the goal atoms follow, the pairs likewise, and what pairs require.
-use Prim.Native.Nat.{ℕ, zero, suc, ◌+◌, ◌-◌, ◌^◌, ◌≤◌, ◌<◌}
+use Prim.Native.Nat.{ℕ, zero, suc, ◌+◌, ◌^◌, ◌≤◌, ◌<◌}
 use mathlib.Core.Path.{◌≡◌, ap}
 use mathlib.Core.Bool.{true}
 use mathlib.Core.List.{List}

@@ -9,9 +9,10 @@ ghost use Rattle.task.specs.Turns.{first_atom, first_pair};
 ghost use Rattle.defines.specs.Pddl.{neighbours, parameter, names_up_to};
 ghost use Rattle.defines.specs.ByWords.{head_text, frame_in, action_in};
 
-use crate::atoms::{Reached, put_run};
+use crate::atoms::put_run;
 use crate::names::{PARAMETER, below_size, put_numbered};
 use crate::pairs::put_pairs;
+use crate::reached::Reached;
 use task::layout::params_of;
 use task::limits::{ADDITION, DELETION, PRECONDITION, SCHEMAS};
 use text::put::{number_size, put_bytes, put_number};
@@ -73,13 +74,13 @@ fn put_action(
     let adds = put_run(text, at_preconditions, table, number, PRECONDITION, from);
     let apart = put_pairs(text, adds.at, table, number, pair);
     let at_effects = put_bytes(text, apart.at, b") :effect (and");
-    let deletes = put_run(text, at_effects, table, number, ADDITION, adds.atom);
-    let end = put_run(text, deletes.at, table, number, DELETION, deletes.atom);
+    let deletes = put_run(text, at_effects, table, number, ADDITION, adds.to);
+    let end = put_run(text, deletes.at, table, number, DELETION, deletes.to);
     let behind = put_bytes(text, end.at, b"))");
     Acted {
         at: behind,
-        atom: end.atom,
-        pair: apart.pair,
+        atom: end.to,
+        pair: apart.to,
     }
 }
 
@@ -89,7 +90,7 @@ pub fn put_actions(text: &mut [u8], at: usize, table: &[u16]) -> Reached
     requires table_value { is_table table.now ≡ true }
     requires table_in_bounds { at + length (concat_map (action_in table.now) (up_to (head_in table.now).schemas)) ≤
         length text.old }
-    ensures atom_value { result.atom ≡ (head_in table.now).schema_atoms }
+    ensures atom_value { result.to ≡ (head_in table.now).schema_atoms }
     ensures puts { Puts text.old at
         (concat_map (action_in table.now) (up_to (head_in table.now).schemas))
         text.new result.at }
@@ -105,7 +106,7 @@ pub fn put_actions(text: &mut [u8], at: usize, table: &[u16]) -> Reached
     }
     Reached {
         at: acted.at,
-        atom: acted.atom,
+        to: acted.atom,
     }
 }
 
@@ -131,16 +132,20 @@ fn head_size(schema: u16, params: usize) -> usize
         + b") :precondition (and".len()
 }
 
-// The bytes that all actions take besides their atoms and their pairs.
+// The bytes that an action takes besides its atoms and its pairs.
+fn frame_size(table: &[u16], schema: u16) -> usize
+    requires table_value { is_table table.now ≡ true }
+    requires schema_bound { schema < (head_in table.now).schemas }
+    ensures { result ≡ length (frame_in table.now schema) }
+{
+    head_size(schema, params_of(table, wide(schema))) + b") :effect (and))".len()
+}
+
 pub fn frames_size(table: &[u16]) -> usize
     requires { is_table table.now ≡ true }
     ensures { result ≡
         length (concat_map (frame_in table.now) (up_to (head_in table.now).schemas)) }
 {
     let schemas = word_at(table, SCHEMAS);
-    let mut size = 0;
-    for s in 0..schemas {
-        size = size + head_size(s, params_of(table, wide(s))) + b") :effect (and))".len();
-    }
-    size
+    (0..schemas).map(|s| frame_size(table, s)).sum()
 }

@@ -1,25 +1,19 @@
 // The atoms of a table, each in its bracket behind a space. They are put in the table's order, run after run of one
 // schema and role: each run begins where the one before it ended, and no end is looked for ahead.
-ghost use Rattle.std.specs.Prelude.{◌≡◌, true, ℕ, ◌+◌, ◌≤◌, length, get_or};
+ghost use Rattle.std.specs.Prelude.{◌≡◌, true, ℕ, ◌+◌, ◌≤◌, ◌<◌, length};
 ghost use Rattle.words.specs.Putting.{Puts};
 ghost use Rattle.task.specs.Layout.{atom_total};
 ghost use Rattle.task.specs.Task.{deletion};
 ghost use Rattle.task.specs.Table.{is_table};
 ghost use Rattle.text.specs.TableLines.{AtomInside};
-ghost use Rattle.defines.specs.ByWords.{formula_at, item_at, items_in, RoleRun};
+ghost use Rattle.defines.specs.ByWords.{formula_at, item_at, item_in, items_in, RoleRun};
 
 use crate::names::{OBJECT, PARAMETER, put_words, words_size};
+use crate::reached::Reached;
 use task::layout::{arity_of, predicate_at, role_at, row_of};
 use task::limits::{ARGUMENTS, DELETION, GOAL_ATOMS, INITIAL_ATOMS, SCHEMA_ATOMS};
 use text::put::{number_size, put_byte, put_bytes, put_number};
 use words::runs::{wide, word};
-
-// How far the writer is: the place behind what it put, and the first atom that it has not put.
-#[derive(Clone, Copy)]
-pub struct Reached {
-    pub at: usize,
-    pub atom: usize,
-}
 
 // The atom whose words begin at `base`.
 fn put_atom(text: &mut [u8], at: usize, mark: &[u8], table: &[u16], base: usize) -> usize
@@ -82,24 +76,22 @@ pub fn put_run(
     requires table_value { is_table table.now ≡ true }
     requires by_index { (to : ℕ) × RoleRun table.now schema role from to ×
         (at + length (items_in table.now from to) ≤ length text.old) }
-    ensures { (to : ℕ) → RoleRun table.now schema role from to → (result.atom ≡ to) ×
+    ensures { (to : ℕ) → RoleRun table.now schema role from to → (result.to ≡ to) ×
         Puts text.old at (items_in table.now from to) text.new result.at }
 {
     let count = atom_count(table);
     let mut next = at;
-    let mut atom = from;
-    while atom < count {
+    for atom in from..count {
         let row = row_of(table, atom);
-        if word(table, row) != schema {
-            break;
-        }
-        if role_at(table, row) != role {
-            break;
+        if word(table, row) != schema || role_at(table, row) != role {
+            return Reached { at: next, to: atom };
         }
         next = put_item(text, next, table, row, role);
-        atom += 1;
     }
-    Reached { at: next, atom }
+    Reached {
+        at: next,
+        to: count,
+    }
 }
 
 // The bytes that an atom takes, and that one takes by its role.
@@ -117,15 +109,17 @@ fn atom_size(mark: &[u8], table: &[u16], base: usize) -> usize
         + 1
 }
 
-fn item_size(table: &[u16], base: usize) -> usize
-    requires { AtomInside table.now base }
-    ensures { result ≡ length (item_at (get_or table.now (base + 1) 0) table.now base) }
+fn item_size(table: &[u16], i: usize) -> usize
+    requires table_value { is_table table.now ≡ true }
+    requires i_bound { i < atom_total table.now }
+    ensures { result ≡ length (item_in table.now i) }
 {
-    let role = role_at(table, base);
+    let row = row_of(table, i);
+    let role = role_at(table, row);
     if DELETION < role {
-        return atom_size(&OBJECT, table, base);
+        return atom_size(&OBJECT, table, row);
     }
-    let atom = atom_size(&PARAMETER, table, base);
+    let atom = atom_size(&PARAMETER, table, row);
     if role < DELETION {
         return atom;
     }
@@ -138,9 +132,5 @@ pub fn items_size(table: &[u16]) -> usize
     ensures { result ≡ length (items_in table.now 0 (atom_total table.now)) }
 {
     let count = atom_count(table);
-    let mut size = 0;
-    for i in 0..count {
-        size = size + item_size(table, row_of(table, i));
-    }
-    size
+    (0..count).map(|i| item_size(table, i)).sum()
 }

@@ -59,19 +59,12 @@ pub fn put_words(
     next
 }
 
-// How far a number passes another.
-fn beyond(n: usize, limit: usize) -> usize
-    ensures { result ≡ n - limit }
-{
-    if n < limit { 0 } else { n - limit }
-}
-
 // The digits of the numbers below n: each has one, those from 10 on another, and those from 100 on a third.
 pub fn below_size(n: usize) -> usize
     requires { n ≤ most_objects }
     ensures { result ≡ length (concat_map digits (up_to n)) }
 {
-    n + beyond(n, 10) + beyond(n, 100)
+    n + n.saturating_sub(10) + n.saturating_sub(100)
 }
 
 // The digits of n words of a table.
@@ -80,9 +73,5 @@ pub fn words_size(table: &[u16], from: usize, n: usize) -> usize
     requires n_le_most_arity { n ≤ most_arity }
     ensures { result ≡ length (concat_map digits (words_at table.now from n)) }
 {
-    let mut size = 0;
-    for k in 0..n {
-        size = size + number_size(word_at(table, from + k));
-    }
-    size
+    (0..n).map(|k| number_size(word_at(table, from + k))).sum()
 }

@@ -8,17 +8,11 @@ ghost use Rattle.task.specs.Turns.{first_pair};
 ghost use Rattle.defines.specs.ByWords.{apart_in, pairs_in, needs_in};
 
 use crate::names::{PARAMETER, put_words, words_size};
+use crate::reached::Reached;
 use task::layout::{pair_number, pair_of};
 use task::limits::{LOWER, PAIR_SIZE, PAIRS};
 use text::put::put_bytes;
 use words::runs::word;
-
-// How far the writer is: the place behind what it put, and the first pair that it has not put.
-#[derive(Clone, Copy)]
-pub struct Paired {
-    pub at: usize,
-    pub pair: usize,
-}
 
 // How many parameters a pair has.
 const PARAMETERS: usize = PAIR_SIZE - LOWER;
@@ -62,39 +56,47 @@ fn put_pair(text: &mut [u8], at: usize, table: &[u16], i: usize) -> usize
 }
 
 // The pairs of a schema, from the first of them on.
-pub fn put_pairs(text: &mut [u8], at: usize, table: &[u16], schema: usize, from: usize) -> Paired
+pub fn put_pairs(text: &mut [u8], at: usize, table: &[u16], schema: usize, from: usize) -> Reached
     requires table_value { is_table table.now ≡ true }
     requires schema_bound { schema < (head_in table.now).schemas }
     requires from_value { from ≡ first_pair (task_of table.now) schema }
     requires schema_in_bounds { at + length (pairs_in table.now from (first_pair (task_of table.now) (suc schema))) ≤
         length text.old }
-    ensures pair_value { result.pair ≡ first_pair (task_of table.now) (suc schema) }
+    ensures pair_value { result.to ≡ first_pair (task_of table.now) (suc schema) }
     ensures fact { let w = table.now in
         Puts text.old at (pairs_in w from (first_pair (task_of w) (suc schema))) text.new result.at }
 {
     let count = word(table, PAIRS);
     let mut next = at;
-    let mut pair = from;
-    while pair < count {
+    for pair in from..count {
         if pair_number(table, pair) != schema {
-            break;
+            return Reached { at: next, to: pair };
         }
         next = put_pair(text, next, table, pair);
-        pair += 1;
     }
-    Paired { at: next, pair }
+    Reached {
+        at: next,
+        to: count,
+    }
 }
 
-// The bytes that all pairs take.
+// The bytes that a pair takes.
+fn pair_size(table: &[u16], i: usize) -> usize
+    requires table_value { is_table table.now ≡ true }
+    requires i_bound { i < (head_in table.now).pairs }
+    ensures { result ≡ length (apart_in table.now i) }
+{
+    let row = pair_of(table, i);
+    b" (not (=".len()
+        + PARAMETER.len() * PARAMETERS
+        + words_size(table, row + LOWER, PARAMETERS)
+        + b"))".len()
+}
+
 pub fn pairs_size(table: &[u16]) -> usize
     requires { is_table table.now ≡ true }
     ensures { result ≡ length (pairs_in table.now 0 (head_in table.now).pairs) }
 {
     let count = word(table, PAIRS);
-    let fixed = b" (not (=".len() + PARAMETER.len() * PARAMETERS + b"))".len();
-    let mut size = 0;
-    for i in 0..count {
-        size = size + (fixed + words_size(table, pair_of(table, i) + LOWER, PARAMETERS));
-    }
-    size
+    (0..count).map(|i| pair_size(table, i)).sum()
 }

@@ -1,10 +1,9 @@
 // The writer of both defines: the size is counted first, since refusal 18 leaves all as found; then each byte is stored
 // once, in one pass over the table.
-ghost use Rattle.std.specs.Prelude.{◌≡◌, true, [], ◌∷◌, ◌++◌, ◌+◌, ◌≤◌, length, leb};
+ghost use Rattle.std.specs.Prelude.{◌≡◌, true, [], ◌∷◌, ◌++◌, ◌+◌, ◌≤◌, ◌<◌, length, leb};
 ghost use Rattle.words.specs.Lists.{up_to, concat_map};
 ghost use Rattle.words.specs.Putting.{Puts};
 ghost use Rattle.task.specs.Layout.{head_in};
-ghost use Rattle.task.specs.Limits.{most_arity};
 ghost use Rattle.task.specs.Table.{task_of, is_table};
 ghost use Rattle.text.specs.Lines.{bytes, newline};
 ghost use Rattle.defines.specs.Pddl.{domain_text, problem_text, pddl};
@@ -12,9 +11,10 @@ ghost use Rattle.defines.specs.ByWords.{marked, formula, predicate_in};
 
 use crate::LONGEST_PDDL;
 use crate::actions::{frames_size, put_actions};
-use crate::atoms::{Reached, items_size, put_run};
+use crate::atoms::{items_size, put_run};
 use crate::names::{OBJECT, PARAMETER, below_size, put_numbered};
 use crate::pairs::{needs_size, pairs_size, put_needs};
+use crate::reached::Reached;
 use task::layout::arity_of;
 use task::limits::{GOAL, INITIAL, OBJECTS, PREDICATES};
 use text::put::{number_size, put_byte, put_bytes, put_number};
@@ -52,7 +52,7 @@ fn put_predicates(text: &mut [u8], at: usize, table: &[u16]) -> usize
 fn put_domain(text: &mut [u8], table: &[u16]) -> Reached
     requires table_value { is_table table.now ≡ true }
     requires newline_in_bounds { length (domain_text (task_of table.now) ++ (newline ∷ [])) ≤ length text.old }
-    ensures atom_value { result.atom ≡ (head_in table.now).schema_atoms }
+    ensures atom_value { result.to ≡ (head_in table.now).schema_atoms }
     ensures puts { Puts text.old 0 (domain_text (task_of table.now) ++ (newline ∷ []))
         text.new result.at }
 {
@@ -65,7 +65,7 @@ fn put_domain(text: &mut [u8], table: &[u16]) -> Reached
     let behind = put_bytes(text, facts.at, b")\n");
     Reached {
         at: behind,
-        atom: facts.atom,
+        to: facts.to,
     }
 }
 
@@ -84,7 +84,7 @@ fn put_problem(text: &mut [u8], at: usize, table: &[u16], from: usize) -> usize
     let at_first = put_bytes(text, at_initial, b") (:init");
     let goals = put_run(text, at_first, table, 0, INITIAL, from);
     let at_goals = put_bytes(text, goals.at, b") (:goal (and");
-    let end = put_run(text, at_goals, table, 0, GOAL, goals.atom);
+    let end = put_run(text, at_goals, table, 0, GOAL, goals.to);
     put_bytes(text, end.at, b")))\n")
 }
 
@@ -94,14 +94,16 @@ pub fn put_pddl(text: &mut [u8], table: &[u16]) -> usize
     ensures { Puts text.old 0 (pddl (task_of table.now)) text.new result }
 {
     let problem = put_domain(text, table);
-    put_problem(text, problem.at, table, problem.atom)
+    put_problem(text, problem.at, table, problem.to)
 }
 
-// The bytes that the predicates take.
-fn predicate_size(p: u16, arity: usize) -> usize
-    requires { arity ≤ most_arity }
-    ensures { result ≡ length (formula (bytes " ?x") p (up_to arity)) }
+// The bytes that a predicate takes.
+fn predicate_size(table: &[u16], p: u16) -> usize
+    requires table_value { is_table table.now ≡ true }
+    requires p_bound { p < (head_in table.now).predicates }
+    ensures { result ≡ length (predicate_in table.now p) }
 {
+    let arity = arity_of(table, wide(p));
     b" (p".len() + number_size(p) + PARAMETER.len() * arity + below_size(arity) + 1
 }
 
@@ -111,11 +113,7 @@ fn predicates_size(table: &[u16]) -> usize
         length (concat_map (predicate_in table.now) (up_to (head_in table.now).predicates)) }
 {
     let predicates = word_at(table, PREDICATES);
-    let mut size = 0;
-    for p in 0..predicates {
-        size = size + predicate_size(p, arity_of(table, wide(p)));
-    }
-    size
+    (0..predicates).map(|p| predicate_size(table, p)).sum()
 }
 
 // The bytes that objects take.

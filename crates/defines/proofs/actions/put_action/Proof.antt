@@ -143,7 +143,7 @@ behind-preconditions c =
     going_on (behind-head (headed c))
     (run-puts (first_run start) (number (headed c)) start.requires.1.1.0 c.put_run-adds.ensures)
 
-adds-found : (c : tie.After-slice_known-3-1) → c.put_run-adds.result.atom ≡ to-adds (start (headed c))
+adds-found : (c : tie.After-slice_known-3-1) → c.put_run-adds.result.to ≡ to-adds (start (headed c))
 adds-found c =
     let start = start (headed c) in
     run_ends (first_run start) (number (headed c)) start.requires.1.1.0 c.put_run-adds.ensures
@@ -228,7 +228,7 @@ behind-adds c =
     (adds-found (told (opened c))) c.put_run-deletes.ensures)
 
 deletes-found : (c : tie.After-slice_known-6-1) →
-    c.put_run-deletes.result.atom ≡ to-deletes (started (opened c))
+    c.put_run-deletes.result.to ≡ to-deletes (started (opened c))
 deletes-found c =
     run_ends (second_run (started (opened c))) (number (headed (told (opened c))))
     (adds-found (told (opened c))) c.put_run-deletes.ensures

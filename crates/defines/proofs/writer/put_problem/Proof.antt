@@ -20,7 +20,6 @@ use Rattle.defines.specs.ByWords.{marked, items_in, RoleRun}
 use Rattle.defines.proofs.RoleRuns.{initial-run, goal-run}
 use Rattle.defines.proofs.RunsPut.{run-asked, run_ends, run-puts}
 use Rattle.defines.proofs.DefinesIn.{problem-in}
-use borrow.Author.Rules.{rules}
 use Rattle.defines.proofs.writer.put_problem.Statement.{statement}
 use Rattle.defines.proofs.writer.put_problem.Tie as tie
 
@@ -147,7 +146,7 @@ behind-initials c =
     (run-puts (first_run start) refl start.requires.1.0 c.put_run-goals.ensures)
 
 goals-found : (c : tie.After-slice_known-5-1) →
-    c.put_run-goals.result.atom ≡ goals_from (words (started (begun c)))
+    c.put_run-goals.result.to ≡ goals_from (words (started (begun c)))
 goals-found c =
     let start = started (begun c) in
     run_ends (first_run start) refl start.requires.1.0 c.put_run-goals.ensures
