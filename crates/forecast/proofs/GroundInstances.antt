@@ -1,17 +1,16 @@
--- The instances of schemas, added up as the code counts them: schema by schema of the task, part by part of its split,
--- each capped. A part has as many parameters as the set kept for it has members.
+-- The instances of schemas, added up as the code counts them: schema by schema of the task, part by part of its split.
+-- A part has as many parameters as the set kept for it has members.
 use Prim.Native.Nat.{ℕ, ◌+◌, ◌^◌, ◌≤◌, ◌<◌}
-use mathlib.Core.Path.{◌≡◌, refl, ◌∙◌, ap}
+use mathlib.Core.Path.{◌≡◌, sym, ◌∙◌, ap}
 use mathlib.Core.Bool.{true}
-use mathlib.Core.List.{List, [], ◌∷◌, ◌++◌, map}
+use mathlib.Core.List.{List, map}
 use native.Mathlib.Omega.{arith}
-use native.Mathlib.Numerals.{add-one}
-use lib.ListN.{length, get_or, take}
-use lib.Seq.{take-suc, take_all}
+use lib.ListN.{length, get_or}
 use borrow.Author.Tests.{leb-true}
-use Rattle.words.specs.Lists.{sum, concat_map, up_to, up_from}
+use Rattle.words.specs.Lists.{sum, up_to}
 use Rattle.words.specs.Sets.{members, word_bits}
-use Rattle.words.proofs.Lists.{map-append, sum-append, length-up_to}
+use Rattle.words.proofs.Lists.{tabulate, map-map, length-up_to}
+use Rattle.words.proofs.Sums.{total, total-concat_map}
 use Rattle.words.proofs.Ascending.{filter-le}
 use Rattle.task.specs.Limits.{most_parameters}
 use Rattle.task.specs.Task.{Schema, Task, no_schema}
@@ -25,76 +24,33 @@ use Rattle.tokens.specs.Acceptance.{part_schemas}
 use Rattle.tokens.specs.Writing.{set_size}
 use Rattle.tokens.proofs.KeptSchema.{counted, kept-fits, kept-params}
 use Rattle.tokens.proofs.ParPlaces.{own-listed}
-use Rattle.tokens.proofs.SchemaRuns.{all_more}
-use Rattle.tokens.proofs.SplitSizes.{parts_up_to, part-sum-none, part-sum-more}
 use Rattle.forecast.specs.Forecast.{instances, instances_of}
 
--- ---- schemas
-pub instances-none : (n : ℕ) → instances_of n [] ≡ 0
-unfolding instances_of sum
-instances-none n = refl
-
-instances-append : (n : ℕ) (xs ys : List Schema) → instances_of n (xs ++ ys) ≡ instances_of n xs + instances_of n ys
-unfolding instances_of
-instances-append n xs ys =
-    let power : Schema → ℕ = λ s. n ^ s.params in
-    ap sum (map-append power xs ys) ∙ sum-append (map power xs) (map power ys)
-
--- one schema, and one more
-instances-one : (n : ℕ) (s : Schema) → instances_of n (s ∷ []) ≡ n ^ s.params
-unfolding instances_of sum
-instances-one n s = omega arith
-
-instances-more : (n : ℕ) (xs : List Schema) (s : Schema) →
-    instances_of n (xs ++ (s ∷ [])) ≡ instances_of n xs + n ^ s.params
-instances-more n xs s =
-    instances-append n xs (s ∷ []) ∙ ap (λ (m : ℕ). instances_of n xs + m) (instances-one n s)
-
--- ---- of the task
+-- ---- sums
 module _ (t : Task) where
-  pub instances-next : (s : ℕ) → s < length t.schemas →
-      instances_of t.objects (take (s + 1) t.schemas) ≡
-      instances_of t.objects (take s t.schemas) + t.objects ^ param_count t s
-  unfolding param_count schema_at
-  instances-next s l =
-      ap (λ (n : ℕ). instances_of t.objects (take n t.schemas)) (add-one s) ∙
-      ap (instances_of t.objects) (take-suc t.schemas s no_schema l) ∙
-      instances-more t.objects (take s t.schemas) (get_or t.schemas s no_schema)
+  -- of the task, by schema
+  pub by_schema : instances t ≡ total (λ s. t.objects ^ param_count t s) (up_to (length t.schemas))
+  unfolding instances instances_of param_count schema_at up_to
+  by_schema =
+      let power : Schema → ℕ = λ s. t.objects ^ s.params in
+      let all = tabulate (schema_at t) 0 t.schemas no_schema (λ k l. let e : 0 + k ≡ k = omega arith in ap (schema_at t) e) in
+      ap (λ (ss : List Schema). sum (map power ss)) (sym all) ∙ ap sum (map-map power (schema_at t) (up_to (length t.schemas)))
 
-  pub instances-whole : (s : ℕ) → length t.schemas ≤ s →
-      instances_of t.objects (take s t.schemas) ≡ instances t
-  unfolding instances
-  instances-whole s l = ap (instances_of t.objects) (take_all s t.schemas l)
-
--- ---- of its split
-module _ (t : Task) where
-  -- the first j parts of schema s
-  pub part_none : (s : ℕ) → instances_of t.objects (parts_up_to t s 0) ≡ 0
+  -- of the schemas that schema s becomes, by part
+  pub by_part : (s : ℕ) → instances_of t.objects (part_schemas t s) ≡
+      total (λ j. t.objects ^ (split_schema t s (orders t s) j).params) (up_to (length (orders t s)))
   unfolding instances_of
-  part_none s = part-sum-none t s (λ u. t.objects ^ u.params)
+  by_part s =
+      let power : Schema → ℕ = λ u. t.objects ^ u.params in
+      ap sum (map-map power (split_schema t s (orders t s)) (up_to (length (orders t s))))
 
-  pub part-next : (s j : ℕ) →
-      instances_of t.objects (parts_up_to t s (j + 1)) ≡
-      instances_of t.objects (parts_up_to t s j) + t.objects ^ (split_schema t s (orders t s) j).params
-  unfolding instances_of
-  part-next s j = part-sum-more t s (λ u. t.objects ^ u.params) j
-
-  -- the parts of the first s schemas
-  pub parts_none : instances_of t.objects (concat_map (part_schemas t) (up_to 0)) ≡ 0
-  unfolding concat_map up_to up_from
-  parts_none = instances-none t.objects
-
-  pub parts_next : (s : ℕ) →
-      instances_of t.objects (concat_map (part_schemas t) (up_to (s + 1))) ≡
-      instances_of t.objects (concat_map (part_schemas t) (up_to s)) + instances_of t.objects (part_schemas t s)
-  parts_next s =
-      ap (instances_of t.objects) (all_more (part_schemas t) s) ∙
-      instances-append t.objects (concat_map (part_schemas t) (up_to s)) (part_schemas t s)
-
-  pub parts_whole : (s : ℕ) → s ≡ length t.schemas →
-      instances_of t.objects (concat_map (part_schemas t) (up_to s)) ≡ instances (split_task t)
-  unfolding instances split_task
-  parts_whole s e = ap (λ (n : ℕ). instances_of t.objects (concat_map (part_schemas t) (up_to n))) e
+  -- of its split, by schema
+  pub by_split : instances (split_task t) ≡
+      total (λ s. instances_of t.objects (part_schemas t s)) (up_to (length t.schemas))
+  unfolding instances instances_of split_task
+  by_split =
+      let power : Schema → ℕ = λ u. t.objects ^ u.params in
+      total-concat_map power (part_schemas t) (up_to (length t.schemas))
 
 -- ---- parameters
 -- a table's schema has few

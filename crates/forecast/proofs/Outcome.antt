@@ -1,7 +1,8 @@
 -- What `sizes` answers, case by case: it refuses as splitting does; of an accepted split it refuses by 24 where a total
 -- of instances reaches the limit, and else tells the six sizes. The last laws take the totals as code has them, capped
 -- at the limit, and the three sizes that acceptance has counted.
-use Rattle.forecast.specs.declared.SizesAnswer.TheVariants as answer
+use Rattle.task.specs.declared.refusals.Reason.TheVariants as reason
+use Rattle.std.specs.Prelude.{Ok, Err}
 use Rattle.task.specs.declared.Place.TheVariants as place
 use Prim.Native.Nat.{ℕ, ◌+◌, ◌≤◌, ◌<◌}
 use mathlib.Core.Path.{◌≡◌, refl, sym, ◌∙◌, ap}
@@ -97,8 +98,7 @@ module _ {w : List ℕ} {counted : Sizes} {kept : List ℕ} (K : AcceptedKept w 
     (is : limit ≡ instance_limit) (b : before ≡ capped instance_limit (instances (task_of w)))
     (a : after ≡ capped instance_limit (instances (split_task (task_of w)))) where
   pub too-many-told : (limit ≤ before) ⊎ (limit ≤ after) →
-      sizes_answer_told (answer.Refused 24 place.Nowhere) ≡ (sizes_outcome w).told
-  unfolding sizes_answer_told
+      sizes_answer_told (Err (record { reason = reason.TooManyInstances; place = place.Nowhere })) ≡ (sizes_outcome w).told
   too-many-told h =
       sym (told-by (sizes-too-many w K.long K.table K.accepted
       (⊎_elim (λ l. inl (omega arith)) (λ l. inr (omega arith)) h)))
@@ -110,7 +110,7 @@ module _ {w : List ℕ} {counted : Sizes} {kept : List ℕ} (K : AcceptedKept w 
   pub counted-told : before < limit → after < limit →
       {predicates : ℕ} → predicates ≡ (head_in w).predicates + 1 + counted.later + counted.pars →
       {bytes : ℕ} → bytes ≡ length (write (split_task (task_of w))) →
-      sizes_answer_told (answer.Counted (record {
+      sizes_answer_told (Ok (record {
         predicates = predicates;
         schemas = counted.schemas;
         atoms = counted.atoms;
@@ -118,7 +118,6 @@ module _ {w : List ℕ} {counted : Sizes} {kept : List ℕ} (K : AcceptedKept w 
         before = before;
         after = after;
       })) ≡ (sizes_outcome w).told
-  unfolding sizes_answer_told
   counted-told l m p e =
       let t = task_of w in
       let predicates = p ∙ predicates-counted in

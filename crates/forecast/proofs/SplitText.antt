@@ -2,13 +2,13 @@
 -- schema, and of a whole task, whose text is its head, its schemas, its initial and goal atoms and its end. The text of
 -- an accepted split is no longer than a table's, and no piece of it is longer than the whole.
 use Prim.Native.Nat.{ℕ, zero, suc, ◌+◌, ◌^◌, ◌≤◌, ◌<◌}
-use mathlib.Core.Path.{◌≡◌, refl, sym, ◌∙◌, ap}
+use mathlib.Core.Path.{◌≡◌, sym, ◌∙◌, ap}
 use mathlib.Core.List.{List, [], ◌∷◌, ◌++◌, map, append-nil}
 use native.Mathlib.Omega.{arith}
 use native.Mathlib.Decide.{dec_le}
 use native.Mathlib.Numerals.{add-one}
 use lib.ListN.{length, length-append}
-use Rattle.words.specs.Lists.{concat_map, sum, up_from, up_to}
+use Rattle.words.specs.Lists.{concat_map, sum, up_to}
 use Rattle.words.proofs.Lists.{append-concat_map, length-concat_map, map-map, sum-append}
 use Rattle.words.proofs.Sums.{total, total-same, total-concat_map}
 use Rattle.task.specs.Limits.{most_predicates}
@@ -28,16 +28,12 @@ use Rattle.forecast.specs.Counting.{lines_bytes, schema_bytes, schemas_bytes, he
 
 -- ---- sums, one number further
 module _ (f : ℕ → ℕ) where
-  pub total-none : total f (up_to 0) ≡ 0
-  unfolding sum up_to up_from
-  total-none = refl
-
-  pub total-more : (k : ℕ) → total f (up_to (k + 1)) ≡ total f (up_to k) + f k
+  total-more : (k : ℕ) → total f (up_to (k + 1)) ≡ total f (up_to k) + f k
   unfolding sum
   total-more k = omega (arith, ap sum (map_more f k), sum-append (map f (up_to k)) (f k ∷ []))
 
   -- and no less than before
-  pub total-rises : (k n : ℕ) → k ≤ n → total f (up_to k) ≤ total f (up_to n)
+  total-rises : (k n : ℕ) → k ≤ n → total f (up_to k) ≤ total f (up_to n)
   total-rises k zero l = let e : k ≡ 0 = omega arith in omega (arith, ap (λ (i : ℕ). total f (up_to i)) e)
   total-rises k (suc n) l = elim (dec_le k n) [
     | yes m ↦ omega (arith, total-rises k n m, total-more n, ap (λ (i : ℕ). total f (up_to i)) (add-one n))

@@ -1,9 +1,9 @@
 -- Document 02's note 6: "Before asking for a split, the office wants its sizes".
-use Rattle.forecast.specs.declared.SizesAnswer.TheVariants as answer
-use Rattle.std.specs.Prelude.{ℕ, ◌^◌, ◌&&◌, List, [], ◌∷◌, map, length, ltb}
-use Rattle.forecast.specs.declared.SizesAnswer.{SizesAnswer}
+use Rattle.std.specs.Prelude.{ℕ, ◌^◌, ◌&&◌, List, [], ◌∷◌, map, length, ltb, Result}
+use Rattle.forecast.specs.declared.Forecast.{Forecast}
 use Rattle.words.specs.Lists.{sum}
-use Rattle.task.specs.Answers.{Told, result, refused, Outcome, refuse_unless, in_order}
+use Rattle.task.specs.declared.refusals.Refusal.{Refusal}
+use Rattle.task.specs.Answers.{Told, result, answer_told, Outcome, refuse_unless, in_order}
 use Rattle.task.specs.Task.{Schema, Task, schema_atoms}
 use Rattle.task.specs.Table.{task_of, long_enough, is_table}
 use Rattle.text.specs.Text.{write}
@@ -49,9 +49,7 @@ sizes_outcome table =
     []
     (record { told = result (sizes t); buffer = [] })
 
--- the number, place and values of each case of the answer
-unfoldable pub sizes_answer_told : SizesAnswer → Told
-sizes_answer_told (answer.Counted f) =
-    result
-    (f.predicates ∷ f.schemas ∷ f.atoms ∷ f.bytes ∷ f.before ∷ f.after ∷ [])
-sizes_answer_told (answer.Refused n at) = refused n at []
+-- the number, place and values of the answer
+abbrev pub sizes_answer_told : Result Forecast Refusal → Told
+sizes_answer_told answer =
+    answer_told (λ f. f.predicates ∷ f.schemas ∷ f.atoms ∷ f.bytes ∷ f.before ∷ f.after ∷ []) answer

@@ -48,16 +48,10 @@ fn old_lines(table: &[u16], here: PartPlace) -> usize
     requires here_bound { atoms_bytes (old_here table.now here) < 2 ^ 64 }
     ensures { result ≡ atoms_bytes (old_here table.now here) }
 {
-    let to = here.to;
-    let mut bytes = 0;
-    let mut i = here.from;
-    while i < to {
-        if part_of(table, i).0 == here.part.0 {
-            bytes += old_line(table, i, here.own);
-        }
-        i += 1;
-    }
-    bytes
+    (here.from..here.to)
+        .filter(|i| part_of(table, *i).0 == here.part.0)
+        .map(|i| old_line(table, i, here.own))
+        .sum()
 }
 
 // The line of a bare token: procnone or a do.
@@ -87,16 +81,10 @@ fn par_lines(here: PartPlace, role: u16, which: u64) -> usize
     requires which_bound { atoms_bytes (pars_here here role which) < 2 ^ 64 }
     ensures { result ≡ atoms_bytes (pars_here here role which) }
 {
-    let params = here.params;
-    let mut bytes = 0;
-    let mut x = 0;
-    while x < params {
-        if sets::has(which, x) {
-            bytes += par_line(here, role, Parameter(x as u16));
-        }
-        x += 1;
-    }
-    bytes
+    (0..here.params)
+        .filter(|x| sets::has(which, *x))
+        .map(|x| par_line(here, role, Parameter(x as u16)))
+        .sum()
 }
 
 // Those of one role: a bare token and pars.
@@ -143,15 +131,10 @@ fn pair_lines(table: &[u16], own: u64, from: usize, to: usize) -> usize
     requires to_bound { pairs_bytes own (pair_stretch_in table.now from to) < 2 ^ 64 }
     ensures { result ≡ pairs_bytes own (pair_stretch_in table.now from to) }
 {
-    let mut bytes = 0;
-    let mut i = from;
-    while i < to {
-        if carries_pair(table, own, i) {
-            bytes += pair_line(table, own, i);
-        }
-        i += 1;
-    }
-    bytes
+    (from..to)
+        .filter(|i| carries_pair(table, own, *i))
+        .map(|i| pair_line(table, own, i))
+        .sum()
 }
 
 // A `part` line with a 0 for each of n atoms.
@@ -186,14 +169,9 @@ fn parts_bytes(table: &[u16], kept: &Kept, counted: Sizes, s: usize) -> usize
     requires s_bound { schemas_bytes (part_schemas (task_of table.now) s) < 2 ^ 64 }
     ensures { result ≡ schemas_bytes (part_schemas (task_of table.now) s) }
 {
-    let count = count_of(kept, s);
-    let mut bytes = 0;
-    let mut j = 0;
-    while j < count {
-        bytes += part_bytes(table, kept, counted, s, j);
-        j += 1;
-    }
-    bytes
+    (0..count_of(kept, s))
+        .map(|j| part_bytes(table, kept, counted, s, j))
+        .sum()
 }
 
 // Those of all schemas of the split.
@@ -202,14 +180,9 @@ fn schemas_bytes(table: &[u16], kept: &Kept, counted: Sizes) -> usize
     requires table_bound { schemas_bytes (split_task (task_of table.now)).schemas < 2 ^ 64 }
     ensures { result ≡ schemas_bytes (split_task (task_of table.now)).schemas }
 {
-    let schemas = word(table, SCHEMAS);
-    let mut bytes = 0;
-    let mut s = 0;
-    while s < schemas {
-        bytes += parts_bytes(table, kept, counted, s);
-        s += 1;
-    }
-    bytes
+    (0..word(table, SCHEMAS))
+        .map(|s| parts_bytes(table, kept, counted, s))
+        .sum()
 }
 
 // The lines before the schemas: the arities are the old ones, 0 for procnone and each do, 1 for each par.

@@ -1,7 +1,6 @@
 // The ground instances of a task and of its split, "a schema with n parameters counting objects to the power n". No
-// number passes the limit: what reaches it stays there, and that is seen before a product or a sum is made.
-ghost use Rattle.std.specs.Prelude.{◌+◌, ◌-◌, ◌*◌, ◌/◌, ◌≤◌, ◌≡◌, true, length};
-ghost use Rattle.task.specs.Limits.{most_parameters};
+// number passes the limit: what reaches it stays there.
+ghost use Rattle.std.specs.Prelude.{◌+◌, ◌*◌, ◌≤◌, ◌≡◌, true};
 ghost use Rattle.task.specs.Table.{task_of, is_table};
 ghost use Rattle.tokens.specs.Split.{split_task};
 ghost use Rattle.tokens.specs.Kept.{SchemaKept};
@@ -21,41 +20,28 @@ pub const INSTANCE_LIMIT: u64 = 1 << 63;
 // Objects to the power of each number of parameters.
 pub type Powers = [u64; MOST_PARAMETERS + 1];
 
-// A product with objects, of which `most` is the largest factor that stays below the limit.
-fn times(x: u64, objects: u64, most: u64) -> u64
-    requires le_objects { 1 ≤ objects }
-    requires most_value { most ≡ (instance_limit - 1) / objects }
+// A product.
+fn times(x: u64, objects: u64) -> u64
     ensures { result ≡ capped instance_limit (x * objects) }
 {
-    if most < x {
-        return INSTANCE_LIMIT;
-    }
-    x * objects
+    x.saturating_mul(objects).min(INSTANCE_LIMIT)
 }
 
 // A sum.
 fn plus(x: u64, y: u64) -> u64
-    requires { y ≤ instance_limit }
     ensures { result ≡ capped instance_limit (x + y) }
 {
-    if INSTANCE_LIMIT - y <= x {
-        return INSTANCE_LIMIT;
-    }
-    x + y
+    x.saturating_add(y).min(INSTANCE_LIMIT)
 }
 
 // Keeps the powers of the number of objects.
 pub fn keep_powers(objects: u64, powers: &mut Powers)
-    requires le_objects { 1 ≤ objects }
-    requires powers_len { length powers.old ≡ most_parameters + 1 }
+    requires { 1 ≤ objects }
     ensures { ArePowers instance_limit objects powers.new }
 {
-    let most = (INSTANCE_LIMIT - 1) / objects;
     powers[0] = 1;
-    let mut n = 0;
-    while n < MOST_PARAMETERS {
-        powers[n + 1] = times(powers[n], objects, most);
-        n += 1;
+    for n in 0..MOST_PARAMETERS {
+        powers[n + 1] = times(powers[n], objects);
     }
 }
 
@@ -65,46 +51,30 @@ pub fn instances_before(table: &[u16], powers: &Powers) -> u64
     requires are_powers { ArePowers instance_limit (task_of table.now).objects powers.now }
     ensures { result ≡ capped instance_limit (instances (task_of table.now)) }
 {
-    let schemas = word(table, SCHEMAS);
-    let mut total = 0;
-    let mut s = 0;
-    while s < schemas {
-        total = plus(total, powers[params_of(table, s)]);
-        s += 1;
-    }
-    total
+    (0..word(table, SCHEMAS))
+        .map(|s| powers[params_of(table, s)])
+        .fold(0, plus)
 }
 
-// Those of the parts of schema s, behind a total.
-fn with_parts(table: &[u16], kept: &Kept, s: usize, powers: &Powers, total: u64) -> u64
+// Those of the parts of schema s: a part has as many parameters as its set has members.
+fn parts_instances(table: &[u16], kept: &Kept, s: usize, powers: &Powers) -> u64
     requires schema_kept { SchemaKept table.now s kept.now }
     requires are_powers { ArePowers instance_limit (task_of table.now).objects powers.now }
-    requires total_le_instance_limit { total ≤ instance_limit }
-    ensures { result ≡ capped instance_limit (total +
-        instances_of (task_of table.now).objects (part_schemas (task_of table.now) s)) }
+    ensures { result ≡ capped instance_limit
+        (instances_of (task_of table.now).objects (part_schemas (task_of table.now) s)) }
 {
-    let count = count_of(kept, s);
-    let mut sum = total;
-    let mut j = 0;
-    while j < count {
-        sum = plus(sum, powers[size(own_at(kept, s, j))]);
-        j += 1;
-    }
-    sum
+    (0..count_of(kept, s))
+        .map(|j| powers[size(own_at(kept, s, j))])
+        .fold(0, plus)
 }
 
-// The instances of its split: a part has as many parameters as its set has members.
+// The instances of its split.
 pub fn instances_after(table: &[u16], kept: &Kept, powers: &Powers) -> u64
     requires accepted_parts { AcceptedParts table.now kept.now }
     requires are_powers { ArePowers instance_limit (task_of table.now).objects powers.now }
     ensures { result ≡ capped instance_limit (instances (split_task (task_of table.now))) }
 {
-    let schemas = word(table, SCHEMAS);
-    let mut total = 0;
-    let mut s = 0;
-    while s < schemas {
-        total = with_parts(table, kept, s, powers, total);
-        s += 1;
-    }
-    total
+    (0..word(table, SCHEMAS))
+        .map(|s| parts_instances(table, kept, s, powers))
+        .fold(0, plus)
 }

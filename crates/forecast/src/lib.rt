@@ -10,15 +10,15 @@ ghost use Rattle.forecast.specs.Forecast.{sizes_outcome, sizes_answer_told};
 
 use crate::bytes::text_bytes;
 use crate::instances::{INSTANCE_LIMIT, instances_after, instances_before, keep_powers};
-use task::Place;
 use task::limits::{MOST_PARAMETERS, OBJECTS, PREDICATES};
-use tokens::acceptance::{Acceptance, keep_accepted};
+use task::{Reason, Refusal};
+use tokens::acceptance::keep_accepted;
 use tokens::kept::{KEPT_WORDS, Kept};
 use tokens::measure::Sizes;
 use words::runs::word;
 
 // "its sizes: predicates, schemas, schema atoms, text bytes, and the ground instances before and after".
-#[derive(Clone, Copy)]
+#[derive(Clone, Copy, Debug, PartialEq, Eq)]
 pub struct Forecast {
     pub predicates: u64,
     pub schemas: u64,
@@ -28,16 +28,9 @@ pub struct Forecast {
     pub after: u64,
 }
 
-// What asking for the sizes answers.
-#[derive(Clone, Copy)]
-pub enum SizesAnswer {
-    Counted(Forecast),
-    Refused(u32, Place),
-}
-
 // The sizes of an accepted split. What splitting counts is counted already; the text's bytes are counted last, since 24
 // needs none.
-fn forecast_split(table: &[u16], kept: &Kept, counted: Sizes) -> SizesAnswer
+fn forecast_split(table: &[u16], kept: &Kept, counted: Sizes) -> Result<Forecast, Refusal>
     requires { AcceptedKept table.now counted kept.now }
     ensures { sizes_answer_told result ≡ (sizes_outcome table.now).told }
 {
@@ -46,11 +39,11 @@ fn forecast_split(table: &[u16], kept: &Kept, counted: Sizes) -> SizesAnswer
     let before = instances_before(table, &powers);
     let after = instances_after(table, kept, &powers);
     if INSTANCE_LIMIT <= before || INSTANCE_LIMIT <= after {
-        return SizesAnswer::Refused(24, Place::Nowhere);
+        return Err(Refusal::nowhere(Reason::TooManyInstances));
     }
     let predicates = word(table, PREDICATES) + 1 + counted.later + counted.pars;
     let bytes = text_bytes(table, kept, counted);
-    SizesAnswer::Counted(Forecast {
+    Ok(Forecast {
         predicates: predicates as u64,
         schemas: counted.schemas as u64,
         atoms: counted.atoms as u64,
@@ -61,13 +54,10 @@ fn forecast_split(table: &[u16], kept: &Kept, counted: Sizes) -> SizesAnswer
 }
 
 // "Before asking for a split, the office wants its sizes". Refused as splitting would be, then 24.
-pub fn sizes(table: &[u16]) -> SizesAnswer
+pub fn sizes(table: &[u16]) -> Result<Forecast, Refusal>
     ensures { sizes_answer_told result ≡ (sizes_outcome table.now).told }
 {
     let mut kept = [0u16; KEPT_WORDS];
-    let accepted = keep_accepted(table, &mut kept);
-    match accepted {
-        Acceptance::Accepted(counted) => forecast_split(table, &kept, counted),
-        Acceptance::Refused(number, place) => SizesAnswer::Refused(number, place),
-    }
+    let counted = keep_accepted(table, &mut kept)?;
+    forecast_split(table, &kept, counted)
 }
