@@ -21,7 +21,7 @@ use Rattle.words.proofs.Lists.{both-ft, or_left, or_right}
 use Rattle.task.proofs.BadSteps.{steps-whole}
 use Rattle.task.proofs.StateWords.{length-state_in}
 use Rattle.task.proofs.SizeLaws.{state-asc}
-use Rattle.task.proofs.RunOutcome.{run-no-table, run-bad-step, run-no-state, run-done}
+use Rattle.correspondence.proofs.RunCases.{run-no-table, run-bad-step, run-no-state, run-done}
 use Rattle.task.proofs.RoomEnough.{never-outgrown}
 use Rattle.tokens.proofs.SplitAnswers.{AcceptedSplit, accepted-split}
 use Rattle.blocks.proofs.BlockAnswers.{length-list, unfolding_of, UnfoldCase, unfold-refused, unfold-longer, unfolds}
