@@ -1,10 +1,11 @@
 -- What the entry points answer, as the programs use it: a text that was read lies as a table, a split that was given
 -- too, and a refusal is the one that is printed.
 use Rattle.task.specs.declared.Place.TheVariants as place
-use Rattle.text.specs.declared.ReadAnswer.TheVariants as answer
 use Rattle.programs.specs.declared.tasks.Form.TheVariants as form
 use Rattle.programs.specs.declared.tasks.Form.{Form}
-use Rattle.text.specs.declared.ReadAnswer.{ReadAnswer}
+use Rattle.task.specs.declared.refusals.Refusal.{Refusal}
+use Rattle.std.specs.Prelude.{Result, Ok, Err}
+use Rattle.std.specs.Result.{result_unwrap_or}
 use Prim.Native.Nat.{ℕ, ◌≤◌}
 use mathlib.Core.Path.{◌≡◌, refl, sym, ◌∙◌, ap, ap₂, subst}
 use mathlib.Core.Bool.{true}
@@ -15,7 +16,7 @@ use borrow.Author.Tests.{le-leb}
 use Rattle.task.specs.declared.Place.{Place}
 use Rattle.words.specs.Lists.{over}
 use Rattle.task.specs.Limits.{table_words, table_length}
-use Rattle.task.specs.Answers.{place_number, Told, refused, told_value, Outcome}
+use Rattle.task.specs.Answers.{place_number, result, refused, told_value, Outcome}
 use Rattle.task.specs.Task.{Task}
 use Rattle.task.specs.Table.{words_of, task_of, long_enough, is_table}
 use Rattle.words.proofs.Puts.{take-over}
@@ -24,7 +25,7 @@ use Rattle.task.proofs.Tables.{words-length, of-table}
 use Rattle.task.proofs.TablesByIndex.{table_of, table-long}
 use Rattle.text.specs.Reading.{Reading, read, refused_at}
 use Rattle.text.specs.Text.{write, read_text}
-use Rattle.text.specs.Outcomes.{read_done, read_outcome, read_answer_told, write_outcome}
+use Rattle.text.specs.Outcomes.{read_done, read_outcome, write_outcome, write_answer_told}
 use Rattle.text.specs.TableLines.{longest_text}
 use Rattle.text.proofs.Outcomes.{read_result, result-read, write-result, written_over}
 use Rattle.text.proofs.TaskRead.{read_fits}
@@ -40,7 +41,7 @@ use Rattle.tokens.proofs.SplitOutcome.{refused-nine, refused-twenty, refused-ten
 use Rattle.tokens.proofs.SplitOutcome.{split_done}
 use Rattle.programs.specs.Programs.{taken, refusal, print_reading, print_splitting, split_program, pddl_program}
 use Rattle.programs.specs.Programs.{width_in, propose_program}
-use Rattle.task.proofs.Answers.{told-by, left_by, tells}
+use Rattle.task.proofs.Answers.{told-by, left_by}
 use Rattle.programs.specs.Printing.{Prints, made, room_for}
 use Rattle.programs.proofs.Printed.{prints-same}
 
@@ -57,11 +58,10 @@ pub record TableRead (text words : List ℕ) : Type 0 where
   pub is-table : is_table words ≡ true
   pub reads : read_text text ≡ read (task_of words)
 
-pub table-read : (text table : List ℕ) {words : List ℕ} {a : ReadAnswer} → a ≡ answer.Read →
-    (read_answer_told a ≡ (read_outcome text table).told) × (words ≡ (read_outcome text table).buffer) → TableRead text words
-unfolding read_answer_told
-table-read text table is_read (h, e) =
-    let r = result-read text table [] (sym (tells read_answer_told h is_read)) in
+pub table-read : (text table : List ℕ) {words : List ℕ} → result [] ≡ (read_outcome text table).told →
+    words ≡ (read_outcome text table).buffer → TableRead text words
+table-read text table told e =
+    let r = result-read text table [] (sym told) in
     let t = r.task in
     let fits = read_fits text t r.was_read in
     let w = over (words_of t) table in
@@ -87,27 +87,17 @@ read-refused text table long {k} {at} h uses =
         ap₂ refusal number (ap place_number line)
 
 -- ---- a program that reads a task: it prints what it makes of the task, or the refusal
--- the two clauses of its contract
-abbrev pub Printed : List ℕ → List ℕ → List ℕ → ℕ → Type 0
-Printed lent text after n = (after ≡ over text lent) × (n ≡ length text)
-
 module _ (uses : Task → List ℕ) {program : List ℕ} (text : List ℕ) (is : program ≡ print_reading uses (read_text text))
     {lent after : List ℕ} {n : ℕ} where
   pub task-printed : {words : List ℕ} → TableRead text words → Prints lent (uses (task_of words)) after n →
-      Printed lent program after n
+      Prints lent program after n
   unfolding print_reading
-  task-printed r p =
-      let q = prints-same (sym (is ∙ ap (print_reading uses) r.reads)) p in
-      (q.bytes, q.count)
+  task-printed r p = prints-same (sym (is ∙ ap (print_reading uses) r.reads)) p
 
-  pub refusal-printed : (table : List ℕ) → table_words ≤ length table → {a : ReadAnswer} {k : ℕ} {at : Place} →
-      a ≡ answer.Refused k at → read_answer_told a ≡ (read_outcome text table).told →
-      Prints lent (refusal k (place_number at)) after n → Printed lent program after n
-  unfolding read_answer_told
-  refusal-printed table long is-refused told p =
-      let same = read-refused text table long (tells read_answer_told told is-refused) uses in
-      let q = prints-same (same ∙ sym is) p in
-      (q.bytes, q.count)
+  pub refusal-printed : (table : List ℕ) → table_words ≤ length table → {k : ℕ} {at : Place} →
+      refused k at [] ≡ (read_outcome text table).told → Prints lent (refusal k (place_number at)) after n →
+      Prints lent program after n
+  refusal-printed table long told p = prints-same (read-refused text table long told uses ∙ sym is) p
 
 -- ---- splitting
 -- a split that is given is printed
@@ -171,11 +161,15 @@ pddl-whole table out is-table room =
     (let most = table-most table is-table in le-leb (length (pddl (task_of table))) (length out) (omega arith))
 
 -- what is written so is printed, as many bytes as the answer carries
-pub written-printed : (text lent : List ℕ) (told : Told) {o : Outcome (List ℕ)} {after : List ℕ} {n : ℕ} →
-    (told ≡ o.told) × (after ≡ o.buffer) → o ≡ written_over text lent → n ≡ told_value 0 told →
+pub written-printed : (text lent : List ℕ) (r : Result ℕ Refusal) {o : Outcome (List ℕ)} {after : List ℕ} {n : ℕ} →
+    write_answer_told r ≡ o.told → after ≡ o.buffer → o ≡ written_over text lent → n ≡ result_unwrap_or r 0 →
     Prints lent text after n
-written-printed text lent told does is e =
-    record { bytes = does.1 ∙ left_by is; count = e ∙ ap (told_value 0) (does.0 ∙ told-by is) }
+written-printed text lent r told left is e =
+    record { bytes = left ∙ left_by is; count = e ∙ (carried r ∙ ap (told_value 0) (told ∙ told-by is)) }
+  where
+    carried : (r : Result ℕ Refusal) → result_unwrap_or r 0 ≡ told_value 0 (write_answer_told r)
+    carried (Ok size) = refl
+    carried (Err why) = refl
 
 -- ---- the programs that read one task
 pub same-room : {n : ℕ} (f g : Form) → f ≡ g → room_for f ≤ n → room_for g ≤ n
@@ -191,10 +185,6 @@ unfolding room_for
 refusal-fits form.Split room = room
 refusal-fits form.Pddl room = omega arith
 refusal-fits (form.Proposal width) room = room
-
-pub as-printed : {program lent text after : List ℕ} {n : ℕ} → program ≡ text → Prints lent text after n →
-    Printed lent program after n
-as-printed is p = let q = prints-same (sym is) p in (q.bytes, q.count)
 
 -- the program `split`
 abbrev pub prints_split : Task → List ℕ

@@ -1,10 +1,9 @@
--- The bytes of a refusal's line one behind another, how many they are at most, and the bytes that a program takes.
+-- The bytes of a refusal's line one behind another, and how many they are at most.
 use Prim.Native.Nat.{ℕ, zero, suc, ◌+◌, ◌-◌, ◌/◌, ◌%◌, ◌≤◌, ◌<◌}
 use mathlib.Core.Path.{◌≡◌, refl, sym, ◌∙◌, ap, subst}
 use mathlib.Core.List.{List, [], ◌∷◌, ◌++◌, append_assoc}
 use native.Mathlib.Omega.{arith}
-use lib.ListN.{length, take, drop, length-append}
-use lib.Seq.{take_all, take-length}
+use lib.ListN.{length, drop, length-append}
 use Rattle.words.specs.Lists.{over}
 use Rattle.words.proofs.Puts.{put-over}
 use Rattle.text.specs.Lines.{bytes, colon, newline, digits_within, digits, commaed, entry_bytes, line}
@@ -12,7 +11,7 @@ use Rattle.words.specs.Putting.{Puts}
 use Rattle.text.specs.TableLines.{longest_text}
 use Rattle.text.proofs.Digits.{digits-one, digits_more}
 use Rattle.text.proofs.DigitSteps.{at-most-five}
-use Rattle.programs.specs.Programs.{most_bytes, taken, refusal}
+use Rattle.programs.specs.Programs.{refusal}
 use Rattle.programs.specs.Printing.{Prints}
 
 -- ---- what is put at the front is printed
@@ -72,12 +71,3 @@ refusal-room number place h =
     let few = at-most-five number in
     let more = at-most-five place in
     omega arith
-
--- ---- the bytes taken
-pub taken-all : (input : List ℕ) → length input < 65536 → take (length input) input ≡ taken input
-unfolding taken
-taken-all input h = take-length input ∙ sym (take_all most_bytes input (omega arith))
-
-pub taken-most : (input : List ℕ) → take 65536 input ≡ taken input
-unfolding taken
-taken-most input = refl

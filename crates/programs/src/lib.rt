@@ -19,8 +19,8 @@ use printing::put_refusal;
 pub use reading::read_input;
 use task::limits::TABLE_WORDS;
 use tasks::{Form, put_made};
+use text::LONGEST_TEXT;
 use text::plan::LONGEST_PLAN;
-use text::{LONGEST_TEXT, ReadAnswer};
 
 // No text of a task is longer, so this much holds whatever `split` and `propose` print.
 pub const TEXT_BYTES: usize = LONGEST_TEXT;
@@ -58,8 +58,8 @@ pub fn unfold_texts(task: &[u8], plan: &[u8], out: &mut [u8; PLAN_BYTES]) -> usi
 {
     let mut table = [0u16; TABLE_WORDS];
     match read_table(task, &mut table) {
-        ReadAnswer::Read => put_plan(&table, plan, out),
-        ReadAnswer::Refused(number, place) => put_refusal(out, number, place),
+        Ok(()) => put_plan(&table, plan, out),
+        Err(refused) => put_refusal(out, refused),
     }
 }
 

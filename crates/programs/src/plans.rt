@@ -15,9 +15,9 @@ use crate::printing::put_refusal;
 use blocks::unfolding;
 use task::limits::{MOST_PARTS, STEP_SIZE, TABLE_WORDS};
 use task::steps::bad_step;
-use task::{BadStep, Place};
-use text::plan::{PLAN_WORDS, PlanAnswer, read_plan, write_plan};
-use tokens::acceptance::{Acceptance, keep_accepted};
+use task::{Reason, Refusal};
+use text::plan::{PLAN_WORDS, read_plan, write_plan};
+use tokens::acceptance::keep_accepted;
 use tokens::kept::{KEPT_WORDS, Kept};
 use tokens::measure::Sizes;
 use tokens::writing::write_split;
@@ -49,9 +49,8 @@ fn put_steps(table: &[u16], kept: &Kept, sizes: Sizes, steps: &[u16], out: &mut 
     ensures { let t = task_of table.now in
         Prints out.old (print_unfolding t (steps_in t steps.now)) out.new result }
 {
-    let bad = bad_step(table, steps);
-    if let BadStep::At(i) = bad {
-        return put_refusal(out, 12, Place::Step(i));
+    if let Some(i) = bad_step(table, steps) {
+        return put_refusal(out, Refusal::at_step(Reason::NotAStep, i));
     }
     put_blocks(table, kept, sizes, steps, out)
 }
@@ -67,10 +66,9 @@ fn put_unfolding(table: &[u16], steps: &[u16], out: &mut [u8]) -> usize
         out.new result }
 {
     let mut kept = [0u16; KEPT_WORDS];
-    let accepted = keep_accepted(table, &mut kept);
-    match accepted {
-        Acceptance::Accepted(sizes) => put_steps(table, &kept, sizes, steps, out),
-        Acceptance::Refused(number, place) => put_refusal(out, number, place),
+    match keep_accepted(table, &mut kept) {
+        Ok(sizes) => put_steps(table, &kept, sizes, steps, out),
+        Err(refused) => put_refusal(out, refused),
     }
 }
 
@@ -84,13 +82,9 @@ pub fn put_plan(table: &[u16], plan: &[u8], out: &mut [u8]) -> usize
         (read_plan t (taken plan.now)))
         out.new result }
 {
-    let n = bytes_taken(plan);
     let mut steps = [0u16; PLAN_WORDS];
-    match read_plan(table, &plan[..n], &mut steps) {
-        PlanAnswer::Read(count) => {
-            let end = STEP_SIZE * (count as usize);
-            put_unfolding(table, &steps[..end], out)
-        }
-        PlanAnswer::Refused(number, place) => put_refusal(out, number, place),
+    match read_plan(table, &plan[..bytes_taken(plan)], &mut steps) {
+        Ok(count) => put_unfolding(table, &steps[..STEP_SIZE * count as usize], out),
+        Err(refused) => put_refusal(out, refused),
     }
 }

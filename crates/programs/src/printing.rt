@@ -1,10 +1,9 @@
 // What the programs print: a task as text or as PDDL, a split, a proposal or their refusals, and the line of a refusal.
 ghost use Rattle.std.specs.Prelude.{◌≡◌, true, ◌+◌, ◌≤◌, ◌<◌, length};
-ghost use Rattle.task.specs.Answers.{place_number, told_value};
+ghost use Rattle.task.specs.Answers.{place_number, reason_number};
 ghost use Rattle.task.specs.Table.{task_of, is_table};
 ghost use Rattle.tokens.specs.Split.{split};
 ghost use Rattle.text.specs.Lines.{digits_within};
-ghost use Rattle.text.specs.Outcomes.{write_answer_told};
 ghost use Rattle.text.specs.Text.{write};
 ghost use Rattle.words.specs.Putting.{Puts};
 ghost use Rattle.text.specs.TableLines.{longest_text};
@@ -13,13 +12,10 @@ ghost use Rattle.defines.specs.ByWords.{longest_pddl};
 ghost use Rattle.programs.specs.Programs.{refusal, print_proposal, print_splitting};
 ghost use Rattle.programs.specs.Printing.{Prints};
 
-use proposals::ProposeAnswer;
 use proposals::scratch::SCRATCH_WORDS;
-use task::Place;
+use task::Refusal;
 use task::limits::TABLE_WORDS;
-use text::WriteAnswer;
 use text::put::{put_byte, put_bytes};
-use tokens::SplitAnswer;
 
 // "Numbers have 1 to 5 digits".
 const MOST_DIGITS: usize = 5;
@@ -48,25 +44,16 @@ fn put_digits(out: &mut [u8], at: usize, most: usize, n: u64) -> usize
 }
 
 // "`refused=` number, colon, place".
-pub fn put_refusal(out: &mut [u8], number: u32, place: Place) -> usize
+pub fn put_refusal(out: &mut [u8], refused: Refusal) -> usize
     requires { longest_text ≤ length out.old }
-    ensures { Prints out.old (refusal number (place_number place)) out.new result }
+    ensures { Prints out.old (refusal (reason_number refused.reason) (place_number refused.place)) out.new result }
 {
+    let number = u64::from(refused.reason.number());
     let at_number = put_bytes(out, 0, b"refused=");
-    let at_colon = put_digits(out, at_number, MOST_DIGITS, number as u64);
+    let at_colon = put_digits(out, at_number, MOST_DIGITS, number);
     let at_place = put_byte(out, at_colon, b':');
-    let at_end = put_digits(out, at_place, MOST_DIGITS, place.number());
+    let at_end = put_digits(out, at_place, MOST_DIGITS, refused.place.number());
     put_byte(out, at_end, b'\n')
-}
-
-// How many bytes an answer of writing carries: a refusal has none.
-fn bytes_written(answer: WriteAnswer) -> usize
-    ensures { result ≡ told_value 0 (write_answer_told answer) }
-{
-    match answer {
-        WriteAnswer::Written(bytes) => bytes as usize,
-        WriteAnswer::Refused(number, place) => 0,
-    }
 }
 
 // A table's task as text. The bytes lent hold every text, so that writing never refuses.
@@ -75,7 +62,7 @@ fn put_task(table: &[u16], out: &mut [u8]) -> usize
     requires longest_text_in_bounds { longest_text ≤ length out.old }
     ensures { Prints out.old (write (task_of table.now)) out.new result }
 {
-    bytes_written(text::write(table, out))
+    text::write(table, out).unwrap_or(0) as usize
 }
 
 // The same as PDDL, over bytes that hold every such text.
@@ -84,7 +71,7 @@ pub fn put_pddl(table: &[u16], out: &mut [u8]) -> usize
     requires longest_pddl_in_bounds { longest_pddl ≤ length out.old }
     ensures { Prints out.old (pddl (task_of table.now)) out.new result }
 {
-    bytes_written(defines::write_pddl(table, out))
+    defines::write_pddl(table, out).unwrap_or(0) as usize
 }
 
 // What splitting gives is printed, or its refusal.
@@ -96,8 +83,8 @@ pub fn put_split(table: &[u16], out: &mut [u8]) -> usize
 {
     let mut words = [0u16; TABLE_WORDS];
     match tokens::split(table, &mut words) {
-        SplitAnswer::Split => put_task(&words, out),
-        SplitAnswer::Refused(number, place) => put_refusal(out, number, place),
+        Ok(()) => put_task(&words, out),
+        Err(refused) => put_refusal(out, refused),
     }
 }
 
@@ -111,7 +98,7 @@ pub fn put_proposal(table: &[u16], width: u64, out: &mut [u8]) -> usize
     let mut words = [0u16; TABLE_WORDS];
     let mut scratch = [0; SCRATCH_WORDS];
     match proposals::propose(table, width, &mut words, &mut scratch) {
-        ProposeAnswer::Proposed => put_task(&words, out),
-        ProposeAnswer::Refused(number, place) => put_refusal(out, number, place),
+        Ok(()) => put_task(&words, out),
+        Err(refused) => put_refusal(out, refused),
     }
 }

@@ -8,7 +8,6 @@ ghost use Rattle.programs.specs.Printing.{Prints, made, room_for};
 use crate::inputs::read_table;
 use crate::printing::{put_pddl, put_proposal, put_refusal, put_split};
 use task::limits::TABLE_WORDS;
-use text::ReadAnswer;
 
 // What is made of a task: its split as text, the task as PDDL, or with the partitions proposed for a width.
 #[derive(Clone, Copy)]
@@ -37,7 +36,7 @@ pub fn put_made(input: &[u8], form: Form, out: &mut [u8]) -> usize
 {
     let mut table = [0u16; TABLE_WORDS];
     match read_table(input, &mut table) {
-        ReadAnswer::Read => put_form(&table, form, out),
-        ReadAnswer::Refused(number, place) => put_refusal(out, number, place),
+        Ok(()) => put_form(&table, form, out),
+        Err(refused) => put_refusal(out, refused),
     }
 }

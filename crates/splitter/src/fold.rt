@@ -5,7 +5,6 @@ ghost use Rattle.task.specs.Answers.{told_value};
 ghost use Rattle.blocks.specs.Blocks.{fold_outcome};
 
 use crate::telling::{refusal, result};
-use blocks::FoldAnswer;
 
 // Folds a list of steps of the split of a table's task. The answer is 0 for a result, else the refusal's number.
 #[unsafe(no_mangle)]
@@ -29,14 +28,11 @@ pub extern "C" fn splitter_fold(
     *split_steps = 0;
     *steps = 0;
     match blocks::fold(table, split, out) {
-        FoldAnswer::Folded {
-            split_steps: read,
-            steps: found,
-        } => {
-            *split_steps = read;
-            *steps = found;
+        Ok(folded) => {
+            *split_steps = folded.split_steps;
+            *steps = folded.steps;
             result(place)
         }
-        FoldAnswer::Refused(number, at) => refusal(number, at, place),
+        Err(refused) => refusal(refused, place),
     }
 }

@@ -4,9 +4,9 @@ ghost use Rattle.splitter.specs.Telling.{Tells};
 ghost use Rattle.proposals.specs.Outcome.{propose_outcome};
 
 use crate::telling::{refusal, result};
-use proposals::ProposeAnswer;
 
 // Proposes a partition for each schema of a table's task. The answer is 0 for a result, else the refusal's number.
+#[tactic(auto, unfolding(proposals::specs::Outcome::propose_answer_told))]
 #[unsafe(no_mangle)]
 pub extern "C" fn splitter_propose(
     table: &[u16],
@@ -24,7 +24,7 @@ pub extern "C" fn splitter_propose(
         (propose_outcome table.now width proposed.old scratch.old).buffer.scratch }
 {
     match proposals::propose(table, width, proposed, scratch) {
-        ProposeAnswer::Proposed => result(place),
-        ProposeAnswer::Refused(number, at) => refusal(number, at, place),
+        Ok(()) => result(place),
+        Err(refused) => refusal(refused, place),
     }
 }

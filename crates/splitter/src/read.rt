@@ -4,7 +4,6 @@ ghost use Rattle.splitter.specs.Telling.{Tells};
 ghost use Rattle.text.specs.Outcomes.{read_outcome};
 
 use crate::telling::{refusal, result};
-use text::ReadAnswer;
 
 // Reads a text into a table. The answer is 0 for a result, else the refusal's number.
 #[unsafe(no_mangle)]
@@ -13,7 +12,7 @@ pub extern "C" fn splitter_read(text: &[u8], table: &mut [u16], place: &mut u64)
     ensures table_after { table.new ≡ (read_outcome text.now table.old).buffer }
 {
     match text::read(text, table) {
-        ReadAnswer::Read => result(place),
-        ReadAnswer::Refused(number, at) => refusal(number, at, place),
+        Ok(()) => result(place),
+        Err(refused) => refusal(refused, place),
     }
 }

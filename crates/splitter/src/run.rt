@@ -5,9 +5,10 @@ ghost use Rattle.task.specs.Answers.{told_value};
 ghost use Rattle.task.specs.Run.{run_outcome};
 
 use crate::telling::{refusal, result};
-use task::RunAnswer;
+use task::RunError;
 
 // Runs a list of steps in a state. The answer is 0 for a result, else the refusal's number.
+#[tactic(auto, unfolding(task::specs::Run::run_answer_told, task::specs::Run::bit))]
 #[unsafe(no_mangle)]
 pub extern "C" fn splitter_run(
     table: &[u16],
@@ -30,24 +31,20 @@ pub extern "C" fn splitter_run(
     *left = 0;
     *goal = 0;
     match task::run(table, steps, state, records) {
-        RunAnswer::Ran {
-            left: kept,
-            goal: met,
-        } => {
-            *left = kept;
-            if met {
-                *goal = 1;
-            }
+        Ok(ran) => {
+            *left = ran.left;
+            *goal = u64::from(ran.goal);
             result(place)
         }
-        RunAnswer::Refused(number, at) => refusal(number, at, place),
-        RunAnswer::Stopped {
-            number,
-            place: at,
-            left: kept,
-        } => {
+        Err(RunError::Refused(refused)) => refusal(refused, place),
+        Err(
+            RunError::Stopped {
+                refusal: refused,
+                left: kept,
+            },
+        ) => {
             *left = kept;
-            refusal(number, at, place)
+            refusal(refused, place)
         }
     }
 }

@@ -5,7 +5,6 @@ ghost use Rattle.task.specs.Answers.{told_value};
 ghost use Rattle.forecast.specs.Forecast.{sizes_outcome};
 
 use crate::telling::{refusal, result};
-use forecast::SizesAnswer;
 
 // Tells what the split of a table's task will need. The answer is 0 for a result, else the refusal's number.
 #[unsafe(no_mangle)]
@@ -34,7 +33,7 @@ pub extern "C" fn splitter_sizes(
     *before = 0;
     *after = 0;
     match forecast::sizes(table) {
-        SizesAnswer::Counted(sizes) => {
+        Ok(sizes) => {
             *predicates = sizes.predicates;
             *schemas = sizes.schemas;
             *atoms = sizes.atoms;
@@ -43,6 +42,6 @@ pub extern "C" fn splitter_sizes(
             *after = sizes.after;
             result(place)
         }
-        SizesAnswer::Refused(number, at) => refusal(number, at, place),
+        Err(refused) => refusal(refused, place),
     }
 }

@@ -4,7 +4,6 @@ ghost use Rattle.splitter.specs.Telling.{Tells};
 ghost use Rattle.tokens.specs.Split.{split_outcome};
 
 use crate::telling::{refusal, result};
-use tokens::SplitAnswer;
 
 // Splits a table's task into a second table. The answer is 0 for a result, else the refusal's number.
 #[unsafe(no_mangle)]
@@ -13,7 +12,7 @@ pub extern "C" fn splitter_split(table: &[u16], split: &mut [u16], place: &mut u
     ensures split_after { split.new ≡ (split_outcome table.now split.old).buffer }
 {
     match tokens::split(table, split) {
-        SplitAnswer::Split => result(place),
-        SplitAnswer::Refused(number, at) => refusal(number, at, place),
+        Ok(()) => result(place),
+        Err(refused) => refusal(refused, place),
     }
 }

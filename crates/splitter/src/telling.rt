@@ -1,8 +1,8 @@
 // What each entry point tells a C host: 0 for a result, else the refusal's number, and the place's number, 0 for none.
 ghost use Rattle.std.specs.Prelude.{◌≡◌};
-ghost use Rattle.task.specs.Answers.{place_number};
+ghost use Rattle.task.specs.Answers.{place_number, reason_number};
 
-use task::Place;
+use task::Refusal;
 
 // A result has no place.
 pub(crate) fn result(place: &mut u64) -> u32
@@ -13,9 +13,9 @@ pub(crate) fn result(place: &mut u64) -> u32
 }
 
 // A refusal has its number, and its place goes where the host lent a number for it.
-pub(crate) fn refusal(number: u32, at: Place, place: &mut u64) -> u32
-    ensures { (result ≡ number) × (place.new ≡ place_number at) }
+pub(crate) fn refusal(refused: Refusal, place: &mut u64) -> u32
+    ensures { (result ≡ reason_number refused.reason) × (place.new ≡ place_number refused.place) }
 {
-    *place = at.number();
-    number
+    *place = refused.place.number();
+    refused.reason.number()
 }

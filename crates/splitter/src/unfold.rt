@@ -5,7 +5,6 @@ ghost use Rattle.task.specs.Answers.{told_value};
 ghost use Rattle.blocks.specs.Blocks.{unfold_outcome};
 
 use crate::telling::{refusal, result};
-use blocks::UnfoldAnswer;
 
 // Unfolds the steps of a table's task. The answer is 0 for a result, else the refusal's number.
 #[unsafe(no_mangle)]
@@ -25,10 +24,10 @@ pub extern "C" fn splitter_unfold(
 {
     *split_steps = 0;
     match blocks::unfold(table, steps, out) {
-        UnfoldAnswer::Unfolded(count) => {
+        Ok(count) => {
             *split_steps = count;
             result(place)
         }
-        UnfoldAnswer::Refused(number, at) => refusal(number, at, place),
+        Err(refused) => refusal(refused, place),
     }
 }

@@ -5,7 +5,6 @@ ghost use Rattle.task.specs.Answers.{told_value};
 ghost use Rattle.text.specs.Outcomes.{write_outcome};
 
 use crate::telling::{refusal, result};
-use text::WriteAnswer;
 
 // Writes a table's task as text. The answer is 0 for a result, else the refusal's number.
 #[unsafe(no_mangle)]
@@ -21,10 +20,10 @@ pub extern "C" fn splitter_write(
 {
     *bytes = 0;
     match text::write(table, text) {
-        WriteAnswer::Written(count) => {
+        Ok(count) => {
             *bytes = count;
             result(place)
         }
-        WriteAnswer::Refused(number, at) => refusal(number, at, place),
+        Err(refused) => refusal(refused, place),
     }
 }

@@ -5,7 +5,6 @@ ghost use Rattle.task.specs.Answers.{told_value};
 ghost use Rattle.defines.specs.Outcome.{pddl_outcome};
 
 use crate::telling::{refusal, result};
-use text::WriteAnswer;
 
 // Writes a table's task as a domain and a problem. The answer is 0 for a result, else the refusal's number.
 #[unsafe(no_mangle)]
@@ -21,10 +20,10 @@ pub extern "C" fn splitter_write_pddl(
 {
     *bytes = 0;
     match defines::write_pddl(table, text) {
-        WriteAnswer::Written(count) => {
+        Ok(count) => {
             *bytes = count;
             result(place)
         }
-        WriteAnswer::Refused(number, at) => refusal(number, at, place),
+        Err(refused) => refusal(refused, place),
     }
 }

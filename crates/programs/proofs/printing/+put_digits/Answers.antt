@@ -1,6 +1,6 @@
 -- `programs::printing::put_digits` meets its contract, one digit a call: those of a tenth of the number are put by a
 -- call of itself, and the last behind them.
-use Rattle.std.proofs.Common.{ℕ, ◌+◌, ◌-◌, ◌*◌, ◌/◌, ◌%◌, [], ◌∷◌, length, sym, ◌∙◌, ap, arith, length-append}
+use Rattle.std.proofs.Common.{ℕ, ◌+◌, ◌-◌, ◌/◌, ◌%◌, [], ◌∷◌, length, sym, ◌∙◌, ap, arith, length-append}
 use Rattle.text.specs.Lines.{digits_within}
 use Rattle.words.proofs.Puts.{puts-length, puts-append, puts-same}
 use Rattle.programs.proofs.Printed.{no-digits, last-digit, digits-before}

@@ -1,2 +1,0 @@
--- Laws of the numbers that a C host is given.
-pub mod Numbers
