@@ -4,13 +4,15 @@ ghost use Rattle.std.specs.Prelude.{◌+◌, ◌≤◌, [], ◌∷◌, length, r
 ghost use Rattle.words.specs.Words.{words_at};
 ghost use Rattle.words.specs.Putting.{Puts};
 
-// `count` words of a table, from a place on.
+// `count` words of a table, from a place on. One by one: the library's copy has a C host bring `memmove`.
 pub fn copy(table: &[u16], from: usize, count: usize, out: &mut [u16], at: usize) -> usize
     requires count_in_bounds { from + count ≤ length table.now }
     requires count_in_bounds_2 { at + count ≤ length out.old }
     ensures { Puts out.old at (words_at table.now from count) out.new result }
 {
-    out[at..at + count].copy_from_slice(&table[from..from + count]);
+    for k in 0..count {
+        out[at + k] = table[from + k];
+    }
     at + count
 }
 
@@ -28,6 +30,9 @@ pub fn four(out: &mut [u16], at: usize, a: u16, b: u16, c: u16, d: u16) -> usize
     requires { at + 4 ≤ length out.old }
     ensures { Puts out.old at (a ∷ b ∷ c ∷ d ∷ []) out.new result }
 {
-    out[at..at + 4].copy_from_slice(&[a, b, c, d]);
+    out[at] = a;
+    out[at + 1] = b;
+    out[at + 2] = c;
+    out[at + 3] = d;
     at + 4
 }

@@ -77,22 +77,30 @@ pub fn all_below(table: &[u16], from: usize, to: usize, bound: usize) -> bool
     (from..to).all(|i| word(table, i) < bound)
 }
 
-// Whether n words at one place equal those at another.
+// Whether n words at one place equal those at another. The runs are short, and often differ at their first word, where
+// this stops; the library compares two slices in groups.
 pub fn same_words(table: &[u16], left: usize, right: usize, n: usize) -> bool
     requires n_in_bounds { left + n ≤ length table.now }
     requires n_in_bounds_2 { right + n ≤ length table.now }
     ensures { result ≡ eq_list (words_at table.now left n) (words_at table.now right n) }
 {
-    table[left..left + n] == table[right..right + n]
+    (0..n).all(|k| word(table, left + k) == word(table, right + k))
 }
 
-// Whether n words at one place come before those at another, word by word.
+// Whether n words at one place come before those at another: the first words that differ decide.
 pub fn less_words(table: &[u16], left: usize, right: usize, n: usize) -> bool
     requires n_in_bounds { left + n ≤ length table.now }
     requires n_in_bounds_2 { right + n ≤ length table.now }
     ensures { result ≡ less_list (words_at table.now left n) (words_at table.now right n) }
 {
-    table[left..left + n] < table[right..right + n]
+    for k in 0..n {
+        let x = word(table, left + k);
+        let y = word(table, right + k);
+        if x != y {
+            return x < y;
+        }
+    }
+    false
 }
 
 // Whether a word stands among n words.
