@@ -54,6 +54,14 @@ part-below w i a =
 pub stretch-atom : {w : List ℕ} {from to : ℕ} → IsStretch w from to → (i : ℕ) → i < to → IsSchemaAtom w i
 stretch-atom s i l = record { table = s.table; known = let k = s.known in omega arith }
 
+-- what is left of a stretch
+pub stretch-rest : {w : List ℕ} {from to : ℕ} → IsStretch w from to → (i : ℕ) → i ≤ to → IsStretch w i to
+stretch-rest s i l = record { table = s.table; forward = l; known = s.known }
+
+-- what a stretch begins with
+pub stretch-front : {w : List ℕ} {from to : ℕ} → IsStretch w from to → (i : ℕ) → from ≤ i → i ≤ to → IsStretch w from i
+stretch-front s i l m = record { table = s.table; forward = l; known = let k = s.known in omega arith }
+
 -- an atom of a stretch, by its place
 pub stretch-in : (w : List ℕ) (from to : ℕ) (a : Atom) → In a (stretch_in w from to) →
     (k : ℕ) × (from ≤ k) × (k < to) × (a ≡ atom_in w k)

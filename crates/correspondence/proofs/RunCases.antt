@@ -1,4 +1,4 @@
--- What running answers by the first of its checks that fails: 2, 12 or 15, or what it does where none does.
+-- What running answers by the first of its checks that fails: 1, 2, 12 or 15, or what it does where none does.
 use Rattle.task.specs.declared.Place.TheVariants as place
 use Prim.Native.Nat.{ℕ}
 use mathlib.Core.Path.{◌≡◌, refl, ◌∙◌}
@@ -26,6 +26,9 @@ module _ (w steps state : List ℕ) (n : ℕ) where
   outcome-is : run_outcome w steps state n ≡ in_order (refuse_unless (long_enough w) 1 ∷ table_check) state ran
   unfolding run_outcome
   outcome-is = refl
+
+  pub run_short : long_enough w ≡ false → run_outcome w steps state n ≡ as_found 1 place.Nowhere state
+  run_short h = outcome-is ∙ check-refuses 1 table_check state ran h
 
   long : long_enough w ≡ true → run_outcome w steps state n ≡ in_order table_check state ran
   long h = outcome-is ∙ check-passes 1 table_check state ran h

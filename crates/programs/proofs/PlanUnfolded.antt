@@ -112,6 +112,9 @@ module _ (table steps : List ℕ) (p : PlanChoices table steps) where
   unfolding print_unless_bad
   good-printed e = judged e
 
+  pub good-plan : bad_step (task_of table) steps ≡ None → PlanSteps table steps
+  good-plan e = record { good = e; few = p.few }
+
 -- ---- blocks
 -- what splitting refuses is printed
 pub refused-printed : (table : List ℕ) → is_table table ≡ true → {k : ℕ} {at : Place} → RefusedAs table k at →

@@ -4,7 +4,8 @@ use mathlib.Core.Path.{◌≡◌, sym, ◌∙◌, ap, subst}
 use mathlib.Core.Bool.{Bool, true, false, ◌&&◌}
 use mathlib.Core.List.{List}
 use native.Mathlib.Omega.{arith}
-use lib.ListN.{get_or}
+use native.Mathlib.Nat.{mul-suc, mul-le-mul_left}
+use lib.ListN.{length, get_or}
 use lib.Dec.{ltb, leb}
 use borrow.Author.Tests.{ltb-true, leb-true, lt-ltb, le-ltb, le-leb, lt-leb}
 use Rattle.task.specs.Layout.{pairs_base, rows_base, pair_base, atom_base}
@@ -89,6 +90,14 @@ pub number-next : (number : ℕ → ℕ) (i before : ℕ) → before ≡ number 
 number-next number i before e =
     let z : i ≡ i + 1 - 1 = omega arith in
     ap (λ (n : ℕ). leb n (number (i + 1))) (e ∙ ap number z)
+
+-- the first word of row i lies in words that hold n rows from a base on
+pub row_inside : (w : List ℕ) (base size i n : ℕ) → (1 ≤ size) × (base + size * n ≤ length w) → i < n →
+    base + size * i < length w
+row_inside w base size i n (some, fits) l =
+    let a : size * suc i ≤ size * n = mul-le-mul_left size l in
+    let b = mul-suc size i in
+    omega arith
 
 -- the rows of a schema end before the first that names another, or with all rows
 pub run-found : (number : ℕ → ℕ) (n s start : ℕ) (r : Option ℕ) → start ≤ n →
