@@ -1,14 +1,15 @@
 -- Arithmetic that stops at a limit: a sum or a product of capped numbers, capped again, is that of the numbers
--- themselves. So the powers of a number are kept one after another.
-use Prim.Native.Nat.{ℕ, zero, suc, ◌+◌, ◌*◌, ◌^◌, ◌≤◌, ◌<◌}
-use mathlib.Core.Path.{◌≡◌, refl, ◌∙◌, ap}
+-- themselves. A product is tested by a division before it is made. So the powers of a number are kept one after
+-- another.
+use Prim.Native.Nat.{ℕ, zero, suc, ◌+◌, ◌-◌, ◌*◌, ◌/◌, ◌^◌, ◌≤◌, ◌<◌}
+use mathlib.Core.Path.{◌≡◌, refl, sym, ◌∙◌, ap}
 use mathlib.Core.List.{List, map}
-use native.Mathlib.Nat.{le-mul_of_pos_right, pow-zero}
+use native.Mathlib.Nat.{le-div_iff_mul-le, div-lt_iff_lt-mul, le-mul_of_pos_right, pow-zero, pow-suc}
 use native.Mathlib.Decide.{dec_le}
 use native.Mathlib.Omega.{arith}
 use native.Mathlib.Numerals.{add-one}
 use lib.ListN.{length, get_or, set, length-set}
-use lib.Seq.{get_or-set_same}
+use lib.Seq.{get_or-set_same, get_or-set_other}
 use lib.Dec.{ltb}
 use borrow.Author.Tests.{ltb-true, lt-ltb}
 use Rattle.std.specs.List.{fold, range_with_len}
@@ -44,6 +45,14 @@ module _ (limit : ℕ) where
     | no l ↦ let e : capped limit x ≡ x = omega arith in ap (λ (y : ℕ). capped limit (y * n)) e
   ]
 
+  -- a factor that is at most what the division leaves makes a product below the limit, and a larger one reaches it
+  module _ (x n : ℕ) (some : 1 ≤ n) where
+    pub times-fits : 1 ≤ limit → x ≤ (limit - 1) / n → x * n < limit
+    times-fits h l = omega (arith, (le-div_iff_mul-le {k = n} {x = x} {y = limit - 1} some).0 l)
+
+    pub times-reaches : (limit - 1) / n < x → limit ≤ x * n
+    times-reaches l = omega (arith, (div-lt_iff_lt-mul {k = n} {x = limit - 1} {y = x} some).0 l)
+
   -- sums of numbers that are capped themselves, as a chain over a range of numbers makes them
   module _ (f g : ℕ → ℕ) where
     added : (m e a n : ℕ) → m ≡ capped limit e → ((i : ℕ) → a ≤ i → i < a + n → g i ≡ capped limit (f i)) →
@@ -76,3 +85,23 @@ module _ (limit n : ℕ) (powers : List ℕ) where
           pow-zero n,
         );
   }
+
+  pub powers-more : (m p : ℕ) → 1 ≤ n → m < most_parameters → PowersUpTo limit n m powers →
+      p ≡ capped limit (get_or powers m 0 * n) → PowersUpTo limit n (m + 1) (set powers (m + 1) p)
+  powers-more m p some h old e = record {
+    long = length-set powers (m + 1) p ∙ old.long;
+    power = λ k b. elim (dec_le k m) [
+      | yes l ↦ get_or-set_other powers (m + 1) k p 0 (λ z. omega arith) ∙ old.power k l
+      | no l ↦
+          let last : k ≡ m + 1 = omega arith in
+          ap (λ (i : ℕ). get_or (set powers (m + 1) p) i 0) last ∙
+          get_or-set_same powers (m + 1) p 0 (omega (arith, old.long)) ∙ next ∙
+          ap (λ (i : ℕ). capped limit (n ^ i)) (sym last)
+    ];
+  }
+    where
+      next : p ≡ capped limit (n ^ (m + 1))
+      next =
+          e ∙ ap (λ (x : ℕ). capped limit (x * n)) (old.power m (omega arith)) ∙
+          capped-times limit (n ^ m) n some ∙
+          ap (capped limit) (sym (pow-suc n m) ∙ ap (λ (i : ℕ). n ^ i) (sym (add-one m)))

@@ -28,12 +28,12 @@ use Rattle.forecast.specs.Counting.{lines_bytes, schema_bytes, schemas_bytes, he
 
 -- ---- sums, one number further
 module _ (f : ℕ → ℕ) where
-  total-more : (k : ℕ) → total f (up_to (k + 1)) ≡ total f (up_to k) + f k
+  pub total-more : (k : ℕ) → total f (up_to (k + 1)) ≡ total f (up_to k) + f k
   unfolding sum
   total-more k = omega (arith, ap sum (map_more f k), sum-append (map f (up_to k)) (f k ∷ []))
 
   -- and no less than before
-  total-rises : (k n : ℕ) → k ≤ n → total f (up_to k) ≤ total f (up_to n)
+  pub total-rises : (k n : ℕ) → k ≤ n → total f (up_to k) ≤ total f (up_to n)
   total-rises k zero l = let e : k ≡ 0 = omega arith in omega (arith, ap (λ (i : ℕ). total f (up_to i)) e)
   total-rises k (suc n) l = elim (dec_le k n) [
     | yes m ↦ omega (arith, total-rises k n m, total-more n, ap (λ (i : ℕ). total f (up_to i)) (add-one n))

@@ -1,6 +1,6 @@
 // The ground instances of a task and of its split, "a schema with n parameters counting objects to the power n". No
-// number passes the limit: what reaches it stays there.
-ghost use Rattle.std.specs.Prelude.{◌+◌, ◌*◌, ◌≤◌, ◌≡◌, true};
+// number passes the limit: what reaches it stays there, and that is seen before a product or a sum is made.
+ghost use Rattle.std.specs.Prelude.{◌+◌, ◌-◌, ◌*◌, ◌/◌, ◌≤◌, ◌≡◌, true};
 ghost use Rattle.task.specs.Table.{task_of, is_table};
 ghost use Rattle.tokens.specs.Split.{split_task};
 ghost use Rattle.tokens.specs.Kept.{SchemaKept};
@@ -20,18 +20,27 @@ pub const INSTANCE_LIMIT: u64 = 1 << 63;
 // Objects to the power of each number of parameters.
 pub type Powers = [u64; MOST_PARAMETERS + 1];
 
-// A product.
-fn times(x: u64, objects: u64) -> u64
+// A product with objects, of which `most` is the largest factor that stays below the limit.
+fn times(x: u64, objects: u64, most: u64) -> u64
+    requires le_objects { 1 ≤ objects }
+    requires most_value { most ≡ (instance_limit - 1) / objects }
     ensures { result ≡ capped instance_limit (x * objects) }
 {
-    x.saturating_mul(objects).min(INSTANCE_LIMIT)
+    if most < x {
+        return INSTANCE_LIMIT;
+    }
+    x * objects
 }
 
 // A sum.
 fn plus(x: u64, y: u64) -> u64
     ensures { result ≡ capped instance_limit (x + y) }
 {
-    x.saturating_add(y).min(INSTANCE_LIMIT)
+    if INSTANCE_LIMIT.saturating_sub(y) <= x {
+        INSTANCE_LIMIT
+    } else {
+        x + y
+    }
 }
 
 // Keeps the powers of the number of objects.
@@ -39,9 +48,10 @@ pub fn keep_powers(objects: u64, powers: &mut Powers)
     requires { 1 ≤ objects }
     ensures { ArePowers instance_limit objects powers.new }
 {
+    let most = (INSTANCE_LIMIT - 1) / objects;
     powers[0] = 1;
     for n in 0..MOST_PARAMETERS {
-        powers[n + 1] = times(powers[n], objects);
+        powers[n + 1] = times(powers[n], objects, most);
     }
 }
 
