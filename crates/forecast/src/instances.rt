@@ -84,7 +84,6 @@ pub fn instances_after(table: &[u16], kept: &Kept, powers: &Powers) -> u64
     requires are_powers { ArePowers instance_limit (task_of table.now).objects powers.now }
     ensures { result ≡ capped instance_limit (instances (split_task (task_of table.now))) }
 {
-    (0..word(table, SCHEMAS))
-        .map(|s| parts_instances(table, kept, s, powers))
-        .fold(0, plus)
+    let parts = |s| parts_instances(table, kept, s, powers);
+    (0..word(table, SCHEMAS)).map(parts).fold(0, plus)
 }
