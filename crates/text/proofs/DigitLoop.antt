@@ -19,11 +19,11 @@ use Rattle.text.specs.ReadCode.{rest, DigitHere, NumberHere}
 use Rattle.text.proofs.Digits.{Digits, no_digit, digit, value-append, digits_append, value-small}
 use Rattle.text.proofs.ReadersAt.{number-here}
 
-low-no-digit : (b : ℕ) → b < 48 → is_digit b ≡ false
+pub low-no-digit : (b : ℕ) → b < 48 → is_digit b ≡ false
 unfolding is_digit
 low-no-digit b h = ap (λ (x : Bool). x && leb b 57) (lt-leb 48 b h)
 
-high-no-digit : (b : ℕ) → 57 < b → is_digit b ≡ false
+pub high-no-digit : (b : ℕ) → 57 < b → is_digit b ≡ false
 unfolding is_digit
 high-no-digit b h = ap (λ (x : Bool). leb 48 b && x) (lt-leb b 57 h) ∙ and-false (leb 48 b)
 

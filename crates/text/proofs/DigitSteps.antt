@@ -26,11 +26,11 @@ spare f p same n h = elim (dec_lt n 10) [
 one-spare : (n : ℕ) → n < 10 → digits_within 1 n ≡ digits_within 2 n
 one-spare n h = digits-one 0 n h ∙ sym (digits-one 1 n h)
 
-digits_last : (n : ℕ) → n < 10 → digits n ≡ (48 + n) ∷ []
+pub digits_last : (n : ℕ) → n < 10 → digits n ≡ (48 + n) ∷ []
 unfolding digits
 digits_last n h = digits-one 4 n h
 
-digits_step : (n : ℕ) → 10 ≤ n → n < 100000 → digits n ≡ digits (n / 10) ++ ((48 + n % 10) ∷ [])
+pub digits_step : (n : ℕ) → 10 ≤ n → n < 100000 → digits n ≡ digits (n / 10) ++ ((48 + n % 10) ∷ [])
 unfolding digits
 digits_step n l h =
     digits_more 4 n l ∙
@@ -41,7 +41,7 @@ digits_step n l h =
 pub one-digit-long : (n : ℕ) → n < 10 → length (digits n) ≡ 1
 one-digit-long n h = ap length (digits_last n h)
 
-digits-longer : (n : ℕ) → 10 ≤ n → n < 100000 → length (digits n) ≡ length (digits (n / 10)) + 1
+pub digits-longer : (n : ℕ) → 10 ≤ n → n < 100000 → length (digits n) ≡ length (digits (n / 10)) + 1
 digits-longer n l h =
     ap length (digits_step n l h) ∙ length-append (digits (n / 10)) ((48 + n % 10) ∷ [])
 

@@ -72,10 +72,10 @@ no-seventh in_init e = omega arith
 no-seventh in_goal e = omega arith
 
 -- a key by its number may stand where the number does
-stands-as : (p : ℕ) {key n : ℕ} → key ≡ n → may_stand p key ≡ true → may_stand p n ≡ true
+pub stands-as : (p : ℕ) {key n : ℕ} → key ≡ n → may_stand p key ≡ true → may_stand p n ≡ true
 stands-as p e h = subst (λ (k : ℕ). may_stand p k ≡ true) e h
 
-role-number : (r : ℕ) → r ≤ 2 → key_number (role_key r) ≡ 4 + r
+pub role-number : (r : ℕ) → r ≤ 2 → key_number (role_key r) ≡ 4 + r
 unfolding role_key
 role-number zero l = refl
 role-number (suc zero) l = refl

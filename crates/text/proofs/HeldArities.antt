@@ -27,7 +27,7 @@ use Rattle.text.specs.declared.draft.Counts.{Counts}
 use Rattle.text.proofs.Dispatch.{head-place}
 
 -- below 5 is at most 4
-low-arities : (ns : List ℕ) → all (λ n. ltb n 5) ns ≡ all (λ n. leb n 4) ns
+pub low-arities : (ns : List ℕ) → all (λ n. ltb n 5) ns ≡ all (λ n. leb n 4) ns
 unfolding all
 low-arities [] = refl
 low-arities (n ∷ ns) =

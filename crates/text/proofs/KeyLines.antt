@@ -122,7 +122,7 @@ numbered init = refl
 numbered goal = refl
 numbered end = refl
 
-key-of-number : (j k : Key) → key_number j ≡ key_number k → j ≡ k
+pub key-of-number : (j k : Key) → key_number j ≡ key_number k → j ≡ k
 key-of-number j k e = sym (numbered j) ∙ (ap (λ (n : ℕ). get_or every_key n task) e ∙ numbered k)
 
 every-key : (k : Key) → In k every_key

@@ -1,9 +1,10 @@
 -- What a line's turn comes to, once its body is read: refused where there is none, and else what the line does to the
 -- draft, as `take_line` says for the lines of a task.
 use Prim.Native.Nat.{ℕ, suc}
-use mathlib.Core.Path.{◌≡◌, refl, ◌∙◌, ap}
+use mathlib.Core.Path.{◌≡◌, refl, sym, ◌∙◌, ap}
 use mathlib.Core.Bool.{Bool, false}
 use mathlib.Core.List.{List, [], ◌∷◌}
+use native.Mathlib.Omega.{arith}
 use Rattle.std.specs.Prelude.{Option, None, Some}
 use Rattle.task.specs.Task.{Task}
 use Rattle.text.specs.Lines.{newline, Taken, taken, and_then, after, ended, Entry, entry}
@@ -55,6 +56,22 @@ module _ {A L : Type 0} (says : A → L) (o : Option (Taken A)) where
       pub turn-ends : (r : R) → takes (says a) ≡ finish r → line_at n takes (ended says o) next ≡ at_end r (suc n) left
       unfolding turn_at
       turn-ends r e = turn_is ∙ ap (λ (t : Turn D R). turn_at n t left next) e
+
+-- what is no body, or another one, is not this one; what is the same is
+pub none-taken : {A : Type 0} {o : Option (Taken A)} {a : A} → o ≡ None → (left : List ℕ) → o ≡ taken a left → ⊥
+none-taken e left h = let z : ◌≡◌ {A = ℕ} 0 1 = cc in omega arith
+
+pub other-taken : {A : Type 0} {o : Option (Taken A)} {a b : A} {rest : List ℕ} → o ≡ taken b rest → (b ≡ a → ⊥) →
+    (left : List ℕ) → o ≡ taken a left → ⊥
+other-taken {A} {b = b} e other left h = other (ap value (sym e ∙ h))
+  where
+    value : Option (Taken A) → A
+    value None = b
+    value (Some x) = x.value
+
+pub same_taken : {A : Type 0} {o : Option (Taken A)} {a b : A} {left : List ℕ} → o ≡ taken b left → b ≡ a →
+    o ≡ taken a left
+same_taken {A} {left = left} e q = e ∙ ap (λ (b : A). taken b left) q
 
 -- a body that must be 1, and isn't
 pub not-one : {L D R : Type 0} (says : ℕ → L) (o : Option (Taken ℕ)) (takes : L → Turn D R) →

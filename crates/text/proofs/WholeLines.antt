@@ -1,6 +1,6 @@
 -- Bodies as the code reads them, step after step: a list that may be empty, an atom, and a body with its line's end.
 use Prim.Native.Nat.{ℕ, ◌≤◌}
-use mathlib.Core.Path.{◌≡◌, refl, sym, ◌∙◌, ap}
+use mathlib.Core.Path.{◌≡◌, refl, sym, ◌∙◌, ap, subst}
 use mathlib.Core.Bool.{Bool, true, false}
 use mathlib.Core.List.{List, [], ◌∷◌}
 use Rattle.std.specs.Prelude.{Option, None, Some}
@@ -10,7 +10,7 @@ use borrow.Author.Tests.{ne_eqb, eqb-false}
 use Rattle.text.specs.declared.cursor.Cursor.{Cursor}
 use Rattle.text.specs.Lines.{newline, colon, Taken, taken, and_then, after, number, numbers, listing, Entry, entry}
 use Rattle.text.specs.Lines.{ended}
-use Rattle.text.specs.ReadCode.{whole, Placed, Onward, NextLine, EndHere}
+use Rattle.text.specs.ReadCode.{whole, Placed, Moved, Onward, WordHere, ListAt, ListPlaced, NextLine, EndHere}
 use Rattle.text.proofs.Taken.{no_none, after_read, if-false}
 
 -- ---- a list that may be empty
@@ -89,8 +89,34 @@ module _ {A : Type 0} (o : Option (Taken A)) where
     unfolding and_then
     line-whole left e = behind-body ∙ ap (λ (x : Option (List ℕ)). and_then x (λ left. taken a left)) e
 
--- ---- cursors that were moved on
--- one at the next line is in the text
+-- ---- cursors that were moved on are in the text
+module _ {text : List ℕ} {c next : Cursor} (p : Placed text c) where
+  pub moved-placed : Moved text c next → Placed text next
+  moved-placed m =
+      let a = p.line in
+      let b = m.on in
+      let l = m.line in
+      record { inside = m.inside; line = omega arith }
+
+  pub onward-placed : Onward text c next → Placed text next
+  onward-placed m =
+      let a = p.line in
+      let b = m.on in
+      let l = m.line in
+      record { inside = m.inside; line = omega arith }
+
+  pub word-placed : {word : List ℕ} → WordHere text c word next → Placed text next
+  word-placed m =
+      let a = p.line in
+      let b = m.far in
+      let l = m.line in
+      record { inside = m.inside; line = omega arith }
+
+pub list-placed : {text : List ℕ} {c : Cursor} → Placed text c → (body : Option (Taken (List ℕ))) (kept : List ℕ)
+    {found : Option (ℕ × Cursor)} → ListAt text c body kept found → ListPlaced text found
+list-placed {text} {c} p body kept h count next e = onward-placed p (subst (ListAt text c body kept) e h).onward
+
+-- one at the next line too
 pub next-placed : {text : List ℕ} {c next : Cursor} → Placed text c → NextLine text c next → Placed text next
 next-placed p m = record { inside = m.inside; line = omega (arith, p.line, m.on, m.line) }
 
