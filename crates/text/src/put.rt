@@ -60,7 +60,8 @@ pub fn put_bytes(text: &mut [u8], at: usize, bytes: &[u8]) -> usize
     requires { at + length bytes.now ≤ length text.old }
     ensures { Puts text.old at bytes.now text.new result }
 {
-    let end = at + bytes.len();
-    text[at..end].copy_from_slice(bytes);
-    end
+    for k in 0..bytes.len() {
+        text[at + k] = bytes[k];
+    }
+    at + bytes.len()
 }
