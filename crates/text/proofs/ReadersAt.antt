@@ -50,6 +50,20 @@ module _ (text : List ℕ) (at : ℕ) where
       ap (λ (xs : List ℕ). taken_if (in_form xs) (value_from 0 xs) (drop (length xs) (drop at text))) e ∙
       ap (taken_if (in_form ds) (value_from 0 ds)) (drop-drop (length ds) at text)
 
+  -- ---- a byte that must stand here
+  pub after-here : (k : ℕ) (ks : List ℕ) → at < length text → get_or text at 0 ≡ k →
+      after (k ∷ ks) (drop at text) ≡ after ks (drop (suc at) text)
+  unfolding after
+  after-here k ks l e =
+      ap (after (k ∷ ks)) (drop-cons text at 0 l) ∙ if-true None (eq-eqb k (get_or text at 0) (sym e))
+
+  pub not-after-here : (k : ℕ) (ks : List ℕ) → at < length text → (get_or text at 0 ≡ k → ⊥) →
+      after (k ∷ ks) (drop at text) ≡ None
+  unfolding after
+  not-after-here k ks l e =
+      ap (after (k ∷ ks)) (drop-cons text at 0 l) ∙
+      if-false (after ks (drop (suc at) text)) (ne_eqb k (get_or text at 0) (λ q. e (sym q)))
+
   pub none-after-left : (k : ℕ) (ks : List ℕ) → length text ≤ at → after (k ∷ ks) (drop at text) ≡ None
   unfolding after
   none-after-left k ks l = ap (after (k ∷ ks)) (drop_of_length-le text l)

@@ -64,7 +64,10 @@ impl Cursor {
         requires { Placed text.now self }
         ensures { WordAt text.now self word.now result }
     {
-        if !text[self.at..].starts_with(word) {
+        if text.len() - self.at < word.len() {
+            return None;
+        }
+        if !(0..word.len()).all(|k| text[self.at + k] == word[k]) {
             return None;
         }
         Some(Cursor {
