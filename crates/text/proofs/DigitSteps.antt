@@ -54,6 +54,13 @@ digits_long (suc d) n l h small =
     let r = digits_long d (n / 10) (omega arith) (omega arith) (omega arith) in
     omega arith
 
+-- a number has a digit, and one of ten or more has two
+pub some-digit : (n : ℕ) → n < 100000 → 1 ≤ length (digits n)
+some-digit n h = elim (dec_lt n 10) [
+  | yes l ↦ let e = one-digit-long n l in omega arith
+  | no l ↦ let e = digits-longer n (omega arith) h in omega arith
+]
+
 -- as many digits as there may be, where the number has no fewer
 within-full : (most n : ℕ) → 10 ^ most ≤ 10 * n → length (digits_within most n) ≡ most
 unfolding digits_within

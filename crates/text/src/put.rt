@@ -30,9 +30,12 @@ pub fn put_digits(text: &mut [u8], end: usize, n: u16)
     requires { (length (digits n) ≤ end) × (end ≤ length text.old) }
     ensures { Puts text.old (end - length (digits n)) (digits n) text.new end }
 {
-    let first = end - number_size(n);
     let mut rest = n;
-    for place in (first..end).rev() {
+    for place in (0..end).rev() {
+        if rest < 10 {
+            text[place] = digit(rest);
+            return;
+        }
         text[place] = digit(rest % 10);
         rest /= 10;
     }
