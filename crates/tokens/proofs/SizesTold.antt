@@ -1,7 +1,7 @@
 -- The sizes of the split, once every schema is counted; and by them, whether the split passes a limit.
 use Prim.Native.Nat.{ℕ, suc, ◌+◌, ◌*◌, ◌≤◌, ◌<◌}
 use mathlib.Core.Path.{◌≡◌, refl, ◌∙◌, ap}
-use mathlib.Core.Bool.{true}
+use mathlib.Core.Bool.{Bool, true}
 use mathlib.Core.List.{List, [], ◌∷◌, map}
 use native.Mathlib.Omega.{arith}
 use lib.ListN.{length, take}
@@ -20,7 +20,7 @@ use Rattle.task.proofs.TablesByIndex.{table-frame, arities-word, init-word, goal
 use Rattle.task.proofs.Tests.{schema-tests, task-tests}
 use Rattle.tokens.specs.Split.{parts, later_parts, shared, shared_bound, maximum, par_count, split_task, limit_tests}
 use Rattle.tokens.specs.Split.{within_limits}
-use Rattle.tokens.specs.Acceptance.{part_schemas, largest_of, SizesBefore, SizesTold, are_within}
+use Rattle.tokens.specs.Acceptance.{part_schemas, largest_of, SizesBefore, SizesCounted, SizesTold, are_within}
 use Rattle.tokens.specs.declared.measure.Sizes.{Sizes}
 use Rattle.tokens.proofs.Predicates.{predicate-count}
 use Rattle.tokens.proofs.Sizes.{init-count, goal-count}
@@ -54,8 +54,8 @@ module _ (t : Task) (r : Sizes) (n : ℕ) (all-counted : n ≡ length t.schemas)
   unfolding split_task
   largest-told = counted.largest ∙ ap (λ (k : ℕ). largest_of (concat_map (part_schemas t) (up_to k))) all-counted
 
-  pub sizes-told : SizesTold t r
-  sizes-told = record {
+  pub sizes-counted : SizesCounted t r
+  sizes-counted = record {
     later = later-told;
     pars = pars-told;
     schemas = schemas-told;
@@ -63,6 +63,39 @@ module _ (t : Task) (r : Sizes) (n : ℕ) (all-counted : n ≡ length t.schemas)
     largest = largest-told;
     pairs = pairs-told;
   }
+
+-- ---- what is told is what is counted, and whether all limits are kept
+pub sizes-told : (t : Task) (r : Sizes) → SizesCounted t r → (within : Bool) → within ≡ within_limits (split_task t) →
+    SizesTold t
+    (record {
+      later = r.later;
+      pars = r.pars;
+      schemas = r.schemas;
+      atoms = r.atoms;
+      largest = r.largest;
+      pairs = r.pairs;
+      within = within;
+    })
+sizes-told t r counted within e = record {
+  later = counted.later;
+  pars = counted.pars;
+  schemas = counted.schemas;
+  atoms = counted.atoms;
+  largest = counted.largest;
+  pairs = counted.pairs;
+  within = e;
+}
+
+-- so whoever is told the sizes may ask for the limits again
+pub told-counted : (t : Task) (r : Sizes) → SizesTold t r → SizesCounted t r
+told-counted t r told = record {
+  later = told.later;
+  pars = told.pars;
+  schemas = told.schemas;
+  atoms = told.atoms;
+  largest = told.largest;
+  pairs = told.pairs;
+}
 
 -- ---- what a schema may have bounds how many new predicates there are
 last-below : (n d : ℕ) (xs : List ℕ) → d ≤ n → ((x : ℕ) → In x xs → x < n) → last_or (map suc xs) d ≤ n
@@ -94,7 +127,7 @@ module _ (arities : List ℕ) where
       omega (arith, shared-few s, pars-few ss (λ u i. h u (there i)))
 
 -- ---- whether they pass a limit
-module _ (w : List ℕ) (h : is_table w ≡ true) (r : Sizes) (told : SizesTold (task_of w) r) where
+module _ (w : List ℕ) (h : is_table w ≡ true) (r : Sizes) (counted : SizesCounted (task_of w) r) where
   abbrev t : Task
   t = task_of w
 
@@ -102,18 +135,18 @@ module _ (w : List ℕ) (h : is_table w ≡ true) (r : Sizes) (told : SizesTold 
   all-fit s i = all_in (schema_fits t.arities) (task-tests t (of-table w h).0).fit i
 
   pub few-later : r.later ≤ most_parts * most_schemas
-  few-later = omega (arith, told.later, later-few t.arities t.schemas all-fit, schemas-few w h)
+  few-later = omega (arith, counted.later, later-few t.arities t.schemas all-fit, schemas-few w h)
 
   pub few-pars : r.pars ≤ word_bits
   unfolding par_count
-  few-pars = omega (arith, told.pars, pars-few t.arities t.schemas all-fit)
+  few-pars = omega (arith, counted.pars, pars-few t.arities t.schemas all-fit)
 
   predicates-told : (head_in w).predicates + 1 + r.later + r.pars ≡ length (split_task t).arities
   predicates-told =
       let e = predicate-count t in
       let a = arities-word w (table-frame w h) in
-      let l = told.later in
-      let p = told.pars in
+      let l = counted.later in
+      let p = counted.pars in
       omega arith
 
   init-told : (head_in w).initial_atoms + 1 ≡ length (split_task t).init
@@ -123,11 +156,11 @@ module _ (w : List ℕ) (h : is_table w ≡ true) (r : Sizes) (told : SizesTold 
   goal-told = let e = goal-count t in let a = goal-word w (table-frame w h) in omega arith
 
   few-told : leb r.largest most_atoms ≡ all (λ (s : Schema). leb (length s.atoms) most_atoms) (split_task t).schemas
-  few-told = ap (λ (n : ℕ). leb n most_atoms) told.largest ∙ few-largest (split_task t).schemas
+  few-told = ap (λ (n : ℕ). leb n most_atoms) counted.largest ∙ few-largest (split_task t).schemas
 
   pub within-told : are_within ((head_in w).predicates + 1 + r.later + r.pars) r.schemas r.atoms r.largest
       ((head_in w).initial_atoms + 1)
       ((head_in w).goal_atoms + 1) r.pairs ≡ within_limits (split_task t)
   unfolding are_within within_limits limit_tests every
   within-told =
-      rw (predicates-told, told.schemas, told.atoms, few-told, init-told, goal-told, told.pairs) refl
+      rw (predicates-told, counted.schemas, counted.atoms, few-told, init-told, goal-told, counted.pairs) refl

@@ -14,7 +14,7 @@ use Rattle.task.specs.Run.{schema_at}
 use Rattle.task.specs.Table.{task_of, long_enough, is_table}
 use Rattle.words.specs.Sets.{member, word_bits}
 use Rattle.tokens.specs.Split.{has, later_parts, shared_bound, maximum, par_count, orders, first_here, last_here}
-use Rattle.tokens.specs.Split.{later_here, split_schema, split_task, split_as, split, split_check}
+use Rattle.tokens.specs.Split.{later_here, split_schema, split_task, within_limits, split_as, split, split_check}
 use Rattle.tokens.specs.declared.pars.Pars.{Pars}
 use Rattle.tokens.specs.declared.measure.Sizes.{Sizes}
 use Rattle.tokens.specs.declared.measure.Measured.{Measured}
@@ -93,7 +93,16 @@ are_within predicates schemas atoms largest initial goal pairs =
     leb goal most_goal ∷
     leb pairs most_pairs ∷ [])
 
--- the sizes of the split, also where it passes a limit
+-- what is counted of the split, also where it passes a limit
+pub record SizesCounted (t : Task) (r : Sizes) : Type 0 where
+  pub later : r.later ≡ later_parts t.schemas
+  pub pars : r.pars ≡ par_count t
+  pub schemas : r.schemas ≡ length (split_task t).schemas
+  pub atoms : r.atoms ≡ schema_atoms (split_task t).schemas
+  pub largest : r.largest ≡ largest_of (split_task t).schemas
+  pub pairs : r.pairs ≡ schema_pairs (split_task t).schemas
+
+-- the sizes of the split: that, and whether all limits are kept
 pub record SizesTold (t : Task) (r : Sizes) : Type 0 where
   pub later : r.later ≡ later_parts t.schemas
   pub pars : r.pars ≡ par_count t
@@ -101,6 +110,7 @@ pub record SizesTold (t : Task) (r : Sizes) : Type 0 where
   pub atoms : r.atoms ≡ schema_atoms (split_task t).schemas
   pub largest : r.largest ≡ largest_of (split_task t).schemas
   pub pairs : r.pairs ≡ schema_pairs (split_task t).schemas
+  pub within : r.within ≡ within_limits (split_task t)
 
 -- ---- acceptance
 -- the checks of a table that splitting, unfolding and folding make first, and those behind them

@@ -19,7 +19,7 @@ pub fn keep_accepted(table: &[u16], kept: &mut Kept) -> Result<Sizes, Refusal>
         return Err(Refusal::at_schema(Reason::PairWithoutPart, s));
     }
     let sizes = measure::sizes_of(table, kept);
-    if !measure::within_limits(table, sizes) {
+    if !sizes.within {
         return Err(Refusal::nowhere(Reason::SplitTooLarge));
     }
     Ok(sizes)

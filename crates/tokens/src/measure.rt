@@ -4,7 +4,8 @@ ghost use Rattle.words.specs.Lists.{filter};
 ghost use Rattle.task.specs.Table.{task_of, is_table};
 ghost use Rattle.arcs.specs.Stretches.{IsStretch, stretch_in};
 ghost use Rattle.tokens.specs.Split.{orders, split_schema, split_task, within_limits};
-ghost use Rattle.tokens.specs.Acceptance.{SchemaSized, SizesTold, most_part_atoms, are_within, part_schemas};
+ghost use Rattle.tokens.specs.Acceptance.{SchemaSized, SizesCounted, SizesTold, most_part_atoms, are_within};
+ghost use Rattle.tokens.specs.Acceptance.{part_schemas};
 ghost use Rattle.task.specs.Task.{schema_pairs};
 ghost use Rattle.task.specs.Limits.{most_parts, most_schemas, most_pairs};
 ghost use Rattle.tokens.specs.Kept.{kept_count, PartsKept, SchemaKept};
@@ -21,7 +22,8 @@ use task::limits::{
 use words::runs::word;
 use words::sets::{bound, size};
 
-// The sizes that a table limits: later parts, pars, schemas, schema atoms, the most atoms of one schema, and pairs.
+// The sizes that a table limits: later parts, pars, schemas, schema atoms, the most atoms of one schema, and pairs; and
+// whether all limits are kept.
 #[derive(Clone, Copy, Debug, PartialEq, Eq)]
 pub struct Sizes {
     pub later: usize,
@@ -30,6 +32,7 @@ pub struct Sizes {
     pub atoms: usize,
     pub largest: usize,
     pub pairs: usize,
+    pub within: bool,
 }
 
 // Of one schema: how many atoms its parts have, the most that one of them has, one more than the largest parameter
@@ -126,6 +129,7 @@ fn with_schema(sizes: Sizes, one: Measured, count: usize) -> Sizes
     ensures atoms_value { result.atoms ≡ sizes.atoms + one.atoms }
     ensures largest_value { result.largest ≡ max sizes.largest one.largest }
     ensures pairs_value { result.pairs ≡ sizes.pairs + one.pairs }
+    ensures within_value { result.within ≡ sizes.within }
 {
     Sizes {
         later: sizes.later + (count - 1),
@@ -134,6 +138,7 @@ fn with_schema(sizes: Sizes, one: Measured, count: usize) -> Sizes
         atoms: sizes.atoms + one.atoms,
         largest: sizes.largest.max(one.largest),
         pairs: sizes.pairs + one.pairs,
+        within: sizes.within,
     }
 }
 
@@ -161,7 +166,7 @@ fn are_within(
 // Whether the split has no more than a table can, by its sizes.
 pub fn within_limits(table: &[u16], sizes: Sizes) -> bool
     requires table_value { is_table table.now ≡ true }
-    requires sizes_told { SizesTold (task_of table.now) sizes }
+    requires sizes_counted { SizesCounted (task_of table.now) sizes }
     ensures { result ≡ within_limits (split_task (task_of table.now)) }
 {
     let old = word(table, PREDICATES);
@@ -185,6 +190,7 @@ pub fn sizes_of(table: &[u16], kept: &Kept) -> Sizes
     requires parts_kept { PartsKept (task_of table.now) (length (task_of table.now).schemas) kept.now }
     ensures { SizesTold (task_of table.now) result }
 {
+    // `within` is told once all are counted.
     let mut sizes = Sizes {
         later: 0,
         pars: 0,
@@ -192,10 +198,12 @@ pub fn sizes_of(table: &[u16], kept: &Kept) -> Sizes
         atoms: 0,
         largest: 0,
         pairs: 0,
+        within: true,
     };
     for s in 0..word(table, SCHEMAS) {
         let one = measure_schema(table, kept, s);
         sizes = with_schema(sizes, one, count_of(kept, s));
     }
-    sizes
+    let within = within_limits(table, sizes);
+    Sizes { within, ..sizes }
 }

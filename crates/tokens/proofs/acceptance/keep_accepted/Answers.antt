@@ -1,6 +1,7 @@
 -- Each check that fails is the first of those of acceptance; what is kept of the parts says whether one is circular and
 -- whether a pair is parted, the sizes whether a limit is passed, and where none is, all pass.
 use Rattle.std.proofs.Common.{sym, ◌∙◌}
+use Rattle.std.proofs.lemmas.Bool.{not-false, not-true}
 use Rattle.std.proofs.lemmas.Result.{err_from_is_err_and}
 use Rattle.task.specs.Table.{task_of}
 use Rattle.tokens.specs.Acceptance.{AcceptanceTold}
@@ -40,17 +41,14 @@ returns-in-Some-first_parted c =
 pub sizes_of-sizes-requires-clause-table_value : goal.sizes_of-sizes-requires-clause-table_value
 sizes_of-sizes-requires-clause-table_value c = (passed-tests c.args.table.now c.in_ok-judge_table.ensures).1
 
-pub within_limits-requires-clause-table_value : goal.within_limits-requires-clause-table_value
-within_limits-requires-clause-table_value c = (passed-tests c.args.table.now c.in_ok-judge_table.ensures).1
-
-pub returns-then-not-within_limits : goal.returns-then-not-within_limits
+pub returns-then-not-sizes : goal.returns-then-not-sizes
 unfolding AcceptanceTold
-returns-then-not-within_limits c =
+returns-then-not-sizes c =
     let w = c.args.table.now in
     let p = passed-tests w c.in_ok-judge_table.ensures in
     let none = sym c.keep_parts.ensures.result_value ∙ c.in_default.is in
     let carried = sym c.first_parted.ensures ∙ c.in_default-first_parted.is in
-    let over = sym c.within_limits.ensures ∙ c.if-not-within_limits.true in
+    let over = sym c.sizes_of-sizes.ensures.within ∙ not-true _ c.if-not-sizes.true in
     rw c.nowhere.ensures (refused-ten w p.0 p.1 (found-large (task_of w) none carried over))
 
 pub returns : goal.returns
@@ -60,10 +58,11 @@ returns c =
     let p = passed-tests w c.in_ok-judge_table.ensures in
     let none = sym c.keep_parts.ensures.result_value ∙ c.in_default.is in
     let carried = sym c.first_parted.ensures ∙ c.in_default-first_parted.is in
+    let within = sym c.sizes_of-sizes.ensures.within ∙ not-false _ c.if-not-sizes.false in
     record {
       long = p.0;
       table = p.1;
-      accepted = found-split (task_of w) none carried (sym c.within_limits.ensures ∙ c.if-not-within_limits.false);
+      accepted = found-split (task_of w) none carried within;
       parts = c.keep_parts.ensures.parts_kept c.in_default.is;
       sized = c.sizes_of-sizes.ensures;
     }

@@ -3,7 +3,7 @@ use Rattle.task.specs.Table.{task_of}
 use Rattle.task.proofs.TableReads.{counts-inside}
 use Rattle.tokens.proofs.KeptSchema.{schemas-told, one-kept, count_small, count-parts, count-some, schema-small, counted}
 use Rattle.tokens.proofs.SplitSizes.{sizes-none, sizes-more}
-use Rattle.tokens.proofs.SizesTold.{sizes-told}
+use Rattle.tokens.proofs.SizesTold.{sizes-counted, sizes-told}
 use Rattle.tokens.proofs.measure.sizes_of.Goals as goal
 
 pub word-s-end-requires : goal.word-s-end-requires
@@ -57,8 +57,17 @@ loop-s-preserved c =
     (count.ensures ∙ counted k) (count.ensures ∙ count-parts k) (omega (arith, count.ensures, count_small k))
     one.ensures h.invariant e.later_value e.pars_value e.schemas_value e.atoms_value e.largest_value e.pairs_value
 
+pub within_limits-within-requires-clause-sizes_counted : goal.within_limits-within-requires-clause-sizes_counted
+within_limits-within-requires-clause-sizes_counted c =
+    let e = schemas-told c.args.table.now c.requires.table_value c.word-s-end.ensures.value in
+    let n : c.loop-s.s ≡ c.word-s-end.result = omega arith in
+    sizes-counted (task_of c.args.table.now) c.loop-s.sizes c.loop-s.s (n ∙ e) c.loop-s.invariant
+
 pub returns : goal.returns
 returns c =
     let e = schemas-told c.args.table.now c.requires.table_value c.word-s-end.ensures.value in
     let n : c.loop-s.s ≡ c.word-s-end.result = omega arith in
-    sizes-told (task_of c.args.table.now) c.loop-s.sizes c.loop-s.s (n ∙ e) c.loop-s.invariant
+    let t = task_of c.args.table.now in
+    let r = c.loop-s.sizes in
+    sizes-told t r (sizes-counted t r c.loop-s.s (n ∙ e) c.loop-s.invariant) c.within_limits-within.result
+    c.within_limits-within.ensures

@@ -19,13 +19,13 @@ word-goal-requires c = omega (arith, counts-inside c.args.table.now c.requires.t
 pub overflow_add-predicates-2 : goal.overflow_add-predicates-2
 overflow_add-predicates-2 c =
     let q = c.requires in
-    omega (arith, c.word-old.ensures.upper_bound, few-later c.args.table.now q.table_value c.args.sizes q.sizes_told)
+    omega (arith, c.word-old.ensures.upper_bound, few-later c.args.table.now q.table_value c.args.sizes q.sizes_counted)
 
 pub overflow_add-predicates-3 : goal.overflow_add-predicates-3
 overflow_add-predicates-3 c =
     let q = c.requires in
-    let later = few-later c.args.table.now q.table_value c.args.sizes q.sizes_told in
-    let pars = few-pars c.args.table.now q.table_value c.args.sizes q.sizes_told in
+    let later = few-later c.args.table.now q.table_value c.args.sizes q.sizes_counted in
+    let pars = few-pars c.args.table.now q.table_value c.args.sizes q.sizes_counted in
     omega (arith, c.word-old.ensures.upper_bound, later, pars)
 
 pub returns : goal.returns
@@ -38,4 +38,4 @@ returns c =
     c.are_within.ensures ∙ ap (λ p. fit p c.word-initial.result c.word-goal.result) c.word-old.ensures.value ∙
     ap (λ i. fit (head_in w).predicates i c.word-goal.result) c.word-initial.ensures.value ∙
     ap (fit (head_in w).predicates (head_in w).initial_atoms) c.word-goal.ensures.value ∙
-    within-told w c.requires.table_value r c.requires.sizes_told
+    within-told w c.requires.table_value r c.requires.sizes_counted
