@@ -58,7 +58,8 @@ pub fn first_parted(table: &[u16], kept: &Kept) -> Option<u64>
         first (λ s. not (pairs_kept (schema_at (task_of table.now) s)))
         (up_to (length (task_of table.now).schemas)) }
 {
-    (0..word(table, SCHEMAS))
+    let schemas = word(table, SCHEMAS);
+    (0..schemas)
         .find(|s| !pairs_kept(table, kept, *s))
         .map(|s| s as u64)
 }

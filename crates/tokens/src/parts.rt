@@ -38,11 +38,12 @@ pub fn keep_parts(table: &[u16], kept: &mut Kept) -> Option<u64>
     ensures parts_kept { result ≡ None →
         PartsKept (task_of table.now) (length (task_of table.now).schemas) kept.new }
 {
+    let schemas = word(table, SCHEMAS);
     let mut from = 0;
     let mut pair = 0;
     let mut first = 0;
     keep_begin(kept, 0, 0, 0, 0);
-    for s in 0..word(table, SCHEMAS) {
+    for s in 0..schemas {
         let ends = schema_ends(table, s, from, pair);
         let found = order_of(table, from, ends.atoms, pair, ends.pairs);
         let Some(order) = found.order else {

@@ -9,20 +9,20 @@ use Rattle.tokens.specs.Split.{pairs_kept}
 use Rattle.tokens.proofs.KeptSchema.{schemas-told, one-kept}
 use Rattle.tokens.proofs.pairs.first_parted.Goals as goal
 
-pub word-requires : goal.word-requires
-word-requires c = omega (arith, counts-inside c.args.table.now c.requires.table_value)
+pub word-schemas-requires : goal.word-schemas-requires
+word-schemas-requires c = omega (arith, counts-inside c.args.table.now c.requires.table_value)
 
 pub find-requires-clause-callable : goal.find-requires-clause-callable
 find-requires-clause-callable c =
     serves_from_Range (λ x q r. search (rules, tests))
     (λ x a b.
-    let k = one-kept c.args.table.now c.requires.table_value c.word.ensures.value c.requires.parts_kept b in
+    let k = one-kept c.args.table.now c.requires.table_value c.word-schemas.ensures.value c.requires.parts_kept b in
     search (rules, tests))
 
 pub returns : goal.returns
 returns c =
     let t = task_of c.args.table.now in
-    let n = schemas-told c.args.table.now c.requires.table_value c.word.ensures.value in
+    let n = schemas-told c.args.table.now c.requires.table_value c.word-schemas.ensures.value in
     let f = find_up_to {p = λ s. not (pairs_kept (schema_at t s))} _ c.find.ensures.ran
     (λ x b q k. search (rules, tests)) in
     let m : c.map.result ≡ c.find.result = search (rules, tests) in

@@ -57,8 +57,8 @@ module _ (w : List ℕ) (h : is_table w ≡ true) {n s : ℕ} (said : n ≡ (hea
       order_told f ≡ order_of (schema_at (task_of w) s)
   told a b p q f e = e (schema_at (task_of w) s) (pairs-are p q) (atoms_are a b)
 
-pub word-s-end-requires : goal.word-s-end-requires
-word-s-end-requires c = omega (arith, counts-inside c.args.table.now c.requires)
+pub word-schemas-requires : goal.word-schemas-requires
+word-schemas-requires c = omega (arith, counts-inside c.args.table.now c.requires)
 
 pub loop-s-init : goal.loop-s-init
 unfolding sum first_of up_to up_from
@@ -74,35 +74,35 @@ loop-s-init c =
 
 pub schema_ends-ends-requires-clause-s_in_bounds : goal.schema_ends-ends-requires-clause-s_in_bounds
 schema_ends-ends-requires-clause-s_in_bounds c =
-    known c.args.table.now c.requires c.word-s-end.ensures.value c.loop-s-test.true
+    known c.args.table.now c.requires c.word-schemas.ensures.value c.loop-s-test.true
 
 pub order_of-found-requires-clause-stretch : goal.order_of-found-requires-clause-stretch
 order_of-found-requires-clause-stretch c =
-    stretch c.args.table.now c.requires c.word-s-end.ensures.value c.loop-s-test.true
+    stretch c.args.table.now c.requires c.word-schemas.ensures.value c.loop-s-test.true
     c.loop-s.invariant.0 c.schema_ends-ends.ensures.atoms_value
 
 pub order_of-found-requires-clause-pair_stretch : goal.order_of-found-requires-clause-pair_stretch
 order_of-found-requires-clause-pair_stretch c =
-    pair-stretch c.args.table.now c.requires c.word-s-end.ensures.value c.loop-s-test.true
+    pair-stretch c.args.table.now c.requires c.word-schemas.ensures.value c.loop-s-test.true
     c.loop-s.invariant.4 c.schema_ends-ends.ensures.pairs_value
 
 pub returns-clause-result_value : goal.returns-clause-result_value
 returns-clause-result_value c =
     let w = c.args.table.now in
-    let n = schemas-told w c.requires c.word-s-end.ensures.value in
+    let n = schemas-told w c.requires c.word-schemas.ensures.value in
     sym (circular-nowhere (task_of w) c.loop-s.s c.loop-s.invariant.3.taken (omega arith))
 
 pub returns-clause-parts_kept : goal.returns-clause-parts_kept
 returns-clause-parts_kept c = λ z.
     let w = c.args.table.now in
-    let n = schemas-told w c.requires c.word-s-end.ensures.value in
+    let n = schemas-told w c.requires c.word-schemas.ensures.value in
     subst (λ (n : ℕ). PartsKept (task_of w) n c.loop-s.kept) (omega arith) c.loop-s.invariant.3
 
 pub returns-in_default-clause-result_value : goal.returns-in_default-clause-result_value
 returns-in_default-clause-result_value c =
     let w = c.args.table.now in
     let h = c.requires in
-    let n = c.word-s-end.ensures.value in
+    let n = c.word-schemas.ensures.value in
     let l = c.loop-s-test.true in
     let inv = c.loop-s.invariant in
     let ends = c.schema_ends-ends.ensures in
@@ -114,13 +114,13 @@ returns-in_default-clause-result_value c =
 pub keep_count-requires : goal.keep_count-requires
 keep_count-requires c =
     let few-parts = c.order_of-found.ensures.count_le_most_parts c.in-Some.order c.in-Some.is in
-    (few c.args.table.now c.requires c.word-s-end.ensures.value c.loop-s-test.true, omega arith)
+    (few c.args.table.now c.requires c.word-schemas.ensures.value c.loop-s-test.true, omega arith)
 
 pub keep_order-requires-clause-count_bound : goal.keep_order-requires-clause-count_bound
 keep_order-requires-clause-count_bound c =
     let w = c.args.table.now in
     let h = c.requires in
-    let n = c.word-s-end.ensures.value in
+    let n = c.word-schemas.ensures.value in
     let l = c.loop-s-test.true in
     let inv = c.loop-s.invariant in
     let ends = c.schema_ends-ends.ensures in
@@ -134,7 +134,7 @@ pub keep_order-requires-clause-by_index : goal.keep_order-requires-clause-by_ind
 keep_order-requires-clause-by_index c =
     let w = c.args.table.now in
     let h = c.requires in
-    let n = c.word-s-end.ensures.value in
+    let n = c.word-schemas.ensures.value in
     let l = c.loop-s-test.true in
     let inv = c.loop-s.invariant in
     let ends = c.schema_ends-ends.ensures in
@@ -147,14 +147,14 @@ keep_order-requires-clause-by_index c =
 pub keep_begin-requires-in-loop-s-clause-row_le_most_schemas :
     goal.keep_begin-requires-in-loop-s-clause-row_le_most_schemas
 keep_begin-requires-in-loop-s-clause-row_le_most_schemas c =
-    omega (arith, few c.args.table.now c.requires c.word-s-end.ensures.value c.loop-s-test.true)
+    omega (arith, few c.args.table.now c.requires c.word-schemas.ensures.value c.loop-s-test.true)
 
 pub keep_begin-requires-in-loop-s-clause-start_lt_word_bound :
     goal.keep_begin-requires-in-loop-s-clause-start_lt_word_bound
 keep_begin-requires-in-loop-s-clause-start_lt_word_bound c =
     let w = c.args.table.now in
     let h = c.requires in
-    let n = c.word-s-end.ensures.value in
+    let n = c.word-schemas.ensures.value in
     let l = c.loop-s-test.true in
     let inv = c.loop-s.invariant in
     let ends = c.schema_ends-ends.ensures in
@@ -170,7 +170,7 @@ pub loop-s-preserved : goal.loop-s-preserved
 loop-s-preserved c =
     let w = c.args.table.now in
     let h = c.requires in
-    let n = c.word-s-end.ensures.value in
+    let n = c.word-schemas.ensures.value in
     let l = c.loop-s-test.true in
     let inv = c.loop-s.invariant in
     let ends = c.schema_ends-ends.ensures in
