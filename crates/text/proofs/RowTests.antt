@@ -1,21 +1,22 @@
 -- What the tests of a row come to: whether an atom fits its predicate, and the four words of its arguments.
-use Prim.Native.Nat.{ℕ, zero, suc, ◌+◌, ◌-◌, ◌*◌, ◌≤◌, ◌<◌}
+use Prim.Native.Nat.{ℕ, zero, suc, ◌+◌, ◌*◌, ◌≤◌, ◌<◌}
 use mathlib.Core.Path.{◌≡◌, refl, sym, ◌∙◌, ap, ap₂, subst}
 use mathlib.Core.Bool.{Bool, true, false, ◌&&◌}
-use mathlib.Core.List.{List, [], ◌∷◌, ◌++◌}
+use mathlib.Core.List.{List, [], ◌∷◌}
 use native.Mathlib.Omega.{arith}
-use lib.ListN.{length, get_or, take, set, replicate, length-set, get_or-replicate}
+use native.Mathlib.Decide.{dec_lt}
+use lib.ListN.{length, get_or, take, set, length-set}
 use lib.Seq.{ext_get_or, get_or-take, length-take-le, get_or-set_same, get_or-set_other}
 use lib.Dec.{eqb, ltb, leb}
 use borrow.Author.Tests.{ltb-true, leb-true, lt-ltb, le-ltb, eq-eqb, ne_eqb, eqb-true, eqb-false}
 use Rattle.words.specs.Lists.{all, padded}
-use Rattle.task.specs.Limits.{head_words, atom_size, most_arity}
+use Rattle.task.specs.Limits.{head_words, atom_size}
 use Rattle.task.specs.Task.{args_fit}
 use Rattle.task.specs.Table.{atom_words}
 use Rattle.words.proofs.Lists.{no_ft, all_in, in-get_or}
-use Rattle.words.proofs.Words.{and-false, each_first}
+use Rattle.words.proofs.Words.{and-false, each_first, past_end}
 use Rattle.text.specs.ReadCode.{Listed, Fitting, PartsPut, Wrote, bare_atom}
-use Rattle.text.proofs.WroteWords.{wrote-all, wrote-same, wrote-behind}
+use Rattle.text.proofs.WroteWords.{wrote-all, wrote-same}
 
 -- the numbers that were kept are the list, where there was room for all
 pub listed-take : {ns : List ℕ} {count : ℕ} {kept : List ℕ} → Listed ns count kept → count ≤ length kept →
@@ -86,18 +87,21 @@ module _ (w : List ℕ) (predicates bound p : ℕ) (kept : List ℕ) (count : �
   }
 
 -- ---- the words of a row
-pub row-put : {w v u z : List ℕ} {at s r p : ℕ} (args : List ℕ) → length args ≤ most_arity →
-    Wrote w at 4 (λ k. get_or (s ∷ r ∷ p ∷ 0 ∷ []) k 0) v →
-    Wrote v (at + 4) (length args) (λ k. get_or args k 0) u →
-    Wrote u (at + 4 + length args) (most_arity - length args) (λ k. 0) z →
-    Wrote w at atom_size (λ k. get_or (atom_words s (bare_atom r p args)) k 0) z
-unfolding atom_words padded
-row-put {s = s} {r = r} {p = p} args few head list zeros =
-    let many = most_arity - length args in
-    let rest : List ℕ = replicate many 0 in
-    wrote-behind {m = most_arity} (s ∷ r ∷ p ∷ 0 ∷ []) (args ++ rest) refl refl refl head
-    (wrote-behind {n = length args} {m = many} {whole = most_arity} args rest refl refl (omega arith) list
-    (wrote-same (λ k h. sym (get_or-replicate many k 0 0 h)) zeros))
+pub four-words : (ns : List ℕ) → length ns ≤ 4 →
+    padded 4 ns ≡ get_or ns 0 0 ∷ get_or ns 1 0 ∷ get_or ns 2 0 ∷ get_or ns 3 0 ∷ []
+unfolding padded
+four-words [] l = refl
+four-words (a ∷ []) l = refl
+four-words (a ∷ b ∷ []) l = refl
+four-words (a ∷ b ∷ c ∷ []) l = refl
+four-words (a ∷ b ∷ c ∷ d ∷ []) l = refl
+four-words (a ∷ b ∷ c ∷ d ∷ e ∷ ns) l = absurd (omega arith)
+
+pub row_words : (s r p : ℕ) (ns : List ℕ) → length ns ≤ 4 → (a b c d : ℕ) → a ≡ get_or ns 0 0 → b ≡ get_or ns 1 0 →
+    c ≡ get_or ns 2 0 → d ≡ get_or ns 3 0 → s ∷ r ∷ p ∷ 0 ∷ a ∷ b ∷ c ∷ d ∷ [] ≡ atom_words s (bare_atom r p ns)
+unfolding atom_words
+row_words s r p ns l a b c d e f g h =
+    rw (e, f, g, h) (ap {B = List ℕ} (λ (xs : List ℕ). s ∷ r ∷ p ∷ 0 ∷ xs) (sym (four-words ns l)))
 
 -- the first of some numbers that were written, by the place where each stands
 pub first-put : {w z : List ℕ} {at : ℕ} (n : ℕ) (xs : List ℕ) → n ≤ length xs →
@@ -141,6 +145,28 @@ part-put {w} {after} {first} {n} {parts} h l =
 pub parts_all : {w after : List ℕ} {first n k : ℕ} {parts : List ℕ} → n ≡ k → PartsPut w first n parts after →
     PartsPut w first k parts after
 parts_all {w} {after} {first} {n} {k} {parts} e h = subst (λ (i : ℕ). PartsPut w first i parts after) e h
+
+-- some numbers that are small, and 0 behind them
+pub small-or-zero : (xs : List ℕ) → ((k : ℕ) → k < length xs → get_or xs k 0 < 65536) → (k : ℕ) → get_or xs k 0 < 65536
+small-or-zero xs h k = elim (dec_lt k (length xs)) [
+  | yes l ↦ h k l
+  | no l ↦ let q = past_end xs k (omega arith) in omega arith
+]
+
+pub eight-words : {s r p z a b c d : ℕ} → s < 65536 → r < 65536 → p < 65536 → z < 65536 → a < 65536 → b < 65536 →
+    c < 65536 → d < 65536 → (k : ℕ) → k < 8 → get_or (s ∷ r ∷ p ∷ z ∷ a ∷ b ∷ c ∷ d ∷ []) k 0 < 65536
+eight-words {s} {r} {p} {z} {a} {b} {c} {d} hs hr hp hz ha hb hc hd = at
+  where
+    at : (k : ℕ) → k < 8 → get_or (s ∷ r ∷ p ∷ z ∷ a ∷ b ∷ c ∷ d ∷ []) k 0 < 65536
+    at zero l = hs
+    at (suc zero) l = hr
+    at (suc (suc zero)) l = hp
+    at (suc (suc (suc zero))) l = hz
+    at (suc (suc (suc (suc zero)))) l = ha
+    at (suc (suc (suc (suc (suc zero))))) l = hb
+    at (suc (suc (suc (suc (suc (suc zero)))))) l = hc
+    at (suc (suc (suc (suc (suc (suc (suc zero))))))) l = hd
+    at (suc (suc (suc (suc (suc (suc (suc (suc k)))))))) l = absurd (omega arith)
 
 pub seven-words : {a b c d e f g : ℕ} → a < 65536 → b < 65536 → c < 65536 → d < 65536 → e < 65536 → f < 65536 →
     g < 65536 → (k : ℕ) → k < 7 → get_or (a ∷ b ∷ c ∷ d ∷ e ∷ f ∷ g ∷ []) k 0 < 65536

@@ -8,7 +8,7 @@ ghost use Rattle.words.specs.Words.{word_bound};
 ghost use Rattle.task.specs.Limits.{most_arity, head_words, atom_size};
 
 use crate::checks::all_below;
-use crate::storing::{clear, put_words};
+use crate::storing::put_words;
 use task::layout::{arity_of, predicate_at};
 use task::limits::{ARGUMENTS, ATOM_SIZE, MOST_ARITY, PART, ROLE};
 use words::runs::{has_word, same_words, wide};
@@ -32,6 +32,13 @@ pub fn fits(
         && all_below(&args[..count], bound as u32)
 }
 
+// Argument k, and 0 where there is none.
+fn argument(args: &[u32], k: usize) -> u32
+    ensures { result ≡ get_or args.now k 0 }
+{
+    args.get(k).copied().unwrap_or(0)
+}
+
 // Puts an atom's row at a place, in part 0.
 pub fn put_row(table: &mut [u16], at: usize, schema: u32, role: u32, predicate: u32, args: &[u32])
     requires atom_size_in_bounds { at + atom_size ≤ length table.old }
@@ -41,9 +48,11 @@ pub fn put_row(table: &mut [u16], at: usize, schema: u32, role: u32, predicate: 
     ensures { let a = bare_atom role predicate args.now in
         Wrote table.old at atom_size (λ k. get_or (atom_words schema a) k 0) table.new }
 {
-    put_words(table, at, &[schema, role, predicate, 0]);
-    put_words(table, at + ARGUMENTS, args);
-    clear(table, at + ARGUMENTS + args.len(), MOST_ARITY - args.len());
+    let a = argument(args, 0);
+    let b = argument(args, 1);
+    let c = argument(args, 2);
+    let d = argument(args, 3);
+    put_words(table, at, &[schema, role, predicate, 0, a, b, c, d]);
 }
 
 // Whether a parameter stands in the atom of a row.
