@@ -9,8 +9,8 @@ pub fn put_words(table: &mut [u16], at: usize, words: &[u32])
     requires by_index { (k : ℕ) → k < length words.now → get_or words.now k 0 < word_bound }
     ensures { Wrote table.old at (length words.now) (λ k. get_or words.now k 0) table.new }
 {
-    for (k, word) in words.iter().enumerate() {
-        table[at + k] = *word as u16;
+    for k in 0..words.len() {
+        table[at + k] = words[k] as u16;
     }
 }
 
@@ -28,5 +28,7 @@ pub fn move_down(table: &mut [u16], from: usize, to: usize, n: usize)
     ensures { Wrote table.old to n (λ k. get_or table.old (from + k) 0)
         table.new }
 {
-    table.copy_within(from..from + n, to);
+    for k in 0..n {
+        table[to + k] = table[from + k];
+    }
 }
