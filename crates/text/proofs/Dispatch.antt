@@ -3,7 +3,8 @@
 use Rattle.text.specs.declared.draft.Turn.TheVariants as turn
 use Rattle.text.specs.declared.keys.Key.TheVariants as code
 use Prim.Native.Nat.{ℕ, ◌≤◌, zero, suc, ◌+◌}
-use mathlib.Core.Path.{◌≡◌, refl, subst}
+use mathlib.Core.Path.{◌≡◌, refl, sym, subst}
+use mathlib.Core.Logic.{◌⊎◌, inl, inr}
 use mathlib.Core.Bool.{Bool, true, false, cond}
 use mathlib.Core.List.{List}
 use Rattle.std.specs.Prelude.{Option, Result, Ok, Err}
@@ -13,11 +14,12 @@ use lib.Dec.{leb, ltb}
 use borrow.Author.Tests.{leb-true, ltb-true, ltb-false}
 use Rattle.words.proofs.Lists.{and_left, and_right}
 use Rattle.text.specs.declared.cursor.Cursor.{Cursor}
-use Rattle.text.specs.Lines.{Taken}
+use Rattle.text.specs.declared.keys.Key.{Key as Code}
+use Rattle.text.specs.Lines.{Taken, ended, entry}
 use Rattle.text.specs.Text.{Key, Line, Phase, at_task, at_objects, at_arity, between, in_differ, in_pre, in_add}
-use Rattle.text.specs.Text.{in_del, in_init, in_goal, Draft, role_key, role_phase}
-use Rattle.text.specs.ReadCode.{Moved, NextLine, key_number, phase_number, role_place, last_key, may_stand}
-use Rattle.text.specs.Holding.{Turned}
+use Rattle.text.specs.Text.{in_del, in_init, in_goal, Draft, role_key, role_phase, atom_line, read_body}
+use Rattle.text.specs.ReadCode.{Moved, NextLine, key_number, meant, phase_number, role_place, last_key, may_stand}
+use Rattle.text.specs.Holding.{Turned, fact_key, fact_line, kind_of, role_of}
 use Rattle.text.specs.declared.draft.Turn.{Turn}
 
 -- ---- places
@@ -81,6 +83,46 @@ role-number zero l = refl
 role-number (suc zero) l = refl
 role-number (suc (suc zero)) l = refl
 role-number (suc (suc (suc r))) l = absurd (omega arith)
+
+-- the keys of a schema's atoms, and those of ground atoms
+abbrev pub OfAtoms : Code → Type 0
+OfAtoms k = (k ≡ code.Pre) ⊎ ((k ≡ code.Add) ⊎ (k ≡ code.Del))
+
+abbrev pub OfFacts : Code → Type 0
+OfFacts k = (k ≡ code.Init) ⊎ (k ≡ code.Goal)
+
+-- each is that of its role, or of its kind, and its body is that of a line of these
+module _ (k : Code) where
+  abbrev AsRole : Code → Type 0
+  AsRole k = (role_of k ≤ 2) × (role_key (role_of k) ≡ meant k)
+
+  pub role-meant : OfAtoms k → AsRole k
+  unfolding role_key
+  role-meant (inl e) = subst AsRole (sym e) (omega arith, refl)
+  role-meant (inr (inl e)) = subst AsRole (sym e) (omega arith, refl)
+  role-meant (inr (inr e)) = subst AsRole (sym e) (omega arith, refl)
+
+  pub kind-meant : OfFacts k → fact_key (kind_of k) ≡ meant k
+  kind-meant (inl e) = subst (λ (k : Code). fact_key (kind_of k) ≡ meant k) (sym e) refl
+  kind-meant (inr e) = subst (λ (k : Code). fact_key (kind_of k) ≡ meant k) (sym e) refl
+
+  module _ (bs : List ℕ) where
+    abbrev RoleBody : Code → Type 0
+    RoleBody k = read_body (meant k) bs ≡ ended (atom_line (role_of k)) (entry bs)
+
+    abbrev KindBody : Code → Type 0
+    KindBody k = read_body (meant k) bs ≡ ended (fact_line (kind_of k)) (entry bs)
+
+    pub role-body : OfAtoms k → RoleBody k
+    unfolding read_body
+    role-body (inl e) = subst RoleBody (sym e) refl
+    role-body (inr (inl e)) = subst RoleBody (sym e) refl
+    role-body (inr (inr e)) = subst RoleBody (sym e) refl
+
+    pub kind-body : OfFacts k → KindBody k
+    unfolding read_body
+    kind-body (inl e) = subst KindBody (sym e) refl
+    kind-body (inr e) = subst KindBody (sym e) refl
 
 -- the role that is neither of the first two is a delete's
 pub deletes : (r : ℕ) → (r ≡ 0 → ⊥) → (r ≡ 1 → ⊥) → role_place r ≡ code.Del

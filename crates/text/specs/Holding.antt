@@ -2,6 +2,7 @@
 -- far. And what the code's turn at a line says of the definitions' turn.
 use Rattle.text.specs.declared.draft.Kind.TheVariants as kind
 use Rattle.text.specs.declared.draft.Turn.TheVariants as turn
+use Rattle.text.specs.declared.keys.Key.TheVariants as code
 use Rattle.std.specs.Prelude.{ℕ, suc, ◌+◌, ◌*◌, ◌≤◌, ◌<◌, ◌≡◌, true, List, [], ◌∷◌, ◌++◌, map, length, get_or, ltb, leb}
 use Rattle.std.specs.Prelude.{Option, Result, Ok, Err}
 use Rattle.task.specs.declared.refusals.Reason.{Reason}
@@ -10,7 +11,8 @@ use Rattle.task.specs.Limits.{table_words, most_initial, most_goal, most_objects
 use Rattle.task.specs.Limits.{most_schema_atoms, most_arity, most_parameters, most_atoms, most_parts, most_pairs, head_words}
 use Rattle.task.specs.Limits.{pair_size, atom_size}
 use Rattle.words.specs.Lists.{all, concat_map, joined}
-use Rattle.task.specs.Task.{Task, Fact, Pair, args_fit, schema_atoms, schema_pairs, initial, goal_role, deletion, no_schema}
+use Rattle.task.specs.Task.{Task, Fact, Pair, args_fit, schema_atoms, schema_pairs, precondition, addition, deletion}
+use Rattle.task.specs.Task.{initial, goal_role, no_schema}
 use Rattle.task.specs.Task.{with_pairs, with_atoms}
 use Rattle.task.specs.Table.{rows_from, pair_words, atom_words, fact_words, pairs_from, schemas_from}
 use Rattle.text.specs.declared.cursor.Cursor.{Cursor}
@@ -26,6 +28,7 @@ use Rattle.text.specs.declared.draft.Counts.{Counts}
 use Rattle.text.specs.declared.draft.Facts.{Facts}
 use Rattle.text.specs.declared.draft.Kind.{Kind}
 use Rattle.text.specs.declared.draft.Turn.{Turn}
+use Rattle.text.specs.declared.keys.Key.{Key as Code}
 
 -- ---- counts
 -- the limits of document 01
@@ -262,6 +265,16 @@ one_atom_more c r = record {
 abbrev pub fact_key : Kind → Key
 fact_key kind.Initial = init
 fact_key kind.Goal = goal
+
+-- the kind of ground atoms by the key that the code names, and the role of a schema's atom: each has one for every key
+abbrev pub kind_of : Code → Kind
+kind_of code.Init = kind.Initial
+kind_of k = kind.Goal
+
+abbrev pub role_of : Code → ℕ
+role_of code.Pre = precondition
+role_of code.Add = addition
+role_of k = deletion
 
 abbrev pub fact_line : Kind → Entry → Line
 fact_line kind.Initial e = init_line e

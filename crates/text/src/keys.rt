@@ -3,9 +3,11 @@
 // allows.
 ghost use Rattle.std.specs.Prelude.{◌≡◌};
 ghost use Rattle.text.specs.ReadCode.{Placed, KeyAt, OnceKeyAt, number_of, last_key, may_stand, role_place};
+ghost use Rattle.text.specs.Holding.{role_of, kind_of};
 
 use crate::cursor::Cursor;
-use task::limits::{ADDITION, PRECONDITION};
+use crate::draft::Kind;
+use task::limits::{ADDITION, DELETION, PRECONDITION};
 
 #[derive(Clone, Copy, Debug, PartialEq, Eq, PartialOrd, Ord)]
 pub enum Key {
@@ -35,6 +37,27 @@ impl Key {
             return Key::Add;
         }
         Key::Del
+    }
+
+    // The role of a schema's atom with this key: that of `del` for every key but two.
+    pub fn role(self) -> u16
+        ensures { result ≡ role_of self }
+    {
+        match self {
+            Key::Pre => PRECONDITION,
+            Key::Add => ADDITION,
+            _ => DELETION,
+        }
+    }
+
+    // The kind of ground atoms with this key: that of `goal` for every key but one.
+    pub fn kind(self) -> Kind
+        ensures { result ≡ kind_of self }
+    {
+        match self {
+            Key::Init => Kind::Initial,
+            _ => Kind::Goal,
+        }
     }
 }
 

@@ -11,16 +11,14 @@ ghost use Rattle.text.specs.ReadCode.{rest, Placed, Wrote, meant, number_of, pha
 ghost use Rattle.text.specs.Holding.{Holds, Drafted, Touched, Turned, Allows};
 
 use crate::cursor::Cursor;
-use crate::draft::{Counts, Kind, PAIRS_AT, ROWS_AT, Turn};
+use crate::draft::{Counts, PAIRS_AT, ROWS_AT, Turn};
 use crate::keys::{Key, allowed, key_at};
 use crate::lines::atom::{atom_line, fact_line};
 use crate::lines::differ::differ_line;
 use crate::lines::head::{arity_line, end_line, objects_line, schema_line, task_line};
 use crate::lines::part::part_line;
 use crate::storing::{clear, move_down, put_words};
-use task::limits::{
-    ADDITION, ATOM_SIZE, DELETION, HEAD_WORDS, PAIR_SIZE, PRECONDITION, TABLE_WORDS,
-};
+use task::limits::{ATOM_SIZE, HEAD_WORDS, PAIR_SIZE, TABLE_WORDS};
 use task::{Reason, Refusal};
 
 // The turn at the body of a line whose key the fixed order allows.
@@ -44,13 +42,10 @@ fn body_turn(
         Key::Objects => objects_line(text, body, counts),
         Key::Arity => arity_line(text, table, body, counts),
         Key::Differ => differ_line(text, table, body, counts),
-        Key::Pre => atom_line(text, table, body, counts, PRECONDITION),
-        Key::Add => atom_line(text, table, body, counts, ADDITION),
-        Key::Del => atom_line(text, table, body, counts, DELETION),
+        Key::Pre | Key::Add | Key::Del => atom_line(text, table, body, counts, key.role()),
         Key::Part => part_line(text, table, body, counts),
         Key::Schema => schema_line(text, body, counts),
-        Key::Init => fact_line(text, table, body, counts, Kind::Initial),
-        Key::Goal => fact_line(text, table, body, counts, Kind::Goal),
+        Key::Init | Key::Goal => fact_line(text, table, body, counts, key.kind()),
         Key::End => end_line(text, body),
     }
 }
