@@ -1,7 +1,7 @@
 -- Words that are written one after another, or cleared. A store at i changes the word at i alone, so each fact about
 -- another word stays.
 use Prim.Native.Nat.{ℕ, ◌+◌, ◌-◌, ◌/◌, ◌%◌, ◌≤◌}
-use mathlib.Core.Path.{◌≡◌, ◌∙◌, ap}
+use mathlib.Core.Path.{◌≡◌, sym, ◌∙◌, ap, subst}
 use mathlib.Core.List.{List, ◌++◌, append-nil}
 use native.Mathlib.Omega.{arith}
 use lib.ListN.{length, get_or, set, take, drop, replicate, length-set, length-drop}
@@ -64,3 +64,11 @@ filled-padded w ys a l e =
     omega (arith, length-take-le (length w - a) (drop a w) (omega arith), length-take-le a w l) in
     ap (λ (zs : List ℕ). take a w ++ (ys ++ zs)) (drop_all (length w - a) (drop a w) (omega arith)) ∙
     ap (λ (zs : List ℕ). take a w ++ zs) (append-nil ys ∙ (e ∙ ap (λ (k : ℕ). replicate k 0) m))
+
+-- the same of n words, if these are all that are left
+pub filled-rest : (w ys : List ℕ) (a n : ℕ) → a ≤ length w → n ≡ length w - a →
+    ys ≡ replicate (length (mid_of a n w)) 0 → put_mid a n w ys ≡ padded (length w) (take a w)
+filled-rest w ys a n l e =
+    subst
+    (λ (k : ℕ). ys ≡ replicate (length (mid_of a k w)) 0 → put_mid a k w ys ≡ padded (length w) (take a w))
+    (sym e) (filled-padded w ys a l)

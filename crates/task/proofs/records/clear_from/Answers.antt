@@ -1,5 +1,7 @@
-use Rattle.task.proofs.Moves.{filled-padded}
+use Rattle.std.proofs.Common.{arith}
+use Rattle.task.proofs.Moves.{filled-rest}
 use Rattle.task.proofs.records.clear_from.Goals as goal
 
 pub returns : goal.returns
-returns c = filled-padded c.args.state.now c.fill.new.self c.args.from c.requires (c.fill.ensures.after (λ y e. e))
+returns c =
+    filled-rest c.args.state.now c.fill.new.self c.args.from _ c.requires (omega arith) (c.fill.ensures.after (λ y e. e))
